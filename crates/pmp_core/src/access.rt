@@ -1,0 +1,76 @@
+//! What the unit is asked to decide.
+
+ghost use Rattle.std.specs.Prelude.{◌≡◌, ◌+◌, ◌<◌, ◌≤◌, ◌^◌, IfOk, IfErr, None, Some};
+
+/// The effective privilege mode of an access, after MPRV and MPP were taken into account
+/// (Volume II, 3.1.6.3).
+#[derive(Clone, Copy, Debug, PartialEq, Eq)]
+pub enum Mode {
+    /// Machine mode.
+    M,
+    /// Supervisor mode.
+    S,
+    /// User mode.
+    U,
+}
+
+/// What an access does. An AMO or a store-conditional is a store.
+#[derive(Clone, Copy, Debug, PartialEq, Eq)]
+pub enum Kind {
+    Fetch,
+    Load,
+    Store,
+}
+
+/// The most bytes that one access has.
+pub const MAX_LENGTH: u64 = 4096;
+
+/// Physical addresses have 56 bits: no byte address reaches this.
+pub const ADDRESS_LIMIT: u64 = 1 << 56;
+
+/// One access to physical memory, perhaps misaligned. Only `Access::new` makes one outside this crate, since
+/// the ghost fields say that it has a lawful length and ends inside the address space.
+#[derive(Clone, Copy, Debug, PartialEq, Eq)]
+pub struct Access {
+    pub mode: Mode,
+    pub kind: Kind,
+    /// The byte address of its first byte.
+    pub start: u64,
+    /// How many bytes it has.
+    pub length: u64,
+    pub ghost not_empty: { 0 < length },
+    pub ghost not_long: { length ≤ 4096 },
+    pub ghost inside: { start + length ≤ 2 ^ 56 },
+}
+
+/// Why numbers make no access.
+#[derive(Clone, Copy, Debug, PartialEq, Eq)]
+pub enum AccessFault {
+    /// The length is 0 or above 4,096 bytes.
+    BadLength,
+    /// The access would end above `2^56`.
+    PastEnd,
+}
+
+impl Access {
+    ghost use Rattle.pmp_core.specs.Accesses.{access_fault, IsAccess};
+
+    /// The access of `length` bytes from byte address `start` on. The length is tested first.
+    pub fn new(mode: Mode, kind: Kind, start: u64, length: u64) -> Result<Access, AccessFault>
+        ensures made { IfOk result (λ access. (access_fault start length ≡ None) × IsAccess access mode kind start length) }
+        ensures refused { IfErr result (λ fault. access_fault start length ≡ Some fault) }
+    {
+        if length == 0 || length > MAX_LENGTH {
+            return Err(AccessFault::BadLength);
+        }
+        if start > ADDRESS_LIMIT - length {
+            return Err(AccessFault::PastEnd);
+        }
+        Ok(Access {
+            mode,
+            kind,
+            start,
+            length,
+        })
+    }
+}

@@ -1,0 +1,39 @@
+//! What the unit answers.
+
+ghost use Rattle.std.specs.Prelude.{◌≡◌};
+ghost use Rattle.pmp_core.specs.Faults.{fault_of};
+
+use crate::access::{Access, Kind};
+
+/// Why an access was allowed or refused.
+#[derive(Clone, Copy, Debug, PartialEq, Eq, Default)]
+pub enum Cause {
+    /// The entry with this number matches all bytes of the access, and its rule decided.
+    Rule(u8),
+    /// The entry with this number is the first to match a byte, and doesn't match all of them.
+    Split(u8),
+    /// No entry matches any byte.
+    #[default]
+    NoMatch,
+}
+
+/// The answer to an access.
+#[derive(Clone, Copy, Debug, PartialEq, Eq, Default)]
+pub struct Decision {
+    pub allowed: bool,
+    pub cause: Cause,
+}
+
+/// The exception code of a refused access, none where it is allowed (Volume II, table 3.6).
+pub fn fault_code(access: &Access, decision: &Decision) -> Option<u8>
+    ensures { result ≡ fault_of access.now decision.now }
+{
+    if decision.allowed {
+        return None;
+    }
+    match access.kind {
+        Kind::Fetch => Some(1),
+        Kind::Load => Some(5),
+        Kind::Store => Some(7),
+    }
+}
