@@ -1,3 +1,11 @@
 pub mod Accesses
 pub mod Csrs
 pub mod Faults
+pub mod Bytes
+pub mod Registers
+pub mod Matching
+pub mod Rights
+pub mod Deciding
+pub mod Writing
+pub mod Reading
+pub mod Ranges

@@ -5,11 +5,25 @@
 #![tactic(auto)]
 
 mod access;
+mod configuration;
 mod csr;
+mod deciding;
 mod decision;
+mod decoding;
+mod entry;
 mod event;
+pub mod laws;
+mod range;
+mod reading;
+mod register_file;
+mod rights;
+mod writing;
 
 pub use access::{Access, AccessFault, Kind, Mode};
 pub use csr::{Csr, CsrFault};
 pub use decision::{Cause, Decision, fault_code};
 pub use event::Event;
+pub use register_file::{ENTRIES, RegFile};
+
+#[cfg(test)]
+mod tests;

@@ -1,0 +1,118 @@
+-- Every step keeps a register file legal, and as long as it is.
+use Rattle.std.proofs.Common.{◌≡◌, ℕ, ◌-◌, ◌*◌, ◌^◌, ◌%◌, ◌<◌, ◌≤◌, Bool, true, false, cond, not, ◌&&◌, List, length, replicate, slice_index, refl, inl, inr, arith, length-set, get_or-set_other, get_or-set_same}
+use Rattle.std.specs.Int.{w64, to_le_bytes}
+use Rattle.std.proofs.Math.ListN.{set}
+use Rattle.std.proofs.lemmas.Bool.{cases_lt, cases_eq}
+use Rattle.std.proofs.lemmas.List.{get_or_past, get_or-replicate, length-replicate}
+use Rattle.std.proofs.lemmas.List.FromFn.{length-map-range_with_len, get_or-map-range_with_len}
+use Rattle.pmp_core.specs.declared.configuration.Configuration.{Configuration}
+use Rattle.pmp_core.specs.declared.csr.Csr.{Csr}
+use Rattle.pmp_core.specs.declared.csr.Csr.TheVariants.{Cfg, Addr}
+use Rattle.pmp_core.specs.declared.entry.Entry.{Entry}
+use Rattle.pmp_core.specs.declared.event.Event.{Event}
+use Rattle.pmp_core.specs.declared.event.Event.TheVariants.{Write, Reset}
+use Rattle.pmp_core.specs.Bytes.{configuration_of}
+use Rattle.pmp_core.specs.Registers.{RegisterFile, reset_entry, reset_file, entry_at, is_reserved, IsLegal}
+use Rattle.pmp_core.specs.Writing.{without_reserved, stored_over, stored, holds_byte_of, configured, is_address_frozen, written, step}
+
+-- ---- reset
+
+pub reset_at : (n i : ℕ) → entry_at (replicate n reset_entry) i ≡ reset_entry
+reset_at n i = elim (cases_lt i n) [
+  | inl lt ↦ get_or-replicate n i reset_entry reset_entry lt
+  | inr le ↦ get_or_past (replicate n reset_entry) i reset_entry (omega (arith, length-replicate n reset_entry))
+]
+
+pub reset_legal : (n : ℕ) → IsLegal (reset_file n)
+reset_legal n = record {
+  addresses = λ i. rw (reset_at n i) (omega arith);
+  rights = λ off i. rw (reset_at n i) refl;
+}
+
+-- ---- a configuration
+
+-- a reserved combination isn't stored without lockdown
+unreserved : (c : Configuration) → is_reserved (without_reserved c) ≡ false
+unreserved c = by_test (is_reserved c) refl
+  where
+    by_test : (reserved : Bool) → is_reserved c ≡ reserved → is_reserved (without_reserved c) ≡ false
+    by_test true e = rw e refl
+    by_test false e = rw e e
+
+stored_unreserved : (rlb : Bool) (old : Configuration) (byte : ℕ) → is_reserved old ≡ false → is_reserved (stored_over false rlb old byte) ≡ false
+stored_unreserved rlb old byte h =
+    elim (old.locked && not rlb) as (λ kept. is_reserved (cond kept old (without_reserved (configuration_of byte))) ≡ false) [
+      | true ↦ h
+      | false ↦ unreserved (configuration_of byte)
+    ]
+
+-- ---- a write, entry by entry
+
+-- the entries that a write to a configuration register leaves
+pub configured_place : (file : RegisterFile) (q value i : ℕ) → i < length file.entries → entry_at (written file (Cfg q) value) i ≡ configured file q value i
+configured_place file q value i inside = get_or-map-range_with_len (configured file q value) 0 (length file.entries) i i reset_entry inside (omega arith)
+
+pub length-written : (file : RegisterFile) (csr : Csr) (value : ℕ) → length (written file csr value) ≡ length file.entries
+length-written file (Cfg q) value = length-map-range_with_len (configured file q value) 0 (length file.entries)
+length-written file (Addr i) value = elim (is_address_frozen file i) as (λ frozen. length (cond frozen file.entries (set file.entries i (record (entry_at file.entries i) { address = value % 2 ^ 54 }))) ≡ length file.entries) [
+  | true ↦ refl
+  | false ↦ simp length-set
+]
+
+-- what a legal file has at each place
+abbrev IsLegalEntry : Bool → Entry → Type 0
+IsLegalEntry mml entry = (entry.address < 2 ^ 54) × (mml ≡ false → is_reserved entry.configuration ≡ false)
+
+either : (b : Bool) (mml : Bool) (x y : Entry) → IsLegalEntry mml x → IsLegalEntry mml y → IsLegalEntry mml (cond b x y)
+either true mml x y p q = p
+either false mml x y p q = q
+
+reset_entry_legal : (mml : Bool) → IsLegalEntry mml reset_entry
+reset_entry_legal mml = (omega arith, λ off. refl)
+
+module _ (file : RegisterFile) (legal : IsLegal file) where
+  legal_place : (i : ℕ) → IsLegalEntry file.machine_mode_lockdown (entry_at file.entries i)
+  legal_place i = (legal.addresses i, λ off. legal.rights off i)
+
+  configured_legal : (q value i : ℕ) → IsLegalEntry file.machine_mode_lockdown (configured file q value i)
+  configured_legal q value i =
+      let entry = entry_at file.entries i in
+      let byte = slice_index (to_le_bytes w64 value) (i - 4 * q) in
+      let kept : file.machine_mode_lockdown ≡ false → is_reserved (stored file i byte) ≡ false =
+      λ off. rw off (stored_unreserved file.rule_locking_bypass entry.configuration byte (legal.rights off i)) in
+      either (holds_byte_of q i) file.machine_mode_lockdown (record entry { configuration = stored file i byte }) entry (legal.addresses i, kept) (legal_place i)
+
+  past : (entries : List Entry) (i : ℕ) → length entries ≤ i → IsLegalEntry file.machine_mode_lockdown (entry_at entries i)
+  past entries i over = rw (get_or_past entries i reset_entry over) (reset_entry_legal file.machine_mode_lockdown)
+
+  addressed_legal : (j value i : ℕ) → IsLegalEntry file.machine_mode_lockdown (entry_at (set file.entries j (record (entry_at file.entries j) { address = value % 2 ^ 54 })) i)
+  addressed_legal j value i = elim (cases_lt i (length file.entries)) [
+    | inr over ↦ past _ i (simp length-set over)
+    | inl inside ↦ elim (cases_eq i j) [
+      | inl same ↦ let here : j < length file.entries = omega arith in rw same (rw get_or-set_same (omega arith, λ off. legal.rights off j))
+      | inr other ↦ rw get_or-set_other (legal_place i)
+    ]
+  ]
+
+  written_legal : (csr : Csr) (value i : ℕ) → IsLegalEntry file.machine_mode_lockdown (entry_at (written file csr value) i)
+  written_legal (Cfg q) value i = elim (cases_lt i (length file.entries)) [
+    | inl inside ↦ rw (configured_place file q value i inside) (configured_legal q value i)
+    | inr over ↦ past (written file (Cfg q) value) i (omega (arith, length-written file (Cfg q) value))
+  ]
+  written_legal (Addr j) value i =
+      let new = set file.entries j (record (entry_at file.entries j) { address = value % 2 ^ 54 }) in
+      elim (is_address_frozen file j) as (λ frozen. IsLegalEntry file.machine_mode_lockdown (entry_at (cond frozen file.entries new) i)) [
+        | true ↦ legal_place i
+        | false ↦ addressed_legal j value i
+      ]
+
+  pub step_legal : (event : Event) → IsLegal (step file event)
+  step_legal Reset = reset_legal (length file.entries)
+  step_legal (Write csr value) = record {
+    addresses = λ i. (written_legal csr value i).0;
+    rights = λ off i. (written_legal csr value i).1 off;
+  }
+
+pub length-step : (file : RegisterFile) (event : Event) → length (step file event).entries ≡ length file.entries
+length-step file Reset = length-replicate (length file.entries) reset_entry
+length-step file (Write csr value) = length-written file csr value

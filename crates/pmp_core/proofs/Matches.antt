@@ -1,0 +1,39 @@
+-- An entry matches the bytes of its range.
+use Rattle.std.proofs.Common.{◌≡◌, ℕ, suc, ◌+◌, ◌*◌, ◌/◌, ◌^◌, ◌<◌, ◌↔◌, List, sym, ◌∙◌, arith, add-one}
+use Rattle.std.specs.Int.{trailing_ones, w64}
+use Rattle.std.proofs.Math.Pow.{pow_pos}
+use Rattle.pmp_core.specs.declared.configuration.AddressMatching.{AddressMatching}
+use Rattle.pmp_core.specs.declared.configuration.AddressMatching.TheVariants.{Off, Tor, Na4, Napot}
+use Rattle.pmp_core.specs.declared.entry.Entry.{Entry}
+use Rattle.pmp_core.specs.Registers.{HasAddresses}
+use Rattle.pmp_core.specs.Matching.{InNapot, MatchesBy, Matches}
+use Rattle.pmp_core.specs.Ranges.{IsInRange, napot_range, range_by, range_of}
+use Rattle.pmp_core.proofs.Napot.{spelled_once, spelled_by_ones}
+
+in_napot : (address byte : ℕ) → address < 2 ^ 54 → InNapot address byte → IsInRange (napot_range address) byte
+in_napot address byte small h =
+    let ones = trailing_ones w64 address in
+    let one : address + 1 ≡ h.y * 2 ^ suc h.k + 2 ^ h.k = omega (arith, rw add-one at h.spelled, pow_pos h.k) in
+    let same = spelled_once ones h.k (address / 2 ^ suc ones) h.y (sym (spelled_by_ones address small) ∙ one) in
+    rw (add-one, same.1, same.0) (h.from, omega (arith, h.to))
+
+from_napot : (address byte : ℕ) → address < 2 ^ 54 → IsInRange (napot_range address) byte → InNapot address byte
+from_napot address byte small h =
+    let k = trailing_ones w64 address in
+    record {
+      k = k;
+      y = address / 2 ^ (k + 1);
+      spelled = rw add-one (omega (arith, spelled_by_ones address small));
+      from = h.0;
+      to = omega (arith, h.1);
+    }
+
+matched_by : (mode : AddressMatching) (low address byte : ℕ) → address < 2 ^ 54 → MatchesBy mode low address byte ↔ IsInRange (range_by mode low address) byte
+matched_by Off low address byte small = (λ h. absurd h, λ h. omega arith)
+matched_by Tor low address byte small = (λ h. h, λ h. h)
+matched_by Na4 low address byte small = (λ h. h, λ h. h)
+matched_by Napot low address byte small = (in_napot address byte small, from_napot address byte small)
+
+pub matches_range : (entries : List Entry) (i byte : ℕ) → HasAddresses entries → Matches entries i byte ↔ IsInRange (range_of entries i) byte
+unfolding range_of
+matches_range entries i byte small = matched_by _ _ _ byte (small i)

@@ -1,0 +1,31 @@
+-- A configuration byte (Volume II, figure 3.33): L in bit 7, zeros in 6 and 5, A in 4 and 3, X in 2, W in 1, R in 0.
+use Rattle.std.specs.Prelude.{ℕ, ◌+◌, ◌*◌, ◌/◌, ◌%◌, Bool, true, false, ◌==◌, if◌then◌else◌}
+use Rattle.pmp_core.specs.declared.configuration.AddressMatching.{AddressMatching}
+use Rattle.pmp_core.specs.declared.configuration.AddressMatching.TheVariants.{Off, Tor, Na4, Napot}
+use Rattle.pmp_core.specs.declared.configuration.Configuration.{Configuration}
+
+-- the field A (table 3.10)
+abbrev pub matching_of : ℕ → AddressMatching
+matching_of a = if a == 0 then Off else (if a == 1 then Tor else (if a == 2 then Na4 else Napot))
+
+abbrev pub field_of : AddressMatching → ℕ
+field_of Off = 0
+field_of Tor = 1
+field_of Na4 = 2
+field_of Napot = 3
+
+abbrev pub bit_of : Bool → ℕ
+bit_of true = 1
+bit_of false = 0
+
+abbrev pub configuration_of : ℕ → Configuration
+configuration_of byte = record {
+  locked = byte / 128 == 1;
+  matching = matching_of (byte / 8 % 4);
+  execute = byte / 4 % 2 == 1;
+  write = byte / 2 % 2 == 1;
+  read = byte % 2 == 1;
+}
+
+abbrev pub byte_of : Configuration → ℕ
+byte_of c = 128 * bit_of c.locked + 8 * field_of c.matching + 4 * bit_of c.execute + 2 * bit_of c.write + bit_of c.read

@@ -1,0 +1,29 @@
+-- Which bytes an entry matches (Volume II, 3.7.1.1).
+use Rattle.std.specs.Prelude.{◌≡◌, ℕ, zero, suc, ◌+◌, ◌-◌, ◌*◌, ◌^◌, ◌<◌, ◌≤◌, List}
+use Rattle.pmp_core.specs.declared.configuration.AddressMatching.{AddressMatching}
+use Rattle.pmp_core.specs.declared.configuration.AddressMatching.TheVariants.{Off, Tor, Na4, Napot}
+use Rattle.pmp_core.specs.declared.entry.Entry.{Entry}
+use Rattle.pmp_core.specs.Registers.{entry_at}
+
+-- the address register before it, and 0 before the first
+abbrev pub low_address : List Entry → ℕ → ℕ
+low_address entries zero = 0
+low_address entries (suc i) = (entry_at entries i).address
+
+-- the address is y, a zero bit and k one bits; the region is the 2^(k+3) bytes from y * 2^(k+3) on (table 3.11)
+pub record InNapot (address byte : ℕ) : Type 0 where
+  pub k : ℕ
+  pub y : ℕ
+  pub spelled : address ≡ y * 2 ^ (k + 1) + 2 ^ k - 1
+  pub from : y * 2 ^ (k + 3) ≤ byte
+  pub to : byte < (y + 1) * 2 ^ (k + 3)
+
+abbrev pub MatchesBy : AddressMatching → (low address byte : ℕ) → Type 0
+MatchesBy Off low address byte = ⊥
+MatchesBy Tor low address byte = (4 * low ≤ byte) × (byte < 4 * address)
+MatchesBy Na4 low address byte = (4 * address ≤ byte) × (byte < 4 * address + 4)
+MatchesBy Napot low address byte = InNapot address byte
+
+-- entry i matches the byte
+abbrev pub Matches : List Entry → ℕ → ℕ → Type 0
+Matches entries i byte = MatchesBy (entry_at entries i).configuration.matching (low_address entries i) (entry_at entries i).address byte

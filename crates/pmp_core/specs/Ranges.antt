@@ -1,0 +1,58 @@
+-- The same decision computed from the entries' ranges: `laws::decided_by_ranges` says that it is the manual's.
+use Rattle.std.specs.Prelude.{ℕ, suc, ◌+◌, ◌*◌, ◌/◌, ◌^◌, ◌<◌, ◌≤◌, Bool, false, ◌&&◌, nat_le, nat_lt, min, max, if◌then◌else◌, List, [], ◌∷◌, length, map}
+use Rattle.std.specs.List.{range_with_len}
+use Rattle.std.specs.Int.{w64, trailing_ones}
+use Rattle.pmp_core.specs.declared.access.Access.{Access}
+use Rattle.pmp_core.specs.declared.configuration.AddressMatching.{AddressMatching}
+use Rattle.pmp_core.specs.declared.configuration.AddressMatching.TheVariants.{Off, Tor, Na4, Napot}
+use Rattle.pmp_core.specs.declared.decision.Cause.TheVariants.{Rule, Split, NoMatch}
+use Rattle.pmp_core.specs.declared.decision.Decision.{Decision}
+use Rattle.pmp_core.specs.declared.entry.Entry.{Entry}
+use Rattle.pmp_core.specs.declared.range.ByteRange.{ByteRange}
+use Rattle.pmp_core.specs.Registers.{RegisterFile, entry_at}
+use Rattle.pmp_core.specs.Matching.{low_address}
+use Rattle.pmp_core.specs.Rights.{allows, rights, default_rights}
+
+abbrev pub IsInRange : ByteRange → ℕ → Type 0
+IsInRange range byte = (range.start ≤ byte) × (byte < range.end)
+
+abbrev pub napot_range : ℕ → ByteRange
+napot_range address =
+    let k = trailing_ones w64 address in
+    let start = address / 2 ^ (k + 1) * 2 ^ (k + 3) in
+    record { start = start; end = start + 2 ^ (k + 3) }
+
+-- where an entry matches, if any byte at all
+abbrev pub range_by : AddressMatching → (low address : ℕ) → ByteRange
+range_by Off low address = record { start = 0; end = 0 }
+range_by Tor low address = record { start = 4 * low; end = 4 * address }
+range_by Na4 low address = record { start = 4 * address; end = 4 * address + 4 }
+range_by Napot low address = napot_range address
+
+unfoldable pub range_of : List Entry → ℕ → ByteRange
+range_of entries i = range_by (entry_at entries i).configuration.matching (low_address entries i) (entry_at entries i).address
+
+abbrev pub ranges_of : List Entry → List ByteRange
+ranges_of entries = map (range_of entries) (range_with_len 0 (length entries))
+
+abbrev pub is_touched : Access → ByteRange → Bool
+is_touched access range = nat_lt (max range.start access.start) (min range.end (access.start + access.length))
+
+abbrev pub is_covered : Access → ByteRange → Bool
+is_covered access range = nat_le range.start access.start && nat_le (access.start + access.length) range.end
+
+-- what entry i decides, whose range is the first that the access touches
+abbrev pub decision_in : RegisterFile → Access → ℕ → ByteRange → Decision
+decision_in file access i range =
+    if is_covered access range then record { allowed = allows (rights file i access.mode) access.kind; cause = Rule i }
+    else record { allowed = false; cause = Split i }
+
+-- the decision by the ranges, the first of which is that of entry i
+unfoldable pub decision_from : RegisterFile → Access → ℕ → List ByteRange → Decision
+decision_from file access i [] = record { allowed = allows (default_rights file access.mode) access.kind; cause = NoMatch }
+decision_from file access i (range ∷ ranges) =
+    if is_touched access range then decision_in file access i range
+    else decision_from file access (suc i) ranges
+
+unfoldable pub decision_of : RegisterFile → Access → Decision
+decision_of file access = decision_from file access 0 (ranges_of file.entries)

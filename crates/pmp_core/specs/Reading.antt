@@ -1,0 +1,19 @@
+-- What a register reads (Volume II, 3.7.1).
+use Rattle.std.specs.Prelude.{ℕ, ◌+◌, ◌*◌, ◌%◌, ◌==◌, if◌then◌else◌, List, map}
+use Rattle.std.specs.List.{range_with_len}
+use Rattle.std.specs.Int.{w64, from_le_bytes}
+use Rattle.pmp_core.specs.declared.csr.Csr.{Csr}
+use Rattle.pmp_core.specs.declared.csr.Csr.TheVariants.{Cfg, Addr}
+use Rattle.pmp_core.specs.declared.entry.Entry.{Entry}
+use Rattle.pmp_core.specs.Bytes.{byte_of}
+use Rattle.pmp_core.specs.Registers.{RegisterFile, entry_at}
+
+-- the bytes of the eight entries from the first on, that one's lowest
+unfoldable pub configuration_word : List Entry → ℕ → ℕ
+configuration_word entries first =
+    from_le_bytes w64 (map (λ j. byte_of (entry_at entries (first + j)).configuration) (range_with_len 0 8))
+
+-- zero where the register holds nothing of an entry
+abbrev pub register_value : RegisterFile → Csr → ℕ
+register_value file (Cfg q) = if q % 2 == 0 then configuration_word file.entries (4 * q) else 0
+register_value file (Addr i) = (entry_at file.entries i).address

@@ -1,0 +1,88 @@
+-- What a rule allows, and what is allowed where no rule decides (Volume II, 3.7.1.2, 3.7.1.3 and Smepmp).
+use Rattle.std.specs.Prelude.{ℕ, Bool, true, false}
+use Rattle.pmp_core.specs.declared.access.Mode.{Mode}
+use Rattle.pmp_core.specs.declared.access.Mode.TheVariants.{M, S, U}
+use Rattle.pmp_core.specs.declared.access.Kind.{Kind}
+use Rattle.pmp_core.specs.declared.access.Kind.TheVariants.{Fetch, Load, Store}
+use Rattle.pmp_core.specs.declared.configuration.Configuration.{Configuration}
+use Rattle.pmp_core.specs.Registers.{RegisterFile, entry_at}
+
+pub record Rights : Type 0 where
+  pub read : Bool
+  pub write : Bool
+  pub execute : Bool
+
+-- R for a load, W for a store, X for a fetch
+abbrev pub allows : Rights → Kind → Bool
+allows rights Load = rights.read
+allows rights Store = rights.write
+allows rights Fetch = rights.execute
+
+abbrev pub nothing : Rights
+nothing = record { read = false; write = false; execute = false }
+
+abbrev pub x_only : Rights
+x_only = record { read = false; write = false; execute = true }
+
+abbrev pub r_only : Rights
+r_only = record { read = true; write = false; execute = false }
+
+abbrev pub rx : Rights
+rx = record { read = true; write = false; execute = true }
+
+abbrev pub rw : Rights
+rw = record { read = true; write = true; execute = false }
+
+abbrev pub rwx : Rights
+rwx = record { read = true; write = true; execute = true }
+
+-- the first of the two for machine mode, the second for the others
+abbrev pub for_mode : Rights → Rights → Mode → Rights
+for_mode machine others M = machine
+for_mode machine others S = others
+for_mode machine others U = others
+
+-- the bits R, W and X themselves
+abbrev pub bits_of : Configuration → Rights
+bits_of c = record { read = c.read; write = c.write; execute = c.execute }
+
+-- without lockdown: an unlocked rule doesn't bind machine mode
+abbrev pub plain_rights : (locked : Bool) → Rights → Mode → Rights
+plain_rights false bits = for_mode rwx bits
+plain_rights true bits = for_mode bits bits
+
+-- with lockdown: L, R, W, X, and then what machine mode and what the others may do
+abbrev pub lockdown_rights : (l r w x : Bool) → Mode → Rights
+lockdown_rights false false false false = for_mode nothing nothing
+lockdown_rights false false false true = for_mode nothing x_only
+lockdown_rights false false true false = for_mode rw r_only
+lockdown_rights false false true true = for_mode rw rw
+lockdown_rights false true false false = for_mode nothing r_only
+lockdown_rights false true false true = for_mode nothing rx
+lockdown_rights false true true false = for_mode nothing rw
+lockdown_rights false true true true = for_mode nothing rwx
+lockdown_rights true false false false = for_mode nothing nothing
+lockdown_rights true false false true = for_mode x_only nothing
+lockdown_rights true false true false = for_mode x_only x_only
+lockdown_rights true false true true = for_mode rx x_only
+lockdown_rights true true false false = for_mode r_only nothing
+lockdown_rights true true false true = for_mode rx nothing
+lockdown_rights true true true false = for_mode rw nothing
+lockdown_rights true true true true = for_mode r_only r_only
+
+-- what a rule allows the mode, by MML
+abbrev pub rule_rights : (mml : Bool) → Configuration → Mode → Rights
+rule_rights false c = plain_rights c.locked (bits_of c)
+rule_rights true c = lockdown_rights c.locked c.read c.write c.execute
+
+abbrev pub rights : RegisterFile → ℕ → Mode → Rights
+rights file i = rule_rights file.machine_mode_lockdown (entry_at file.entries i).configuration
+
+-- where no entry matches, by MML and MMWP
+abbrev pub unmatched_rights : (mml mmwp : Bool) → Mode → Rights
+unmatched_rights false false = for_mode rwx nothing
+unmatched_rights true false = for_mode rw nothing
+unmatched_rights _ true = for_mode nothing nothing
+
+abbrev pub default_rights : RegisterFile → Mode → Rights
+default_rights file = unmatched_rights file.machine_mode_lockdown file.machine_mode_allowlist

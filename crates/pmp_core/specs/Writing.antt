@@ -1,0 +1,80 @@
+-- What a write to a register leaves (Volume II, 3.7.1, 3.7.1.2 and Smepmp).
+use Rattle.std.specs.Prelude.{ℕ, suc, ◌+◌, ◌-◌, ◌*◌, ◌%◌, ◌^◌, Bool, true, false, not, ◌&&◌, ◌||◌, ◌==◌, nat_le, nat_lt, if◌then◌else◌, List, length, map, fold, slice_index, slice_set}
+use Rattle.std.specs.List.{range_with_len}
+use Rattle.std.specs.Int.{w64, to_le_bytes}
+use Rattle.pmp_core.specs.declared.configuration.AddressMatching.{AddressMatching}
+use Rattle.pmp_core.specs.declared.configuration.AddressMatching.TheVariants.{Off, Tor, Na4, Napot}
+use Rattle.pmp_core.specs.declared.configuration.Configuration.{Configuration}
+use Rattle.pmp_core.specs.declared.csr.Csr.{Csr}
+use Rattle.pmp_core.specs.declared.csr.Csr.TheVariants.{Cfg, Addr}
+use Rattle.pmp_core.specs.declared.entry.Entry.{Entry}
+use Rattle.pmp_core.specs.declared.event.Event.{Event}
+use Rattle.pmp_core.specs.declared.event.Event.TheVariants.{Write, Reset}
+use Rattle.pmp_core.specs.Bytes.{configuration_of}
+use Rattle.pmp_core.specs.Registers.{RegisterFile, reset_file, entry_at, is_frozen, is_reserved}
+
+-- a reserved combination is stored as no rights at all
+abbrev pub without_reserved : Configuration → Configuration
+without_reserved c = if is_reserved c then record c { read = false; write = false; execute = false } else c
+
+-- the combinations L R W X that no write adds under lockdown: rules by which machine mode executes, and shared ones
+abbrev pub is_barred : (l r w x : Bool) → Bool
+is_barred true false false true = true
+is_barred true false true false = true
+is_barred true false true true = true
+is_barred true true false true = true
+is_barred _ _ _ _ = false
+
+-- what is stored of a new configuration over the old one, by MML and RLB
+abbrev pub admitted : (mml rlb : Bool) → (old new : Configuration) → Configuration
+admitted false _ old new = without_reserved new
+admitted true false old new = if is_barred new.locked new.read new.write new.execute then old else new
+admitted true true old new = new
+
+-- what a byte leaves over the configuration that was there, by MML and RLB
+abbrev pub stored_over : (mml rlb : Bool) → Configuration → ℕ → Configuration
+stored_over mml rlb old byte = if old.locked && not rlb then old else admitted mml rlb old (configuration_of byte)
+
+-- entry i's configuration after the byte is written to it
+abbrev pub stored : RegisterFile → ℕ → ℕ → Configuration
+stored file i = stored_over file.machine_mode_lockdown file.rule_locking_bypass (entry_at file.entries i).configuration
+
+-- pmpcfg q holds the bytes of the eight entries from 4q on, where q is even
+abbrev pub holds_byte_of : (q i : ℕ) → Bool
+holds_byte_of q i = q % 2 == 0 && nat_le (4 * q) i && nat_lt i (4 * q + 8)
+
+-- entry i after pmpcfg q is written, the lowest byte for the lowest entry
+abbrev pub configured : RegisterFile → (q value i : ℕ) → Entry
+configured file q value i =
+    let entry = entry_at file.entries i in
+    if holds_byte_of q i then record entry { configuration = stored file i (slice_index (to_le_bytes w64 value) (i - 4 * q)) }
+    else entry
+
+abbrev pub is_tor : AddressMatching → Bool
+is_tor Off = false
+is_tor Tor = true
+is_tor Na4 = false
+is_tor Napot = false
+
+-- a frozen entry freezes its own address register, and as top of a range the one before it
+abbrev pub is_address_frozen : RegisterFile → ℕ → Bool
+is_address_frozen file i = is_frozen file i || (is_frozen file (suc i) && is_tor (entry_at file.entries (suc i)).configuration.matching)
+
+-- the entries after pmpaddr i is written
+abbrev pub addressed : RegisterFile → (i value : ℕ) → List Entry
+addressed file i value =
+    if is_address_frozen file i then file.entries
+    else slice_set file.entries i (record (entry_at file.entries i) { address = value % 2 ^ 54 })
+
+abbrev pub written : RegisterFile → Csr → ℕ → List Entry
+written file (Cfg q) value = map (configured file q value) (range_with_len 0 (length file.entries))
+written file (Addr i) value = addressed file i value
+
+-- one step; a reset keeps the number of entries
+abbrev pub step : RegisterFile → Event → RegisterFile
+step file Reset = reset_file (length file.entries)
+step file (Write csr value) = record file { entries = written file csr value }
+
+-- a whole history, from reset
+abbrev pub replay : ℕ → List Event → RegisterFile
+replay n = fold step (reset_file n)

@@ -1,0 +1,48 @@
+//! Decisions, by the entries' ranges.
+
+ghost use Rattle.std.specs.Prelude.{◌≡◌, ◌<◌, ◌≤◌, length};
+ghost use Rattle.pmp_core.specs.Registers.{without_smepmp, entry_at};
+ghost use Rattle.pmp_core.specs.Ranges.{ranges_of, decision_in, decision_of};
+
+use crate::access::Access;
+use crate::decision::{Cause, Decision};
+use crate::entry::Entry;
+use crate::range::ByteRange;
+use crate::rights::{is_allowed_by, is_allowed_unmatched};
+
+/// The decision of the entry whose range is the first that the access touches.
+fn decide_in(entries: &[Entry], index: usize, range: &ByteRange, access: &Access) -> Decision
+    requires index { index < length entries.now }
+    requires few { length entries.now ≤ 256 }
+    ensures { result ≡ decision_in (without_smepmp entries.now) access.now index range.now }
+{
+    let number = index as u8;
+    if range.is_covered(access) {
+        Decision {
+            allowed: is_allowed_by(&entries[index].configuration, access),
+            cause: Cause::Rule(number),
+        }
+    } else {
+        Decision {
+            allowed: false,
+            cause: Cause::Split(number),
+        }
+    }
+}
+
+/// The unit's decision, where these are the ranges of these entries.
+pub fn decide(entries: &[Entry], ranges: &[ByteRange], access: &Access) -> Decision
+    requires decoded { ranges.now ≡ ranges_of entries.now }
+    requires few { length entries.now ≤ 256 }
+    ensures { result ≡ decision_of (without_smepmp entries.now) access.now }
+{
+    for (index, range) in ranges.iter().enumerate() {
+        if range.is_touched(access) {
+            return decide_in(entries, index, range, access);
+        }
+    }
+    Decision {
+        allowed: is_allowed_unmatched(access),
+        cause: Cause::NoMatch,
+    }
+}

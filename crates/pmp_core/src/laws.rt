@@ -1,0 +1,26 @@
+//! Laws of the definitions, each the contract of a function that does nothing.
+
+ghost use Rattle.std.specs.Prelude.{◌≡◌, ℕ, ◌<◌, List, length};
+ghost use Rattle.pmp_core.specs.declared.access.Access.{Access};
+ghost use Rattle.pmp_core.specs.declared.decision.Decision.{Decision};
+ghost use Rattle.pmp_core.specs.declared.entry.Entry.{Entry};
+ghost use Rattle.pmp_core.specs.Registers.{RegisterFile, HasAddresses};
+ghost use Rattle.pmp_core.specs.Matching.{Matches};
+ghost use Rattle.pmp_core.specs.Deciding.{IsDecision};
+ghost use Rattle.pmp_core.specs.Ranges.{decision_of};
+
+/// What is computed from the entries' ranges is the manual's decision.
+pub fn law_decided_by_ranges()
+    ensures { (file : RegisterFile) (access : Access) → HasAddresses file.entries → IsDecision file access (decision_of file access) }
+{}
+
+/// The manual decides an access in one way.
+pub fn law_one_decision()
+    ensures { (file : RegisterFile) (access : Access) (one other : Decision) →
+        IsDecision file access one → IsDecision file access other → one ≡ other }
+{}
+
+/// Only an entry of the file matches a byte.
+pub fn law_matching_entry()
+    ensures { (entries : List Entry) (i byte : ℕ) → Matches entries i byte → i < length entries }
+{}

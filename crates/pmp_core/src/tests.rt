@@ -1,0 +1,184 @@
+//! Worked examples, and the decision read off byte by byte.
+
+ghost use Rattle.std.specs.Prelude.{◌≡◌, length};
+
+use super::*;
+
+/// The values that registers read after events from reset, as the manual's rules give them.
+#[test]
+fn registers_read_what_was_stored(rt: HostRuntime) {
+    let addr0 = |value| Event::Write(Csr::Addr(0), value);
+    let addr1 = |value| Event::Write(Csr::Addr(1), value);
+    let cfg0 = |value| Event::Write(Csr::Cfg(0), value);
+    let cases: [([Event; 4], Csr, u64); 8] = [
+        // Bits 63 to 54 of an address register read as zero.
+        (
+            [addr0(u64::MAX), cfg0(0x19), cfg0(0x19), cfg0(0x19)],
+            Csr::Addr(0),
+            0x003f_ffff_ffff_ffff,
+        ),
+        // The low end of a locked range keeps its address.
+        (
+            [addr0(0x10), addr1(0x20), cfg0(0x8900), addr0(0)],
+            Csr::Addr(0),
+            0x10,
+        ),
+        // The same with the range unlocked.
+        (
+            [addr0(0x10), addr1(0x20), cfg0(0x0900), addr0(0)],
+            Csr::Addr(0),
+            0,
+        ),
+        // The reserved W without R is stored as no right.
+        (
+            [cfg0(0x1a), cfg0(0x1a), cfg0(0x1a), cfg0(0x1a)],
+            Csr::Cfg(0),
+            0x18,
+        ),
+        // L locks an entry that is off.
+        ([cfg0(0x80), addr0(5), addr0(6), addr0(7)], Csr::Addr(0), 0),
+        // Bits 6 and 5 of a configuration byte read as zero.
+        (
+            [cfg0(0x7f), cfg0(0x60ff), cfg0(0x60ff), cfg0(0x60ff)],
+            Csr::Cfg(0),
+            0x009f,
+        ),
+        // Only the frozen byte of a write stays.
+        (
+            [cfg0(0x80), cfg0(0x0f0f), cfg0(0x0f0f), cfg0(0x0f0f)],
+            Csr::Cfg(0),
+            0x0f80,
+        ),
+        (
+            [cfg0(0x80), addr1(7), Event::Reset, addr1(9)],
+            Csr::Addr(1),
+            9,
+        ),
+    ];
+    for (events, csr, value) in cases {
+        let mut file = RegFile::reset();
+        file.run_events(&events);
+        assert_eq!(rt; file.read(csr), value, "{csr:?} after {events:?}");
+    }
+}
+
+/// Registers that the unit lacks read zero and take no write.
+#[test]
+fn other_registers_change_nothing(rt: HostRuntime) {
+    for csr in [
+        Csr::Cfg(1),
+        Csr::Cfg(4),
+        Csr::Cfg(14),
+        Csr::Cfg(255),
+        Csr::Addr(16),
+        Csr::Addr(255),
+    ] {
+        let mut file = RegFile::reset();
+        file.step(Event::Write(csr, u64::MAX));
+        assert_eq!(rt; file, RegFile::reset(), "after a write of {csr:?}");
+        assert_eq!(rt; file.read(csr), 0, "{csr:?}");
+    }
+}
+
+/// The second register holds the entries from 8 on.
+#[test]
+fn bytes_go_to_their_entries(rt: HostRuntime) {
+    let mut file = RegFile::reset();
+    file.step(Event::Write(Csr::Cfg(2), 0x8f00_0000_0000_0019));
+    assert_eq!(rt; file.read(Csr::Cfg(2)), 0x8f00_0000_0000_0019);
+    assert_eq!(rt; file.read(Csr::Cfg(0)), 0);
+    for (entry, locked) in [(0, false), (8, false), (14, false), (15, true)] {
+        assert_eq!(rt; file.is_locked(entry), locked, "entry {entry}");
+    }
+}
+
+#[test]
+fn csr_numbers(rt: HostRuntime) {
+    for (number, register) in [
+        (0x39f, Err(CsrFault::NotPmp)),
+        (0x3a0, Ok(Csr::Cfg(0))),
+        (0x3a1, Err(CsrFault::OddCfg)),
+        (0x3ae, Ok(Csr::Cfg(14))),
+        (0x3af, Err(CsrFault::OddCfg)),
+        (0x3b0, Ok(Csr::Addr(0))),
+        (0x3ef, Ok(Csr::Addr(63))),
+        (0x3f0, Err(CsrFault::NotPmp)),
+        (0x747, Err(CsrFault::NotPmp)),
+    ] {
+        assert_eq!(rt; Csr::from_number(number), register, "{number:#x}");
+    }
+}
+
+#[test]
+fn accesses_have_a_lawful_length_and_end(rt: HostRuntime) {
+    let last = (1 << 56) - 1;
+    for (start, length, fault) in [
+        (0, 0, Some(AccessFault::BadLength)),
+        (u64::MAX, 0, Some(AccessFault::BadLength)),
+        (0, 1, None),
+        (0, 4096, None),
+        (0, 4097, Some(AccessFault::BadLength)),
+        (last, 1, None),
+        (last, 2, Some(AccessFault::PastEnd)),
+        (u64::MAX, 4096, Some(AccessFault::PastEnd)),
+    ] {
+        let access = Access::new(Mode::U, Kind::Load, start, length);
+        assert_eq!(rt; access.err(), fault, "{length} bytes from {start:#x}");
+    }
+}
+
+/// What the unit should decide, read off the bytes one by one.
+fn cause_by_bytes(file: &RegFile, access: &Access) -> Cause
+    requires { length file.now.entries ≡ 16 }
+{
+    for entry in 0..16 {
+        let mut some = false;
+        let mut all = true;
+        for byte in access.start..access.start + access.length {
+            let matches = file.matches(entry, byte);
+            some = some || matches;
+            all = all && matches;
+        }
+        if all {
+            return Cause::Rule(entry);
+        }
+        if some {
+            return Cause::Split(entry);
+        }
+    }
+    Cause::NoMatch
+}
+
+/// Overlapping, nested, empty and inverted regions of all four kinds below byte 64.
+const SMALL_FILES: [(u64, [u64; 5]); 5] = [
+    (0x0000_0000_0000_0000, [4, 8, 12, 15, 3]),
+    (0x0000_001f_1b19_1117, [4, 5, 2, 7, 15]),
+    (0x0000_000f_0909_0b0c, [2, 9, 4, 4, 12]),
+    (0x0000_0098_8f91_0f9f, [1, 6, 6, 3, 0]),
+    (0x0000_0009_1100_0b17, [3, 11, 2, 14, 15]),
+];
+
+#[test]
+fn decisions_agree_with_the_bytes(rt: HostRuntime) {
+    for (configuration, addresses) in SMALL_FILES {
+        let mut file = RegFile::reset();
+        file.run_events(&[
+            Event::Write(Csr::Addr(0), addresses[0]),
+            Event::Write(Csr::Addr(1), addresses[1]),
+            Event::Write(Csr::Addr(2), addresses[2]),
+            Event::Write(Csr::Addr(3), addresses[3]),
+            Event::Write(Csr::Addr(4), addresses[4]),
+            Event::Write(Csr::Cfg(0), configuration),
+        ]);
+        for start in 0..72 {
+            for length in 1..20 {
+                let Ok(access) = Access::new(Mode::U, Kind::Load, start, length) else {
+                    continue;
+                };
+                let decision = file.decide(&access);
+                let cause = cause_by_bytes(&file, &access);
+                assert_eq!(rt; decision.cause, cause, "{configuration:#x}: {access:?}");
+            }
+        }
+    }
+}
