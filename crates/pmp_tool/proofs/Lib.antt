@@ -1,0 +1,7 @@
+pub mod Cuts
+pub mod Digits
+pub mod Leasts
+pub mod Lefts
+pub mod Meanings
+pub mod Transfers
+pub mod Replaying

@@ -1,0 +1,15 @@
+-- How a fault of a layer below is answered.
+use Rattle.std.specs.Prelude.{ℕ}
+use Rattle.pmp_tool.specs.declared.script.ScriptFault.{ScriptFault}
+use Rattle.pmp_tool.specs.declared.script.ScriptKind.{ScriptKind}
+use Rattle.pmp_tool.specs.declared.script.ScriptKind.TheVariants as kind
+use Rattle.pmp_tool.specs.declared.check.AuditFault.{AuditFault}
+use Rattle.pmp_tool.specs.declared.check.AuditFault.TheVariants.{Script, Memory}
+
+-- want of memory is the same in every layer
+abbrev pub answered_as : ScriptKind → ScriptFault → AuditFault
+answered_as kind.Memory fault = Memory
+answered_as _ fault = Script fault
+
+abbrev pub fault_answered : ScriptFault → AuditFault
+fault_answered fault = answered_as fault.kind fault

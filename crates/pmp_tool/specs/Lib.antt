@@ -1,0 +1,16 @@
+pub mod Answers
+pub mod Bytes
+pub mod Checks
+pub mod Faults
+pub mod Lines
+pub mod Names
+pub mod Numbers
+pub mod Outcomes
+pub mod Progress
+pub mod Refusals
+pub mod Replays
+pub mod Reports
+pub mod Scripts
+pub mod Statements
+pub mod Views
+pub mod Words

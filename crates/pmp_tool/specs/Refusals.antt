@@ -1,0 +1,77 @@
+-- What the program says of a refusal.
+use Rattle.std.specs.Prelude.{ℕ, List, ◌++◌, Option, Some, None, codes, decimal}
+use Rattle.pmp_core.specs.declared.access.AccessFault.{AccessFault}
+use Rattle.pmp_core.specs.declared.access.AccessFault.TheVariants as access
+use Rattle.pmp_tool.specs.declared.input.InputFault.{InputFault}
+use Rattle.pmp_tool.specs.declared.input.InputFault.TheVariants as input
+use Rattle.pmp_tool.specs.declared.script.ScriptKind.{ScriptKind}
+use Rattle.pmp_tool.specs.declared.script.ScriptKind.TheVariants as script
+use Rattle.pmp_tool.specs.declared.refusal.Refusal.{Refusal}
+use Rattle.pmp_tool.specs.declared.refusal.Refusal.TheVariants.{BadLength, PastEnd, BadVersion, BadLine, BadName, OddCfg, BadNumber, BatchFull, Unpublished, TooLong, BadWord, Memory, Input, Output}
+
+abbrev pub number_of : Refusal → ℕ
+number_of BadLength = 3
+number_of PastEnd = 4
+number_of BadVersion = 10
+number_of BadLine = 11
+number_of BadName = 12
+number_of OddCfg = 13
+number_of BadNumber = 14
+number_of BatchFull = 15
+number_of Unpublished = 16
+number_of TooLong = 17
+number_of BadWord = 24
+number_of Memory = 40
+number_of Input = 41
+number_of Output = 42
+
+abbrev pub name_of : Refusal → List ℕ
+name_of BadLength = codes "BadLength"
+name_of PastEnd = codes "PastEnd"
+name_of BadVersion = codes "BadVersion"
+name_of BadLine = codes "BadLine"
+name_of BadName = codes "BadName"
+name_of OddCfg = codes "OddCfg"
+name_of BadNumber = codes "BadNumber"
+name_of BatchFull = codes "BatchFull"
+name_of Unpublished = codes "Unpublished"
+name_of TooLong = codes "TooLong"
+name_of BadWord = codes "BadWord"
+name_of Memory = codes "Memory"
+name_of Input = codes "Input"
+name_of Output = codes "Output"
+
+-- 3 where memory, input or output failed, and else 2
+abbrev pub status_of : Refusal → ℕ
+status_of Memory = 3
+status_of Input = 3
+status_of Output = 3
+status_of _ = 2
+
+abbrev pub refusal_text : Refusal → List ℕ
+refusal_text refusal = decimal (number_of refusal) ++ (codes " " ++ name_of refusal)
+
+-- with the script's line, where it is known
+abbrev pub fault_text : Refusal → Option ℕ → List ℕ
+fault_text refusal None = codes "pmp: refused " ++ refusal_text refusal
+fault_text refusal (Some line) = codes "pmp: script line " ++ (decimal line ++ (codes ": refused " ++ refusal_text refusal))
+
+abbrev pub refusal_of_access : AccessFault → Refusal
+refusal_of_access access.BadLength = BadLength
+refusal_of_access access.PastEnd = PastEnd
+
+abbrev pub refusal_of_input : InputFault → Refusal
+refusal_of_input input.TooLong = TooLong
+refusal_of_input input.Input = Input
+refusal_of_input input.Memory = Memory
+
+abbrev pub refusal_of_script : ScriptKind → Refusal
+refusal_of_script script.BadVersion = BadVersion
+refusal_of_script script.BadLine = BadLine
+refusal_of_script script.BadName = BadName
+refusal_of_script script.OddCfg = OddCfg
+refusal_of_script script.BadNumber = BadNumber
+refusal_of_script script.BatchFull = BatchFull
+refusal_of_script script.Unpublished = Unpublished
+refusal_of_script script.TooLong = TooLong
+refusal_of_script script.Memory = Memory

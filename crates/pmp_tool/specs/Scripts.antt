@@ -1,0 +1,124 @@
+-- What a script means: its publications, or its fault.
+use Rattle.std.specs.Prelude.{ℕ, ◌+◌, List, [], ◌∷◌, length, map, filter, filter_map, find, Bool, true, false, not, ◌&&◌, ◌==◌, Option, Some, None, Result, Ok, Err, is_some, option_map, nat_lt, codes, bytes_eq, slice_index, if◌then◌else◌}
+use Rattle.std.specs.List.{slice_split}
+use Rattle.pmp_core.specs.declared.event.Event.{Event}
+use Rattle.pmp_tool.specs.declared.script.ScriptKind.{ScriptKind}
+use Rattle.pmp_tool.specs.declared.script.ScriptKind.TheVariants.{BadVersion, BatchFull, Unpublished, TooLong}
+use Rattle.pmp_tool.specs.declared.script.ScriptFault.{ScriptFault}
+use Rattle.pmp_tool.specs.declared.statement.Statement.{Statement}
+use Rattle.pmp_tool.specs.declared.statement.Statement.TheVariants as statement
+use Rattle.pmp_tool.specs.Lines.{words, lines}
+use Rattle.pmp_tool.specs.Statements.{statement_of}
+
+-- a line with its number in the text
+pub record Line : Type 0 where
+  pub number : ℕ
+  pub words : List (List ℕ)
+
+abbrev pub numbered_from : ℕ → List (List ℕ) → List Line
+numbered_from number [] = []
+numbered_from number (line ∷ more) = record { number = number; words = words line } ∷ numbered_from (number + 1) more
+
+-- a line counts where it has a word, and the first one doesn't begin with `#`
+abbrev pub counts : List (List ℕ) → Bool
+counts [] = false
+counts (word ∷ more) = not (slice_index word 0 == 35)
+
+-- the significant lines of a text whose first line has this number
+unfoldable pub significant_from : ℕ → List ℕ → List Line
+significant_from number text = filter (λ line. counts line.words) (numbered_from number (lines text))
+
+abbrev pub significant_lines : List ℕ → List Line
+significant_lines text = significant_from 1 text
+
+-- ---- faults
+
+-- the first significant line has the words `pmp` and `1`
+unfoldable pub is_version : List (List ℕ) → Bool
+is_version (name ∷ version ∷ []) = bytes_eq name (codes "pmp") && bytes_eq version (codes "1")
+is_version _ = false
+
+abbrev pub counted : Result Statement ScriptKind → ℕ → ℕ
+counted (Ok (statement.Event event)) count = count + 1
+counted (Ok statement.Publish) count = 0
+counted (Err kind) count = count
+
+-- how many event lines stand since the last `publish`, from the nearest line back
+abbrev pub open_events : List Line → ℕ
+open_events [] = 0
+open_events (line ∷ before) = counted (statement_of line.words) (open_events before)
+
+-- a line that says nothing has its own fault, and an event is one too many where 64 are open
+abbrev pub statement_fault : (count : ℕ) → Result Statement ScriptKind → Option ScriptKind
+statement_fault count (Err kind) = Some kind
+statement_fault count (Ok statement.Publish) = None
+statement_fault count (Ok (statement.Event event)) = if nat_lt count 64 then None else Some BatchFull
+
+-- the fault of a significant line behind these significant lines, the nearest first
+abbrev pub line_fault : (before : List Line) → Line → Option ScriptKind
+line_fault [] line = if is_version line.words then None else Some BadVersion
+line_fault (last ∷ before) line = statement_fault (open_events (last ∷ before)) (statement_of line.words)
+
+abbrev pub at_line : ℕ → ScriptKind → ScriptFault
+at_line number kind = record { kind = kind; line = number }
+
+abbrev pub or_later : Option ScriptFault → Option ScriptFault → Option ScriptFault
+or_later (Some fault) later = Some fault
+or_later None later = later
+
+-- the fault of the first line that has one
+abbrev pub first_fault : (before : List Line) → List Line → Option ScriptFault
+first_fault before [] = None
+first_fault before (line ∷ more) = or_later (option_map (at_line line.number) (line_fault before line)) (first_fault (line ∷ before) more)
+
+-- ---- publications
+
+abbrev pub event_in : Result Statement ScriptKind → Option Event
+event_in (Ok (statement.Event event)) = Some event
+event_in (Ok statement.Publish) = None
+event_in (Err kind) = None
+
+abbrev pub event_of : Line → Option Event
+event_of line = event_in (statement_of line.words)
+
+abbrev pub publishes : Result Statement ScriptKind → Bool
+publishes (Ok (statement.Event event)) = false
+publishes (Ok statement.Publish) = true
+publishes (Err kind) = false
+
+abbrev pub is_publish : Line → Bool
+is_publish line = publishes (statement_of line.words)
+
+abbrev pub but_last : {X : Type 0} → List X → List X
+but_last [] = []
+but_last (x ∷ []) = []
+but_last (x ∷ next ∷ more) = x ∷ but_last (next ∷ more)
+
+abbrev pub last_piece : List (List Line) → List Line
+last_piece [] = []
+last_piece (piece ∷ []) = piece
+last_piece (piece ∷ next ∷ more) = last_piece (next ∷ more)
+
+-- the publications are the events between `publish` lines
+abbrev pub publications : List Line → List (List Event)
+publications lines = map (filter_map event_of) (but_last (slice_split is_publish lines))
+
+-- the line of the first event behind the last `publish`
+abbrev pub first_unpublished : List Line → Option ℕ
+first_unpublished lines = option_map (λ line. line.number) (find (λ line. is_some (event_of line)) (last_piece (slice_split is_publish lines)))
+
+-- ---- the meaning
+
+-- faults of lines come before events that are never published
+abbrev pub judged : Option ScriptFault → Option ℕ → List (List Event) → Result (List (List Event)) ScriptFault
+judged (Some fault) unpublished batches = Err fault
+judged None (Some number) batches = Err (at_line number Unpublished)
+judged None None batches = Ok batches
+
+abbrev pub lines_meaning : List Line → Result (List (List Event)) ScriptFault
+lines_meaning [] = Err (at_line 1 BadVersion)
+lines_meaning (version ∷ more) = judged (first_fault [] (version ∷ more)) (first_unpublished more) (publications more)
+
+-- a text above 1,048,576 bytes is not looked at
+unfoldable pub script_meaning : List ℕ → Result (List (List Event)) ScriptFault
+script_meaning text = if nat_lt 1048576 (length text) then Err (at_line 0 TooLong) else lines_meaning (significant_lines text)

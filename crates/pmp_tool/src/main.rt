@@ -1,0 +1,60 @@
+//! The command `pmp`, which decides accesses to physical memory as the PMP unit of one RV64 hart does.
+#![tactic(auto)]
+
+mod check;
+mod input;
+mod inputs;
+mod laws;
+mod lines;
+mod numbers;
+mod output;
+mod progress;
+mod refusal;
+mod registers;
+mod report;
+mod run;
+mod script;
+mod script_reader;
+mod significant;
+mod statement;
+mod words;
+
+use inputs::SystemInputs;
+use refusal::{FaultLine, Refusal};
+use run::run_tool;
+use std::env;
+use std::io::ErrorKind;
+use std::process::ExitCode;
+
+fn main(rt: HostRuntime) -> ExitCode {
+    let words = match arguments(&rt) {
+        Ok(words) => words,
+        Err(refusal) => {
+            let _ = eprintln!(rt; "{}", FaultLine::from(refusal));
+            return ExitCode::from(refusal.status());
+        }
+    };
+    let mut inputs = SystemInputs::new(&rt);
+    ExitCode::from(run_tool(
+        rt.alloc(),
+        &words,
+        &mut inputs,
+        &mut rt.stdout(),
+        &mut rt.stderr(),
+    ))
+}
+
+/// The program's words. One that is no text is a bad word.
+fn arguments(rt: &HostRuntime) -> Result<Vec<String>, Refusal> {
+    let arguments = env::args(rt).map_err(|fault| match fault.kind() {
+        ErrorKind::OutOfMemory => Refusal::Memory,
+        _ => Refusal::BadWord,
+    })?;
+    arguments
+        .skip(1)
+        .collect(rt.alloc())
+        .map_err(|_| Refusal::Memory)
+}
+
+#[cfg(test)]
+mod tests;
