@@ -11,7 +11,8 @@ use Rattle.pmp_core.specs.declared.decision.Decision.{Decision}
 use Rattle.pmp_core.specs.declared.entry.Entry.{Entry}
 use Rattle.pmp_core.specs.declared.range.ByteRange.{ByteRange}
 use Rattle.pmp_core.specs.Registers.{RegisterFile, reset_entry, HasAddresses}
-use Rattle.pmp_core.specs.Deciding.{IsLeast, Touches, Covers, IsDecider, IsDecision, IsDecisionBy}
+use Rattle.pmp_core.specs.Matching.{Matches}
+use Rattle.pmp_core.specs.Deciding.{IsLeast, IsOwner, Touches, Covers, IsDecider, IsDecision, IsDecisionBy}
 use Rattle.pmp_core.specs.Rights.{allows, rights}
 use Rattle.pmp_core.specs.Ranges.{IsInRange, range_of, ranges_of, is_touched, is_covered, decision_in, decision_from, decision_of}
 use Rattle.pmp_core.proofs.Matches.{matches_range}
@@ -121,3 +122,13 @@ one_decision file access one other p q =
     let same = decided_once file access one.allowed other.allowed one.cause other.cause p q in
     let decision : Bool → Cause → Decision = λ allowed cause. record { allowed = allowed; cause = cause } in
     ap (λ (allowed : Bool). decision allowed one.cause) same.0 ∙ ap (decision other.allowed) same.1
+
+-- ---- one byte
+
+module _ (entries : List Entry) (access : Access) (single : access.length ≡ 1) where
+  matches_single : (i : ℕ) → Touches entries access i → Matches entries i access.start
+  matches_single i (byte, inside, matched) = let here : byte ≡ access.start = omega (arith, inside.0, inside.1) in rw here at matched
+
+  pub owner_decides : (owner : Option ℕ) → IsOwner entries access.start owner → IsDecider entries access owner
+  owner_decides None unowned = λ i touches. unowned i (matches_single i touches)
+  owner_decides (Some i) owned = ((access.start, (omega arith, omega arith), owned.0), λ j below touches. owned.1 j below (matches_single j touches))

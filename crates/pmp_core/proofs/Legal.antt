@@ -26,7 +26,7 @@ reset_at n i = elim (cases_lt i n) [
 pub reset_legal : (n : ℕ) → IsLegal (reset_file n)
 reset_legal n = record {
   addresses = λ i. rw (reset_at n i) (omega arith);
-  rights = λ off i. rw (reset_at n i) refl;
+  unreserved = λ off i. rw (reset_at n i) refl;
 }
 
 -- ---- a configuration
@@ -72,14 +72,14 @@ reset_entry_legal mml = (omega arith, λ off. refl)
 
 module _ (file : RegisterFile) (legal : IsLegal file) where
   legal_place : (i : ℕ) → IsLegalEntry file.machine_mode_lockdown (entry_at file.entries i)
-  legal_place i = (legal.addresses i, λ off. legal.rights off i)
+  legal_place i = (legal.addresses i, λ off. legal.unreserved off i)
 
   configured_legal : (q value i : ℕ) → IsLegalEntry file.machine_mode_lockdown (configured file q value i)
   configured_legal q value i =
       let entry = entry_at file.entries i in
       let byte = slice_index (to_le_bytes w64 value) (i - 4 * q) in
       let kept : file.machine_mode_lockdown ≡ false → is_reserved (stored file i byte) ≡ false =
-      λ off. rw off (stored_unreserved file.rule_locking_bypass entry.configuration byte (legal.rights off i)) in
+      λ off. rw off (stored_unreserved file.rule_locking_bypass entry.configuration byte (legal.unreserved off i)) in
       either (holds_byte_of q i) file.machine_mode_lockdown (record entry { configuration = stored file i byte }) entry (legal.addresses i, kept) (legal_place i)
 
   past : (entries : List Entry) (i : ℕ) → length entries ≤ i → IsLegalEntry file.machine_mode_lockdown (entry_at entries i)
@@ -89,7 +89,7 @@ module _ (file : RegisterFile) (legal : IsLegal file) where
   addressed_legal j value i = elim (cases_lt i (length file.entries)) [
     | inr over ↦ past _ i (simp length-set over)
     | inl inside ↦ elim (cases_eq i j) [
-      | inl same ↦ let here : j < length file.entries = omega arith in rw same (rw get_or-set_same (omega arith, λ off. legal.rights off j))
+      | inl same ↦ let here : j < length file.entries = omega arith in rw same (rw get_or-set_same (omega arith, λ off. legal.unreserved off j))
       | inr other ↦ rw get_or-set_other (legal_place i)
     ]
   ]
@@ -110,7 +110,7 @@ module _ (file : RegisterFile) (legal : IsLegal file) where
   step_legal Reset = reset_legal (length file.entries)
   step_legal (Write csr value) = record {
     addresses = λ i. (written_legal csr value i).0;
-    rights = λ off i. (written_legal csr value i).1 off;
+    unreserved = λ off i. (written_legal csr value i).1 off;
   }
 
 pub length-step : (file : RegisterFile) (event : Event) → length (step file event).entries ≡ length file.entries

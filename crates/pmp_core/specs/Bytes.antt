@@ -1,10 +1,10 @@
--- A configuration byte (Volume II, figure 3.33): L in bit 7, zeros in 6 and 5, A in 4 and 3, X in 2, W in 1, R in 0.
+-- A configuration byte (Volume II, 3.7.1): L in bit 7, zeros in 6 and 5, A in 4 and 3, X in 2, W in 1, R in 0.
 use Rattle.std.specs.Prelude.{ℕ, ◌+◌, ◌*◌, ◌/◌, ◌%◌, Bool, true, false, ◌==◌, if◌then◌else◌}
 use Rattle.pmp_core.specs.declared.configuration.AddressMatching.{AddressMatching}
 use Rattle.pmp_core.specs.declared.configuration.AddressMatching.TheVariants.{Off, Tor, Na4, Napot}
 use Rattle.pmp_core.specs.declared.configuration.Configuration.{Configuration}
 
--- the field A (table 3.10)
+-- the field A (3.7.1.1)
 abbrev pub matching_of : ℕ → AddressMatching
 matching_of a = if a == 0 then Off else (if a == 1 then Tor else (if a == 2 then Na4 else Napot))
 
@@ -18,6 +18,7 @@ abbrev pub bit_of : Bool → ℕ
 bit_of true = 1
 bit_of false = 0
 
+-- bits 6 and 5 are not looked at (3.7.1)
 abbrev pub configuration_of : ℕ → Configuration
 configuration_of byte = record {
   locked = byte / 128 == 1;
@@ -27,5 +28,6 @@ configuration_of byte = record {
   read = byte % 2 == 1;
 }
 
+-- and read as zero (3.7.1)
 abbrev pub byte_of : Configuration → ℕ
 byte_of c = 128 * bit_of c.locked + 8 * field_of c.matching + 4 * bit_of c.execute + 2 * bit_of c.write + bit_of c.read

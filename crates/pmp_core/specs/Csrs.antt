@@ -1,4 +1,4 @@
--- Register numbers (Volume II, 3.7.1, and the table of CSR addresses).
+-- Register numbers (Volume II, 2.2 and 3.7.1).
 use Rattle.std.specs.Prelude.{ℕ, ◌-◌, ◌%◌, Result, Ok, Err, nat_le, ◌==◌, ◌&&◌, if◌then◌else◌, Bool}
 use Rattle.pmp_core.specs.declared.csr.Csr.{Csr}
 use Rattle.pmp_core.specs.declared.csr.Csr.TheVariants.{Cfg, Addr}

@@ -29,10 +29,11 @@ Touches entries access i = (byte : ℕ) × IsByteOf access byte × Matches entri
 abbrev pub Covers : List Entry → Access → ℕ → Type 0
 Covers entries access i = (byte : ℕ) → IsByteOf access byte → Matches entries i byte
 
--- the lowest-numbered entry that matches any byte of the access
+-- the lowest-numbered entry that matches any byte of the access (3.7.1.3)
 abbrev pub IsDecider : List Entry → Access → Option ℕ → Type 0
 IsDecider entries access = IsLeast (Touches entries access)
 
+-- no decider: the default; a decider that lacks a byte: refused; else the decider's rule (3.7.1.3)
 abbrev pub IsDecisionBy : RegisterFile → Access → Bool → Cause → Type 0
 IsDecisionBy file access allowed NoMatch =
     IsDecider file.entries access None × (allowed ≡ allows (default_rights file access.mode) access.kind)
@@ -41,6 +42,6 @@ IsDecisionBy file access allowed (Split i) =
 IsDecisionBy file access allowed (Rule i) =
     IsDecider file.entries access (Some i) × Covers file.entries access i × (allowed ≡ allows (rights file i access.mode) access.kind)
 
--- the manual's decision
+-- the manual's decision (3.7.1.3)
 abbrev pub IsDecision : RegisterFile → Access → Decision → Type 0
 IsDecision file access decision = IsDecisionBy file access decision.allowed decision.cause

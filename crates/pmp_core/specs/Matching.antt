@@ -5,12 +5,12 @@ use Rattle.pmp_core.specs.declared.configuration.AddressMatching.TheVariants.{Of
 use Rattle.pmp_core.specs.declared.entry.Entry.{Entry}
 use Rattle.pmp_core.specs.Registers.{entry_at}
 
--- the address register before it, and 0 before the first
+-- the address register before it, and 0 before the first (3.7.1.1, top of range)
 abbrev pub low_address : List Entry → ℕ → ℕ
 low_address entries zero = 0
 low_address entries (suc i) = (entry_at entries i).address
 
--- the address is y, a zero bit and k one bits; the region is the 2^(k+3) bytes from y * 2^(k+3) on (table 3.11)
+-- the address is y, a zero bit and k one bits; the region is the 2^(k+3) bytes from y * 2^(k+3) on (3.7.1.1, NAPOT)
 pub record InNapot (address byte : ℕ) : Type 0 where
   pub k : ℕ
   pub y : ℕ
@@ -18,12 +18,13 @@ pub record InNapot (address byte : ℕ) : Type 0 where
   pub from : y * 2 ^ (k + 3) ≤ byte
   pub to : byte < (y + 1) * 2 ^ (k + 3)
 
+-- by the field A: OFF, TOR, NA4 or NAPOT (3.7.1.1)
 abbrev pub MatchesBy : AddressMatching → (low address byte : ℕ) → Type 0
 MatchesBy Off low address byte = ⊥
 MatchesBy Tor low address byte = (4 * low ≤ byte) × (byte < 4 * address)
 MatchesBy Na4 low address byte = (4 * address ≤ byte) × (byte < 4 * address + 4)
 MatchesBy Napot low address byte = InNapot address byte
 
--- entry i matches the byte
+-- entry i matches the byte (3.7.1.1)
 abbrev pub Matches : List Entry → ℕ → ℕ → Type 0
 Matches entries i byte = MatchesBy (entry_at entries i).configuration.matching (low_address entries i) (entry_at entries i).address byte

@@ -8,12 +8,12 @@ use Rattle.pmp_core.specs.declared.entry.Entry.{Entry}
 use Rattle.pmp_core.specs.Bytes.{byte_of}
 use Rattle.pmp_core.specs.Registers.{RegisterFile, entry_at}
 
--- the bytes of the eight entries from the first on, that one's lowest
+-- the bytes of the eight entries from the first on, that one's lowest (3.7.1)
 unfoldable pub configuration_word : List Entry → ℕ → ℕ
 configuration_word entries first =
     from_le_bytes w64 (map (λ j. byte_of (entry_at entries (first + j)).configuration) (range_with_len 0 8))
 
--- zero where the register holds nothing of an entry
+-- zero where the register holds nothing of an entry (3.7.1)
 abbrev pub register_value : RegisterFile → Csr → ℕ
 register_value file (Cfg q) = if q % 2 == 0 then configuration_word file.entries (4 * q) else 0
 register_value file (Addr i) = (entry_at file.entries i).address

@@ -1,18 +1,18 @@
--- The register file (Volume II, 3.7.1 and 3.7.4), for any number of entries: as many as the list has.
+-- The register file (Volume II, 3.7.1 and Smepmp), for any number of entries: as many as the list has.
 use Rattle.std.specs.Prelude.{◌≡◌, ℕ, ◌^◌, ◌<◌, Bool, false, not, ◌&&◌, List, replicate}
 use Rattle.std.specs.List.{slice_index_or}
 use Rattle.pmp_core.specs.declared.configuration.AddressMatching.TheVariants.{Off}
 use Rattle.pmp_core.specs.declared.configuration.Configuration.{Configuration}
 use Rattle.pmp_core.specs.declared.entry.Entry.{Entry}
 
--- the entries, and the bits MML, MMWP and RLB of mseccfg
+-- the entries (3.7.1), and the bits MML, MMWP and RLB of mseccfg (Smepmp)
 pub record RegisterFile : Type 0 where
   pub entries : List Entry
   pub machine_mode_lockdown : Bool
   pub machine_mode_allowlist : Bool
   pub rule_locking_bypass : Bool
 
--- all zero
+-- all zero (3.7.1, reset)
 abbrev pub reset_entry : Entry
 reset_entry = record {
   configuration = record { locked = false; matching = Off; execute = false; write = false; read = false };
@@ -35,19 +35,19 @@ reset_file n = without_smepmp (replicate n reset_entry)
 abbrev pub entry_at : List Entry → ℕ → Entry
 entry_at entries i = slice_index_or entries i reset_entry
 
--- L is set, and rule-locking bypass is off
+-- L is set, and rule-locking bypass is off (3.7.1.2 and Smepmp)
 abbrev pub is_frozen : RegisterFile → ℕ → Bool
 is_frozen file i = (entry_at file.entries i).configuration.locked && not file.rule_locking_bypass
 
--- W without R, which is reserved where MML is 0
+-- W without R, which is reserved where MML is 0 (3.7.1)
 abbrev pub is_reserved : Configuration → Bool
 is_reserved c = c.write && not c.read
 
--- each address register has 54 bits
+-- each address register has 54 bits (3.7.1)
 abbrev pub HasAddresses : List Entry → Type 0
 HasAddresses entries = (i : ℕ) → (entry_at entries i).address < 2 ^ 54
 
 -- what every write keeps: no longer addresses, and no reserved combination
 pub record IsLegal (file : RegisterFile) : Type 0 where
   pub addresses : HasAddresses file.entries
-  pub rights : file.machine_mode_lockdown ≡ false → (i : ℕ) → is_reserved (entry_at file.entries i).configuration ≡ false
+  pub unreserved : file.machine_mode_lockdown ≡ false → (i : ℕ) → is_reserved (entry_at file.entries i).configuration ≡ false

@@ -12,7 +12,7 @@ pub record Rights : Type 0 where
   pub write : Bool
   pub execute : Bool
 
--- R for a load, W for a store, X for a fetch
+-- R for a load, W for a store, X for a fetch (3.7.1)
 abbrev pub allows : Rights → Kind → Bool
 allows rights Load = rights.read
 allows rights Store = rights.write
@@ -46,12 +46,12 @@ for_mode machine others U = others
 abbrev pub bits_of : Configuration → Rights
 bits_of c = record { read = c.read; write = c.write; execute = c.execute }
 
--- without lockdown: an unlocked rule doesn't bind machine mode
+-- without lockdown: an unlocked rule doesn't bind machine mode (3.7.1.2)
 abbrev pub plain_rights : (locked : Bool) → Rights → Mode → Rights
 plain_rights false bits = for_mode rwx bits
 plain_rights true bits = for_mode bits bits
 
--- with lockdown: L, R, W, X, and then what machine mode and what the others may do
+-- with lockdown: L, R, W, X, and then what machine mode and what the others may do (the truth table of Smepmp)
 abbrev pub lockdown_rights : (l r w x : Bool) → Mode → Rights
 lockdown_rights false false false false = for_mode nothing nothing
 lockdown_rights false false false true = for_mode nothing x_only
@@ -75,14 +75,16 @@ abbrev pub rule_rights : (mml : Bool) → Configuration → Mode → Rights
 rule_rights false c = plain_rights c.locked (bits_of c)
 rule_rights true c = lockdown_rights c.locked c.read c.write c.execute
 
+-- what entry i's rule allows the mode
 abbrev pub rights : RegisterFile → ℕ → Mode → Rights
 rights file i = rule_rights file.machine_mode_lockdown (entry_at file.entries i).configuration
 
--- where no entry matches, by MML and MMWP
+-- where no entry matches, by MML and MMWP (3.7.1.3 and Smepmp)
 abbrev pub unmatched_rights : (mml mmwp : Bool) → Mode → Rights
 unmatched_rights false false = for_mode rwx nothing
 unmatched_rights true false = for_mode rw nothing
 unmatched_rights _ true = for_mode nothing nothing
 
+-- what the mode may do where no entry matches
 abbrev pub default_rights : RegisterFile → Mode → Rights
 default_rights file = unmatched_rights file.machine_mode_lockdown file.machine_mode_allowlist

@@ -13,11 +13,11 @@ use Rattle.pmp_core.specs.declared.event.Event.TheVariants.{Write, Reset}
 use Rattle.pmp_core.specs.Bytes.{configuration_of}
 use Rattle.pmp_core.specs.Registers.{RegisterFile, reset_file, entry_at, is_frozen, is_reserved}
 
--- a reserved combination is stored as no rights at all
+-- a reserved combination is stored as no rights at all (3.7.1)
 abbrev pub without_reserved : Configuration → Configuration
 without_reserved c = if is_reserved c then record c { read = false; write = false; execute = false } else c
 
--- the combinations L R W X that no write adds under lockdown: rules by which machine mode executes, and shared ones
+-- the combinations L R W X that no write adds under lockdown: rules by which machine mode executes (Smepmp)
 abbrev pub is_barred : (l r w x : Bool) → Bool
 is_barred true false false true = true
 is_barred true false true false = true
@@ -25,13 +25,13 @@ is_barred true false true true = true
 is_barred true true false true = true
 is_barred _ _ _ _ = false
 
--- what is stored of a new configuration over the old one, by MML and RLB
+-- what is stored of a new configuration over the old one, by MML and RLB (3.7.1 and Smepmp)
 abbrev pub admitted : (mml rlb : Bool) → (old new : Configuration) → Configuration
 admitted false _ old new = without_reserved new
 admitted true false old new = if is_barred new.locked new.read new.write new.execute then old else new
 admitted true true old new = new
 
--- what a byte leaves over the configuration that was there, by MML and RLB
+-- what a byte leaves over the configuration that was there, by MML and RLB (3.7.1.2 and Smepmp)
 abbrev pub stored_over : (mml rlb : Bool) → Configuration → ℕ → Configuration
 stored_over mml rlb old byte = if old.locked && not rlb then old else admitted mml rlb old (configuration_of byte)
 
@@ -39,7 +39,7 @@ stored_over mml rlb old byte = if old.locked && not rlb then old else admitted m
 abbrev pub stored : RegisterFile → ℕ → ℕ → Configuration
 stored file i = stored_over file.machine_mode_lockdown file.rule_locking_bypass (entry_at file.entries i).configuration
 
--- pmpcfg q holds the bytes of the eight entries from 4q on, where q is even
+-- pmpcfg q holds the bytes of the eight entries from 4q on, where q is even (3.7.1)
 abbrev pub holds_byte_of : (q i : ℕ) → Bool
 holds_byte_of q i = q % 2 == 0 && nat_le (4 * q) i && nat_lt i (4 * q + 8)
 
@@ -56,11 +56,11 @@ is_tor Tor = true
 is_tor Na4 = false
 is_tor Napot = false
 
--- a frozen entry freezes its own address register, and as top of a range the one before it
+-- a frozen entry freezes its own address register, and as top of a range the one before it (3.7.1.2)
 abbrev pub is_address_frozen : RegisterFile → ℕ → Bool
 is_address_frozen file i = is_frozen file i || (is_frozen file (suc i) && is_tor (entry_at file.entries (suc i)).configuration.matching)
 
--- the entries after pmpaddr i is written
+-- the entries after pmpaddr i is written (3.7.1)
 abbrev pub addressed : RegisterFile → (i value : ℕ) → List Entry
 addressed file i value =
     if is_address_frozen file i then file.entries

@@ -28,8 +28,8 @@ pub const MAX_LENGTH: u64 = 4096;
 /// Physical addresses have 56 bits: no byte address reaches this.
 pub const ADDRESS_LIMIT: u64 = 1 << 56;
 
-/// One access to physical memory, perhaps misaligned. Only `Access::new` makes one outside this crate, since
-/// the ghost fields say that it has a lawful length and ends inside the address space.
+/// One access to physical memory, perhaps misaligned. Its ghost fields say that its length is lawful and that it
+/// ends inside the address space; `Access::new` tests both.
 #[derive(Clone, Copy, Debug, PartialEq, Eq)]
 pub struct Access {
     pub mode: Mode,

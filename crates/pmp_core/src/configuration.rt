@@ -3,7 +3,7 @@
 ghost use Rattle.std.specs.Prelude.{◌≡◌};
 ghost use Rattle.pmp_core.specs.Bytes.{configuration_of, byte_of};
 
-/// How an entry's address register is read: the field A (Volume II, table 3.10).
+/// How an entry's address register is read: the field A (Volume II, 3.7.1.1).
 #[derive(Clone, Copy, Debug, PartialEq, Eq)]
 pub enum AddressMatching {
     /// The entry matches nothing.

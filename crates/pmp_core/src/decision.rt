@@ -24,7 +24,7 @@ pub struct Decision {
     pub cause: Cause,
 }
 
-/// The exception code of a refused access, none where it is allowed (Volume II, table 3.6).
+/// The exception code of a refused access, none where it is allowed (Volume II, 3.1.15).
 pub fn fault_code(access: &Access, decision: &Decision) -> Option<u8>
     ensures { result ≡ fault_of access.now decision.now }
 {

@@ -1,12 +1,12 @@
 //! Laws of the definitions, each the contract of a function that does nothing.
 
-ghost use Rattle.std.specs.Prelude.{◌≡◌, ℕ, ◌<◌, List, length};
+ghost use Rattle.std.specs.Prelude.{◌≡◌, ℕ, ◌<◌, List, Option, length};
 ghost use Rattle.pmp_core.specs.declared.access.Access.{Access};
 ghost use Rattle.pmp_core.specs.declared.decision.Decision.{Decision};
 ghost use Rattle.pmp_core.specs.declared.entry.Entry.{Entry};
 ghost use Rattle.pmp_core.specs.Registers.{RegisterFile, HasAddresses};
 ghost use Rattle.pmp_core.specs.Matching.{Matches};
-ghost use Rattle.pmp_core.specs.Deciding.{IsDecision};
+ghost use Rattle.pmp_core.specs.Deciding.{IsOwner, IsDecider, IsDecision};
 ghost use Rattle.pmp_core.specs.Ranges.{decision_of};
 
 /// What is computed from the entries' ranges is the manual's decision.
@@ -18,6 +18,12 @@ pub fn law_decided_by_ranges()
 pub fn law_one_decision()
     ensures { (file : RegisterFile) (access : Access) (one other : Decision) →
         IsDecision file access one → IsDecision file access other → one ≡ other }
+{}
+
+/// An access of one byte is decided by the byte's owner.
+pub fn law_owner_decides_byte()
+    ensures { (entries : List Entry) (access : Access) (owner : Option ℕ) →
+        access.length ≡ 1 → IsOwner entries access.start owner → IsDecider entries access owner }
 {}
 
 /// Only an entry of the file matches a byte.

@@ -148,3 +148,6 @@ fn read_kind(word: &str) -> Option<Kind>
         _ => None,
     }
 }
+
+#[cfg(test)]
+mod tests;

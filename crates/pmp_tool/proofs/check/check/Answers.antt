@@ -15,7 +15,7 @@ returns-in_err-write_out-clause-err g c =
     let p = err_from_is_err_and c.from_residual-in_err-write_out.result c.from_residual-in_err-write_out.ensures.1 in
     let computed : c.decide-decision.result ≡ decision_of (file_after c.in_ok-script.script) c.args.access.now = c.decide-decision.ensures.computed ∙ ap (λ file. decision_of file c.args.access.now) c.file_after.ensures in
     let row : c.deref.result.now ≡ row_after c.in_ok-script.script c.args.access.now =
-        only_row _ _ _ _ c.deref.ensures.value c.in_ok-write_row.ensures.ok c.new-row.ensures.items ∙ ap (report_row 1 c.args.access.now) computed in
+    only_row _ _ _ _ c.deref.ensures.value c.in_ok-write_row.ensures.ok c.new-row.ensures.items ∙ ap (report_row 1 c.args.access.now) computed in
     rw (p.1, p.2) (record {
       batches = c.in_ok-script.script;
       meant = c.in_ok-script.ensures;
