@@ -1,9 +1,8 @@
 -- The first fault is that of the least faulty line.
-use Rattle.std.proofs.Common.{◌≡◌, ℕ, zero, suc, ◌+◌, ◌<◌, ◌≤◌, List, [], ◌∷◌, ◌++◌, length, reverse, take, Option, Some, None, Result, Ok, Err, refl, sym, ap, ◌∙◌, append_assoc, arith, inl, inr}
+use Rattle.std.proofs.Common.{◌≡◌, ℕ, zero, suc, ◌<◌, ◌≤◌, List, [], ◌∷◌, ◌++◌, length, reverse, take, Option, Some, None, Err, refl, sym, ap, ◌∙◌, append_assoc, arith, inl, inr}
 use Rattle.std.specs.Prelude.{MatchOption, option_map, option_and_then, slice_get}
 use Rattle.std.proofs.lemmas.List.{append-nil, reverse-append}
 use Rattle.std.proofs.lemmas.Bool.{cases_order}
-use Rattle.pmp_core.specs.declared.event.Event.{Event}
 use Rattle.pmp_tool.specs.declared.script.ScriptFault.{ScriptFault}
 use Rattle.pmp_tool.specs.Scripts.{Line, at_line, line_fault, or_later, first_fault, judged, first_unpublished, publications, lines_meaning, significant_lines, script_meaning}
 use Rattle.pmp_tool.specs.Faults.{fault_at, IsLeastFault}

@@ -2,7 +2,7 @@
 use Rattle.std.proofs.Common.{◌≡◌, ℕ, ◌+◌, Bool, true, false, cond, List, [], ◌∷◌, ap, ◌∙◌}
 use Rattle.std.specs.Prelude.{filter}
 use Rattle.pmp_tool.specs.Lines.{words, lines}
-use Rattle.pmp_tool.specs.Scripts.{Line, numbered_from, counts, significant_from}
+use Rattle.pmp_tool.specs.Scripts.{numbered_from, counts, significant_from}
 
 module _ (number : ℕ) (text : List ℕ) where
   pub none_left : lines text ≡ [] → significant_from number text ≡ []

@@ -3,5 +3,5 @@ pub mod Digits
 pub mod Leasts
 pub mod Lefts
 pub mod Meanings
-pub mod Transfers
 pub mod Replaying
+pub mod Transfers

@@ -1,5 +1,5 @@
 -- Which line of a script is at fault.
-use Rattle.std.specs.Prelude.{◌≡◌, ℕ, ◌<◌, ◌≤◌, List, [], length, reverse, take, Option, Some, None, Result, Ok, Err, MatchOption, option_map, option_and_then, slice_get}
+use Rattle.std.specs.Prelude.{◌≡◌, ℕ, ◌<◌, ◌≤◌, List, [], length, reverse, take, Option, Some, None, Err, MatchOption, option_map, option_and_then, slice_get}
 use Rattle.pmp_tool.specs.declared.script.ScriptFault.{ScriptFault}
 use Rattle.pmp_tool.specs.Scripts.{Line, at_line, line_fault, first_fault, significant_lines, script_meaning}
 

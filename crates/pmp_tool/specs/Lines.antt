@@ -1,15 +1,17 @@
 -- The lines of a text, and the words of a line.
-use Rattle.std.specs.Prelude.{ℕ, ◌+◌, List, [], ◌∷◌, length, map, filter, Bool, true, false, not, nat_lt, ◌==◌, ◌||◌, slice_index, if◌then◌else◌}
+use Rattle.std.specs.Prelude.{ℕ, List, [], ◌∷◌, length, map, filter, Bool, nat_lt, ◌==◌, ◌||◌, if◌then◌else◌}
 use Rattle.std.specs.List.{slice_split}
 use Rattle.std.specs.Str.Lines.{strip_carriage_return}
 
+-- what parts lines
 abbrev pub is_line_feed : ℕ → Bool
 is_line_feed byte = byte == 10
 
--- space and tab
+-- what parts words: space and tab
 abbrev pub is_blank : ℕ → Bool
 is_blank byte = byte == 32 || byte == 9
 
+-- a piece isn't empty
 abbrev pub has_bytes : List ℕ → Bool
 has_bytes piece = nat_lt 0 (length piece)
 

@@ -3,6 +3,7 @@ use Rattle.std.specs.Prelude.{◌≡◌, ◌⊎◌, Result, Ok, Err}
 use Rattle.pmp_tool.specs.declared.script.ScriptKind.TheVariants.{Memory}
 use Rattle.pmp_tool.specs.declared.script.ScriptFault.{ScriptFault}
 
+-- memory ran out, which is the fault of no line
 abbrev pub out_of_memory : ScriptFault
 out_of_memory = record { kind = Memory; line = 0 }
 

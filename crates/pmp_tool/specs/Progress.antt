@@ -15,25 +15,31 @@ pub record Progress : Type 0 where
   pub batch : List Event
   pub since : Option ℕ
 
+-- nothing read
 abbrev pub beginning : Progress
 beginning = record { published = []; batch = []; since = None }
 
+-- the open batch is published
 abbrev pub published : Progress → Progress
 published so_far = record { published = so_far.published ++ so_far.batch ∷ []; batch = []; since = None }
 
+-- an event joins the open batch, which has room for 64
 abbrev pub with_event : Progress → ℕ → Event → Result Progress ScriptFault
 with_event so_far number event =
     if nat_lt (length so_far.batch) 64 then Ok (record { published = so_far.published; batch = so_far.batch ++ event ∷ []; since = Some (unwrap_or so_far.since number) })
     else Err (at_line number BatchFull)
 
+-- a line with this number was read, which says this
 abbrev pub after_statement : Progress → ℕ → Result Statement ScriptKind → Result Progress ScriptFault
 after_statement so_far number (Err kind) = Err (at_line number kind)
 after_statement so_far number (Ok statement.Publish) = Ok (published so_far)
 after_statement so_far number (Ok (statement.Event event)) = with_event so_far number event
 
+-- a significant line was read
 abbrev pub after_line : Progress → Line → Result Progress ScriptFault
 after_line so_far line = after_statement so_far line.number (statement_of line.words)
 
+-- the text ends here
 abbrev pub all_published : Option ℕ → List (List Event) → Result (List (List Event)) ScriptFault
 all_published None batches = Ok batches
 all_published (Some number) batches = Err (at_line number Unpublished)

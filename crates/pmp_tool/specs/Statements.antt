@@ -9,6 +9,7 @@ use Rattle.pmp_tool.specs.declared.statement.Statement.TheVariants as statement
 use Rattle.pmp_tool.specs.Numbers.{word_number}
 use Rattle.pmp_tool.specs.Names.{register_named}
 
+-- a faulty name comes before a faulty value
 abbrev pub write_of : Result Csr ScriptKind → Option ℕ → Result Statement ScriptKind
 write_of (Err kind) value = Err kind
 write_of (Ok csr) None = Err BadNumber
@@ -19,7 +20,7 @@ abbrev pub write_statement : List (List ℕ) → Result Statement ScriptKind
 write_statement (name ∷ value ∷ []) = write_of (register_named name) (word_number value)
 write_statement _ = Err BadLine
 
--- no word stands behind these
+-- a statement of one word has no operands
 abbrev pub alone : Statement → List (List ℕ) → Result Statement ScriptKind
 alone statement [] = Ok statement
 alone statement (word ∷ more) = Err BadLine

@@ -5,6 +5,7 @@ use Rattle.pmp_tool.specs.declared.significant.SignificantLines.{SignificantLine
 use Rattle.pmp_tool.specs.Lines.{words}
 use Rattle.pmp_tool.specs.Scripts.{Line, significant_from}
 
+-- a line as the definitions see it
 abbrev pub seen_line : NumberedLine → Line
 seen_line line = record { number = line.number; words = words line.bytes.now }
 

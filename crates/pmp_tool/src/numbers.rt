@@ -12,8 +12,9 @@ fn with_digit(number: u64, radix: u32, digit: u32) -> Option<u64>
         .checked_add(u64::from(digit))
 }
 
+/// The number that the digits write, where there is at least one and at most `most` of them and the number is
+/// below `2^64`.
 #[tactic(auto, unfolding(crate::specs::Numbers::numeral, crate::specs::Numbers::is_numeral))]
-/// The number that the digits write, where there is at least one and at most `most` of them.
 pub fn read_numeral(digits: &[u8], radix: u32, most: usize) -> Option<u64>
     requires low { 2 ≤ radix }
     requires high { radix ≤ 36 }

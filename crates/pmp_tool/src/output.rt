@@ -38,7 +38,6 @@ pub fn write_out<W: Write>(writer: &mut W, bytes: &[u8]) -> Result<(), OutputFau
 mod tests {
     use super::*;
     use std::io::ErrorKind;
-    use std::test::Fail;
 
     const REPORT: &[u8] = b"1,fault,5,none,\n2,allow,,rule,0\n3,fault,7,rule,0\n4,allow,,rule,1\n";
 
@@ -70,7 +69,7 @@ mod tests {
     }
 
     #[test]
-    fn writes_a_beginning(rt: HostRuntime) -> Result<(), Fail> {
+    fn writes_a_beginning(rt: HostRuntime) {
         assert_eq!(rt; REPORT.len(), 65);
         for room in 0..REPORT.len() {
             for when_full in [
@@ -88,11 +87,10 @@ mod tests {
                 assert_eq!(rt; tight.held.as_slice(), &REPORT[..room]);
             }
         }
-        Ok(())
     }
 
     #[test]
-    fn writes_all_and_flushes(rt: HostRuntime) -> Result<(), Fail> {
+    fn writes_all_and_flushes(rt: HostRuntime) {
         for (flush, want) in [(None, Ok(())), (Some(ErrorKind::Other), Err(OutputFault))] {
             let mut whole = Tight {
                 held: Vec::new(rt.alloc()),
@@ -103,6 +101,5 @@ mod tests {
             assert_eq!(rt; write_out(&mut whole, REPORT), want);
             assert_eq!(rt; whole.held.as_slice(), REPORT);
         }
-        Ok(())
     }
 }

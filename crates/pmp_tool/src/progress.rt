@@ -1,6 +1,6 @@
 //! What was read of a script so far.
 
-ghost use Rattle.std.specs.Prelude.{◌≡◌, map};
+ghost use Rattle.std.specs.Prelude.{◌≡◌, ◌≤◌, All, length, map};
 ghost use Rattle.pmp_tool.specs.Outcomes.{Gives};
 ghost use Rattle.pmp_tool.specs.Progress.{Progress, beginning, published, with_event, after_line, finished};
 ghost use Rattle.pmp_tool.specs.Views.{seen_line};
@@ -30,6 +30,8 @@ impl Model for ScriptBuilder {
     ghost Value = { Progress };
 
     ghost view = { λ builder. record { published = map (λ batch. batch.items) builder.published.items; batch = builder.batch.items; since = builder.since } };
+
+    ghost invariant = { λ builder. All (λ batch. length batch.items ≤ 64) builder.published.items × (length builder.batch.items ≤ 64) };
 }
 
 impl ScriptBuilder {
@@ -57,10 +59,7 @@ impl ScriptBuilder {
         ensures { Gives (λ _. self.new) result (with_event self.old line event) }
     {
         if self.batch.len() >= MAX_EVENTS {
-            return Err(ScriptFault {
-                kind: ScriptKind::BatchFull,
-                line,
-            });
+            return Err(ScriptKind::BatchFull.at(line));
         }
         self.batch.push(event)?;
         self.since = Some(self.since.unwrap_or(line));
@@ -74,10 +73,7 @@ impl ScriptBuilder {
         match read_statement(line.bytes) {
             Ok(Statement::Event(event)) => self.add(line.number, event),
             Ok(Statement::Publish) => self.publish(),
-            Err(kind) => Err(ScriptFault {
-                kind,
-                line: line.number,
-            }),
+            Err(kind) => Err(kind.at(line.number)),
         }
     }
 
@@ -87,10 +83,7 @@ impl ScriptBuilder {
     {
         match self.since {
             None => Ok(Script::from_batches(self.published)),
-            Some(line) => Err(ScriptFault {
-                kind: ScriptKind::Unpublished,
-                line,
-            }),
+            Some(line) => Err(ScriptKind::Unpublished.at(line)),
         }
     }
 }

@@ -1,6 +1,6 @@
 //! Scripts: the publications that a text describes, and why a text describes none.
 
-ghost use Rattle.std.specs.Prelude.{◌≡◌, ◌<◌, List, [], map, length, slice_index_or};
+ghost use Rattle.std.specs.Prelude.{◌≡◌, ◌<◌, ◌≤◌, All, List, [], map, length, slice_index_or};
 ghost use Rattle.pmp_core.specs.declared.event.Event.{Event};
 ghost use Rattle.pmp_tool.specs.declared.script.ScriptKind.TheVariants.{Memory};
 
@@ -39,14 +39,20 @@ pub struct ScriptFault {
     pub line: u64,
 }
 
+impl ScriptKind {
+    /// The fault of this kind at a line.
+    pub(crate) fn at(self, line: u64) -> ScriptFault
+        ensures { result ≡ record { kind = self; line = line } }
+    {
+        ScriptFault { kind: self, line }
+    }
+}
+
 impl<T: Drop> From<AllocFailed<T>> for ScriptFault {
     ghost from_gives = { λ _ fault. fault ≡ record { kind = Memory; line = 0 } };
 
     fn from(_failed: AllocFailed<T>) -> ScriptFault {
-        ScriptFault {
-            kind: ScriptKind::Memory,
-            line: 0,
-        }
+        ScriptKind::Memory.at(0)
     }
 }
 
@@ -60,10 +66,13 @@ impl Model for Script {
     ghost Value = { List (List Event) };
 
     ghost view = { λ script. map (λ batch. batch.items) script.batches.items };
+
+    ghost invariant = { λ script. All (λ batch. length batch.items ≤ 64) script.batches.items };
 }
 
 impl Script {
     pub(crate) fn from_batches(batches: Vec<Vec<Event>>) -> Script
+        requires { All (λ batch. length batch.items ≤ 64) batches.items }
         ensures { result ≡ map (λ batch. batch.items) batches.items }
     {
         Script { batches }
@@ -76,10 +85,11 @@ impl Script {
         self.batches.len() as u64
     }
 
-    /// The events of a publication, counted from 0.
+    /// The events of the publication with this index, from 0.
     pub fn batch(&self, index: u64) -> &[Event]
         requires { index < length self.now }
-        ensures { result.now ≡ slice_index_or self.now index [] }
+        ensures events { result.now ≡ slice_index_or self.now index [] }
+        ensures limit { length result.now ≤ 64 }
     {
         &self.batches[index as usize]
     }

@@ -44,23 +44,14 @@ pub fn read_script(alloc: Global, text: &[u8]) -> Result<Script, ScriptFault>
     ensures { Gives (λ script. script) result (script_meaning text.now) }
 {
     if text.len() > MAX_SCRIPT {
-        return Err(ScriptFault {
-            kind: ScriptKind::TooLong,
-            line: 0,
-        });
+        return Err(ScriptKind::TooLong.at(0));
     }
     let mut lines = SignificantLines::new(text);
     let Some(version) = lines.next() else {
-        return Err(ScriptFault {
-            kind: ScriptKind::BadVersion,
-            line: 1,
-        });
+        return Err(ScriptKind::BadVersion.at(1));
     };
     if !is_version_line(version.bytes) {
-        return Err(ScriptFault {
-            kind: ScriptKind::BadVersion,
-            line: version.number,
-        });
+        return Err(ScriptKind::BadVersion.at(version.number));
     }
     read_statements(alloc, lines)
 }

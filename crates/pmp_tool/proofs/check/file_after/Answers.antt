@@ -9,7 +9,7 @@ pub loop-index-preserved : goal.loop-index-preserved
 loop-index-preserved c =
     let batches = c.args.script.now in
     let more = replayed_more batches c.loop-index.file c.loop-index.index (omega (arith, c.batches-index-end.ensures, c.loop-index-test.true)) in
-    rw (c.run_events.ensures.steps, c.batch.ensures) (sym more ∙ c.loop-index.invariant)
+    rw (c.run_events.ensures.steps, c.batch.ensures.events) (sym more ∙ c.loop-index.invariant)
 
 pub returns : goal.returns
 returns c =

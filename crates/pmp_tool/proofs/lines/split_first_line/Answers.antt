@@ -1,5 +1,4 @@
 use Rattle.std.proofs.Common.{arith}
-use Rattle.std.proofs.lemmas.List.{length-drop}
 use Rattle.std.proofs.lemmas.Grind.{common_steps}
 use Rattle.pmp_tool.proofs.Cuts.{no_lines, first_line, after_shorter}
 use Rattle.pmp_tool.proofs.lines.split_first_line.Goals as goal

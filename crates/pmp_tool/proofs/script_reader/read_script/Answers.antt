@@ -4,14 +4,14 @@ use Rattle.pmp_tool.proofs.Meanings.{too_long, no_version, other_version, this_v
 use Rattle.pmp_tool.proofs.script_reader.read_script.Goals as goal
 
 pub returns-then-text-gt-MAX_SCRIPT : goal.returns-then-text-gt-MAX_SCRIPT
-returns-then-text-gt-MAX_SCRIPT c = inl (too_long c.args.text.now (omega arith))
+returns-then-text-gt-MAX_SCRIPT c = rw c.at.ensures (inl (too_long c.args.text.now (omega arith)))
 
 pub returns-in_default : goal.returns-in_default
-returns-in_default c = inl (no_version c.args.text.now (omega arith) (sym c.new-lines.ensures ∙ c.in_default.ensures.steps.0))
+returns-in_default c = rw c.at-in_default.ensures (inl (no_version c.args.text.now (omega arith) (sym c.new-lines.ensures ∙ c.in_default.ensures.steps.0)))
 
 pub returns-then-not-is_version_line : goal.returns-then-not-is_version_line
 returns-then-not-is_version_line c =
-    inl (other_version c.args.text.now (omega arith) (seen_line c.in-Some.version) (lines_left c.next.new.self) (sym c.new-lines.ensures ∙ c.in-Some.ensures.steps) (sym c.if-not-is_version_line.ensures))
+    rw c.at-then-not-is_version_line.ensures (inl (other_version c.args.text.now (omega arith) (seen_line c.in-Some.version) (lines_left c.next.new.self) (sym c.new-lines.ensures ∙ c.in-Some.ensures.steps) (sym c.if-not-is_version_line.ensures)))
 
 pub returns : goal.returns
 returns c =

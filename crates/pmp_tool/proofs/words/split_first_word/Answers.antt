@@ -1,4 +1,4 @@
-use Rattle.std.proofs.Common.{sym, ◌≡◌, ◌≤◌, ◌-◌, length, take, drop, arith}
+use Rattle.std.proofs.Common.{sym, ◌≡◌, ◌-◌, length, take, drop, arith}
 use Rattle.std.proofs.lemmas.List.{take_all, length-drop}
 use Rattle.pmp_tool.proofs.Cuts.{is_not_blank, position_missed, no_words, first_word}
 use Rattle.pmp_tool.proofs.words.split_first_word.Goals as goal

@@ -1,6 +1,5 @@
-use Rattle.std.proofs.Common.{rules, ◌≡◌, ◌<◌, ◌+◌, ◌∷◌, List, length, sym, ap, ◌∙◌, arith}
-use Rattle.std.proofs.lemmas.Grind.{common_steps}
-use Rattle.pmp_tool.specs.Views.{seen_line, lines_left}
+use Rattle.std.proofs.Common.{rules, ◌<◌, ◌+◌, length, sym, ap, ◌∙◌, arith}
+use Rattle.pmp_tool.specs.Views.{lines_left}
 use Rattle.pmp_tool.specs.Scripts.{significant_from}
 use Rattle.pmp_tool.proofs.Lefts.{none_left, counting_left, skipping_left}
 use Rattle.pmp_tool.proofs.significant.SignificantLinesIterator.next.Goals as goal
