@@ -1,5 +1,4 @@
 -- How a fault of a layer below is answered.
-use Rattle.std.specs.Prelude.{ℕ}
 use Rattle.pmp_tool.specs.declared.script.ScriptFault.{ScriptFault}
 use Rattle.pmp_tool.specs.declared.script.ScriptKind.{ScriptKind}
 use Rattle.pmp_tool.specs.declared.script.ScriptKind.TheVariants as kind

@@ -10,7 +10,9 @@ pub mod Progress
 pub mod Refusals
 pub mod Replays
 pub mod Reports
+pub mod Runs
 pub mod Scripts
+pub mod Sizes
 pub mod Statements
 pub mod Views
 pub mod Words

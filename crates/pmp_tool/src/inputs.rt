@@ -1,19 +1,26 @@
 //! Where the program's inputs come from.
 
-ghost use Rattle.std.specs.Prelude.{◌≤◌, length, IfOk};
+ghost use Rattle.std.specs.Prelude.{◌≡◌, ℕ, ◌<◌, ◌≤◌, List, length, Option, None, Err, IfOk, IfSome};
 
-use crate::input::{InputFault, read_bytes};
+use crate::input::{InputFault, MAX_LIMIT, read_bytes};
+use crate::script_reader::MAX_SCRIPT;
 use std::fs;
 use std::io::Read;
 use std::rt::Files;
 
 /// The most bytes of a script.
-pub const SCRIPT_LIMIT: u64 = 1 << 20;
+pub const SCRIPT_LIMIT: u64 = MAX_SCRIPT as u64;
 
 /// The inputs that the program's words name.
 pub trait Inputs {
+    /// The bytes at a path, where it is known what they are.
+    ghost held: { Self → List ℕ → Option (List ℕ) } = { λ _ _. None };
+
     /// The bytes of the script at this path.
-    fn script(&mut self, path: &str) -> Result<Vec<u8>, InputFault>;
+    fn script(&mut self, path: &str) -> Result<Vec<u8>, InputFault>
+        ensures read { IfOk result (λ bytes. IfSome (held self.old path.now) (λ known. bytes.items ≡ known)) }
+        ensures too_long { result ≡ Err InputFault.TooLong →
+            IfSome (held self.old path.now) (λ known. SCRIPT_LIMIT < length known) };
 }
 
 /// The files of the system. `stdin` as a path means standard input.
@@ -29,14 +36,24 @@ impl<'a, R> SystemInputs<'a, R> {
 }
 
 impl<R: Files + Input + AllocGlobal> Inputs for SystemInputs<'_, R> {
-    fn script(&mut self, path: &str) -> Result<Vec<u8>, InputFault>
-        ensures { IfOk result (λ bytes. length bytes.items ≤ SCRIPT_LIMIT) }
-    {
-        let alloc = self.runtime.alloc();
-        match path {
-            "stdin" => read_bytes(alloc, &mut self.runtime.reader(), SCRIPT_LIMIT),
-            _ => read_bytes(alloc, &mut fs::open(self.runtime, path)?, SCRIPT_LIMIT),
-        }
+    fn script(&mut self, path: &str) -> Result<Vec<u8>, InputFault> {
+        read_input(self.runtime, path, SCRIPT_LIMIT)
+    }
+}
+
+/// The bytes of the file at the path, or of standard input, at most `limit`.
+fn read_input<R: Files + Input + AllocGlobal>(
+    runtime: &R,
+    path: &str,
+    limit: u64,
+) -> Result<Vec<u8>, InputFault>
+    requires { limit ≤ MAX_LIMIT }
+    ensures { IfOk result (λ bytes. length bytes.items ≤ limit) }
+{
+    let alloc = runtime.alloc();
+    match path {
+        "stdin" => read_bytes(alloc, &mut runtime.reader(), limit),
+        _ => read_bytes(alloc, &mut fs::open(runtime, path)?, limit),
     }
 }
 

@@ -1,6 +1,11 @@
 //! The program: from words to an exit status.
 
-ghost use Rattle.std.specs.Prelude.{◌≡◌, ◌≤◌, None, Some, MatchResult};
+ghost use Rattle.std.specs.Prelude.{◌≡◌, ℕ, ◌≤◌, List, map, None, Some, MatchResult, IfOk, IfErr, string_bytes};
+ghost use Rattle.std.specs.Io.KnownBytes.{Keeps};
+ghost use Rattle.pmp_core.specs.declared.access.Access.{Access};
+ghost use Rattle.pmp_core.specs.declared.decision.Decision.{Decision};
+ghost use Rattle.pmp_tool.specs.Refusals.{refusal_of_input};
+ghost use Rattle.pmp_tool.specs.Runs.{AsksFor, IsAnswered, IsFaulty, decision_status, failure_status, refused, unaudited};
 ghost use Rattle.pmp_tool.specs.Words.{mode_named, kind_named, IsAccessOf, words_fault};
 
 use crate::check::{AuditFault, check};
@@ -31,7 +36,7 @@ enum Failure {
 
 impl Failure {
     fn status(&self) -> u8
-        ensures { result ≤ 3 }
+        ensures { result ≡ failure_status self.now }
     {
         match self {
             Failure::Usage => USAGE,
@@ -50,18 +55,24 @@ impl fmt::Display for Failure {
 }
 
 impl From<Refusal> for Failure {
+    ghost from_gives = { λ refusal failure. failure ≡ refused refusal };
+
     fn from(refusal: Refusal) -> Failure {
         Failure::Refused(FaultLine::from(refusal))
     }
 }
 
 impl From<InputFault> for Failure {
+    ghost from_gives = { λ fault failure. failure ≡ refused (refusal_of_input fault) };
+
     fn from(fault: InputFault) -> Failure {
         Failure::from(Refusal::from(fault))
     }
 }
 
 impl From<AuditFault> for Failure {
+    ghost from_gives = { λ fault failure. failure ≡ unaudited fault };
+
     fn from(fault: AuditFault) -> Failure {
         match fault {
             AuditFault::Script(fault) => {
@@ -84,7 +95,15 @@ pub fn run_tool<I: Inputs, O: Write, E: Write>(
     out: &mut O,
     err: &mut E,
 ) -> u8
-    ensures { result ≤ 3 }
+    ensures status { result ≤ 3 }
+
+    // The script that the words name was read, and the row of the access that they name was written.
+    ensures answered { result ≤ 1 → (decision : Decision) × (result ≡ decision_status decision)
+        × IsAnswered (map string_bytes words.now) (I.held inputs.old) (O.contents out.old) (O.contents out.new) decision }
+
+    // The words or the script are at fault, and nothing was written.
+    ensures refused { result ≡ 2 → IsFaulty (map string_bytes words.now) (I.held inputs.old)
+        × Keeps (O.contents out.old) (O.contents out.new) }
 {
     match run_check(alloc, words, inputs, out) {
         Ok(decision) if decision.allowed => ALLOWED,
@@ -102,7 +121,30 @@ fn run_check<I: Inputs, O: Write>(
     words: &[String],
     inputs: &mut I,
     out: &mut O,
-) -> Result<Decision, Failure> {
+) -> Result<Decision, Failure>
+    ensures ok { IfOk result
+        (IsAnswered (map string_bytes words.now) (I.held inputs.old) (O.contents out.old) (O.contents out.new)) }
+    ensures status { IfErr result (λ failure. 2 ≤ failure_status failure) }
+    ensures faulty { IfErr result (λ failure. failure_status failure ≡ 2 → IsFaulty (map string_bytes words.now) (I.held inputs.old)) }
+    ensures untouched { IfErr result (λ failure. failure_status failure ≡ 2 → Keeps (O.contents out.old) (O.contents out.new)) }
+{
+    let command = read_command(words)?;
+    let script = inputs.script(command.script)?;
+    Ok(check(alloc, &script, &command.access, out)?)
+}
+
+/// What the words of a check ask for.
+#[derive(Clone, Copy, Debug, PartialEq, Eq)]
+struct CheckCommand<'a> {
+    script: &'a str,
+    access: Access,
+}
+
+fn read_command(words: &[String]) -> Result<CheckCommand<'_>, Failure>
+    ensures ok { IfOk result (λ command. AsksFor (map string_bytes words.now) command.script.now command.access) }
+    ensures err { IfErr result (λ failure. (failure_status failure ≡ 2)
+        × ((path : List ℕ) (access : Access) → AsksFor (map string_bytes words.now) path access → ⊥)) }
+{
     let [command, script, mode, kind, start, length] = words else {
         return Err(Failure::Usage);
     };
@@ -110,8 +152,7 @@ fn run_check<I: Inputs, O: Write>(
         return Err(Failure::Usage);
     }
     let access = read_access(mode, kind, start, length)?;
-    let script = inputs.script(script)?;
-    Ok(check(alloc, &script, &access, out)?)
+    Ok(CheckCommand { script, access })
 }
 
 /// The access that four words describe. All words are read before the access is made.

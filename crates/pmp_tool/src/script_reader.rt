@@ -38,8 +38,8 @@ fn read_statements(alloc: Global, lines: SignificantLines) -> Result<Script, Scr
     builder.finish()
 }
 
-/// The script that a text describes, else its first fault. It is linear in the text, and only the publications
-/// take memory.
+/// The script that a text describes, else its first fault. The time is linear in the text, and only the
+/// publications take memory: where they can't grow, `Memory` is answered in place of any fault further on.
 pub fn read_script(alloc: Global, text: &[u8]) -> Result<Script, ScriptFault>
     ensures { Gives (λ script. script) result (script_meaning text.now) }
 {

@@ -29,6 +29,7 @@ fn is_significant(line: &[u8]) -> bool
 #[derive(Debug, Drop)]
 pub struct SignificantLines<'a> {
     rest: &'a [u8],
+    /// The number of the first line that is left.
     number: u64,
     ghost countable: { number + length rest.now < 2 ^ 64 },
 }

@@ -1,7 +1,4 @@
-use Rattle.std.proofs.Common.{◌≡◌, ◌+◌, ◌<◌, drop, fold, sym, ap, ◌∙◌, arith, length}
-use Rattle.pmp_core.specs.Registers.{RegisterFile}
-use Rattle.pmp_core.specs.Writing.{step}
-use Rattle.pmp_tool.specs.Replays.{joined}
+use Rattle.std.proofs.Common.{sym, ◌∙◌, arith}
 use Rattle.pmp_tool.proofs.Replaying.{replayed_more, replayed_all}
 use Rattle.pmp_tool.proofs.check.file_after.Goals as goal
 
