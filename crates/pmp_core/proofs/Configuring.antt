@@ -8,15 +8,15 @@ use Rattle.std.specs.List.{range_with_len}
 use Rattle.std.proofs.lemmas.Bool.Decides.{nat_tests}
 use Rattle.pmp_core.specs.declared.configuration.Configuration.{Configuration}
 use Rattle.pmp_core.specs.declared.entry.Entry.{Entry}
-use Rattle.pmp_core.specs.Registers.{RegisterFile, reset_entry, without_smepmp, entry_at}
+use Rattle.pmp_core.specs.Registers.{RegisterFile, reset_entry, entry_at}
 use Rattle.pmp_core.specs.Writing.{holds_byte_of, configured, stored_over}
 
 -- the first of the eight entries of register q are as new, as many as are done, and all others as before
-pub record Configured (old : List Entry) (q value : ℕ) (entries : List Entry) (done : ℕ) : Type 0 where
-  pub len : length entries ≡ length old
-  pub new : (k : ℕ) → 4 * q ≤ k → k < 4 * q + done → entry_at entries k ≡ configured (without_smepmp old) q value k
-  pub below : (k : ℕ) → k < 4 * q → entry_at entries k ≡ entry_at old k
-  pub rest : (k : ℕ) → 4 * q + done ≤ k → entry_at entries k ≡ entry_at old k
+pub record Configured (file : RegisterFile) (q value : ℕ) (entries : List Entry) (done : ℕ) : Type 0 where
+  pub len : length entries ≡ length file.entries
+  pub new : (k : ℕ) → 4 * q ≤ k → k < 4 * q + done → entry_at entries k ≡ configured file q value k
+  pub below : (k : ℕ) → k < 4 * q → entry_at entries k ≡ entry_at file.entries k
+  pub rest : (k : ℕ) → 4 * q + done ≤ k → entry_at entries k ≡ entry_at file.entries k
 
 module _ (file : RegisterFile) (q value k : ℕ) where
   kept : holds_byte_of q k ≡ false → configured file q value k ≡ entry_at file.entries k
@@ -31,23 +31,23 @@ module _ (file : RegisterFile) (q value k : ℕ) where
   pub kept_above : 4 * q + 8 ≤ k → configured file q value k ≡ entry_at file.entries k
   kept_above h = kept (grind (arith, nat_tests))
 
-module _ (old : List Entry) (q value : ℕ) where
+module _ (file : RegisterFile) (q value : ℕ) where
   -- the entry whose byte has the place
-  pub configured_at : (place : ℕ) → q % 2 ≡ 0 → place < 8 → configured (without_smepmp old) q value (4 * q + place)
-      ≡ (let entry = entry_at old (4 * q + place) in record entry { configuration = stored_over false false entry.configuration (slice_index (to_le_bytes w64 value) place) })
+  pub configured_at : (place : ℕ) → q % 2 ≡ 0 → place < 8 → configured file q value (4 * q + place)
+      ≡ (let entry = entry_at file.entries (4 * q + place) in record entry { configuration = stored_over file.security.machine_mode_lockdown file.security.rule_locking_bypass entry.configuration (slice_index (to_le_bytes w64 value) place) })
   configured_at place even near =
       let held : holds_byte_of q (4 * q + place) ≡ true = grind (arith, nat_tests) in
       let at : 4 * q + place - 4 * q ≡ place = omega arith in
       rw (held, at) refl
 
-  pub configured_next : (entries : List Entry) (place : ℕ) (configuration : Configuration) → q % 2 ≡ 0 → place < 8 → Configured old q value entries place
-      → configuration ≡ stored_over false false (entry_at entries (4 * q + place)).configuration (slice_index (to_le_bytes w64 value) place)
-      → (let entry = entry_at entries (4 * q + place) in record entry { configuration = configuration }) ≡ configured (without_smepmp old) q value (4 * q + place)
+  pub configured_next : (entries : List Entry) (place : ℕ) (configuration : Configuration) → q % 2 ≡ 0 → place < 8 → Configured file q value entries place
+      → configuration ≡ stored_over file.security.machine_mode_lockdown file.security.rule_locking_bypass (entry_at entries (4 * q + place)).configuration (slice_index (to_le_bytes w64 value) place)
+      → (let entry = entry_at entries (4 * q + place) in record entry { configuration = configuration }) ≡ configured file q value (4 * q + place)
   configured_next entries place configuration even near so_far stored =
-      let with_byte : Entry → Entry = λ e. record e { configuration = stored_over false false e.configuration (slice_index (to_le_bytes w64 value) place) } in
+      let with_byte : Entry → Entry = λ e. record e { configuration = stored_over file.security.machine_mode_lockdown file.security.rule_locking_bypass e.configuration (slice_index (to_le_bytes w64 value) place) } in
       rw stored (ap with_byte (so_far.rest (4 * q + place) (omega arith)) ∙ sym (configured_at place even near))
 
-  pub configured_more : (entries : List Entry) (done : ℕ) (entry : Entry) → Configured old q value entries done → 4 * q + done < length entries → entry ≡ configured (without_smepmp old) q value (4 * q + done) → Configured old q value (set entries (4 * q + done) entry) (done + 1)
+  pub configured_more : (entries : List Entry) (done : ℕ) (entry : Entry) → Configured file q value entries done → 4 * q + done < length entries → entry ≡ configured file q value (4 * q + done) → Configured file q value (set entries (4 * q + done) entry) (done + 1)
   configured_more entries done entry so_far inside new = record {
     len = simp length-set so_far.len;
     new = λ k low high. elim (cases_lt k (4 * q + done)) [
@@ -58,12 +58,12 @@ module _ (old : List Entry) (q value : ℕ) where
     rest = λ k high. let other : k ≢ 4 * q + done = omega arith in rw get_or-set_other (so_far.rest k (omega arith));
   }
 
-  pub all_configured : (entries : List Entry) → Configured old q value entries 8 → entries ≡ map (configured (without_smepmp old) q value) (range_with_len 0 (length old))
-  all_configured entries done = fill_by_all (configured (without_smepmp old) q value) entries (length old) reset_entry done.len
+  pub all_configured : (entries : List Entry) → Configured file q value entries 8 → entries ≡ map (configured file q value) (range_with_len 0 (length file.entries))
+  all_configured entries done = fill_by_all (configured file q value) entries (length file.entries) reset_entry done.len
       (λ k h. elim (cases_lt k (4 * q)) [
-        | inl lt ↦ done.below k lt ∙ sym (kept_below (without_smepmp old) q value k lt)
+        | inl lt ↦ done.below k lt ∙ sym (kept_below file q value k lt)
         | inr le ↦ elim (cases_lt k (4 * q + 8)) [
           | inl near ↦ done.new k le near
-          | inr far ↦ done.rest k far ∙ sym (kept_above (without_smepmp old) q value k far)
+          | inr far ↦ done.rest k far ∙ sym (kept_above file q value k far)
         ]
       ])

@@ -1,5 +1,5 @@
 -- Every step keeps a register file legal, and as long as it is.
-use Rattle.std.proofs.Common.{◌≡◌, ℕ, ◌-◌, ◌*◌, ◌^◌, ◌%◌, ◌<◌, ◌≤◌, Bool, true, false, cond, not, ◌&&◌, List, length, replicate, slice_index, refl, inl, inr, arith, length-set, get_or-set_other, get_or-set_same}
+use Rattle.std.proofs.Common.{◌≡◌, ℕ, ◌-◌, ◌*◌, ◌^◌, ◌%◌, ◌<◌, ◌≤◌, Bool, true, false, cond, not, ◌&&◌, ◌||◌, ◌==◌, List, length, replicate, slice_index, refl, inl, inr, arith, length-set, get_or-set_other, get_or-set_same}
 use Rattle.std.specs.Int.{w64, to_le_bytes}
 use Rattle.std.proofs.Math.ListN.{set}
 use Rattle.std.proofs.lemmas.Bool.{cases_lt, cases_eq}
@@ -7,7 +7,7 @@ use Rattle.std.proofs.lemmas.List.{get_or_past, get_or-replicate, length-replica
 use Rattle.std.proofs.lemmas.List.FromFn.{length-map-range_with_len, get_or-map-range_with_len}
 use Rattle.pmp_core.specs.declared.configuration.Configuration.{Configuration}
 use Rattle.pmp_core.specs.declared.csr.Csr.{Csr}
-use Rattle.pmp_core.specs.declared.csr.Csr.TheVariants.{Cfg, Addr}
+use Rattle.pmp_core.specs.declared.csr.Csr.TheVariants.{Cfg, Addr, Mseccfg}
 use Rattle.pmp_core.specs.declared.entry.Entry.{Entry}
 use Rattle.pmp_core.specs.declared.event.Event.{Event}
 use Rattle.pmp_core.specs.declared.event.Event.TheVariants.{Write, Reset}
@@ -49,15 +49,16 @@ stored_unreserved rlb old byte h =
 -- ---- a write, entry by entry
 
 -- the entries that a write to a configuration register leaves
-pub configured_place : (file : RegisterFile) (q value i : ℕ) → i < length file.entries → entry_at (written file (Cfg q) value) i ≡ configured file q value i
+pub configured_place : (file : RegisterFile) (q value i : ℕ) → i < length file.entries → entry_at (written file (Cfg q) value).entries i ≡ configured file q value i
 configured_place file q value i inside = get_or-map-range_with_len (configured file q value) 0 (length file.entries) i i reset_entry inside (omega arith)
 
-pub length-written : (file : RegisterFile) (csr : Csr) (value : ℕ) → length (written file csr value) ≡ length file.entries
+pub length-written : (file : RegisterFile) (csr : Csr) (value : ℕ) → length (written file csr value).entries ≡ length file.entries
 length-written file (Cfg q) value = length-map-range_with_len (configured file q value) 0 (length file.entries)
 length-written file (Addr i) value = elim (is_address_frozen file i) as (λ frozen. length (cond frozen file.entries (set file.entries i (record (entry_at file.entries i) { address = value % 2 ^ 54 }))) ≡ length file.entries) [
   | true ↦ refl
   | false ↦ simp length-set
 ]
+length-written file Mseccfg value = refl
 
 -- what a legal file has at each place
 abbrev IsLegalEntry : Bool → Entry → Type 0
@@ -70,22 +71,26 @@ either false mml x y p q = q
 reset_entry_legal : (mml : Bool) → IsLegalEntry mml reset_entry
 reset_entry_legal mml = (omega arith, λ off. refl)
 
+or_false : (a b : Bool) → (a || b) ≡ false → a ≡ false
+or_false true b h = h
+or_false false b h = refl
+
 module _ (file : RegisterFile) (legal : IsLegal file) where
-  legal_place : (i : ℕ) → IsLegalEntry file.machine_mode_lockdown (entry_at file.entries i)
+  legal_place : (i : ℕ) → IsLegalEntry file.security.machine_mode_lockdown (entry_at file.entries i)
   legal_place i = (legal.addresses i, λ off. legal.unreserved off i)
 
-  configured_legal : (q value i : ℕ) → IsLegalEntry file.machine_mode_lockdown (configured file q value i)
+  configured_legal : (q value i : ℕ) → IsLegalEntry file.security.machine_mode_lockdown (configured file q value i)
   configured_legal q value i =
       let entry = entry_at file.entries i in
       let byte = slice_index (to_le_bytes w64 value) (i - 4 * q) in
-      let kept : file.machine_mode_lockdown ≡ false → is_reserved (stored file i byte) ≡ false =
-      λ off. rw off (stored_unreserved file.rule_locking_bypass entry.configuration byte (legal.unreserved off i)) in
-      either (holds_byte_of q i) file.machine_mode_lockdown (record entry { configuration = stored file i byte }) entry (legal.addresses i, kept) (legal_place i)
+      let kept : file.security.machine_mode_lockdown ≡ false → is_reserved (stored file i byte) ≡ false =
+      λ off. rw off (stored_unreserved file.security.rule_locking_bypass entry.configuration byte (legal.unreserved off i)) in
+      either (holds_byte_of q i) file.security.machine_mode_lockdown (record entry { configuration = stored file i byte }) entry (legal.addresses i, kept) (legal_place i)
 
-  past : (entries : List Entry) (i : ℕ) → length entries ≤ i → IsLegalEntry file.machine_mode_lockdown (entry_at entries i)
-  past entries i over = rw (get_or_past entries i reset_entry over) (reset_entry_legal file.machine_mode_lockdown)
+  past : (entries : List Entry) (i : ℕ) → length entries ≤ i → IsLegalEntry file.security.machine_mode_lockdown (entry_at entries i)
+  past entries i over = rw (get_or_past entries i reset_entry over) (reset_entry_legal file.security.machine_mode_lockdown)
 
-  addressed_legal : (j value i : ℕ) → IsLegalEntry file.machine_mode_lockdown (entry_at (set file.entries j (record (entry_at file.entries j) { address = value % 2 ^ 54 })) i)
+  addressed_legal : (j value i : ℕ) → IsLegalEntry file.security.machine_mode_lockdown (entry_at (set file.entries j (record (entry_at file.entries j) { address = value % 2 ^ 54 })) i)
   addressed_legal j value i = elim (cases_lt i (length file.entries)) [
     | inr over ↦ past _ i (simp length-set over)
     | inl inside ↦ elim (cases_eq i j) [
@@ -94,23 +99,30 @@ module _ (file : RegisterFile) (legal : IsLegal file) where
     ]
   ]
 
-  written_legal : (csr : Csr) (value i : ℕ) → IsLegalEntry file.machine_mode_lockdown (entry_at (written file csr value) i)
+  written_legal : (csr : Csr) (value i : ℕ) → IsLegalEntry file.security.machine_mode_lockdown (entry_at (written file csr value).entries i)
   written_legal (Cfg q) value i = elim (cases_lt i (length file.entries)) [
     | inl inside ↦ rw (configured_place file q value i inside) (configured_legal q value i)
-    | inr over ↦ past (written file (Cfg q) value) i (omega (arith, length-written file (Cfg q) value))
+    | inr over ↦ past (written file (Cfg q) value).entries i (omega (arith, length-written file (Cfg q) value))
   ]
   written_legal (Addr j) value i =
       let new = set file.entries j (record (entry_at file.entries j) { address = value % 2 ^ 54 }) in
-      elim (is_address_frozen file j) as (λ frozen. IsLegalEntry file.machine_mode_lockdown (entry_at (cond frozen file.entries new) i)) [
+      elim (is_address_frozen file j) as (λ frozen. IsLegalEntry file.security.machine_mode_lockdown (entry_at (cond frozen file.entries new) i)) [
         | true ↦ legal_place i
         | false ↦ addressed_legal j value i
       ]
+  written_legal Mseccfg value i = legal_place i
+
+  -- lockdown that is off after a write was off before it
+  was_off : (csr : Csr) (value : ℕ) → (written file csr value).security.machine_mode_lockdown ≡ false → file.security.machine_mode_lockdown ≡ false
+  was_off (Cfg q) value off = off
+  was_off (Addr j) value off = off
+  was_off Mseccfg value off = or_false file.security.machine_mode_lockdown (value % 2 == 1) off
 
   pub step_legal : (event : Event) → IsLegal (step file event)
   step_legal Reset = reset_legal (length file.entries)
   step_legal (Write csr value) = record {
     addresses = λ i. (written_legal csr value i).0;
-    unreserved = λ off i. (written_legal csr value i).1 off;
+    unreserved = λ off i. (written_legal csr value i).1 (was_off csr value off);
   }
 
 pub length-step : (file : RegisterFile) (event : Event) → length (step file event).entries ≡ length file.entries

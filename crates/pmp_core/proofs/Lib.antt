@@ -5,3 +5,5 @@ pub mod Passes
 pub mod Matches
 pub mod Decisions
 pub mod Legal
+pub mod Flags
+pub mod Locks

@@ -1,15 +1,16 @@
 -- Register numbers (Volume II, 2.2 and 3.7.1).
 use Rattle.std.specs.Prelude.{ℕ, ◌-◌, ◌%◌, Result, Ok, Err, nat_le, ◌==◌, ◌&&◌, if◌then◌else◌, Bool}
 use Rattle.pmp_core.specs.declared.csr.Csr.{Csr}
-use Rattle.pmp_core.specs.declared.csr.Csr.TheVariants.{Cfg, Addr}
+use Rattle.pmp_core.specs.declared.csr.Csr.TheVariants.{Cfg, Addr, Mseccfg}
 use Rattle.pmp_core.specs.declared.csr.CsrFault.{CsrFault}
 use Rattle.pmp_core.specs.declared.csr.CsrFault.TheVariants.{OddCfg, NotPmp}
 
 abbrev is_between : (low high n : ℕ) → Bool
 is_between low high n = nat_le low n && nat_le n high
 
--- pmpcfg0 to pmpcfg15 are 0x3a0 to 0x3af, of which RV64 has the even ones; pmpaddr0 to pmpaddr63 are 0x3b0 to 0x3ef
+-- pmpcfg0 to pmpcfg15 are 0x3a0 to 0x3af, of which RV64 has the even ones; pmpaddr0 to pmpaddr63 are 0x3b0 to 0x3ef; mseccfg is 0x747
 abbrev pub numbered : ℕ → Result Csr CsrFault
 numbered number =
     if is_between 0x3a0 0x3af number then (if number % 2 == 1 then Err OddCfg else Ok (Cfg (number - 0x3a0)))
-    else (if is_between 0x3b0 0x3ef number then Ok (Addr (number - 0x3b0)) else Err NotPmp)
+    else (if is_between 0x3b0 0x3ef number then Ok (Addr (number - 0x3b0))
+    else (if number == 0x747 then Ok Mseccfg else Err NotPmp))

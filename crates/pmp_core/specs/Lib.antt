@@ -3,9 +3,12 @@ pub mod Csrs
 pub mod Faults
 pub mod Bytes
 pub mod Registers
+pub mod Securities
 pub mod Matching
+pub mod Perms
 pub mod Rights
 pub mod Deciding
 pub mod Writing
 pub mod Reading
 pub mod Ranges
+pub mod Locking

@@ -1,16 +1,22 @@
 -- What a rule allows, and what is allowed where no rule decides (Volume II, 3.7.1.2, 3.7.1.3 and Smepmp).
-use Rattle.std.specs.Prelude.{ℕ, Bool, true, false}
+use Rattle.std.specs.Prelude.{ℕ, ◌+◌, ◌*◌, Bool, true, false}
 use Rattle.pmp_core.specs.declared.access.Mode.{Mode}
 use Rattle.pmp_core.specs.declared.access.Mode.TheVariants.{M, S, U}
 use Rattle.pmp_core.specs.declared.access.Kind.{Kind}
 use Rattle.pmp_core.specs.declared.access.Kind.TheVariants.{Fetch, Load, Store}
 use Rattle.pmp_core.specs.declared.configuration.Configuration.{Configuration}
+use Rattle.pmp_core.specs.declared.perms.Perms.{Perms}
+use Rattle.pmp_core.specs.Bytes.{bit_of}
 use Rattle.pmp_core.specs.Registers.{RegisterFile, entry_at}
 
 pub record Rights : Type 0 where
   pub read : Bool
   pub write : Bool
   pub execute : Bool
+
+-- the set of rights: R is 1, W is 2, X is 4
+abbrev pub perms_of : Rights → Perms
+perms_of rights = record { 0 = bit_of rights.read + 2 * bit_of rights.write + 4 * bit_of rights.execute }
 
 -- R for a load, W for a store, X for a fetch (3.7.1)
 abbrev pub allows : Rights → Kind → Bool
@@ -77,7 +83,7 @@ rule_rights true c = lockdown_rights c.locked c.read c.write c.execute
 
 -- what entry i's rule allows the mode
 abbrev pub rights : RegisterFile → ℕ → Mode → Rights
-rights file i = rule_rights file.machine_mode_lockdown (entry_at file.entries i).configuration
+rights file i = rule_rights file.security.machine_mode_lockdown (entry_at file.entries i).configuration
 
 -- where no entry matches, by MML and MMWP (3.7.1.3 and Smepmp)
 abbrev pub unmatched_rights : (mml mmwp : Bool) → Mode → Rights
@@ -87,4 +93,4 @@ unmatched_rights _ true = for_mode nothing nothing
 
 -- what the mode may do where no entry matches
 abbrev pub default_rights : RegisterFile → Mode → Rights
-default_rights file = unmatched_rights file.machine_mode_lockdown file.machine_mode_allowlist
+default_rights file = unmatched_rights file.security.machine_mode_lockdown file.security.machine_mode_allowlist

@@ -1,16 +1,17 @@
 -- What a write to a register leaves (Volume II, 3.7.1, 3.7.1.2 and Smepmp).
 use Rattle.std.specs.Prelude.{ℕ, suc, ◌+◌, ◌-◌, ◌*◌, ◌%◌, ◌^◌, Bool, true, false, not, ◌&&◌, ◌||◌, ◌==◌, nat_le, nat_lt, if◌then◌else◌, List, length, map, fold, slice_index, slice_set}
-use Rattle.std.specs.List.{range_with_len}
+use Rattle.std.specs.List.{range_with_len, list_any}
 use Rattle.std.specs.Int.{w64, to_le_bytes}
 use Rattle.pmp_core.specs.declared.configuration.AddressMatching.{AddressMatching}
 use Rattle.pmp_core.specs.declared.configuration.AddressMatching.TheVariants.{Off, Tor, Na4, Napot}
 use Rattle.pmp_core.specs.declared.configuration.Configuration.{Configuration}
 use Rattle.pmp_core.specs.declared.csr.Csr.{Csr}
-use Rattle.pmp_core.specs.declared.csr.Csr.TheVariants.{Cfg, Addr}
+use Rattle.pmp_core.specs.declared.csr.Csr.TheVariants.{Cfg, Addr, Mseccfg}
 use Rattle.pmp_core.specs.declared.entry.Entry.{Entry}
 use Rattle.pmp_core.specs.declared.event.Event.{Event}
 use Rattle.pmp_core.specs.declared.event.Event.TheVariants.{Write, Reset}
 use Rattle.pmp_core.specs.Bytes.{configuration_of}
+use Rattle.pmp_core.specs.Securities.{secured}
 use Rattle.pmp_core.specs.Registers.{RegisterFile, reset_file, entry_at, is_frozen, is_reserved}
 
 -- a reserved combination is stored as no rights at all (3.7.1)
@@ -37,7 +38,7 @@ stored_over mml rlb old byte = if old.locked && not rlb then old else admitted m
 
 -- entry i's configuration after the byte is written to it
 abbrev pub stored : RegisterFile → ℕ → ℕ → Configuration
-stored file i = stored_over file.machine_mode_lockdown file.rule_locking_bypass (entry_at file.entries i).configuration
+stored file i = stored_over file.security.machine_mode_lockdown file.security.rule_locking_bypass (entry_at file.entries i).configuration
 
 -- pmpcfg q holds the bytes of the eight entries from 4q on, where q is even (3.7.1)
 abbrev pub holds_byte_of : (q i : ℕ) → Bool
@@ -66,14 +67,20 @@ addressed file i value =
     if is_address_frozen file i then file.entries
     else slice_set file.entries i (record (entry_at file.entries i) { address = value % 2 ^ 54 })
 
-abbrev pub written : RegisterFile → Csr → ℕ → List Entry
-written file (Cfg q) value = map (configured file q value) (range_with_len 0 (length file.entries))
-written file (Addr i) value = addressed file i value
+-- some entry is locked, be it off or not (Smepmp)
+abbrev pub is_any_locked : List Entry → Bool
+is_any_locked entries = list_any (λ entry. entry.configuration.locked) entries
+
+-- the file after a register is written
+abbrev pub written : RegisterFile → Csr → ℕ → RegisterFile
+written file (Cfg q) value = record file { entries = map (configured file q value) (range_with_len 0 (length file.entries)) }
+written file (Addr i) value = record file { entries = addressed file i value }
+written file Mseccfg value = record file { security = secured file.security (is_any_locked file.entries) value }
 
 -- one step; a reset keeps the number of entries
 abbrev pub step : RegisterFile → Event → RegisterFile
 step file Reset = reset_file (length file.entries)
-step file (Write csr value) = record file { entries = written file csr value }
+step file (Write csr value) = written file csr value
 
 -- a whole history, from reset
 abbrev pub replay : ℕ → List Event → RegisterFile

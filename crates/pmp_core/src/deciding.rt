@@ -1,25 +1,33 @@
 //! Decisions, by the entries' ranges.
 
 ghost use Rattle.std.specs.Prelude.{◌≡◌, ◌<◌, ◌≤◌, length};
-ghost use Rattle.pmp_core.specs.Registers.{without_smepmp, entry_at};
+ghost use Rattle.pmp_core.specs.Registers.{file_of, entry_at};
 ghost use Rattle.pmp_core.specs.Ranges.{ranges_of, decision_in, decision_of};
 
 use crate::access::Access;
 use crate::decision::{Cause, Decision};
 use crate::entry::Entry;
 use crate::range::ByteRange;
-use crate::rights::{is_allowed_by, is_allowed_unmatched};
+use crate::rights::{rule_rights, unmatched_rights};
+use crate::security::Security;
 
 /// The decision of the entry whose range is the first that the access touches.
-fn decide_in(entries: &[Entry], index: usize, range: &ByteRange, access: &Access) -> Decision
+fn decide_in(
+    entries: &[Entry],
+    security: &Security,
+    index: usize,
+    range: &ByteRange,
+    access: &Access,
+) -> Decision
     requires index { index < length entries.now }
     requires few { length entries.now ≤ 256 }
-    ensures { result ≡ decision_in (without_smepmp entries.now) access.now index range.now }
+    ensures { result ≡ decision_in (file_of security.now entries.now) access.now index range.now }
 {
     let number = index as u8;
     if range.is_covered(access) {
         Decision {
-            allowed: is_allowed_by(&entries[index].configuration, access),
+            allowed: rule_rights(&entries[index].configuration, access.mode, security)
+                .allows(access.kind),
             cause: Cause::Rule(number),
         }
     } else {
@@ -31,18 +39,23 @@ fn decide_in(entries: &[Entry], index: usize, range: &ByteRange, access: &Access
 }
 
 /// The unit's decision, where these are the ranges of these entries.
-pub fn decide(entries: &[Entry], ranges: &[ByteRange], access: &Access) -> Decision
+pub fn decide(
+    entries: &[Entry],
+    security: &Security,
+    ranges: &[ByteRange],
+    access: &Access,
+) -> Decision
     requires decoded { ranges.now ≡ ranges_of entries.now }
     requires few { length entries.now ≤ 256 }
-    ensures { result ≡ decision_of (without_smepmp entries.now) access.now }
+    ensures { result ≡ decision_of (file_of security.now entries.now) access.now }
 {
     for (index, range) in ranges.iter().enumerate() {
         if range.is_touched(access) {
-            return decide_in(entries, index, range, access);
+            return decide_in(entries, security, index, range, access);
         }
     }
     Decision {
-        allowed: is_allowed_unmatched(access),
+        allowed: unmatched_rights(access.mode, security).allows(access.kind),
         cause: Cause::NoMatch,
     }
 }

@@ -7,6 +7,7 @@ ghost use Rattle.pmp_core.specs.declared.entry.Entry.{Entry};
 ghost use Rattle.pmp_core.specs.Registers.{RegisterFile, HasAddresses};
 ghost use Rattle.pmp_core.specs.Matching.{Matches};
 ghost use Rattle.pmp_core.specs.Deciding.{IsOwner, IsDecider, IsDecision};
+ghost use Rattle.pmp_core.specs.Locking.{LockLaw, StoreLaw};
 ghost use Rattle.pmp_core.specs.Ranges.{decision_of};
 
 /// What is computed from the entries' ranges is the manual's decision.
@@ -29,4 +30,16 @@ pub fn law_owner_decides_byte()
 /// Only an entry of the file matches a byte.
 pub fn law_matching_entry()
     ensures { (entries : List Entry) (i byte : ℕ) → Matches entries i byte → i < length entries }
+{}
+
+/// The lock law: an entry that is frozen keeps its configuration and its bytes through every list of writes, and
+/// stays frozen, if no reset is among them. What the configuration means may change when lockdown rises.
+pub fn law_frozen()
+    ensures { LockLaw }
+{}
+
+/// The store law: in every legal register file, whoever may store by a rule, or where no entry matches, may load too.
+/// So an AMO that is decided as a store needs no second test.
+pub fn law_store_load()
+    ensures { StoreLaw }
 {}

@@ -13,17 +13,21 @@ mod decoding;
 mod entry;
 mod event;
 pub mod laws;
+mod perms;
 mod range;
 mod reading;
 mod register_file;
 mod rights;
+mod security;
 mod writing;
 
 pub use access::{Access, AccessFault, Kind, Mode};
 pub use csr::{Csr, CsrFault};
 pub use decision::{Cause, Decision, fault_code};
 pub use event::Event;
+pub use perms::Perms;
 pub use register_file::{ENTRIES, RegFile};
+pub use security::Mseccfg;
 
 #[cfg(test)]
 mod tests;

@@ -1,11 +1,12 @@
 //! What a register reads.
 
 ghost use Rattle.std.specs.Prelude.{◌≡◌, ◌*◌};
-ghost use Rattle.pmp_core.specs.Registers.{without_smepmp};
+ghost use Rattle.pmp_core.specs.Registers.{file_of};
 ghost use Rattle.pmp_core.specs.Reading.{configuration_word, register_value};
 
 use crate::csr::Csr;
 use crate::entry::Entry;
+use crate::security::Security;
 
 /// Packs the bytes of the eight entries that the configuration register holds, if there are any.
 fn configuration_word(entries: &[Entry], register: u8) -> u64
@@ -23,8 +24,8 @@ fn configuration_word(entries: &[Entry], register: u8) -> u64
 }
 
 /// The value of a register.
-pub fn read(entries: &[Entry], csr: Csr) -> u64
-    ensures { result ≡ register_value (without_smepmp entries.now) csr }
+pub fn read(entries: &[Entry], security: &Security, csr: Csr) -> u64
+    ensures { result ≡ register_value (file_of security.now entries.now) csr }
 {
     match csr {
         Csr::Cfg(register) if register % 2 == 1 => 0,
@@ -33,5 +34,6 @@ pub fn read(entries: &[Entry], csr: Csr) -> u64
             Some(entry) => entry.address,
             None => 0,
         },
+        Csr::Mseccfg => security.value(),
     }
 }

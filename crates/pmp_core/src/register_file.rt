@@ -4,17 +4,21 @@ ghost use Rattle.std.specs.Prelude.{◌≡◌, ◌<◌, ◌^◌, ◌↔◌, IsTr
 ghost use Rattle.pmp_core.specs.Registers.{reset_file, is_frozen};
 ghost use Rattle.pmp_core.specs.Matching.{Matches};
 ghost use Rattle.pmp_core.specs.Deciding.{IsDecision};
+ghost use Rattle.pmp_core.specs.Rights.{perms_of, rights, default_rights};
 ghost use Rattle.pmp_core.specs.Writing.{step};
 ghost use Rattle.pmp_core.specs.Reading.{register_value};
 ghost use Rattle.pmp_core.specs.Ranges.{decision_of};
 
-use crate::access::Access;
+use crate::access::{Access, Mode};
 use crate::csr::Csr;
 use crate::decision::Decision;
 use crate::decoding::decode_ranges;
 use crate::entry::Entry;
 use crate::event::Event;
+use crate::perms::Perms;
 use crate::range::ByteRange;
+use crate::rights::{rule_rights, unmatched_rights};
+use crate::security::Security;
 use crate::{deciding, reading, writing};
 use std::marker::Model;
 
@@ -25,6 +29,7 @@ pub const ENTRIES: usize = 16;
 #[derive(Clone, Copy, Debug, PartialEq, Eq)]
 pub struct RegFile {
     entries: [Entry; ENTRIES],
+    security: Security,
     /// Where each entry matches, decoded when a register is written.
     ranges: [ByteRange; ENTRIES],
 }
@@ -32,18 +37,18 @@ pub struct RegFile {
 impl Model for RegFile {
     ghost use Rattle.std.specs.Prelude.{◌≡◌};
     ghost use Rattle.std.proofs.Common.{sym, ap};
-    ghost use Rattle.pmp_core.specs.Registers.{RegisterFile, without_smepmp, IsLegal};
+    ghost use Rattle.pmp_core.specs.Registers.{RegisterFile, file_of, IsLegal};
     ghost use Rattle.pmp_core.specs.Ranges.{ranges_of};
 
     ghost Value = { RegisterFile };
 
-    ghost view = { λ f. without_smepmp f.entries };
+    ghost view = { λ f. file_of f.security f.entries };
 
-    ghost invariant = { λ f. IsLegal (without_smepmp f.entries) × (f.ranges ≡ ranges_of f.entries) };
+    ghost invariant = { λ f. IsLegal (file_of f.security f.entries) × (f.ranges ≡ ranges_of f.entries) };
 
-    ghost inverse = { λ file. record { entries = file.entries; ranges = ranges_of file.entries } };
+    ghost inverse = { λ file. record { entries = file.entries; security = file.security; ranges = ranges_of file.entries } };
 
-    ghost inverse_ok = { λ f h. ap (λ ranges. record { entries = f.entries; ranges = ranges }) (sym h.1) };
+    ghost inverse_ok = { λ f h. ap (λ ranges. record { entries = f.entries; security = f.security; ranges = ranges }) (sym h.1) };
 }
 
 impl RegFile {
@@ -53,6 +58,7 @@ impl RegFile {
     {
         RegFile {
             entries: [Entry::RESET; ENTRIES],
+            security: Security::RESET,
             ranges: [ByteRange::EMPTY; ENTRIES],
         }
     }
@@ -64,7 +70,7 @@ impl RegFile {
     {
         match event {
             Event::Write(csr, value) => {
-                writing::write(&mut self.entries, csr, value);
+                writing::write(&mut self.entries, &mut self.security, csr, value);
                 decode_ranges(&self.entries, &mut self.ranges);
             }
             Event::Reset => *self = RegFile::reset(),
@@ -85,7 +91,7 @@ impl RegFile {
     pub fn read(&self, csr: Csr) -> u64
         ensures { result ≡ register_value self.now csr }
     {
-        reading::read(&self.entries, csr)
+        reading::read(&self.entries, &self.security, csr)
     }
 
     /// Decides an access, in one pass over the entries.
@@ -93,15 +99,31 @@ impl RegFile {
         ensures by_bytes { IsDecision self.now access.now result }
         ensures computed { result ≡ decision_of self.now access.now }
     {
-        deciding::decide(&self.entries, &self.ranges, access)
+        deciding::decide(&self.entries, &self.security, &self.ranges, access)
     }
 
-    /// Whether the entry is frozen: its lock bit is set, so that writes leave it as it is.
+    /// Whether the entry is frozen: its lock bit is set and rule-locking bypass is off, so that writes leave it as it
+    /// is.
     pub fn is_locked(&self, entry: u8) -> bool
         requires { entry < length self.now.entries }
         ensures { result ≡ is_frozen self.now entry }
     {
-        self.entries[usize::from(entry)].configuration.locked
+        self.entries[usize::from(entry)].configuration.locked && !self.security.rule_locking_bypass
+    }
+
+    /// What the entry's rule allows the mode, where the entry matches every byte of an access.
+    pub fn rights(&self, entry: u8, mode: Mode) -> Perms
+        requires { entry < length self.now.entries }
+        ensures { result ≡ perms_of (rights self.now entry mode) }
+    {
+        rule_rights(&self.entries[usize::from(entry)].configuration, mode, &self.security)
+    }
+
+    /// What the mode may do where no entry matches any byte of an access.
+    pub fn default_rights(&self, mode: Mode) -> Perms
+        ensures { result ≡ perms_of (default_rights self.now mode) }
+    {
+        unmatched_rights(mode, &self.security)
     }
 
     /// Whether the entry matches the byte at this byte address.
