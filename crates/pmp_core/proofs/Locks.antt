@@ -104,10 +104,10 @@ module _ (file : RegisterFile) (i : ℕ) (frozen : is_frozen file i ≡ true) wh
       | inr other ↦ other_address file j value i other
     ];
     low = λ tor. low_kept file.entries (addressed file j value) i (λ k above. ap (λ (entry : Entry). entry.address)
-      (elim (cases_eq k j) [
-        | inl same ↦ frozen_address file j value k (rw same at (low_kept_frozen k above tor))
-        | inr other ↦ other_address file j value k other
-      ]));
+        (elim (cases_eq k j) [
+          | inl same ↦ frozen_address file j value k (rw same at (low_kept_frozen k above tor))
+          | inr other ↦ other_address file j value k other
+        ]));
     bypass = no_bypass;
   }
 
@@ -122,7 +122,7 @@ module _ (file : RegisterFile) (i : ℕ) (frozen : is_frozen file i ≡ true) wh
     entry = refl;
     low = λ tor. refl;
     bypass = and_false (value / 4 % 2 == 1) (file.security.rule_locking_bypass || not (is_any_locked file.entries))
-      (rw (no_bypass, list_any_at (λ (entry : Entry). entry.configuration.locked) file.entries i reset_entry inside locked) refl);
+        (rw (no_bypass, list_any_at (λ (entry : Entry). entry.configuration.locked) file.entries i reset_entry inside locked) refl);
   }
 
 -- ---- any writes

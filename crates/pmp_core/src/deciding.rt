@@ -26,8 +26,9 @@ fn decide_in(
     let number = index as u8;
     if range.is_covered(access) {
         Decision {
-            allowed: rule_rights(&entries[index].configuration, access.mode, security)
-                .allows(access.kind),
+            allowed: rule_rights(&entries[index].configuration, access.mode, security).allows(
+                access.kind,
+            ),
             cause: Cause::Rule(number),
         }
     } else {

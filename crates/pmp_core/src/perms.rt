@@ -43,8 +43,11 @@ impl Flags for Perms {
 
 impl Perms {
     pub const NONE: Perms = Perms(0);
+
     pub const RW: Perms = Perms(3);
+
     pub const RX: Perms = Perms(5);
+
     pub const RWX: Perms = Perms(7);
 
     /// The right that an access of this kind needs.

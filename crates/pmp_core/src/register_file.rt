@@ -116,7 +116,11 @@ impl RegFile {
         requires { entry < length self.now.entries }
         ensures { result ≡ perms_of (rights self.now entry mode) }
     {
-        rule_rights(&self.entries[usize::from(entry)].configuration, mode, &self.security)
+        rule_rights(
+            &self.entries[usize::from(entry)].configuration,
+            mode,
+            &self.security,
+        )
     }
 
     /// What the mode may do where no entry matches any byte of an access.

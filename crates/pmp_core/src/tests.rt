@@ -3,6 +3,7 @@
 ghost use Rattle.std.specs.Prelude.{◌≡◌, length};
 
 use super::*;
+use std::process::Abort;
 
 /// The values that registers read after events from reset, as the manual's rules give them.
 #[test]
@@ -62,6 +63,192 @@ fn registers_read_what_was_stored(rt: HostRuntime) {
     }
 }
 
+/// What `mseccfg` and the locks let a write change.
+#[test]
+fn lockdown_and_bypass(rt: HostRuntime) {
+    let security = |value| Event::Write(Csr::Mseccfg, value);
+    let cfg0 = |value| Event::Write(Csr::Cfg(0), value);
+    let cases: [([Event; 4], Csr, u64); 9] = [
+        // Under lockdown W without R is a rule of its own.
+        (
+            [security(1), cfg0(0x1a), cfg0(0x1a), cfg0(0x1a)],
+            Csr::Cfg(0),
+            0x1a,
+        ),
+        // MML and MMWP are sticky, RLB isn't.
+        (
+            [security(7), security(0), security(0), security(0)],
+            Csr::Mseccfg,
+            3,
+        ),
+        // RLB doesn't rise over a lock, be the entry off or not.
+        (
+            [cfg0(0x80), security(4), security(4), security(4)],
+            Csr::Mseccfg,
+            0,
+        ),
+        (
+            [security(4), cfg0(0x99), security(0), security(4)],
+            Csr::Mseccfg,
+            0,
+        ),
+        // Only the barred byte of a write is left out, and bypass lets it in.
+        (
+            [security(1), cfg0(0x199c), cfg0(0x199c), cfg0(0x199c)],
+            Csr::Cfg(0),
+            0x1900,
+        ),
+        (
+            [security(5), cfg0(0x199c), cfg0(0x199c), cfg0(0x199c)],
+            Csr::Cfg(0),
+            0x199c,
+        ),
+        // Bypass lets a locked entry be written.
+        (
+            [security(4), cfg0(0x99), cfg0(0x18), cfg0(0x18)],
+            Csr::Cfg(0),
+            0x18,
+        ),
+        // A rule from before lockdown stays.
+        (
+            [cfg0(0x8c), security(1), security(1), security(1)],
+            Csr::Cfg(0),
+            0x8c,
+        ),
+        // Other bits of the register read as zero.
+        (
+            [security(u64::MAX), security(0), security(4), security(4)],
+            Csr::Mseccfg,
+            7,
+        ),
+    ];
+    for (events, csr, value) in cases {
+        let mut file = RegFile::reset();
+        file.run_events(&events);
+        assert_eq!(rt; file.read(csr), value, "{csr:?} after {events:?}");
+    }
+}
+
+/// Which locked rules lockdown lets a write add, without bypass.
+#[test]
+fn lockdown_bars_rules_by_which_machine_mode_executes(rt: HostRuntime) {
+    for (written, read) in [
+        (0x84, 0),
+        (0x8c, 0),
+        (0x8a, 0),
+        (0x8e, 0),
+        (0x8d, 0),
+        (0x88, 0x88),
+        (0x89, 0x89),
+        (0x8b, 0x8b),
+        (0x8f, 0x8f),
+    ] {
+        let mut file = RegFile::reset();
+        file.step(Event::Write(Csr::Mseccfg, 1));
+        file.step(Event::Write(Csr::Cfg(0), written));
+        assert_eq!(rt; file.read(Csr::Cfg(0)), read, "{written:#x}");
+    }
+}
+
+/// Rules by L, R, W and X as bits 3 to 0, and what they let machine mode and the other modes do.
+///
+/// Without lockdown. W without R can't be stored.
+const PLAIN_ROWS: [(u64, &str, &str); 12] = [
+    (0b0000, "rwx", ""),
+    (0b0001, "rwx", "x"),
+    (0b0100, "rwx", "r"),
+    (0b0101, "rwx", "rx"),
+    (0b0110, "rwx", "rw"),
+    (0b0111, "rwx", "rwx"),
+    (0b1000, "", ""),
+    (0b1001, "x", "x"),
+    (0b1100, "r", "r"),
+    (0b1101, "rx", "rx"),
+    (0b1110, "rw", "rw"),
+    (0b1111, "rwx", "rwx"),
+];
+
+/// With lockdown: the truth table of Smepmp.
+const LOCKDOWN_ROWS: [(u64, &str, &str); 16] = [
+    (0b0000, "", ""),
+    (0b0001, "", "x"),
+    (0b0010, "rw", "r"),
+    (0b0011, "rw", "rw"),
+    (0b0100, "", "r"),
+    (0b0101, "", "rx"),
+    (0b0110, "", "rw"),
+    (0b0111, "", "rwx"),
+    (0b1000, "", ""),
+    (0b1001, "x", ""),
+    (0b1010, "x", "x"),
+    (0b1011, "rx", "x"),
+    (0b1100, "r", ""),
+    (0b1101, "rx", ""),
+    (0b1110, "rw", ""),
+    (0b1111, "r", "r"),
+];
+
+/// Asserts what a rule over all of memory with these bits lets each mode do.
+fn assert_rights(rt: &impl Abort, mseccfg: u64, lrwx: u64, machine: &str, others: &str) {
+    let mut file = RegFile::reset();
+    let byte = lrwx / 8 * 0x80 + 0x18 + lrwx % 2 * 4 + lrwx / 2 % 2 * 2 + lrwx / 4 % 2;
+    file.run_events(&[
+        Event::Write(Csr::Mseccfg, mseccfg),
+        Event::Write(Csr::Addr(0), u64::MAX),
+        Event::Write(Csr::Cfg(0), byte),
+    ]);
+    for (mode, rights) in [(Mode::M, machine), (Mode::S, others), (Mode::U, others)] {
+        for (kind, letter) in [(Kind::Fetch, "x"), (Kind::Load, "r"), (Kind::Store, "w")] {
+            let allowed = rights.contains(letter);
+            let Ok(access) = Access::new(mode, kind, 0x1000, 4) else {
+                continue;
+            };
+            let cause = Cause::Rule(0);
+            let decision = Decision { allowed, cause };
+            assert_eq!(rt;
+                file.decide(&access),
+                decision,
+                "{lrwx:04b} in {mode:?} at {kind:?}"
+            );
+            let perms = file.rights(0, mode);
+            assert_eq!(rt;
+                perms.allows(kind),
+                allowed,
+                "{lrwx:04b} in {mode:?} at {kind:?}"
+            );
+        }
+    }
+}
+
+/// Bypass is on, so that every rule can be written.
+#[test]
+fn rights_of_every_rule(rt: HostRuntime) {
+    for (lrwx, machine, others) in PLAIN_ROWS {
+        assert_rights(&rt, 4, lrwx, machine, others);
+    }
+    for (lrwx, machine, others) in LOCKDOWN_ROWS {
+        assert_rights(&rt, 5, lrwx, machine, others);
+    }
+}
+
+#[test]
+fn rights_where_no_entry_matches(rt: HostRuntime) {
+    for (mseccfg, machine) in [(0, "rwx"), (1, "rw"), (2, ""), (3, "")] {
+        let mut file = RegFile::reset();
+        file.step(Event::Write(Csr::Mseccfg, mseccfg));
+        for (mode, rights) in [(Mode::M, machine), (Mode::S, ""), (Mode::U, "")] {
+            for (kind, letter) in [(Kind::Fetch, "x"), (Kind::Load, "r"), (Kind::Store, "w")] {
+                let perms = file.default_rights(mode);
+                assert_eq!(rt;
+                    perms.allows(kind),
+                    rights.contains(letter),
+                    "{mseccfg} {mode:?}"
+                );
+            }
+        }
+    }
+}
+
 /// Registers that the unit lacks read zero and take no write.
 #[test]
 fn other_registers_change_nothing(rt: HostRuntime) {
@@ -103,7 +290,9 @@ fn csr_numbers(rt: HostRuntime) {
         (0x3b0, Ok(Csr::Addr(0))),
         (0x3ef, Ok(Csr::Addr(63))),
         (0x3f0, Err(CsrFault::NotPmp)),
-        (0x747, Err(CsrFault::NotPmp)),
+        (0x746, Err(CsrFault::NotPmp)),
+        (0x747, Ok(Csr::Mseccfg)),
+        (0x748, Err(CsrFault::NotPmp)),
     ] {
         assert_eq!(rt; Csr::from_number(number), register, "{number:#x}");
     }

@@ -22,12 +22,13 @@ abbrev pub counted_from : (base : ℕ) → Option ℕ → Option ℕ
 counted_from base None = None
 counted_from base (Some offset) = Some (base + offset)
 
--- a register's number: `pmpcfg` and 0 to 15, `pmpaddr` and 0 to 63, or the number itself in hexadecimal
+-- a register's number: `mseccfg`, `pmpcfg` and 0 to 15, `pmpaddr` and 0 to 63, or the number itself in hexadecimal
 unfoldable pub register_number : List ℕ → Option ℕ
 register_number word =
-    if bytes_eq (take 6 word) (codes "pmpcfg") then counted_from 0x3a0 (plain_number 15 (drop 6 word))
+    if bytes_eq word (codes "mseccfg") then Some 0x747
+    else (if bytes_eq (take 6 word) (codes "pmpcfg") then counted_from 0x3a0 (plain_number 15 (drop 6 word))
     else (if bytes_eq (take 7 word) (codes "pmpaddr") then counted_from 0x3b0 (plain_number 63 (drop 7 word))
-    else (if bytes_eq (take 2 word) (codes "0x") then numeral 16 16 (drop 2 word) else None))
+    else (if bytes_eq (take 2 word) (codes "0x") then numeral 16 16 (drop 2 word) else None)))
 
 -- how a script refuses a number of no register
 abbrev pub named : Result Csr CsrFault → Result Csr ScriptKind

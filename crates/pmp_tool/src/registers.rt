@@ -11,6 +11,8 @@ const FIRST_CFG: u64 = 0x3A0;
 
 const FIRST_ADDR: u64 = 0x3B0;
 
+const MSECCFG: u64 = 0x747;
+
 /// The number that the digits write in decimal without leading zeros, where it is at most `most`.
 #[tactic(auto, unfolding(crate::specs::Names::plain_number))]
 fn read_plain_number(digits: &[u8], most: u64) -> Option<u64>
@@ -27,6 +29,9 @@ fn read_plain_number(digits: &[u8], most: u64) -> Option<u64>
 fn read_register_number(word: &[u8]) -> Option<u64>
     ensures { result ≡ register_number word.now }
 {
+    if word == b"mseccfg".as_slice() {
+        return Some(MSECCFG);
+    }
     if let Some(digits) = word.strip_prefix(b"pmpcfg") {
         return Some(FIRST_CFG + read_plain_number(digits, 15)?);
     }

@@ -122,7 +122,7 @@ fn lines_of_scripts(rt: HostRuntime) {
             refused(ScriptKind::OddCfg, 2),
         ),
         (
-            b"pmp 1\nwrite mseccfg x\n".as_slice(),
+            b"pmp 1\nwrite MSECCFG x\n".as_slice(),
             refused(ScriptKind::BadName, 2),
         ),
         (b"pmp 1\nwrite pmpaddr16 7\npublish\n".as_slice(), Ok(1)),
@@ -154,7 +154,11 @@ fn names(rt: HostRuntime) {
         (b"PMPADDR0".as_slice(), Err(ScriptKind::BadName)),
         (b"0x3f0".as_slice(), Err(ScriptKind::BadName)),
         (b"0x103a0".as_slice(), Err(ScriptKind::BadName)),
-        (b"0x747".as_slice(), Err(ScriptKind::BadName)),
+        (b"mseccfg".as_slice(), Ok(Csr::Mseccfg)),
+        (b"0x747".as_slice(), Ok(Csr::Mseccfg)),
+        (b"0x748".as_slice(), Err(ScriptKind::BadName)),
+        (b"mseccfg0".as_slice(), Err(ScriptKind::BadName)),
+        (b"mseccf".as_slice(), Err(ScriptKind::BadName)),
         (b"0x".as_slice(), Err(ScriptKind::BadName)),
         (b"928".as_slice(), Err(ScriptKind::BadName)),
     ];

@@ -202,6 +202,51 @@ fn a_locked_page_binds_machine_mode(rt: HostRuntime) -> Result<(), Fail> {
     )
 }
 
+/// Every bit of a locked rule set: under lockdown a region that all modes may read, and none may write.
+#[test]
+fn a_shared_read_only_page(rt: HostRuntime) -> Result<(), Fail> {
+    assert_rows(
+        &rt,
+        "write mseccfg 5\nwrite pmpaddr0 0x200001ff\nwrite pmpcfg0 0x9f",
+        &[
+            ("U load 0x80000000 4", "1,allow,,rule,0"),
+            ("M store 0x80000000 4", "1,fault,7,rule,0"),
+            ("M fetch 0x80000000 4", "1,fault,1,rule,0"),
+        ],
+    )
+}
+
+#[test]
+fn lockdown_and_allow_list_where_no_entry_matches(rt: HostRuntime) -> Result<(), Fail> {
+    assert_rows(
+        &rt,
+        "write mseccfg 1",
+        &[
+            ("M fetch 0x0 4", "1,fault,1,none,"),
+            ("M load 0x0 4", "1,allow,,none,"),
+        ],
+    )?;
+    assert_rows(&rt, "write 0x747 3", &[("M load 0x0 4", "1,fault,5,none,")])
+}
+
+/// Lockdown takes the rules of the other modes from machine mode.
+#[test]
+fn a_page_before_and_after_lockdown(rt: HostRuntime) -> Result<(), Fail> {
+    assert_rows(
+        &rt,
+        "write pmpaddr0 0x200001ff\nwrite pmpcfg0 0x1f",
+        &[("M load 0x80000000 4", "1,allow,,rule,0")],
+    )?;
+    assert_rows(
+        &rt,
+        "write pmpaddr0 0x200001ff\nwrite pmpcfg0 0x1f\nwrite mseccfg 1",
+        &[
+            ("M load 0x80000000 4", "1,fault,5,rule,0"),
+            ("U load 0x80000000 4", "1,allow,,rule,0"),
+        ],
+    )
+}
+
 #[test]
 fn registers_without_an_entry_take_no_write(rt: HostRuntime) -> Result<(), Fail> {
     assert_rows(
@@ -253,10 +298,10 @@ fn scripts_are_refused_with_their_line(rt: HostRuntime) -> Result<(), Fail> {
         ("pmp 1\nreset\n", "pmp: script line 2: refused 11 BadLine"),
         (
             "pmp 1\nwrite mseccfg 0\n",
-            "pmp: script line 2: refused 12 BadName",
+            "pmp: script line 2: refused 16 Unpublished",
         ),
         (
-            "pmp 1\nwrite 0x747 0\n",
+            "pmp 1\nwrite pmpaddr64 0\n",
             "pmp: script line 2: refused 12 BadName",
         ),
         (
