@@ -1,0 +1,310 @@
+/* Times the proved unit beside a plain C one, over the same writes and accesses. */
+#define _POSIX_C_SOURCE 199309L
+#include <stdint.h>
+#include <stdio.h>
+#include <stdlib.h>
+#include <string.h>
+#include <time.h>
+
+enum { ENTRIES = 16, COUNT = 100000, ROUNDS = 60, SMALL_FILES = 3000, SMALL_COUNT = 200 };
+
+enum { USER = 0, SUPERVISOR = 1, MACHINE = 3 };
+enum { FETCH = 0, LOAD = 1, STORE = 2 };
+enum { SPLIT = 256, NO_MATCH = 512, ALLOWED = 1024 };
+enum { PMPCFG0 = 0x3a0, PMPCFG2 = 0x3a2, PMPADDR0 = 0x3b0 };
+
+struct write {
+    uint16_t number;
+    uint64_t value;
+};
+
+struct request {
+    uint64_t start;
+    uint64_t length;
+    uint8_t mode;
+    uint8_t kind;
+};
+
+/* The proved unit: decides the requests after the writes from reset, and counts the allowed ones.
+   There must be as many answers as requests. */
+size_t pmp_bench_decide(const struct write *writes, size_t write_count, const struct request *requests,
+                        size_t request_count, uint16_t *answers, size_t answer_count);
+
+/* The plain unit, whose mseccfg is always zero. */
+
+enum { READABLE = 1, WRITABLE = 2, EXECUTABLE = 4, LOCKED = 128 };
+enum { OFF = 0, TOP_OF_RANGE = 1, FOUR_BYTES = 2 };
+
+struct range {
+    uint64_t low;
+    uint64_t high;
+    uint8_t machine_rights;
+    uint8_t other_rights;
+};
+
+struct unit {
+    uint8_t configuration[ENTRIES];
+    uint64_t address[ENTRIES];
+    struct range range[ENTRIES];
+};
+
+static const uint8_t needed[3] = {EXECUTABLE, READABLE, WRITABLE};
+
+static int matching(const struct unit *unit, unsigned entry) {
+    return unit->configuration[entry] >> 3 & 3;
+}
+
+static int is_locked(const struct unit *unit, unsigned entry) {
+    return (unit->configuration[entry] & LOCKED) != 0;
+}
+
+static void decode(struct unit *unit, unsigned entry) {
+    struct range *range = &unit->range[entry];
+    uint64_t address = unit->address[entry];
+    uint64_t ones = address ^ (address + 1);
+    switch (matching(unit, entry)) {
+    case OFF:
+        range->low = range->high = 0;
+        break;
+    case TOP_OF_RANGE:
+        range->low = entry == 0 ? 0 : unit->address[entry - 1] << 2;
+        range->high = address << 2;
+        if (range->low >= range->high)
+            range->low = range->high = 0;
+        break;
+    case FOUR_BYTES:
+        range->low = address << 2;
+        range->high = range->low + 4;
+        break;
+    default:
+        range->low = (address & ~ones) << 2;
+        range->high = range->low + ((ones + 1) << 2);
+    }
+    range->other_rights = unit->configuration[entry] & 7;
+    range->machine_rights = is_locked(unit, entry) ? range->other_rights : 7;
+}
+
+static void write_configurations(struct unit *unit, unsigned first, uint64_t value) {
+    for (unsigned place = 0; place < 8; place++) {
+        uint8_t byte = value >> (8 * place) & 0x9f;
+        if (is_locked(unit, first + place))
+            continue;
+        if ((byte & (WRITABLE | READABLE)) == WRITABLE)
+            byte &= 0x98;
+        unit->configuration[first + place] = byte;
+        decode(unit, first + place);
+    }
+}
+
+static void write_address(struct unit *unit, unsigned entry, uint64_t value) {
+    unsigned next = entry + 1;
+    if (is_locked(unit, entry))
+        return;
+    if (next < ENTRIES && is_locked(unit, next) && matching(unit, next) == TOP_OF_RANGE)
+        return;
+    unit->address[entry] = value & ((UINT64_C(1) << 54) - 1);
+    decode(unit, entry);
+    if (next < ENTRIES && matching(unit, next) == TOP_OF_RANGE)
+        decode(unit, next);
+}
+
+static void write_register(struct unit *unit, const struct write *write) {
+    if (write->number == PMPCFG0)
+        write_configurations(unit, 0, write->value);
+    else if (write->number == PMPCFG2)
+        write_configurations(unit, 8, write->value);
+    else if (write->number >= PMPADDR0 && write->number < PMPADDR0 + ENTRIES)
+        write_address(unit, write->number - PMPADDR0, write->value);
+}
+
+/* Not inlined, like the proved one, so that each decision is a call, as in an emulator. */
+static __attribute__((noinline)) unsigned decide(const struct unit *unit, const struct request *request) {
+    uint64_t start = request->start, end = start + request->length;
+    int is_machine = request->mode == MACHINE;
+    for (unsigned entry = 0; entry < ENTRIES; entry++) {
+        const struct range *range = &unit->range[entry];
+        if (start >= range->high || end <= range->low)
+            continue;
+        if (start < range->low || end > range->high)
+            return SPLIT + entry;
+        uint8_t rights = is_machine ? range->machine_rights : range->other_rights;
+        return entry + (rights & needed[request->kind] ? ALLOWED : 0);
+    }
+    return NO_MATCH + (is_machine ? ALLOWED : 0);
+}
+
+static __attribute__((noinline)) size_t plain_decide(const struct write *writes, size_t write_count,
+                                                     const struct request *requests, size_t request_count,
+                                                     uint16_t *answers, size_t answer_count) {
+    struct unit unit;
+    size_t allowed = 0;
+    (void)answer_count;
+    memset(&unit, 0, sizeof unit);
+    for (unsigned entry = 0; entry < ENTRIES; entry++)
+        unit.range[entry].machine_rights = 7;
+    for (size_t i = 0; i < write_count; i++)
+        write_register(&unit, &writes[i]);
+    for (size_t i = 0; i < request_count; i++) {
+        unsigned answer = decide(&unit, &requests[i]);
+        allowed += answer >= ALLOWED;
+        answers[i] = answer;
+    }
+    return allowed;
+}
+
+/* What both are given. */
+
+static struct write writes[COUNT + 32];
+static struct request requests[COUNT];
+static uint16_t proved_answers[COUNT], plain_answers[COUNT];
+static size_t write_count, request_count;
+
+static uint64_t next_random(void) {
+    static uint64_t state = UINT64_C(0x9e3779b97f4a7c15);
+    state ^= state >> 12;
+    state ^= state << 25;
+    state ^= state >> 27;
+    return state * UINT64_C(0x2545f4914f6cdd1d) >> 16;
+}
+
+static uint64_t below(uint64_t limit) {
+    return next_random() % limit;
+}
+
+static uint64_t region(uint64_t index) {
+    return UINT64_C(0x80000000) + index * 0x10000;
+}
+
+static uint64_t napot_of_page(uint64_t base) {
+    return base >> 2 | 0x1ff;
+}
+
+static void add_write(uint16_t number, uint64_t value) {
+    writes[write_count++] = (struct write){number, value};
+}
+
+static void set_regions(unsigned regions) {
+    write_count = 0;
+    for (unsigned entry = 0; entry < regions; entry++)
+        add_write(PMPADDR0 + entry, napot_of_page(region(entry)));
+    add_write(PMPCFG0, regions == 1 ? 0x1b : UINT64_C(0x1b1b1b1b1b1b1b1b));
+    add_write(PMPCFG2, regions == 1 ? 0 : UINT64_C(0x1b1b1b1b1b1b1b1b));
+}
+
+/* Loads of eight bytes by user mode, this far from the start of a region's page. */
+static void set_loads(unsigned regions, uint64_t distance) {
+    request_count = COUNT;
+    for (size_t i = 0; i < COUNT; i++)
+        requests[i] = (struct request){region(below(regions)) + distance + 8 * below(512), 8, USER, LOAD};
+}
+
+static void mix_modes_and_kinds(void) {
+    static const uint8_t modes[3] = {USER, SUPERVISOR, MACHINE};
+    for (size_t i = 0; i < request_count; i++) {
+        requests[i].mode = modes[below(3)];
+        requests[i].kind = below(3);
+    }
+}
+
+static void set_address_writes(void) {
+    set_regions(ENTRIES);
+    for (size_t i = 0; i < COUNT; i++)
+        add_write(PMPADDR0 + below(ENTRIES), napot_of_page(region(below(ENTRIES))));
+    request_count = 1;
+}
+
+/* Eight random configuration bytes, whose bits are all in the mask. */
+static void add_configurations(uint64_t mask) {
+    add_write(below(2) ? PMPCFG0 : PMPCFG2, (next_random() ^ next_random() << 32) & mask);
+}
+
+static void set_configuration_writes(void) {
+    set_regions(ENTRIES);
+    for (size_t i = 0; i < COUNT; i++)
+        add_configurations(UINT64_C(0x1f1f1f1f1f1f1f1f));
+    request_count = 1;
+}
+
+/* Ranges of every kind in the lowest bytes, which overlap, some of them locked. */
+static void set_small_file(void) {
+    write_count = 0;
+    for (unsigned i = 0; i < 40; i++) {
+        if (below(4) == 0)
+            add_configurations(below(8) ? UINT64_C(0x7f7f7f7f7f7f7f7f) : UINT64_MAX);
+        else
+            add_write(PMPADDR0 + below(ENTRIES), below(16) ? below(64) : next_random() << 16);
+    }
+    request_count = SMALL_COUNT;
+    for (size_t i = 0; i < SMALL_COUNT; i++)
+        requests[i] = (struct request){below(256), 1 + below(24), USER, LOAD};
+    mix_modes_and_kinds();
+}
+
+/* The runs. */
+
+typedef size_t decider(const struct write *, size_t, const struct request *, size_t, uint16_t *, size_t);
+
+static double nanoseconds(void) {
+    struct timespec time;
+    clock_gettime(CLOCK_MONOTONIC, &time);
+    return 1e9 * time.tv_sec + time.tv_nsec;
+}
+
+static double run(decider *decider, uint16_t *answers, size_t *allowed) {
+    double before = nanoseconds();
+    *allowed = decider(writes, write_count, requests, request_count, answers, request_count);
+    return nanoseconds() - before;
+}
+
+static void run_both(const char *name, double *proved, double *plain) {
+    size_t proved_allowed, plain_allowed;
+    *proved = run(pmp_bench_decide, proved_answers, &proved_allowed);
+    *plain = run(plain_decide, plain_answers, &plain_allowed);
+    size_t size = request_count * sizeof *plain_answers;
+    if (proved_allowed != plain_allowed || memcmp(proved_answers, plain_answers, size) != 0) {
+        fprintf(stderr, "%s: the answers differ\n", name);
+        exit(1);
+    }
+}
+
+static void measure(const char *name) {
+    double best_proved = 1e18, best_plain = 1e18, proved, plain;
+    for (unsigned round = 0; round < ROUNDS; round++) {
+        run_both(name, &proved, &plain);
+        if (proved < best_proved)
+            best_proved = proved;
+        if (plain < best_plain)
+            best_plain = plain;
+    }
+    printf("%-44s %9.2f %9.2f %7.2f\n", name, best_proved / COUNT, best_plain / COUNT, best_proved / best_plain);
+}
+
+static void compare_small_files(void) {
+    double proved, plain;
+    for (unsigned file = 0; file < SMALL_FILES; file++) {
+        set_small_file();
+        run_both("small files", &proved, &plain);
+    }
+    printf("%d answers over small random files agree\n\n", SMALL_FILES * SMALL_COUNT);
+}
+
+int main(void) {
+    compare_small_files();
+    printf("%-44s %9s %9s %7s\n", "nanoseconds each, best of 60 rounds", "proved", "plain C", "ratio");
+    set_regions(ENTRIES);
+    set_loads(ENTRIES, 0);
+    measure("decide, one of sixteen regions");
+    mix_modes_and_kinds();
+    measure("decide, the same in every mode and kind");
+    set_regions(1);
+    set_loads(1, 0);
+    measure("decide, one region");
+    set_regions(ENTRIES);
+    set_loads(ENTRIES, 0x2000);
+    measure("decide, no match with sixteen regions");
+    set_address_writes();
+    measure("step, pmpaddr");
+    set_configuration_writes();
+    measure("step, pmpcfg");
+    return 0;
+}
