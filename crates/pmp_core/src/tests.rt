@@ -191,7 +191,7 @@ const LOCKDOWN_ROWS: [(u64, &str, &str); 16] = [
 /// Asserts what a rule over all of memory with these bits lets each mode do.
 fn assert_rights(rt: &impl Abort, mseccfg: u64, lrwx: u64, machine: &str, others: &str) {
     let mut file = RegFile::reset();
-    let byte = lrwx / 8 * 0x80 + 0x18 + lrwx % 2 * 4 + lrwx / 2 % 2 * 2 + lrwx / 4 % 2;
+    let byte = (lrwx & 8) << 4 | 0x18 | (lrwx & 1) << 2 | lrwx & 2 | (lrwx & 4) >> 2;
     file.run_events(&[
         Event::Write(Csr::Mseccfg, mseccfg),
         Event::Write(Csr::Addr(0), u64::MAX),
