@@ -1,9 +1,2 @@
-pub mod Bounds
-pub mod Cuts
-pub mod Digits
-pub mod Leasts
-pub mod Lefts
-pub mod Meanings
 pub mod Replaying
 pub mod Running
-pub mod Transfers

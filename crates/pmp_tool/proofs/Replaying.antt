@@ -1,15 +1,14 @@
 -- A history, one publication after another.
-use Rattle.std.proofs.Common.{◌≡◌, ℕ, ◌+◌, ◌<◌, ◌≤◌, List, [], length, drop, fold, slice_index_or, refl, add-one, drop-cons}
-use Rattle.std.proofs.Math.ListN.{drop_of_length-le}
+use Rattle.std.proofs.Common.{◌≡◌, ℕ, ◌+◌, ◌<◌, List, [], ◌++◌, length, take, fold, slice_index_or, sym, ap, ◌∙◌}
+use Rattle.std.proofs.lemmas.List.{take_more, flat_map_more}
 use Rattle.std.proofs.lemmas.List.Sums.{fold-append}
 use Rattle.pmp_core.specs.declared.event.Event.{Event}
-use Rattle.pmp_core.specs.Registers.{RegisterFile}
-use Rattle.pmp_core.specs.Writing.{step}
-use Rattle.pmp_tool.specs.Replays.{joined}
+use Rattle.pmp_core.specs.Registers.{reset_file}
+use Rattle.pmp_core.specs.Writing.{step, replay}
+use Rattle.pmp_tool.specs.Replays.{joined, file_after}
 
-module _ (batches : List (List Event)) (file : RegisterFile) (i : ℕ) where
-  pub replayed_more : i < length batches → fold step file (joined (drop i batches)) ≡ fold step (fold step file (slice_index_or batches i [])) (joined (drop (i + 1) batches))
-  replayed_more inside = rw (drop-cons batches i [], add-one) (fold-append step file (slice_index_or batches i []) _)
-
-  pub replayed_all : length batches ≤ i → fold step file (joined (drop i batches)) ≡ file
-  replayed_all over = rw (drop_of_length-le batches over) refl
+pub replayed_more : (batches : List (List Event)) (i : ℕ) → i < length batches → file_after (take (i + 1) batches) ≡ fold step (file_after (take i batches)) (slice_index_or batches i [])
+replayed_more batches i inside =
+    let next = slice_index_or batches i [] in
+    let events : joined (take (i + 1) batches) ≡ joined (take i batches) ++ next = ap joined (take_more batches i [] inside) ∙ sym (flat_map_more (λ (batch : List Event). batch) [] (take i batches) next) in
+    ap (replay 16) events ∙ fold-append step (reset_file 16) (joined (take i batches)) next

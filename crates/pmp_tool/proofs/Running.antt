@@ -9,27 +9,38 @@ use Rattle.pmp_core.specs.declared.access.Kind.{Kind}
 use Rattle.pmp_core.specs.declared.access.AccessFault.{AccessFault}
 use Rattle.pmp_core.specs.declared.access.AccessFault.TheVariants as access
 use Rattle.pmp_core.specs.Accesses.{access_fault}
-use Rattle.pmp_tool.specs.declared.check.AuditFault.{AuditFault}
-use Rattle.pmp_tool.specs.declared.check.AuditFault.TheVariants as audit
-use Rattle.pmp_tool.specs.declared.input.InputFault.{InputFault}
-use Rattle.pmp_tool.specs.declared.input.InputFault.TheVariants as input
+use Rattle.pmp_tool.specs.declared.fault.AuditFault.{AuditFault}
+use Rattle.pmp_tool.specs.declared.fault.AuditFault.TheVariants as audit
+use Rattle.pmp_text.specs.declared.input.InputFault.{InputFault}
+use Rattle.pmp_text.specs.declared.input.InputFault.TheVariants as input
 use Rattle.pmp_tool.specs.declared.refusal.Refusal.{Refusal}
 use Rattle.pmp_tool.specs.declared.refusal.Refusal.TheVariants as why
-use Rattle.pmp_tool.specs.declared.script.ScriptFault.{ScriptFault}
-use Rattle.pmp_tool.specs.Scripts.{script_meaning}
+use Rattle.pmp_text.specs.declared.script.ScriptFault.{ScriptFault}
+use Rattle.pmp_text.specs.Scripts.{script_meaning}
 use Rattle.pmp_tool.specs.Checks.{IsUnchecked}
+use Rattle.pmp_tool.specs.Dumping.{AsksTooMuch, IsUndumped}
 use Rattle.pmp_tool.specs.Refusals.{status_of, refusal_of_input, refusal_of_access}
 use Rattle.pmp_tool.specs.Runs.{AsksFor, IsFaulty, failure_status, unaudited}
+use Rattle.pmp_tool.specs.declared.run.Request.{Request}
+use Rattle.pmp_tool.specs.declared.run.Request.TheVariants.{Check, Dump}
 use Rattle.pmp_tool.specs.Words.{IsAccessOf, mode_named, kind_named, fault_of_words, words_fault}
-use Rattle.pmp_tool.specs.Numbers.{word_number}
+use Rattle.pmp_text.specs.Numbers.{word_number}
 
-module _ (words : List (List ℕ)) (path : List ℕ) (access : Access) (asked : AsksFor words path access) where
-  same_path : (other : List ℕ) (another : Access) → AsksFor words other another → path ≡ other
-  same_path other another asks = let both = sym asked.words_are ∙ asks.words_are in cc
+-- nobody asks for more than all of them
+all_are_within : (text : List ℕ) → AsksTooMuch text None → ⊥
+all_are_within text asked = let beyond : length asked.batches < length asked.batches = asked.beyond in absurd (omega arith)
 
+-- words ask for one script
+same_path : (words : List (List ℕ)) (path other : List ℕ) (request another : Request) → AsksFor words path request → AsksFor words other another → path ≡ other
+same_path words path other (Check access) (Check more) asked asks = let both = sym asked.words_are ∙ asks.words_are in cc
+same_path words path other (Check access) Dump asked asks = let both = sym asked.words_are ∙ asks in absurd cc
+same_path words path other Dump (Check access) asked asks = let both = sym asked ∙ asks.words_are in absurd cc
+same_path words path other Dump Dump asked asks = let both = sym asked ∙ asks in cc
+
+module _ (words : List (List ℕ)) (path : List ℕ) (request : Request) (asked : AsksFor words path request) where
   -- a fact of what is held at the path that was read is one of every path that the words ask for
   elsewhere : (held : List ℕ → Option (List ℕ)) → IfSome (held path) (λ known. IsErr (script_meaning known)) → IsFaulty words held
-  elsewhere held here other another asks = rw (← same_path other another asks) here
+  elsewhere held here other another asks = rw (← same_path words path other request another asked asks) here
 
   known_fault : (known : Option (List ℕ)) (text : List ℕ) (fault : ScriptFault) → IfSome known (λ bytes. text ≡ bytes) → script_meaning text ≡ Err fault → IfSome known (λ bytes. IsErr (script_meaning bytes))
   known_fault None text fault same meant = tt
@@ -40,10 +51,10 @@ module _ (words : List (List ℕ)) (path : List ℕ) (access : Access) (asked : 
   known_length None long = tt
   known_length (Some bytes) long = rw (lt-ltb 1048576 (length bytes) long) refl
 
-  pub faulty_script : (held : List ℕ → Option (List ℕ)) (text : List ℕ) (fault : ScriptFault) → IfSome (held path) (λ bytes. text ≡ bytes) → script_meaning text ≡ Err fault → IsFaulty words held
+  faulty_script : (held : List ℕ → Option (List ℕ)) (text : List ℕ) (fault : ScriptFault) → IfSome (held path) (λ bytes. text ≡ bytes) → script_meaning text ≡ Err fault → IsFaulty words held
   faulty_script held text fault same meant = elsewhere held (known_fault (held path) text fault same meant)
 
-  pub long_script : (held : List ℕ → Option (List ℕ)) → IfSome (held path) (λ bytes. 1048576 < length bytes) → IsFaulty words held
+  long_script : (held : List ℕ → Option (List ℕ)) → IfSome (held path) (λ bytes. 1048576 < length bytes) → IsFaulty words held
   long_script held long = elsewhere held (known_length (held path) long)
 
   -- the input failed, and the status says that the words or the script are at fault
@@ -53,18 +64,40 @@ module _ (words : List (List ℕ)) (path : List ℕ) (access : Access) (asked : 
   unread_script held input.Memory long two = absurd cc
 
   -- the check failed, with that status
-  pub unchecked_script : (held : List ℕ → Option (List ℕ)) (text : List ℕ) (before after : Option (List ℕ)) (fault : AuditFault) → IfSome (held path) (λ bytes. text ≡ bytes) → IsUnchecked text access before after fault
+  pub unchecked_script : (access : Access) (held : List ℕ → Option (List ℕ)) (text : List ℕ) (before after : Option (List ℕ)) (fault : AuditFault) → IfSome (held path) (λ bytes. text ≡ bytes) → IsUnchecked text access before after fault
       → failure_status (unaudited fault) ≡ 2 → IsFaulty words held
-  unchecked_script held text before after (audit.Script fault) same unchecked two = faulty_script held text fault same unchecked.0
-  unchecked_script held text before after audit.Memory same unchecked two = absurd cc
-  unchecked_script held text before after audit.Output same unchecked two = absurd cc
+  unchecked_script access held text before after (audit.Script fault) same unchecked two = faulty_script held text fault same unchecked.0
+  unchecked_script access held text before after audit.BadAfter same unchecked two = absurd unchecked
+  unchecked_script access held text before after audit.Memory same unchecked two = absurd cc
+  unchecked_script access held text before after audit.Output same unchecked two = absurd cc
+
+  -- the dump of all publications failed, with that status
+  pub undumped_script : (held : List ℕ → Option (List ℕ)) (text : List ℕ) (before after : Option (List ℕ)) (fault : AuditFault) → IfSome (held path) (λ bytes. text ≡ bytes) → IsUndumped text None before after fault
+      → failure_status (unaudited fault) ≡ 2 → IsFaulty words held
+  undumped_script held text before after (audit.Script fault) same undumped two = faulty_script held text fault same undumped.0
+  undumped_script held text before after audit.BadAfter same undumped two = absurd (all_are_within text undumped.0)
+  undumped_script held text before after audit.Memory same undumped two = absurd cc
+  undumped_script held text before after audit.Output same undumped two = absurd cc
 
 pub unchecked_keeps : (text : List ℕ) (access : Access) (before after : Option (List ℕ)) (fault : AuditFault) → IsUnchecked text access before after fault → failure_status (unaudited fault) ≡ 2 → Keeps before after
 unchecked_keeps text access before after (audit.Script fault) unchecked two = unchecked.1
+unchecked_keeps text access before after audit.BadAfter unchecked two = absurd unchecked
 unchecked_keeps text access before after audit.Memory unchecked two = absurd cc
 unchecked_keeps text access before after audit.Output unchecked two = absurd cc
 
+pub undumped_keeps : (text : List ℕ) (before after : Option (List ℕ)) (fault : AuditFault) → IsUndumped text None before after fault → failure_status (unaudited fault) ≡ 2 → Keeps before after
+undumped_keeps text before after (audit.Script fault) undumped two = undumped.1
+undumped_keeps text before after audit.BadAfter undumped two = undumped.1
+undumped_keeps text before after audit.Memory undumped two = absurd cc
+undumped_keeps text before after audit.Output undumped two = absurd cc
+
 -- ---- the words
+
+pub two_words : {X : Type 0} (words : List X) (a b : X) → 2 ≤ length words → length words < 3 → a ≡ get_or words 0 a → b ≡ get_or words 1 b → words ≡ a ∷ b ∷ []
+two_words (u ∷ v ∷ []) a b low high p q = cc
+two_words [] a b low high p q = absurd (omega arith)
+two_words (u ∷ []) a b low high p q = absurd (omega arith)
+two_words (u ∷ v ∷ w ∷ more) a b low high p q = absurd (omega arith)
 
 pub six_words : {X : Type 0} (words : List X) (a b c d e f : X) → 6 ≤ length words → length words < 7 → a ≡ get_or words 0 a → b ≡ get_or words 1 b → c ≡ get_or words 2 c → d ≡ get_or words 3 d → e ≡ get_or words 4 e → f ≡ get_or words 5 f
     → words ≡ a ∷ b ∷ c ∷ d ∷ e ∷ f ∷ []
@@ -90,8 +123,9 @@ no_access mode kind start length refusal fault access named =
 
 -- six words of which the last four have a fault ask for no access
 pub asks_for_none : (words : List (List ℕ)) (command script mode kind start length : List ℕ) (refusal : Refusal) → words ≡ command ∷ script ∷ mode ∷ kind ∷ start ∷ length ∷ [] → words_fault mode kind start length ≡ Some refusal
-    → (path : List ℕ) (access : Access) → AsksFor words path access → ⊥
-asks_for_none words command script mode kind start length refusal words_are fault path access asked =
+    → (path : List ℕ) (request : Request) → AsksFor words path request → ⊥
+asks_for_none words command script mode kind start length refusal words_are fault path Dump asked = let both = sym asked ∙ words_are in absurd cc
+asks_for_none words command script mode kind start length refusal words_are fault path (Check access) asked =
     let both = sym asked.words_are ∙ words_are in
     let same_mode : asked.mode ≡ mode = cc in
     let same_kind : asked.kind ≡ kind = cc in

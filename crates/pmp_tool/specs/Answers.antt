@@ -1,9 +1,9 @@
 -- How a fault of a layer below is answered.
-use Rattle.pmp_tool.specs.declared.script.ScriptFault.{ScriptFault}
-use Rattle.pmp_tool.specs.declared.script.ScriptKind.{ScriptKind}
-use Rattle.pmp_tool.specs.declared.script.ScriptKind.TheVariants as kind
-use Rattle.pmp_tool.specs.declared.check.AuditFault.{AuditFault}
-use Rattle.pmp_tool.specs.declared.check.AuditFault.TheVariants.{Script, Memory}
+use Rattle.pmp_text.specs.declared.script.ScriptFault.{ScriptFault}
+use Rattle.pmp_text.specs.declared.script.ScriptKind.{ScriptKind}
+use Rattle.pmp_text.specs.declared.script.ScriptKind.TheVariants as kind
+use Rattle.pmp_tool.specs.declared.fault.AuditFault.{AuditFault}
+use Rattle.pmp_tool.specs.declared.fault.AuditFault.TheVariants.{Script, Memory}
 
 -- want of memory is the same in every layer
 abbrev pub answered_as : ScriptKind → ScriptFault → AuditFault

@@ -6,12 +6,12 @@ use Rattle.pmp_core.specs.declared.decision.Decision.{Decision}
 use Rattle.pmp_core.specs.declared.event.Event.{Event}
 use Rattle.pmp_core.specs.Deciding.{IsDecision}
 use Rattle.pmp_core.specs.Ranges.{decision_of}
-use Rattle.pmp_tool.specs.declared.check.AuditFault.{AuditFault}
-use Rattle.pmp_tool.specs.declared.check.AuditFault.TheVariants.{Script, Memory, Output}
-use Rattle.pmp_tool.specs.Bytes.{AppendsBeginning}
+use Rattle.pmp_tool.specs.declared.fault.AuditFault.{AuditFault}
+use Rattle.pmp_tool.specs.declared.fault.AuditFault.TheVariants.{Script, BadAfter, Memory, Output}
+use Rattle.pmp_text.specs.Bytes.{AppendsBeginning}
 use Rattle.pmp_tool.specs.Replays.{file_after}
-use Rattle.pmp_tool.specs.Reports.{report_row}
-use Rattle.pmp_tool.specs.Scripts.{script_meaning}
+use Rattle.pmp_text.specs.Reports.{report_row}
+use Rattle.pmp_text.specs.Scripts.{script_meaning}
 
 -- the row of an access that is decided after these publications
 abbrev pub row_after : List (List Event) → Access → List ℕ
@@ -34,5 +34,6 @@ pub record IsCutShort (text : List ℕ) (access : Access) (before after : Option
 -- the script's own fault; or memory ran out, or the output failed
 abbrev pub IsUnchecked : List ℕ → Access → (before after : Option (List ℕ)) → AuditFault → Type 0
 IsUnchecked text access before after (Script fault) = (script_meaning text ≡ Err fault) × Keeps before after
+IsUnchecked text access before after BadAfter = ⊥
 IsUnchecked text access before after Memory = Keeps before after
 IsUnchecked text access before after Output = IsCutShort text access before after

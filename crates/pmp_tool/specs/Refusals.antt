@@ -2,12 +2,12 @@
 use Rattle.std.specs.Prelude.{ℕ, List, ◌++◌, Option, Some, None, codes, decimal}
 use Rattle.pmp_core.specs.declared.access.AccessFault.{AccessFault}
 use Rattle.pmp_core.specs.declared.access.AccessFault.TheVariants as access
-use Rattle.pmp_tool.specs.declared.input.InputFault.{InputFault}
-use Rattle.pmp_tool.specs.declared.input.InputFault.TheVariants as input
-use Rattle.pmp_tool.specs.declared.script.ScriptKind.{ScriptKind}
-use Rattle.pmp_tool.specs.declared.script.ScriptKind.TheVariants as script
+use Rattle.pmp_text.specs.declared.input.InputFault.{InputFault}
+use Rattle.pmp_text.specs.declared.input.InputFault.TheVariants as input
+use Rattle.pmp_text.specs.declared.script.ScriptKind.{ScriptKind}
+use Rattle.pmp_text.specs.declared.script.ScriptKind.TheVariants as script
 use Rattle.pmp_tool.specs.declared.refusal.Refusal.{Refusal}
-use Rattle.pmp_tool.specs.declared.refusal.Refusal.TheVariants.{BadLength, PastEnd, BadVersion, BadLine, BadName, OddCfg, BadNumber, BatchFull, Unpublished, TooLong, BadWord, Memory, Input, Output}
+use Rattle.pmp_tool.specs.declared.refusal.Refusal.TheVariants.{BadLength, PastEnd, BadVersion, BadLine, BadName, OddCfg, BadNumber, BatchFull, Unpublished, TooLong, BadAfter, BadWord, Memory, Input, Output}
 
 abbrev pub number_of : Refusal → ℕ
 number_of BadLength = 3
@@ -20,6 +20,7 @@ number_of BadNumber = 14
 number_of BatchFull = 15
 number_of Unpublished = 16
 number_of TooLong = 17
+number_of BadAfter = 22
 number_of BadWord = 24
 number_of Memory = 40
 number_of Input = 41
@@ -36,6 +37,7 @@ name_of BadNumber = codes "BadNumber"
 name_of BatchFull = codes "BatchFull"
 name_of Unpublished = codes "Unpublished"
 name_of TooLong = codes "TooLong"
+name_of BadAfter = codes "BadAfter"
 name_of BadWord = codes "BadWord"
 name_of Memory = codes "Memory"
 name_of Input = codes "Input"

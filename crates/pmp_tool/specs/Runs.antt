@@ -1,20 +1,24 @@
 -- What a run of the program answers.
 use Rattle.std.specs.Prelude.{◌≡◌, ℕ, List, [], ◌∷◌, Option, Some, None, IsErr, IfSome, codes, ◌==◌, if◌then◌else◌}
 use Rattle.pmp_core.specs.declared.access.Access.{Access}
-use Rattle.pmp_core.specs.declared.decision.Decision.{Decision}
+use Rattle.pmp_tool.specs.declared.run.Request.{Request}
+use Rattle.pmp_tool.specs.declared.run.Request.TheVariants.{Check, Dump}
+use Rattle.pmp_tool.specs.declared.run.Outcome.{Outcome}
+use Rattle.pmp_tool.specs.declared.run.Outcome.TheVariants.{Decided, Dumped}
 use Rattle.pmp_tool.specs.declared.run.Failure.{Failure}
 use Rattle.pmp_tool.specs.declared.run.Failure.TheVariants.{Usage, Refused}
-use Rattle.pmp_tool.specs.declared.check.AuditFault.{AuditFault}
-use Rattle.pmp_tool.specs.declared.check.AuditFault.TheVariants as audit
+use Rattle.pmp_tool.specs.declared.fault.AuditFault.{AuditFault}
+use Rattle.pmp_tool.specs.declared.fault.AuditFault.TheVariants as audit
 use Rattle.pmp_tool.specs.declared.refusal.Refusal.{Refusal}
-use Rattle.pmp_tool.specs.declared.refusal.Refusal.TheVariants.{Memory, Output}
+use Rattle.pmp_tool.specs.declared.refusal.Refusal.TheVariants.{BadAfter, Memory, Output}
 use Rattle.pmp_tool.specs.Checks.{IsChecked}
+use Rattle.pmp_tool.specs.Dumping.{IsDumped}
 use Rattle.pmp_tool.specs.Refusals.{status_of, refusal_of_script}
-use Rattle.pmp_tool.specs.Scripts.{script_meaning}
+use Rattle.pmp_text.specs.Scripts.{script_meaning}
 use Rattle.pmp_tool.specs.Words.{IsAccessOf}
 
 -- the words are `check`, a path, and four that name the access
-pub record AsksFor (words : List (List ℕ)) (path : List ℕ) (access : Access) : Type 0 where
+pub record AsksToCheck (words : List (List ℕ)) (path : List ℕ) (access : Access) : Type 0 where
   pub mode : List ℕ
   pub kind : List ℕ
   pub start : List ℕ
@@ -22,22 +26,35 @@ pub record AsksFor (words : List (List ℕ)) (path : List ℕ) (access : Access)
   pub words_are : words ≡ codes "check" ∷ path ∷ mode ∷ kind ∷ start ∷ length ∷ []
   pub access_is : IsAccessOf mode kind start length access
 
--- the words ask for an access after a script, and its row is what was written; the status is that of the decision
-pub record IsAnswered (words : List (List ℕ)) (held : List ℕ → Option (List ℕ)) (before after : Option (List ℕ)) (decision : Decision) : Type 0 where
+-- what the words ask for, of the script at a path; to dump are `dump` and the path
+abbrev pub AsksFor : (words : List (List ℕ)) (path : List ℕ) → Request → Type 0
+AsksFor words path (Check access) = AsksToCheck words path access
+AsksFor words path Dump = words ≡ codes "dump" ∷ path ∷ []
+
+-- what was asked for of a script's text was written
+abbrev pub IsDone : (text : List ℕ) → Request → (before after : Option (List ℕ)) → Outcome → Type 0
+IsDone text (Check access) before after (Decided decision) = IsChecked text access before after decision
+IsDone text Dump before after Dumped = IsDumped text None before after
+IsDone text (Check access) before after Dumped = ⊥
+IsDone text Dump before after (Decided decision) = ⊥
+
+-- the words ask for something of a script, and that was written
+pub record IsAnswered (words : List (List ℕ)) (held : List ℕ → Option (List ℕ)) (before after : Option (List ℕ)) (outcome : Outcome) : Type 0 where
   pub path : List ℕ
-  pub access : Access
+  pub request : Request
   pub text : List ℕ
-  pub asked : AsksFor words path access
+  pub asked : AsksFor words path request
   pub script : IfSome (held path) (λ known. text ≡ known)
-  pub checked : IsChecked text access before after decision
+  pub done : IsDone text request before after outcome
 
--- the words ask for no access, or the script that they name has a fault, where it is known
+-- the words ask for nothing, or the script that they name has a fault, where it is known
 abbrev pub IsFaulty : List (List ℕ) → (List ℕ → Option (List ℕ)) → Type 0
-IsFaulty words held = (path : List ℕ) (access : Access) → AsksFor words path access → IfSome (held path) (λ known. IsErr (script_meaning known))
+IsFaulty words held = (path : List ℕ) (request : Request) → AsksFor words path request → IfSome (held path) (λ known. IsErr (script_meaning known))
 
--- allowed or refused
-abbrev pub decision_status : Decision → ℕ
-decision_status decision = if decision.allowed then 0 else 1
+-- a dump, and an access that is allowed, end well
+abbrev pub outcome_status : Outcome → ℕ
+outcome_status (Decided decision) = if decision.allowed then 0 else 1
+outcome_status Dumped = 0
 
 abbrev pub failure_status : Failure → ℕ
 failure_status Usage = 2
@@ -52,5 +69,6 @@ refused_at refusal line = Refused (record { refusal = refusal; script_line = if 
 
 abbrev pub unaudited : AuditFault → Failure
 unaudited (audit.Script fault) = refused_at (refusal_of_script fault.kind) fault.line
+unaudited audit.BadAfter = refused BadAfter
 unaudited audit.Memory = refused Memory
 unaudited audit.Output = refused Output

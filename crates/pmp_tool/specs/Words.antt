@@ -8,7 +8,7 @@ use Rattle.pmp_core.specs.declared.access.Kind.TheVariants.{Fetch, Load, Store}
 use Rattle.pmp_core.specs.Accesses.{access_fault}
 use Rattle.pmp_tool.specs.declared.refusal.Refusal.{Refusal}
 use Rattle.pmp_tool.specs.declared.refusal.Refusal.TheVariants.{BadWord}
-use Rattle.pmp_tool.specs.Numbers.{word_number}
+use Rattle.pmp_text.specs.Numbers.{word_number}
 use Rattle.pmp_tool.specs.Refusals.{refusal_of_access}
 
 abbrev pub mode_named : List ℕ → Option Mode

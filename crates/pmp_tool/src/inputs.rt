@@ -2,8 +2,7 @@
 
 ghost use Rattle.std.specs.Prelude.{◌≡◌, ℕ, ◌<◌, ◌≤◌, List, length, Option, None, Err, IfOk, IfSome};
 
-use crate::input::{InputFault, MAX_LIMIT, read_bytes};
-use crate::script_reader::MAX_SCRIPT;
+use pmp_text::{InputFault, MAX_LIMIT, MAX_SCRIPT, read_bytes};
 use std::fs;
 use std::io::Read;
 use std::rt::Files;

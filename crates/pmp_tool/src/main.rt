@@ -2,22 +2,12 @@
 #![tactic(auto)]
 
 mod check;
-mod input;
+mod dump;
+mod fault;
 mod inputs;
-mod laws;
-mod lines;
-mod numbers;
-mod output;
-mod progress;
 mod refusal;
-mod registers;
-mod report;
+mod replay;
 mod run;
-mod script;
-mod script_reader;
-mod significant;
-mod statement;
-mod words;
 
 use inputs::SystemInputs;
 use refusal::{FaultLine, Refusal};
@@ -55,6 +45,3 @@ fn arguments(rt: &HostRuntime) -> Result<Vec<String>, Refusal> {
         .collect(rt.alloc())
         .map_err(|_| Refusal::Memory)
 }
-
-#[cfg(test)]
-mod tests;

@@ -4,11 +4,8 @@ ghost use Rattle.std.specs.Prelude.{◌≡◌, ◌==◌, if◌then◌else◌, No
 ghost use Rattle.pmp_tool.specs.Refusals.{fault_text, name_of, number_of, refusal_of_access, refusal_of_input, refusal_of_script, refusal_text, status_of};
 ghost use Rattle.pmp_tool.specs.declared.refusal.Refusal.TheVariants.{Memory, Output};
 
-use crate::input::InputFault;
-use crate::output::OutputFault;
-use crate::report::NoMemory;
-use crate::script::ScriptKind;
 use pmp_core::AccessFault;
+use pmp_text::{InputFault, NoMemory, OutputFault, ScriptKind};
 use std::fmt;
 
 /// Why the program refuses. A variant's value is the number that users see.
@@ -34,6 +31,8 @@ pub enum Refusal {
     Unpublished = 16,
     /// An input with more bytes than its limit.
     TooLong = 17,
+    /// More publications than the script has.
+    BadAfter = 22,
     /// A word of the command line that isn't what its place asks for.
     BadWord = 24,
     /// No memory.
@@ -65,6 +64,7 @@ impl Refusal {
             Refusal::BatchFull => "BatchFull",
             Refusal::Unpublished => "Unpublished",
             Refusal::TooLong => "TooLong",
+            Refusal::BadAfter => "BadAfter",
             Refusal::BadWord => "BadWord",
             Refusal::Memory => "Memory",
             Refusal::Input => "Input",
@@ -247,6 +247,7 @@ mod tests {
                 "pmp: script line 2: refused 16 Unpublished",
             ),
             (Refusal::TooLong, 0, 2, "pmp: refused 17 TooLong"),
+            (Refusal::BadAfter, 0, 2, "pmp: refused 22 BadAfter"),
             (Refusal::BadWord, 0, 2, "pmp: refused 24 BadWord"),
             (Refusal::Memory, 0, 3, "pmp: refused 40 Memory"),
             (Refusal::Input, 0, 3, "pmp: refused 41 Input"),

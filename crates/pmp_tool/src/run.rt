@@ -1,25 +1,26 @@
 //! The program: from words to an exit status.
 
-ghost use Rattle.std.specs.Prelude.{◌≡◌, ℕ, ◌≤◌, List, map, None, Some, MatchResult, IfOk, IfErr, string_bytes};
+ghost use Rattle.std.specs.Prelude.{◌≡◌, ℕ, ◌≤◌, List, map, None, Some, MatchResult, IfOk, IfErr, length, string_bytes};
 ghost use Rattle.std.specs.Io.KnownBytes.{Keeps};
-ghost use Rattle.pmp_core.specs.declared.access.Access.{Access};
-ghost use Rattle.pmp_core.specs.declared.decision.Decision.{Decision};
 ghost use Rattle.pmp_tool.specs.Refusals.{refusal_of_input};
-ghost use Rattle.pmp_tool.specs.Runs.{AsksFor, IsAnswered, IsFaulty, decision_status, failure_status, refused, unaudited};
+ghost use Rattle.pmp_tool.specs.Runs.{AsksFor, IsAnswered, IsFaulty, failure_status, outcome_status, refused, unaudited};
+ghost use Rattle.pmp_tool.specs.declared.run.Outcome.{Outcome};
+ghost use Rattle.pmp_tool.specs.declared.run.Request.{Request};
 ghost use Rattle.pmp_tool.specs.Words.{mode_named, kind_named, IsAccessOf, words_fault};
 
-use crate::check::{AuditFault, check};
-use crate::input::InputFault;
+use crate::check::check;
+use crate::dump::dump;
+use crate::fault::AuditFault;
 use crate::inputs::Inputs;
-use crate::numbers::read_word_number;
 use crate::refusal::{FaultLine, Refusal};
 use pmp_core::{Access, Decision, Kind, Mode};
+use pmp_text::{InputFault, read_word_number};
 use std::alloc::Global;
 use std::fmt;
 use std::io::Write;
 
-/// The exit status of a decision that allows.
-const ALLOWED: u8 = 0;
+/// The exit status of registers that were written and of a decision that allows.
+const DONE: u8 = 0;
 
 /// The exit status of a decision that refuses.
 const REFUSED: u8 = 1;
@@ -78,6 +79,7 @@ impl From<AuditFault> for Failure {
             AuditFault::Script(fault) => {
                 Failure::Refused(FaultLine::in_script(Refusal::from(fault.kind), fault.line))
             }
+            AuditFault::BadAfter => Failure::from(Refusal::BadAfter),
             AuditFault::Memory => Failure::from(Refusal::Memory),
             AuditFault::Output => Failure::from(Refusal::Output),
         }
@@ -85,9 +87,10 @@ impl From<AuditFault> for Failure {
 }
 
 /// Runs the program on its words, those after its own name, and answers its exit status: 0 where the access is
-/// allowed, 1 where it is refused, 2 or 3 where there is no answer, with a line on `err` that says why.
+/// allowed or the registers were written, 1 where the access is refused, 2 or 3 where there is no answer, with a line
+/// on `err` that says why.
 ///
-/// `out` gets the report row. Where a line can't be written to `err`, the status is the same.
+/// `out` gets the report row or the register lines. Where a line can't be written to `err`, the status is the same.
 pub fn run_tool<I: Inputs, O: Write, E: Write>(
     alloc: Global,
     words: &[String],
@@ -97,17 +100,16 @@ pub fn run_tool<I: Inputs, O: Write, E: Write>(
 ) -> u8
     ensures status { result ≤ 3 }
 
-    // The script that the words name was read, and the row of the access that they name was written.
-    ensures answered { result ≤ 1 → (decision : Decision) × (result ≡ decision_status decision)
-        × IsAnswered (map string_bytes words.now) (I.held inputs.old) (O.contents out.old) (O.contents out.new) decision }
+    // The script that the words name was read, and what they ask for was written.
+    ensures answered { result ≤ 1 → (outcome : Outcome) × (result ≡ outcome_status outcome)
+        × IsAnswered (map string_bytes words.now) (I.held inputs.old) (O.contents out.old) (O.contents out.new) outcome }
 
     // The words or the script are at fault, and nothing was written.
     ensures refused { result ≡ 2 → IsFaulty (map string_bytes words.now) (I.held inputs.old)
         × Keeps (O.contents out.old) (O.contents out.new) }
 {
-    match run_check(alloc, words, inputs, out) {
-        Ok(decision) if decision.allowed => ALLOWED,
-        Ok(_) => REFUSED,
+    match run(alloc, words, inputs, out) {
+        Ok(outcome) => outcome.status(),
         Err(failure) => {
             let _ = writeln!(err, "{failure}");
             failure.status()
@@ -115,13 +117,13 @@ pub fn run_tool<I: Inputs, O: Write, E: Write>(
     }
 }
 
-/// `pmp check SCRIPT MODE KIND START LENGTH`: its words are read before the script is.
-fn run_check<I: Inputs, O: Write>(
+/// Reads the words, then the script that they name, and does what they ask for.
+fn run<I: Inputs, O: Write>(
     alloc: Global,
     words: &[String],
     inputs: &mut I,
     out: &mut O,
-) -> Result<Decision, Failure>
+) -> Result<Outcome, Failure>
     ensures ok { IfOk result
         (IsAnswered (map string_bytes words.now) (I.held inputs.old) (O.contents out.old) (O.contents out.new)) }
     ensures status { IfErr result (λ failure. 2 ≤ failure_status failure) }
@@ -130,20 +132,69 @@ fn run_check<I: Inputs, O: Write>(
 {
     let command = read_command(words)?;
     let script = inputs.script(command.script)?;
-    Ok(check(alloc, &script, &command.access, out)?)
+    match command.request {
+        Request::Check(access) => Ok(Outcome::Decided(check(alloc, &script, &access, out)?)),
+        Request::Dump => {
+            dump(alloc, &script, None, out)?;
+            Ok(Outcome::Dumped)
+        }
+    }
 }
 
-/// What the words of a check ask for.
+/// What the program did.
 #[derive(Clone, Copy, Debug, PartialEq, Eq)]
-struct CheckCommand<'a> {
-    script: &'a str,
-    access: Access,
+enum Outcome {
+    Decided(Decision),
+    Dumped,
 }
 
-fn read_command(words: &[String]) -> Result<CheckCommand<'_>, Failure>
-    ensures ok { IfOk result (λ command. AsksFor (map string_bytes words.now) command.script.now command.access) }
+impl Outcome {
+    fn status(self) -> u8
+        ensures { result ≡ outcome_status self }
+    {
+        match self {
+            Outcome::Decided(decision) if !decision.allowed => REFUSED,
+            _ => DONE,
+        }
+    }
+}
+
+/// What is asked for of a script.
+#[derive(Clone, Copy, Debug, PartialEq, Eq)]
+enum Request {
+    Check(Access),
+    Dump,
+}
+
+/// What the program's words ask for.
+#[derive(Clone, Copy, Debug, PartialEq, Eq)]
+struct Command<'a> {
+    script: &'a str,
+    request: Request,
+}
+
+/// `dump SCRIPT`, or the words of a check.
+fn read_command(words: &[String]) -> Result<Command<'_>, Failure>
+    ensures ok { IfOk result (λ command. AsksFor (map string_bytes words.now) command.script.now command.request) }
     ensures err { IfErr result (λ failure. (failure_status failure ≡ 2)
-        × ((path : List ℕ) (access : Access) → AsksFor (map string_bytes words.now) path access → ⊥)) }
+        × ((path : List ℕ) (request : Request) → AsksFor (map string_bytes words.now) path request → ⊥)) }
+{
+    let [command, script] = words else {
+        return read_check(words);
+    };
+    if command.as_str() != "dump" {
+        return Err(Failure::Usage);
+    }
+    let request = Request::Dump;
+    Ok(Command { script, request })
+}
+
+/// `check SCRIPT MODE KIND START LENGTH`.
+fn read_check(words: &[String]) -> Result<Command<'_>, Failure>
+    requires { (length words.now ≡ 2) → ⊥ }
+    ensures ok { IfOk result (λ command. AsksFor (map string_bytes words.now) command.script.now command.request) }
+    ensures err { IfErr result (λ failure. (failure_status failure ≡ 2)
+        × ((path : List ℕ) (request : Request) → AsksFor (map string_bytes words.now) path request → ⊥)) }
 {
     let [command, script, mode, kind, start, length] = words else {
         return Err(Failure::Usage);
@@ -152,7 +203,8 @@ fn read_command(words: &[String]) -> Result<CheckCommand<'_>, Failure>
         return Err(Failure::Usage);
     }
     let access = read_access(mode, kind, start, length)?;
-    Ok(CheckCommand { script, access })
+    let request = Request::Check(access);
+    Ok(Command { script, request })
 }
 
 /// The access that four words describe. All words are read before the access is made.

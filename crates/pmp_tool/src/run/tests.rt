@@ -1,5 +1,7 @@
 //! The program on worked examples, with inputs from a table and outputs to vectors.
 
+mod dumps;
+
 use super::*;
 use std::alloc::AllocError;
 use std::process::Abort;
@@ -295,7 +297,11 @@ fn scripts_are_refused_with_their_line(rt: HostRuntime) -> Result<(), Fail> {
     for (script, line) in [
         ("", "pmp: script line 1: refused 10 BadVersion"),
         ("pmp 2\n", "pmp: script line 1: refused 10 BadVersion"),
-        ("pmp 1\nreset\n", "pmp: script line 2: refused 11 BadLine"),
+        ("pmp 1\nstop\n", "pmp: script line 2: refused 11 BadLine"),
+        (
+            "pmp 1\nreset\n",
+            "pmp: script line 2: refused 16 Unpublished",
+        ),
         (
             "pmp 1\nwrite mseccfg 0\n",
             "pmp: script line 2: refused 16 Unpublished",

@@ -1,0 +1,23 @@
+-- Lemmas on bytes that move in several calls.
+use Rattle.std.proofs.Common.{◌≡◌, ℕ, ◌+◌, ◌-◌, ◌≤◌, List, ◌++◌, length, take, drop, sym, ap, ◌∙◌, append_assoc, take-append-drop, length-append, length-take, arith, Option}
+use Rattle.std.proofs.lemmas.List.{take_rest}
+use Rattle.std.proofs.KnownBytes.{Consumes-trans}
+use Rattle.std.specs.Io.KnownBytes.{Consumes}
+use Rattle.pmp_text.specs.Bytes.{Takes, TakesAtMost}
+
+-- after a write of `count` bytes of `rest`
+pub front_grows : (all done rest : List ℕ) (count : ℕ) → all ≡ done ++ rest → all ≡ (done ++ take count rest) ++ take (length rest - count) (drop count rest)
+front_grows all done rest count split =
+    split ∙ ap (λ l. done ++ l) (sym (take-append-drop count rest)) ∙ sym (append_assoc done (take count rest) (drop count rest))
+    ∙ ap (λ l. (done ++ take count rest) ++ l) (sym (take_rest rest count))
+
+-- held bytes, and then `count` more
+pub Takes-after : (a b c : Option (List ℕ)) (held : List ℕ) (count total : ℕ) → Consumes a b held → Takes b c count → length held + count ≡ total → Takes a c total
+Takes-after a b c held count total first (taken, second, counted) sum =
+    (held ++ taken, Consumes-trans a b c held taken first second, simp length-append (omega arith))
+
+-- held bytes, and then at most `count` more
+pub TakesAtMost-after : (a b c : Option (List ℕ)) (held chunk : List ℕ) (count limit : ℕ) → Consumes a b held → Consumes b c (take count chunk) → length held + count ≤ limit
+    → TakesAtMost a c limit
+TakesAtMost-after a b c held chunk count limit first second sum =
+    (held ++ take count chunk, Consumes-trans a b c held (take count chunk) first second, simp (length-append, length-take) (omega arith))

@@ -1,0 +1,13 @@
+pub mod Bytes
+pub mod Dumps
+pub mod Faults
+pub mod Lines
+pub mod Names
+pub mod Numbers
+pub mod Outcomes
+pub mod Progress
+pub mod Reports
+pub mod Scripts
+pub mod Sizes
+pub mod Statements
+pub mod Views

@@ -1,0 +1,46 @@
+-- The registers that a script names.
+use Rattle.std.specs.Prelude.{ℕ, ◌+◌, List, length, take, drop, ◌&&◌, ◌==◌, Option, Some, None, Result, Ok, Err, nat_le, codes, bytes_eq, slice_index, if◌then◌else◌}
+use Rattle.pmp_core.specs.declared.csr.Csr.{Csr}
+use Rattle.pmp_core.specs.declared.csr.CsrFault.{CsrFault}
+use Rattle.pmp_core.specs.declared.csr.CsrFault.TheVariants as csr_fault
+use Rattle.pmp_core.specs.Csrs.{numbered}
+use Rattle.pmp_text.specs.declared.script.ScriptKind.{ScriptKind}
+use Rattle.pmp_text.specs.declared.script.ScriptKind.TheVariants.{BadName, OddCfg}
+use Rattle.pmp_text.specs.Numbers.{numeral}
+
+-- a number that is at most so large
+abbrev pub up_to : (most : ℕ) → Option ℕ → Option ℕ
+up_to most None = None
+up_to most (Some number) = if nat_le number most then Some number else None
+
+-- a number up to a limit below 100, in decimal without leading zeros
+unfoldable pub plain_number : (most : ℕ) → List ℕ → Option ℕ
+plain_number most digits = if length digits == 2 && slice_index digits 0 == 48 then None else up_to most (numeral 10 2 digits)
+
+-- the number of the register that stands so far behind the first of its kind
+abbrev pub counted_from : (base : ℕ) → Option ℕ → Option ℕ
+counted_from base None = None
+counted_from base (Some offset) = Some (base + offset)
+
+-- a register's number: `mseccfg`, `pmpcfg` and 0 to 15, `pmpaddr` and 0 to 63, or the number itself in hexadecimal
+unfoldable pub register_number : List ℕ → Option ℕ
+register_number word =
+    if bytes_eq word (codes "mseccfg") then Some 0x747
+    else (if bytes_eq (take 6 word) (codes "pmpcfg") then counted_from 0x3a0 (plain_number 15 (drop 6 word))
+    else (if bytes_eq (take 7 word) (codes "pmpaddr") then counted_from 0x3b0 (plain_number 63 (drop 7 word))
+    else (if bytes_eq (take 2 word) (codes "0x") then numeral 16 16 (drop 2 word) else None)))
+
+-- how a script refuses a number of no register
+abbrev pub named : Result Csr CsrFault → Result Csr ScriptKind
+named (Ok csr) = Ok csr
+named (Err csr_fault.OddCfg) = Err OddCfg
+named (Err csr_fault.NotPmp) = Err BadName
+
+-- the register with a number
+abbrev pub register_numbered : Option ℕ → Result Csr ScriptKind
+register_numbered None = Err BadName
+register_numbered (Some number) = named (numbered number)
+
+-- the register that a word names
+abbrev pub register_named : List ℕ → Result Csr ScriptKind
+register_named word = register_numbered (register_number word)

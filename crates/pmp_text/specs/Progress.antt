@@ -1,0 +1,53 @@
+-- Reading a script line by line, behind its first significant line.
+use Rattle.std.specs.Prelude.{ℕ, List, [], ◌∷◌, ◌++◌, length, Option, Some, None, Result, Ok, Err, nat_lt, unwrap_or, if◌then◌else◌}
+use Rattle.pmp_core.specs.declared.event.Event.{Event}
+use Rattle.pmp_text.specs.declared.script.ScriptKind.{ScriptKind}
+use Rattle.pmp_text.specs.declared.script.ScriptKind.TheVariants.{BatchFull, Unpublished}
+use Rattle.pmp_text.specs.declared.script.ScriptFault.{ScriptFault}
+use Rattle.pmp_text.specs.declared.statement.Statement.{Statement}
+use Rattle.pmp_text.specs.declared.statement.Statement.TheVariants as statement
+use Rattle.pmp_text.specs.Statements.{statement_of}
+use Rattle.pmp_text.specs.Scripts.{Line, at_line}
+
+-- the publications so far, the open batch, and the line of its first event
+pub record Progress : Type 0 where
+  pub published : List (List Event)
+  pub batch : List Event
+  pub since : Option ℕ
+
+-- nothing read
+abbrev pub beginning : Progress
+beginning = record { published = []; batch = []; since = None }
+
+-- the open batch is published
+abbrev pub published : Progress → Progress
+published so_far = record { published = so_far.published ++ so_far.batch ∷ []; batch = []; since = None }
+
+-- an event joins the open batch, which has room for 64
+abbrev pub with_event : Progress → ℕ → Event → Result Progress ScriptFault
+with_event so_far number event =
+    if nat_lt (length so_far.batch) 64 then Ok (record { published = so_far.published; batch = so_far.batch ++ event ∷ []; since = Some (unwrap_or so_far.since number) })
+    else Err (at_line number BatchFull)
+
+-- a line with this number was read, which says this
+abbrev pub after_statement : Progress → ℕ → Result Statement ScriptKind → Result Progress ScriptFault
+after_statement so_far number (Err kind) = Err (at_line number kind)
+after_statement so_far number (Ok statement.Publish) = Ok (published so_far)
+after_statement so_far number (Ok (statement.Event event)) = with_event so_far number event
+
+-- a significant line was read
+abbrev pub after_line : Progress → Line → Result Progress ScriptFault
+after_line so_far line = after_statement so_far line.number (statement_of line.words)
+
+-- the text ends here
+abbrev pub all_published : Option ℕ → List (List Event) → Result (List (List Event)) ScriptFault
+all_published None batches = Ok batches
+all_published (Some number) batches = Err (at_line number Unpublished)
+
+abbrev pub finished : Progress → Result (List (List Event)) ScriptFault
+finished so_far = all_published so_far.since so_far.published
+
+-- what reading gives that goes on from here with these lines
+abbrev pub resumed : Progress → List Line → Result (List (List Event)) ScriptFault
+resumed so_far [] = finished so_far
+resumed so_far (line ∷ more) = elim (after_line so_far line) [ Ok next ↦ resumed next more | Err fault ↦ Err fault ]

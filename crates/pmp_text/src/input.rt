@@ -1,0 +1,160 @@
+//! Reading all bytes of an input.
+
+ghost use Rattle.std.specs.Prelude.{◌≡◌, ◌≢◌, ◌+◌, ◌<◌, ◌≤◌, [], length, take, Err, IfOk, IfSome, Some};
+ghost use Rattle.std.specs.Io.KnownBytes.{Consumes, IsAtEnd, Keeps};
+ghost use Rattle.pmp_text.specs.Bytes.{Takes, TakesAtMost};
+ghost use Rattle.pmp_text.specs.declared.input.InputFault.TheVariants.{Input, Memory};
+
+use std::alloc::{AllocError, Global};
+use std::io;
+use std::io::Read;
+
+/// Why an input gives no bytes. What was taken from a reader stays taken.
+#[derive(Clone, Copy, Debug, PartialEq, Eq)]
+pub enum InputFault {
+    /// There are more bytes than the limit.
+    TooLong,
+    /// The input can't be opened, or a read failed.
+    Input,
+    /// No memory for the bytes.
+    Memory,
+}
+
+impl From<AllocError> for InputFault {
+    ghost from_gives = { λ _ fault. fault ≡ Memory };
+
+    fn from(_: AllocError) -> InputFault {
+        InputFault::Memory
+    }
+}
+
+impl From<io::Error> for InputFault {
+    ghost from_gives = { λ _ fault. fault ≡ Input };
+
+    fn from(_: io::Error) -> InputFault {
+        InputFault::Input
+    }
+}
+
+/// The largest limit that `read_bytes` keeps.
+pub const MAX_LIMIT: u64 = 1 << 24;
+
+/// The most bytes that one read asks for.
+const CHUNK: usize = 8 * 1024;
+
+/// All bytes that the reader has left, which are at most `limit`.
+///
+/// `TooLong` comes as soon as one byte more was taken, and no later byte is. A read that fails is not tried again,
+/// so one that a signal interrupts is `Input` too.
+pub fn read_bytes<R: Read>(alloc: Global, reader: &mut R, limit: u64) -> Result<Vec<u8>, InputFault>
+    requires { limit ≤ MAX_LIMIT }
+
+    ensures within { IfOk result (λ bytes. length bytes.items ≤ limit) }
+    ensures whole { IfOk result (λ bytes. IfSome (R.remaining reader.old) (λ left.
+        (left ≡ bytes.items) × (R.remaining reader.new ≡ Some []))) }
+
+    ensures too_long { result ≡ Err InputFault.TooLong → IfSome (R.remaining reader.old) (λ left. limit < length left) }
+    ensures stopped { result ≡ Err InputFault.TooLong → Takes (R.remaining reader.old) (R.remaining reader.new) (limit + 1) }
+    ensures input { result ≡ Err InputFault.Input → TakesAtMost (R.remaining reader.old) (R.remaining reader.new) limit }
+    ensures memory { result ≡ Err InputFault.Memory → TakesAtMost (R.remaining reader.old) (R.remaining reader.new) limit }
+{
+    let mut bytes = Vec::new(alloc);
+    let mut chunk = [0; CHUNK];
+    loop {
+        let room = limit - bytes.len() as u64;
+        let count = read_part(reader, &mut chunk, room)?;
+        if count == 0 {
+            return Ok(bytes);
+        }
+        bytes.extend_from_slice(&chunk[..count])?;
+    }
+}
+
+/// Reads once, and takes no more than one byte above `room`: how many bytes came, none only at the end.
+fn read_part<R: Read>(reader: &mut R, chunk: &mut [u8], room: u64) -> Result<usize, InputFault>
+    requires not_empty { 0 < length chunk.old }
+    requires small { room ≤ MAX_LIMIT }
+
+    ensures within { IfOk result (λ count. (count ≤ room) × (count ≤ length chunk.new)) }
+    ensures bytes { IfOk result (λ count. Consumes (R.remaining reader.old) (R.remaining reader.new) (take count chunk.new)) }
+    ensures end { IfOk result (λ count. count ≡ 0 → IsAtEnd (R.remaining reader.new)) }
+
+    ensures too_long { result ≡ Err InputFault.TooLong → Takes (R.remaining reader.old) (R.remaining reader.new) (room + 1) }
+    ensures input { result ≡ Err InputFault.Input → Keeps (R.remaining reader.old) (R.remaining reader.new) }
+    ensures no_memory { result ≢ Err InputFault.Memory }
+{
+    let most = (chunk.len() as u64).min(room + 1) as usize;
+    let count = reader.read(&mut chunk[..most])?;
+    if count as u64 > room {
+        return Err(InputFault::TooLong);
+    }
+    Ok(count)
+}
+
+#[cfg(test)]
+mod tests {
+    use super::*;
+    use std::io::ErrorKind;
+
+    /// Gives one byte at each read, and fails in place of ending.
+    #[derive(Drop)]
+    struct Slow {
+        taken: u64,
+        fails_at: Option<(u64, ErrorKind)>,
+    }
+
+    impl Read for Slow {
+        fn read(&mut self, buf: &mut [u8]) -> io::Result<usize> {
+            if let Some((taken, kind)) = self.fails_at {
+                if self.taken == taken {
+                    return Err(io::Error::from(kind));
+                }
+            }
+            if buf.is_empty() {
+                return Ok(0);
+            }
+            buf[0] = b'x';
+            self.taken = self.taken.saturating_add(1);
+            Ok(1)
+        }
+    }
+
+    #[test]
+    fn takes_one_byte_above_the_limit_and_no_more(rt: HostRuntime) {
+        let mut endless = Slow {
+            taken: 0,
+            fails_at: None,
+        };
+        let answer = read_bytes(rt.alloc(), &mut endless, 1_048_576);
+        assert_eq!(rt; answer.err(), Some(InputFault::TooLong));
+        assert_eq!(rt; endless.taken, 1_048_577);
+    }
+
+    #[test]
+    fn tells_of_a_failed_read(rt: HostRuntime) {
+        for kind in [ErrorKind::Other, ErrorKind::Interrupted] {
+            let mut failing = Slow {
+                taken: 0,
+                fails_at: Some((2, kind)),
+            };
+            let answer = read_bytes(rt.alloc(), &mut failing, 100);
+            assert_eq!(rt; answer.err(), Some(InputFault::Input));
+            assert_eq!(rt; failing.taken, 2);
+        }
+    }
+
+    #[test]
+    fn reads_up_to_the_limit(rt: HostRuntime) {
+        for (text, limit, want) in [
+            ("", 0, Ok(0)),
+            ("a", 0, Err(InputFault::TooLong)),
+            ("abc", 3, Ok(3)),
+            ("abc", 2, Err(InputFault::TooLong)),
+        ] {
+            let answer = read_bytes(rt.alloc(), &mut text.as_bytes(), limit).map(
+                |bytes| bytes.len(),
+            );
+            assert_eq!(rt; answer, want);
+        }
+    }
+}

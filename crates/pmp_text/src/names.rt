@@ -1,0 +1,54 @@
+//! The names of the unit's registers.
+
+ghost use Rattle.std.specs.Prelude.{◌≡◌, ◌≤◌, IfSome};
+ghost use Rattle.pmp_text.specs.Names.{plain_number, register_number, register_named};
+
+use crate::numbers::read_numeral;
+use crate::script::ScriptKind;
+use pmp_core::{Csr, CsrFault};
+
+const FIRST_CFG: u64 = 0x3A0;
+
+const FIRST_ADDR: u64 = 0x3B0;
+
+const MSECCFG: u64 = 0x747;
+
+/// The number that the digits write in decimal without leading zeros, where it is at most `most`.
+#[tactic(auto, unfolding(crate::specs::Names::plain_number))]
+fn read_plain_number(digits: &[u8], most: u64) -> Option<u64>
+    ensures number { result ≡ plain_number most digits.now }
+    ensures limit { IfSome result (λ number. number ≤ most) }
+{
+    if digits.len() == 2 && digits[0] == b'0' {
+        return None;
+    }
+    read_numeral(digits, 10, 2).filter(|number| *number <= most)
+}
+
+#[tactic(auto, unfolding(crate::specs::Names::register_number))]
+fn read_register_number(word: &[u8]) -> Option<u64>
+    ensures { result ≡ register_number word.now }
+{
+    if word == b"mseccfg".as_slice() {
+        return Some(MSECCFG);
+    }
+    if let Some(digits) = word.strip_prefix(b"pmpcfg") {
+        return Some(FIRST_CFG + read_plain_number(digits, 15)?);
+    }
+    if let Some(digits) = word.strip_prefix(b"pmpaddr") {
+        return Some(FIRST_ADDR + read_plain_number(digits, 63)?);
+    }
+    read_numeral(word.strip_prefix(b"0x")?, 16, 16)
+}
+
+/// The register that a word names.
+pub fn read_register(word: &[u8]) -> Result<Csr, ScriptKind>
+    ensures { result ≡ register_named word.now }
+{
+    let number = read_register_number(word).ok_or(ScriptKind::BadName)?;
+    let number = u16::try_from(number).map_err(|_| ScriptKind::BadName)?;
+    Csr::from_number(number).map_err(|fault| match fault {
+        CsrFault::OddCfg => ScriptKind::OddCfg,
+        CsrFault::NotPmp => ScriptKind::BadName,
+    })
+}

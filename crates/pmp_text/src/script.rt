@@ -1,0 +1,96 @@
+//! Scripts: the publications that a text describes, and why a text describes none.
+
+ghost use Rattle.std.specs.Prelude.{◌≡◌, ◌<◌, ◌≤◌, All, List, [], map, length, slice_index_or};
+ghost use Rattle.pmp_core.specs.declared.event.Event.{Event};
+ghost use Rattle.pmp_text.specs.declared.script.ScriptKind.TheVariants.{Memory};
+
+use pmp_core::Event;
+use std::alloc::AllocFailed;
+use std::marker::Model;
+
+/// What is wrong with a script.
+#[derive(Clone, Copy, Debug, PartialEq, Eq)]
+pub enum ScriptKind {
+    /// The first significant line isn't `pmp 1`, or there is none.
+    BadVersion,
+    /// A later line is no statement.
+    BadLine,
+    /// A name or number of no register.
+    BadName,
+    /// A `pmpcfg` register with an odd number.
+    OddCfg,
+    /// A value that is no number below `2^64`.
+    BadNumber,
+    /// The open batch holds 64 events already.
+    BatchFull,
+    /// Events stand after the last `publish`.
+    Unpublished,
+    /// The text has more than 1,048,576 bytes.
+    TooLong,
+    /// A vector couldn't grow.
+    Memory,
+}
+
+/// What is wrong with a script, and where.
+#[derive(Clone, Copy, Debug, PartialEq, Eq)]
+pub struct ScriptFault {
+    pub kind: ScriptKind,
+    /// The line, counted from 1, or 0 where the fault is of no line: `TooLong` and `Memory`.
+    pub line: u64,
+}
+
+impl ScriptKind {
+    /// The fault of this kind at a line.
+    pub(crate) fn at(self, line: u64) -> ScriptFault
+        ensures { result ≡ record { kind = self; line = line } }
+    {
+        ScriptFault { kind: self, line }
+    }
+}
+
+impl<T: Drop> From<AllocFailed<T>> for ScriptFault {
+    ghost from_gives = { λ _ fault. fault ≡ record { kind = Memory; line = 0 } };
+
+    fn from(_failed: AllocFailed<T>) -> ScriptFault {
+        ScriptKind::Memory.at(0)
+    }
+}
+
+/// The publications of a script, in their order. Each is a batch of at most 64 events, perhaps empty.
+#[derive(Debug, Drop)]
+pub struct Script {
+    batches: Vec<Vec<Event>>,
+}
+
+impl Model for Script {
+    ghost Value = { List (List Event) };
+
+    ghost view = { λ script. map (λ batch. batch.items) script.batches.items };
+
+    ghost invariant = { λ script. All (λ batch. length batch.items ≤ 64) script.batches.items };
+}
+
+impl Script {
+    pub(crate) fn from_batches(batches: Vec<Vec<Event>>) -> Script
+        requires { All (λ batch. length batch.items ≤ 64) batches.items }
+        ensures { result ≡ map (λ batch. batch.items) batches.items }
+    {
+        Script { batches }
+    }
+
+    /// How many publications there are.
+    pub fn batches(&self) -> u64
+        ensures { result ≡ length self.now }
+    {
+        self.batches.len() as u64
+    }
+
+    /// The events of the publication with this index, from 0.
+    pub fn batch(&self, index: u64) -> &[Event]
+        requires { index < length self.now }
+        ensures events { result.now ≡ slice_index_or self.now index [] }
+        ensures limit { length result.now ≤ 64 }
+    {
+        &self.batches[index as usize]
+    }
+}

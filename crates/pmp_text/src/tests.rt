@@ -1,0 +1,224 @@
+use crate::names::read_register;
+use crate::numbers::read_word_number;
+use crate::script::{ScriptFault, ScriptKind};
+use crate::script_reader::read_script;
+use pmp_core::{Csr, Event};
+use std::alloc::{AllocError, Global};
+use std::test::*;
+
+type Outcome = Result<u64, ScriptFault>;
+
+/// How many publications a text has, or its fault.
+fn outcome(alloc: Global, text: &[u8]) -> Outcome {
+    Ok(read_script(alloc, text)?.batches())
+}
+
+fn refused(kind: ScriptKind, line: u64) -> Outcome {
+    Err(ScriptFault { kind, line })
+}
+
+/// Two publications of two writes each, 114 bytes.
+const SCRIPT: &[u8; 114] =
+    b"pmp 1\nwrite pmpaddr0 0x200001ff\nwrite pmpcfg0 0x19\npublish\nwrite pmpcfg0 0x1900\nwrite pmpaddr1 0x200001ff\npublish\n";
+
+#[test]
+fn cut_scripts(rt: HostRuntime) {
+    let alloc = rt.alloc();
+    let cuts = [
+        (0, 4, refused(ScriptKind::BadVersion, 1)),
+        (5, 6, Ok(0)),
+        (7, 21, refused(ScriptKind::BadLine, 2)),
+        (22, 22, refused(ScriptKind::Unpublished, 2)),
+        (23, 23, refused(ScriptKind::BadNumber, 2)),
+        (24, 32, refused(ScriptKind::Unpublished, 2)),
+        (33, 46, refused(ScriptKind::BadLine, 3)),
+        (47, 47, refused(ScriptKind::Unpublished, 2)),
+        (48, 48, refused(ScriptKind::BadNumber, 3)),
+        (49, 51, refused(ScriptKind::Unpublished, 2)),
+        (52, 57, refused(ScriptKind::BadLine, 4)),
+        (58, 59, Ok(1)),
+        (60, 73, refused(ScriptKind::BadLine, 5)),
+        (74, 74, refused(ScriptKind::Unpublished, 5)),
+        (75, 75, refused(ScriptKind::BadNumber, 5)),
+        (76, 80, refused(ScriptKind::Unpublished, 5)),
+        (81, 95, refused(ScriptKind::BadLine, 6)),
+        (96, 96, refused(ScriptKind::Unpublished, 5)),
+        (97, 97, refused(ScriptKind::BadNumber, 6)),
+        (98, 106, refused(ScriptKind::Unpublished, 5)),
+        (107, 112, refused(ScriptKind::BadLine, 7)),
+        (113, 114, Ok(2)),
+    ];
+    for (first, last, expected) in cuts {
+        for length in first..=last {
+            let text = SCRIPT.get(..length).unwrap_or(b"");
+            assert_eq!(rt; outcome(alloc, text), expected, "at {length} bytes");
+        }
+    }
+}
+
+#[test]
+fn publications(rt: HostRuntime) {
+    let Ok(script) = read_script(rt.alloc(), SCRIPT) else {
+        panic!(rt; "the script has no fault");
+    };
+    assert!(rt; script.batches() == 2);
+    assert_eq!(rt;
+        script.batch(0),
+        [
+            Event::Write(Csr::Addr(0), 0x2000_01ff),
+            Event::Write(Csr::Cfg(0), 0x19),
+        ]
+        .as_slice()
+    );
+    assert_eq!(rt;
+        script.batch(1),
+        [
+            Event::Write(Csr::Cfg(0), 0x1900),
+            Event::Write(Csr::Addr(1), 0x2000_01ff),
+        ]
+        .as_slice()
+    );
+}
+
+#[test]
+fn lines_of_scripts(rt: HostRuntime) {
+    let alloc = rt.alloc();
+    let texts = [
+        (b"".as_slice(), refused(ScriptKind::BadVersion, 1)),
+        (
+            b"\n# only a comment\n".as_slice(),
+            refused(ScriptKind::BadVersion, 1),
+        ),
+        (
+            b"\n\npmp 2\n".as_slice(),
+            refused(ScriptKind::BadVersion, 3),
+        ),
+        (b"pmp 1 1\n".as_slice(), refused(ScriptKind::BadVersion, 1)),
+        (b"# first\n \t\n  pmp\t1  \npublish".as_slice(), Ok(1)),
+        (b"pmp 1\r\npublish\r\n".as_slice(), Ok(1)),
+        (b"pmp 1\r\npublish\r".as_slice(), Ok(1)),
+        (
+            b"pmp 1\npublish\r\r\n".as_slice(),
+            refused(ScriptKind::BadLine, 2),
+        ),
+        (
+            b"pmp 1\n\x00\xff\n".as_slice(),
+            refused(ScriptKind::BadLine, 2),
+        ),
+        (
+            b"pmp 1\nreset\n".as_slice(),
+            refused(ScriptKind::Unpublished, 2),
+        ),
+        (
+            b"pmp 1\nreset 0\n".as_slice(),
+            refused(ScriptKind::BadLine, 2),
+        ),
+        (b"pmp 1\n reset \npublish\n".as_slice(), Ok(1)),
+        (
+            b"pmp 1\nwrite pmpaddr0\n".as_slice(),
+            refused(ScriptKind::BadLine, 2),
+        ),
+        (
+            b"pmp 1\nwrite pmpaddr0 0 0\n".as_slice(),
+            refused(ScriptKind::BadLine, 2),
+        ),
+        (
+            b"pmp 1\nwrite pmpcfg1 0\n".as_slice(),
+            refused(ScriptKind::OddCfg, 2),
+        ),
+        (
+            b"pmp 1\nwrite MSECCFG x\n".as_slice(),
+            refused(ScriptKind::BadName, 2),
+        ),
+        (b"pmp 1\nwrite pmpaddr16 7\npublish\n".as_slice(), Ok(1)),
+        (
+            b"pmp 1\n#\nwrite pmpaddr0 -1\npublish x\n".as_slice(),
+            refused(ScriptKind::BadNumber, 3),
+        ),
+        (b"pmp 1\npublish\npublish\n".as_slice(), Ok(2)),
+    ];
+    for (text, expected) in texts {
+        assert_eq!(rt; outcome(alloc, text), expected, "of {:?}", text);
+    }
+}
+
+#[test]
+fn names(rt: HostRuntime) {
+    let names = [
+        (b"pmpcfg0".as_slice(), Ok(Csr::Cfg(0))),
+        (b"0x3A0".as_slice(), Ok(Csr::Cfg(0))),
+        (b"0x00000000000003a0".as_slice(), Ok(Csr::Cfg(0))),
+        (b"pmpcfg14".as_slice(), Ok(Csr::Cfg(14))),
+        (b"pmpaddr63".as_slice(), Ok(Csr::Addr(63))),
+        (b"pmpcfg1".as_slice(), Err(ScriptKind::OddCfg)),
+        (b"0x3a1".as_slice(), Err(ScriptKind::OddCfg)),
+        (b"pmpcfg16".as_slice(), Err(ScriptKind::BadName)),
+        (b"pmpcfg01".as_slice(), Err(ScriptKind::BadName)),
+        (b"pmpcfg".as_slice(), Err(ScriptKind::BadName)),
+        (b"pmpaddr64".as_slice(), Err(ScriptKind::BadName)),
+        (b"PMPADDR0".as_slice(), Err(ScriptKind::BadName)),
+        (b"0x3f0".as_slice(), Err(ScriptKind::BadName)),
+        (b"0x103a0".as_slice(), Err(ScriptKind::BadName)),
+        (b"mseccfg".as_slice(), Ok(Csr::Mseccfg)),
+        (b"0x747".as_slice(), Ok(Csr::Mseccfg)),
+        (b"0x748".as_slice(), Err(ScriptKind::BadName)),
+        (b"mseccfg0".as_slice(), Err(ScriptKind::BadName)),
+        (b"mseccf".as_slice(), Err(ScriptKind::BadName)),
+        (b"0x".as_slice(), Err(ScriptKind::BadName)),
+        (b"928".as_slice(), Err(ScriptKind::BadName)),
+    ];
+    for (name, expected) in names {
+        assert_eq!(rt; read_register(name), expected, "of {:?}", name);
+    }
+}
+
+#[test]
+fn values(rt: HostRuntime) {
+    let words = [
+        (b"0".as_slice(), Some(0)),
+        (b"0xfF".as_slice(), Some(255)),
+        (b"18446744073709551615".as_slice(), Some(u64::MAX)),
+        (b"00000000000000000001".as_slice(), Some(1)),
+        (b"18446744073709551616".as_slice(), None),
+        (b"000000000000000000001".as_slice(), None),
+        (b"0x".as_slice(), None),
+        (b"0X1".as_slice(), None),
+        (b"-1".as_slice(), None),
+        (b"".as_slice(), None),
+        (b"0xffffffffffffffff".as_slice(), Some(u64::MAX)),
+        (b"0x10000000000000000".as_slice(), None),
+    ];
+    for (word, expected) in words {
+        assert_eq!(rt; read_word_number(word), expected, "of {:?}", word);
+    }
+}
+
+/// The version line and so many writes.
+fn many_writes(alloc: Global, count: usize) -> Result<Vec<u8>, AllocError> {
+    let mut text = Vec::from_slice(alloc, b"pmp 1\n")?;
+    for _ in 0..count {
+        text.extend_from_slice(b"write pmpaddr0 0\n")?;
+    }
+    Ok(text)
+}
+
+#[test]
+fn full_batches(rt: HostRuntime) -> Result<(), Fail> {
+    let alloc = rt.alloc();
+    let mut text = many_writes(alloc, 64)?;
+    text.extend_from_slice(b"publish")?;
+    assert_eq!(rt; outcome(alloc, &text), Ok(1));
+    let text = many_writes(alloc, 65)?;
+    assert_eq!(rt; outcome(alloc, &text), refused(ScriptKind::BatchFull, 66));
+    Ok(())
+}
+
+#[test]
+fn long_texts(rt: HostRuntime) -> Result<(), Fail> {
+    let alloc = rt.alloc();
+    let mut text = vec![in alloc; b'\n'; 1_048_576]?;
+    assert_eq!(rt; outcome(alloc, &text), refused(ScriptKind::BadVersion, 1));
+    text.push(b'\n')?;
+    assert_eq!(rt; outcome(alloc, &text), refused(ScriptKind::TooLong, 0));
+    Ok(())
+}

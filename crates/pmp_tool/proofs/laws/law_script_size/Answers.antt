@@ -1,5 +1,0 @@
-use Rattle.pmp_tool.proofs.Bounds.{said_at_most}
-use Rattle.pmp_tool.proofs.laws.law_script_size.Goals as goal
-
-pub returns : goal.returns
-returns c = said_at_most

@@ -1,0 +1,47 @@
+//! Why a script gets no answer.
+
+ghost use Rattle.std.specs.Prelude.{◌≡◌};
+ghost use Rattle.pmp_tool.specs.Answers.{fault_answered};
+ghost use Rattle.pmp_tool.specs.declared.fault.AuditFault.TheVariants.{Memory, Output};
+
+use pmp_text::{NoMemory, OutputFault, ScriptFault, ScriptKind};
+
+/// Why a script gets no answer.
+#[derive(Clone, Copy, Debug, PartialEq, Eq)]
+pub enum AuditFault {
+    /// The script's own fault, which isn't `Memory`.
+    Script(ScriptFault),
+    /// The script has fewer publications than were asked for.
+    BadAfter,
+    /// No memory.
+    Memory,
+    /// The output can't be written.
+    Output,
+}
+
+impl From<ScriptFault> for AuditFault {
+    ghost from_gives = { λ fault answer. answer ≡ fault_answered fault };
+
+    fn from(fault: ScriptFault) -> AuditFault {
+        match fault.kind {
+            ScriptKind::Memory => AuditFault::Memory,
+            _ => AuditFault::Script(fault),
+        }
+    }
+}
+
+impl From<NoMemory> for AuditFault {
+    ghost from_gives = { λ _ answer. answer ≡ Memory };
+
+    fn from(_: NoMemory) -> AuditFault {
+        AuditFault::Memory
+    }
+}
+
+impl From<OutputFault> for AuditFault {
+    ghost from_gives = { λ _ answer. answer ≡ Output };
+
+    fn from(_: OutputFault) -> AuditFault {
+        AuditFault::Output
+    }
+}

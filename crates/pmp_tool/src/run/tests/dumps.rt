@@ -1,0 +1,205 @@
+//! `pmp dump` on worked examples.
+
+use super::*;
+
+const NAMES: [&str; 19] = [
+    "pmpcfg0",
+    "pmpcfg2",
+    "pmpaddr0",
+    "pmpaddr1",
+    "pmpaddr2",
+    "pmpaddr3",
+    "pmpaddr4",
+    "pmpaddr5",
+    "pmpaddr6",
+    "pmpaddr7",
+    "pmpaddr8",
+    "pmpaddr9",
+    "pmpaddr10",
+    "pmpaddr11",
+    "pmpaddr12",
+    "pmpaddr13",
+    "pmpaddr14",
+    "pmpaddr15",
+    "mseccfg",
+];
+
+/// Asserts the whole dump after these writes: every register that isn't given is zero.
+fn assert_registers<R: Abort + AllocGlobal>(
+    rt: &R,
+    writes: &str,
+    registers: &[(&str, u64)],
+) -> Result<(), Fail> {
+    let mut expected = Vec::new(rt.alloc());
+    for name in NAMES {
+        let mut value = 0;
+        for (register, known) in registers {
+            if *register == name {
+                value = *known;
+            }
+        }
+        let value = format!(in rt.alloc(); " 0x{value:016x}\n")?;
+        expected.extend_from_slice(name.as_bytes())?;
+        expected.extend_from_slice(value.as_bytes())?;
+    }
+    let script = format!(in rt.alloc(); "pmp 1\n{writes}\npublish\n")?;
+    let answer = run(rt.alloc(), script.as_bytes(), "dump table")?;
+    assert_eq!(rt; answer.out.as_slice(), expected.as_slice(), "{writes}");
+    assert!(rt; answer.err.is_empty(), "{writes}");
+    assert_eq!(rt; answer.status, 0, "{writes}");
+    Ok(())
+}
+
+#[test]
+fn addresses_and_rules(rt: HostRuntime) -> Result<(), Fail> {
+    assert_registers(
+        &rt,
+        "write pmpaddr0 0xffffffffffffffff\nwrite pmpcfg0 0x19",
+        &[("pmpcfg0", 0x19), ("pmpaddr0", 0x003f_ffff_ffff_ffff)],
+    )?;
+    assert_registers(&rt, "write pmpcfg0 0x1a", &[("pmpcfg0", 0x18)])?;
+    assert_registers(
+        &rt,
+        "write mseccfg 1\nwrite pmpcfg0 0x1a",
+        &[("pmpcfg0", 0x1a), ("mseccfg", 1)],
+    )?;
+    assert_registers(&rt, "write pmpaddr16 7\nwrite pmpcfg4 0x1f", &[])?;
+    assert_registers(
+        &rt,
+        "write pmpcfg2 0x0f00000000000000\nwrite pmpaddr15 0x123456789abcde",
+        &[
+            ("pmpcfg2", 0x0f00_0000_0000_0000),
+            ("pmpaddr15", 0x0012_3456_789a_bcde),
+        ],
+    )
+}
+
+#[test]
+fn locked_entries_stay(rt: HostRuntime) -> Result<(), Fail> {
+    assert_registers(
+        &rt,
+        "write pmpaddr0 0x10\nwrite pmpaddr1 0x20\nwrite pmpcfg0 0x8900\nwrite pmpaddr0 0",
+        &[("pmpcfg0", 0x8900), ("pmpaddr0", 0x10), ("pmpaddr1", 0x20)],
+    )?;
+    assert_registers(
+        &rt,
+        "write pmpcfg0 0x80\nwrite pmpaddr0 5",
+        &[("pmpcfg0", 0x80)],
+    )
+}
+
+#[test]
+fn lockdown_and_bypass(rt: HostRuntime) -> Result<(), Fail> {
+    assert_registers(&rt, "write mseccfg 7\nwrite mseccfg 0", &[("mseccfg", 3)])?;
+    assert_registers(
+        &rt,
+        "write pmpcfg0 0x80\nwrite mseccfg 4",
+        &[("pmpcfg0", 0x80)],
+    )?;
+    assert_registers(
+        &rt,
+        "write mseccfg 1\nwrite pmpcfg0 0x199c",
+        &[("pmpcfg0", 0x1900), ("mseccfg", 1)],
+    )?;
+    assert_registers(
+        &rt,
+        "write mseccfg 5\nwrite pmpcfg0 0x199c",
+        &[("pmpcfg0", 0x199c), ("mseccfg", 5)],
+    )?;
+    assert_registers(
+        &rt,
+        "write mseccfg 4\nwrite pmpcfg0 0x99\nwrite pmpcfg0 0x18",
+        &[("pmpcfg0", 0x18), ("mseccfg", 4)],
+    )?;
+    assert_registers(
+        &rt,
+        "write mseccfg 4\nwrite pmpcfg0 0x99\nwrite mseccfg 0\nwrite mseccfg 4",
+        &[("pmpcfg0", 0x99)],
+    )
+}
+
+#[test]
+fn reset_frees_locked_entries(rt: HostRuntime) -> Result<(), Fail> {
+    let locked = "write pmpaddr0 0x10\nwrite pmpaddr1 0x20\nwrite pmpcfg0 0x8900\nwrite pmpaddr0 0";
+    let writes = format!(in rt.alloc(); "{locked}\nreset\nwrite pmpaddr0 0x30")?;
+    assert_registers(&rt, writes.as_str(), &[("pmpaddr0", 0x30)])
+}
+
+#[test]
+fn all_publications_are_taken(rt: HostRuntime) -> Result<(), Fail> {
+    assert_registers(&rt, "publish\npublish", &[])?;
+    assert_registers(
+        &rt,
+        "write pmpaddr0 0x200001ff\nwrite pmpcfg0 0x19\npublish\nwrite pmpcfg0 0x1900\nwrite pmpaddr1 0x200001ff",
+        &[
+            ("pmpcfg0", 0x1900),
+            ("pmpaddr0", 0x2000_01ff),
+            ("pmpaddr1", 0x2000_01ff),
+        ],
+    )
+}
+
+#[test]
+fn dumps_are_refused(rt: HostRuntime) -> Result<(), Fail> {
+    let usage = "usage: pmp check SCRIPT MODE KIND START LENGTH";
+    for (script, words, line, status) in [
+        ("pmp 1", "dump", usage, 2),
+        ("pmp 1", "check table", usage, 2),
+        ("pmp 1", "dump table 1", usage, 2),
+        ("pmp 1", "dump none", "pmp: refused 41 Input", 3),
+        (
+            "",
+            "dump table",
+            "pmp: script line 1: refused 10 BadVersion",
+            2,
+        ),
+        (
+            "pmp 1\nreset\n",
+            "dump table",
+            "pmp: script line 2: refused 16 Unpublished",
+            2,
+        ),
+        (
+            "pmp 1\nreset 1\n",
+            "dump table",
+            "pmp: script line 2: refused 11 BadLine",
+            2,
+        ),
+        (
+            "pmp 1\nwrite pmpcfg1 0\n",
+            "dump table",
+            "pmp: script line 2: refused 13 OddCfg",
+            2,
+        ),
+    ] {
+        assert_refused(&rt, script.as_bytes(), words, line, status)?;
+    }
+    Ok(())
+}
+
+#[test]
+fn resets_fill_a_batch(rt: HostRuntime) -> Result<(), Fail> {
+    let mut script = "pmp 1\n".to_string(rt.alloc())?;
+    for _ in 0..65 {
+        script.push_str("reset\n")?;
+    }
+    let line = "pmp: script line 66: refused 15 BatchFull";
+    assert_refused(&rt, script.as_bytes(), "dump table", line, 2)
+}
+
+#[test]
+fn a_full_output_takes_no_dump(rt: HostRuntime) -> Result<(), Fail> {
+    let alloc = rt.alloc();
+    let mut words = Vec::new(alloc);
+    words.push("dump".to_string(alloc)?)?;
+    words.push("table".to_string(alloc)?)?;
+    let mut inputs = Table {
+        alloc,
+        script: b"pmp 1",
+    };
+    let mut err = Vec::new(alloc);
+    let status = run_tool(alloc, &words, &mut inputs, &mut Full, &mut err);
+    assert_eq!(rt; err.as_slice(), b"pmp: refused 42 Output\n".as_slice());
+    assert_eq!(rt; status, 3);
+    Ok(())
+}
