@@ -2,7 +2,12 @@ pub mod Appending
 pub mod Bounds
 pub mod Cuts
 pub mod Digits
+pub mod Fields
+pub mod LeastFaults
+pub mod LeastRows
 pub mod Leasts
 pub mod Lefts
 pub mod Meanings
+pub mod RecordsLeft
+pub mod Rows
 pub mod Transfers

@@ -14,7 +14,7 @@ use Rattle.pmp_text.specs.declared.script.ScriptFault.{ScriptFault}
 use Rattle.pmp_text.specs.declared.statement.Statement.{Statement}
 use Rattle.pmp_text.specs.declared.statement.Statement.TheVariants as statement
 use Rattle.pmp_text.specs.Statements.{statement_of}
-use Rattle.pmp_text.specs.Scripts.{Line, at_line, counted, open_events, statement_fault, or_later, first_fault, event_of, publishes, is_publish, but_last, last_piece, judged, is_version, significant_lines, lines_meaning, script_meaning, publications, first_unpublished}
+use Rattle.pmp_text.specs.Scripts.{Line, at_line, counted, open_events, statement_fault, first_fault, event_of, publishes, is_publish, but_last, last_piece, judged, is_version, significant_lines, lines_meaning, script_meaning, publications, first_unpublished}
 use Rattle.pmp_text.specs.Progress.{Progress, beginning, published, after_statement, all_published, resumed}
 
 -- what pieces add to an open batch: the batches that they publish, and where events stay open
@@ -97,7 +97,7 @@ module _ (so_far : Progress) (last : Line) (front : List Line) (count : length s
   cut publish = cond publish ([] ∷ pieces_of more) (onto_first line (pieces_of more))
 
   abbrev means : Result Statement ScriptKind → Result (List (List Event)) ScriptFault
-  means says = judged (or_later (option_map (at_line line.number) (statement_fault (open_events (last ∷ front)) says)) later) (since_from so_far.since (cut (publishes says))) (so_far.published ++ batches_from so_far.batch (cut (publishes says)))
+  means says = judged (option_or (option_map (at_line line.number) (statement_fault (open_events (last ∷ front)) says)) later) (since_from so_far.since (cut (publishes says))) (so_far.published ++ batches_from so_far.batch (cut (publishes says)))
 
   agree : (says : Result Statement ScriptKind) → statement_of line.words ≡ says → reads (after_statement so_far line.number says) ≡ means says → resumed so_far (line ∷ more) ≡ meant_from so_far (last ∷ front) (line ∷ more)
   agree says e same = ap (λ (r : Result Statement ScriptKind). reads (after_statement so_far line.number r)) e ∙ same ∙ sym (ap means e)
@@ -113,7 +113,7 @@ module _ (so_far : Progress) (last : Line) (front : List Line) (count : length s
     longer = record { published = so_far.published; batch = so_far.batch ++ event ∷ []; since = Some (unwrap_or so_far.since line.number) }
 
     fits : (room : Bool) → (room ≡ true → resumed longer more ≡ judged later (since_from so_far.since (cut false)) (so_far.published ++ batches_from so_far.batch (cut false)))
-        → reads (cond room (Ok longer) (Err (at_line line.number BatchFull))) ≡ judged (or_later (option_map (at_line line.number) (cond room None (Some BatchFull))) later) (since_from so_far.since (cut false)) (so_far.published ++ batches_from so_far.batch (cut false))
+        → reads (cond room (Ok longer) (Err (at_line line.number BatchFull))) ≡ judged (option_or (option_map (at_line line.number) (cond room None (Some BatchFull))) later) (since_from so_far.since (cut false)) (so_far.published ++ batches_from so_far.batch (cut false))
     fits true same = same refl
     fits false same = refl
 
@@ -124,7 +124,7 @@ module _ (so_far : Progress) (last : Line) (front : List Line) (count : length s
         let batches = batches_from-event line event says so_far.batch (pieces_of more) in
         let ends = ap (λ (since : Option ℕ). judged later since (so_far.published ++ batches_from longer.batch (pieces_of more))) (sym since) ∙ ap (λ (batches : List (List Event)). judged later (since_from so_far.since (cut false)) (so_far.published ++ batches)) (sym batches) in
         fits (ltb (length so_far.batch) 64) (λ room. same room ∙ ends)
-        ∙ ap (λ (n : ℕ). judged (or_later (option_map (at_line line.number) (cond (ltb n 64) None (Some BatchFull))) later) (since_from so_far.since (cut false)) (so_far.published ++ batches_from so_far.batch (cut false))) count
+        ∙ ap (λ (n : ℕ). judged (option_or (option_map (at_line line.number) (cond (ltb n 64) None (Some BatchFull))) later) (since_from so_far.since (cut false)) (so_far.published ++ batches_from so_far.batch (cut false))) count
 
 -- the open batch has as many events as were counted
 counted_event : (so_far : Progress) (front : List Line) (line : Line) (event : Event) → length so_far.batch ≡ open_events front → statement_of line.words ≡ Ok (statement.Event event) → length (so_far.batch ++ event ∷ []) ≡ open_events (line ∷ front)
@@ -181,7 +181,7 @@ module _ (text : List ℕ) where
 
     module _ (version : Line) (more : List Line) (lines : significant_lines text ≡ version ∷ more) where
       abbrev with_version : Bool → Result (List (List Event)) ScriptFault
-      with_version is = judged (or_later (option_map (at_line version.number) (cond is None (Some BadVersion))) (first_fault (version ∷ []) more)) (first_unpublished more) (publications more)
+      with_version is = judged (option_or (option_map (at_line version.number) (cond is None (Some BadVersion))) (first_fault (version ∷ []) more)) (first_unpublished more) (publications more)
 
       pub other_version : is_version version.words ≡ false → script_meaning text ≡ Err (at_line version.number BadVersion)
       other_version e = by_lines ∙ ap lines_meaning lines ∙ ap with_version e

@@ -7,8 +7,8 @@ use Rattle.pmp_text.specs.Scripts.{Line, at_line, line_fault, first_fault, signi
 abbrev pub fault_at : List Line → (index : ℕ) → Option ScriptFault
 fault_at lines index = option_and_then {T = Line} {U = ScriptFault} (λ line. option_map (at_line line.number) (line_fault (reverse (take index lines)) line)) (slice_get lines index)
 
--- the line with this index has the fault, and no line before it has any
-pub record IsLeastFault (faults : ℕ → Option ScriptFault) (fault : ScriptFault) : Type 0 where
+-- the line, or row, with this index has the fault, and none before it has any
+pub record IsLeastFault {F : Type 0} (faults : ℕ → Option F) (fault : F) : Type 0 where
   pub index : ℕ
   pub here : faults index ≡ Some fault
   pub none_before : (before : ℕ) → before < index → faults before ≡ None

@@ -1,3 +1,4 @@
+pub mod AccessWords
 pub mod Bytes
 pub mod Dumps
 pub mod Faults
@@ -6,8 +7,11 @@ pub mod Names
 pub mod Numbers
 pub mod Outcomes
 pub mod Progress
+pub mod Records
 pub mod Reports
 pub mod Scripts
 pub mod Sizes
 pub mod Statements
+pub mod TraceFaults
+pub mod Traces
 pub mod Views

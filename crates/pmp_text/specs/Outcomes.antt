@@ -2,6 +2,8 @@
 use Rattle.std.specs.Prelude.{◌≡◌, ◌⊎◌, Result, Ok, Err}
 use Rattle.pmp_text.specs.declared.script.ScriptKind.TheVariants.{Memory}
 use Rattle.pmp_text.specs.declared.script.ScriptFault.{ScriptFault}
+use Rattle.pmp_text.specs.declared.trace.TraceFault.{TraceFault}
+use Rattle.pmp_text.specs.declared.trace.TraceKind.TheVariants as trace
 
 -- memory ran out, which is the fault of no line
 abbrev pub out_of_memory : ScriptFault
@@ -11,3 +13,16 @@ out_of_memory = record { kind = Memory; line = 0 }
 abbrev pub Gives : {X Y : Type 0} → (X → Y) → Result X ScriptFault → Result Y ScriptFault → Type 0
 Gives view (Ok x) meant = meant ≡ Ok (view x)
 Gives view (Err fault) meant = (meant ≡ Err fault) ⊎ (fault ≡ out_of_memory)
+
+-- the same of a trace's rows
+abbrev pub no_memory_for_rows : TraceFault
+no_memory_for_rows = record { kind = trace.Memory; row = 0 }
+
+-- the crate `csv` told of a failed input
+abbrev pub no_input_for_rows : TraceFault
+no_input_for_rows = record { kind = trace.Input; row = 0 }
+
+-- the answer, seen by view, is what is meant, or memory ran out, or the input failed
+abbrev pub GivesRows : {X Y : Type 0} → (X → Y) → Result X TraceFault → Result Y TraceFault → Type 0
+GivesRows view (Ok x) meant = meant ≡ Ok (view x)
+GivesRows view (Err fault) meant = (meant ≡ Err fault) ⊎ (fault ≡ no_memory_for_rows) ⊎ (fault ≡ no_input_for_rows)

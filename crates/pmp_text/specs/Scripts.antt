@@ -1,6 +1,7 @@
 -- What a script means: its publications, or its fault.
 use Rattle.std.specs.Prelude.{ℕ, ◌+◌, List, [], ◌∷◌, length, map, filter, filter_map, find, Bool, true, false, not, ◌&&◌, ◌==◌, Option, Some, None, Result, Ok, Err, is_some, option_map, nat_lt, codes, bytes_eq, slice_index, if◌then◌else◌}
 use Rattle.std.specs.List.{slice_split}
+use Rattle.std.specs.Option.{option_or}
 use Rattle.pmp_core.specs.declared.event.Event.{Event}
 use Rattle.pmp_text.specs.declared.script.ScriptKind.{ScriptKind}
 use Rattle.pmp_text.specs.declared.script.ScriptKind.TheVariants.{BadVersion, BatchFull, Unpublished, TooLong}
@@ -66,15 +67,10 @@ line_fault (last ∷ before) line = statement_fault (open_events (last ∷ befor
 abbrev pub at_line : ℕ → ScriptKind → ScriptFault
 at_line number kind = record { kind = kind; line = number }
 
--- the first fault that there is
-abbrev pub or_later : Option ScriptFault → Option ScriptFault → Option ScriptFault
-or_later (Some fault) later = Some fault
-or_later None later = later
-
 -- the fault of the first line that has one
 abbrev pub first_fault : (before : List Line) → List Line → Option ScriptFault
 first_fault before [] = None
-first_fault before (line ∷ more) = or_later (option_map (at_line line.number) (line_fault before line)) (first_fault (line ∷ before) more)
+first_fault before (line ∷ more) = option_or (option_map (at_line line.number) (line_fault before line)) (first_fault (line ∷ before) more)
 
 -- ---- publications
 

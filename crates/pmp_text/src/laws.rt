@@ -1,7 +1,8 @@
-//! Laws of the definitions that the reader's contracts cite.
+//! Laws of the definitions that the readers' contracts cite.
 
 ghost use Rattle.pmp_text.specs.Faults.{FirstFaultLaw, LeastFaultLaw};
 ghost use Rattle.pmp_text.specs.Sizes.{ScriptSizeLaw};
+ghost use Rattle.pmp_text.specs.TraceFaults.{FirstRowFaultLaw, LeastRowFaultLaw, RowOrderLaw};
 
 /// The fault of a script's lines is that of the least faulty line: a significant line has it, and no significant
 /// line before it has any.
@@ -13,4 +14,16 @@ pub fn law_least_fault()
 /// A script has no more publications and events than bytes.
 pub fn law_script_size()
     ensures { ScriptSizeLaw }
+{}
+
+/// The fault of a trace's rows is that of the least faulty row: a row has it, and no row before it has any.
+pub fn law_least_row_fault()
+    ensures first { FirstRowFaultLaw }
+    ensures answered { LeastRowFaultLaw }
+{}
+
+/// The rows of a trace without a fault ask for no more publications than there are, and none for fewer than the row
+/// before.
+pub fn law_rows_in_order()
+    ensures { RowOrderLaw }
 {}

@@ -1,6 +1,7 @@
-//! The texts of the unit: scripts are read, reports and registers are written, all byte by byte.
+//! The texts of the unit: scripts and traces are read, reports and registers are written, all byte by byte.
 #![tactic(auto)]
 
+mod access_words;
 mod input;
 pub mod laws;
 mod lines;
@@ -8,14 +9,19 @@ mod names;
 mod numbers;
 mod output;
 mod progress;
+mod records;
 mod registers;
 mod report;
+mod row_fields;
 mod script;
 mod script_reader;
 mod significant;
 mod statement;
+mod trace;
+mod trace_reader;
 mod words;
 
+pub use access_words::{read_kind, read_mode};
 pub use input::{InputFault, MAX_LIMIT, read_bytes};
 pub use numbers::read_word_number;
 pub use output::{OutputFault, write_out};
@@ -23,6 +29,8 @@ pub use registers::write_registers;
 pub use report::{NoMemory, write_row};
 pub use script::{Script, ScriptFault, ScriptKind};
 pub use script_reader::{MAX_SCRIPT, read_script};
+pub use trace::{Row, TraceFault, TraceKind};
+pub use trace_reader::{MAX_TRACE, read_trace};
 
 #[cfg(test)]
 mod tests;

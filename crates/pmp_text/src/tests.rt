@@ -6,6 +6,8 @@ use pmp_core::{Csr, Event};
 use std::alloc::{AllocError, Global};
 use std::test::*;
 
+mod traces;
+
 type Outcome = Result<u64, ScriptFault>;
 
 /// How many publications a text has, or its fault.

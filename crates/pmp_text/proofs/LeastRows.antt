@@ -1,0 +1,125 @@
+-- The first fault of a trace's rows is that of the least faulty row, and rows without a fault are in order.
+use Rattle.std.proofs.Common.{◌≡◌, ℕ, zero, suc, ◌+◌, ◌<◌, ◌≤◌, Bool, true, false, cond, List, [], ◌∷◌, length, map, Global, Vec, Option, Some, None, IfOk, Result, Ok, Err, refl, sym, ap, ◌∙◌, arith}
+use Rattle.std.specs.Prelude.{filter_map, nat_lt, option_map, option_and_then, slice_get, unwrap_or}
+use Rattle.std.specs.Option.{option_or}
+use Rattle.std.proofs.lemmas.Bool.{ltb-false, lt-ltb}
+use Rattle.pmp_core.specs.Accesses.{access_fault}
+use Rattle.pmp_text.specs.declared.row_fields.RowFields.{RowFields}
+use Rattle.pmp_text.specs.declared.trace.TraceKind.{TraceKind}
+use Rattle.pmp_text.specs.declared.trace.TraceKind.TheVariants.{BadAfter, BadHeader, BadRow, Order, TooLong}
+use Rattle.pmp_text.specs.declared.trace.TraceFault.{TraceFault}
+use Rattle.pmp_text.specs.declared.trace.Row.{Row}
+use Rattle.pmp_text.specs.Faults.{IsLeastFault}
+use Rattle.pmp_text.specs.Traces.{access_kind, after_said, at_row, falls_behind, fields_fault, first_row_fault, is_header, records_meaning, row_fault, row_said, rows_judged, rows_meaning, trace_meaning, trace_records}
+use Rattle.pmp_text.specs.Outcomes.{GivesRows}
+use Rattle.pmp_text.specs.Views.{row_fields}
+use Rattle.pmp_text.specs.TraceFaults.{after_before, row_fault_at, IsInOrder, afters}
+use Rattle.pmp_text.proofs.LeastFaults.{Judges, judged_here, judged_as, the_first}
+use Rattle.pmp_text.proofs.Rows.{this_header}
+
+abbrev Records : Type 0
+Records = List (List (List ℕ))
+
+module _ (publications : ℕ) where
+  -- the fault of a row behind one that asks for `last`, the first with this number
+  abbrev fault_behind : (last : Option ℕ) (number : ℕ) → Records → ℕ → Option TraceFault
+  fault_behind last number rows index = option_and_then {T = List (List ℕ)} {U = TraceFault} (λ row. option_map (at_row (number + index)) (row_fault publications (after_before last rows index) (row_said row))) (slice_get rows index)
+
+  one_behind : (last : Option ℕ) (number : ℕ) (row : List (List ℕ)) (more : Records) (index : ℕ) → fault_behind last number (row ∷ more) (suc index) ≡ fault_behind (after_said (row_said row)) (number + 1) more index
+  one_behind last number row more zero =
+      let same : number + 1 ≡ number + 1 + 0 = omega arith in
+      ap (λ (n : ℕ). option_and_then {T = List (List ℕ)} {U = TraceFault} (λ next. option_map (at_row n) (row_fault publications (after_said (row_said row)) (row_said next))) (slice_get more 0)) same
+  one_behind last number row more (suc index) =
+      let same : number + suc (suc index) ≡ number + 1 + suc index = omega arith in
+      ap (λ (n : ℕ). option_and_then {T = List (List ℕ)} {U = TraceFault} (λ next. option_map (at_row n) (row_fault publications (after_before last (row ∷ more) (suc (suc index))) (row_said next))) (slice_get more (suc index))) same
+
+  here : (last : Option ℕ) (number : ℕ) (row : List (List ℕ)) (more : Records) → fault_behind last number (row ∷ more) 0 ≡ option_map (at_row number) (row_fault publications last (row_said row))
+  here last number row more = let same : number + 0 ≡ number = omega arith in ap (λ (n : ℕ). option_map (at_row n) (row_fault publications last (row_said row))) same
+
+  judged_behind : (rows : Records) (last : Option ℕ) (number : ℕ) → Judges (fault_behind last number rows) (first_row_fault publications last number rows)
+  judged_behind [] = λ last number index. refl
+  judged_behind (row ∷ more) = λ last number.
+      judged_here (fault_behind last number (row ∷ more)) (fault_behind (after_said (row_said row)) (number + 1) more) (one_behind last number row more)
+      (option_map (at_row number) (row_fault publications last (row_said row))) (first_row_fault publications (after_said (row_said row)) (number + 1) more) (here last number row more) (judged_behind more (after_said (row_said row)) (number + 1))
+
+  counted_from_one : (rows : Records) (index : ℕ) → row_fault_at publications rows index ≡ fault_behind None 1 rows index
+  counted_from_one rows index =
+      let same : index + 1 ≡ 1 + index = omega arith in
+      ap (λ (n : ℕ). option_and_then {T = List (List ℕ)} {U = TraceFault} (λ row. option_map (at_row n) (row_fault publications (after_before None rows index) (row_said row))) (slice_get rows index)) same
+
+  pub first_row_is_least : (rows : Records) → Judges (row_fault_at publications rows) (first_row_fault publications None 1 rows)
+  first_row_is_least rows = judged_as (fault_behind None 1 rows) (row_fault_at publications rows) (first_row_fault publications None 1 rows) (counted_from_one rows) (judged_behind rows None 1)
+
+  pub least_row_is_answered : (text : List ℕ) (header : List (List ℕ)) (rows : Records) (fault : TraceFault)
+      → length text ≤ 16777216 → trace_records text ≡ header ∷ rows → is_header header ≡ true → IsLeastFault (row_fault_at publications rows) fault → trace_meaning publications text ≡ Err fault
+  least_row_is_answered text header rows fault short records named least =
+      this_header publications text short header rows records named
+      ∙ ap (λ (first : Option TraceFault). rows_judged first (filter_map row_said rows)) (the_first (row_fault_at publications rows) (first_row_fault publications None 1 rows) fault (first_row_is_least rows) least)
+
+  -- ---- order
+
+  abbrev least_of : Option ℕ → ℕ
+  least_of last = unwrap_or last 0
+
+  not_behind : (last : Option ℕ) (after : ℕ) → falls_behind last after ≡ false → least_of last ≤ after
+  not_behind None after e = omega arith
+  not_behind (Some last) after e = ltb-false after last e
+
+  no_fault : (own later : Option TraceFault) → option_or own later ≡ None → (own ≡ None) × (later ≡ None)
+  no_fault None later e = (refl, e)
+  no_fault (Some fault) later e = absurd cc
+
+  no_kind : (number : ℕ) (kind : Option TraceKind) → option_map (at_row number) kind ≡ None → kind ≡ None
+  no_kind number None e = refl
+  no_kind number (Some kind) e = absurd cc
+
+  module _ (last : Option ℕ) (row : RowFields) where
+    in_time : (beyond behind : Bool) → nat_lt publications row.after ≡ beyond → falls_behind last row.after ≡ behind → cond beyond (Some BadAfter) (cond behind (Some Order) (access_kind (access_fault row.start row.length))) ≡ None → (least_of last ≤ row.after) × (row.after ≤ publications)
+    in_time true behind e f fine = absurd cc
+    in_time false true e f fine = absurd cc
+    in_time false false e f fine = (not_behind last row.after f, ltb-false publications row.after e)
+
+  rows_in_order : (rows : Records) (last : Option ℕ) (number : ℕ) → first_row_fault publications last number rows ≡ None → IsInOrder publications (least_of last) (afters (filter_map row_said rows))
+  rows_in_order [] = λ last number e. tt
+  rows_in_order (row ∷ more) = λ last number e. by (row_said row) refl last number e (rows_in_order more)
+    where
+      by : (said : Option RowFields) → row_said row ≡ said → (last : Option ℕ) (number : ℕ) → first_row_fault publications last number (row ∷ more) ≡ None
+          → ((last : Option ℕ) (number : ℕ) → first_row_fault publications last number more ≡ None → IsInOrder publications (least_of last) (afters (filter_map row_said more)))
+          → IsInOrder publications (least_of last) (afters (filter_map row_said (row ∷ more)))
+      by None says last number e later =
+          let own : Some BadRow ≡ None = no_kind number (Some BadRow) (no_fault (Some (at_row number BadRow)) (first_row_fault publications None (number + 1) more) (rw says at e)).0 in
+          absurd cc
+      by (Some fields) says last number e later =
+          let (own, rest) = no_fault (option_map (at_row number) (fields_fault publications last fields)) (first_row_fault publications (Some fields.after) (number + 1) more) (rw says at e) in
+          let time = in_time last fields (nat_lt publications fields.after) (falls_behind last fields.after) refl refl (no_kind number (fields_fault publications last fields) own) in
+          rw says (time.0, time.1, later (Some fields.after) (number + 1) rest)
+
+  judged_ok : (first : Option TraceFault) (said rows : List RowFields) → rows_judged first said ≡ Ok rows → (first ≡ None) × (said ≡ rows)
+  judged_ok None said rows e = let same : said ≡ rows = cc in (refl, same)
+  judged_ok (Some fault) said rows e = absurd cc
+
+  module _ (rows : List RowFields) where
+    from_rows : (records : Records) → rows_meaning publications records ≡ Ok rows → IsInOrder publications 0 (afters rows)
+    from_rows records e =
+        let (first, same) = judged_ok (first_row_fault publications None 1 records) (filter_map row_said records) rows e in
+        rw (← same) (rows_in_order records None 1 first)
+
+    from_header : (named : Bool) (records : Records) → cond named (rows_meaning publications records) (Err (at_row 0 BadHeader)) ≡ Ok rows → IsInOrder publications 0 (afters rows)
+    from_header true records e = from_rows records e
+    from_header false records e = absurd cc
+
+    from_records : (records : Records) → records_meaning publications records ≡ Ok rows → IsInOrder publications 0 (afters rows)
+    from_records [] e = absurd cc
+    from_records (header ∷ records) e = from_header (is_header header) records e
+
+    from_text : (long : Bool) (text : List ℕ) → cond long (Err (at_row 0 TooLong)) (records_meaning publications (trace_records text)) ≡ Ok rows → IsInOrder publications 0 (afters rows)
+    from_text true text e = absurd cc
+    from_text false text e = from_records (trace_records text) e
+
+    pub trace_in_order : (text : List ℕ) → trace_meaning publications text ≡ Ok rows → IsInOrder publications 0 (afters rows)
+    unfolding trace_meaning
+    trace_in_order text e = from_text (nat_lt 16777216 (length text)) text e
+
+  pub given_in_order : (text : List ℕ) (result : Result (Vec Row Global) TraceFault) → GivesRows (λ rows. map row_fields rows.items) result (trace_meaning publications text) → IfOk result (λ rows. IsInOrder publications 0 (afters (map row_fields rows.items)))
+  given_in_order text (Ok rows) given = trace_in_order (map row_fields rows.items) text given
+  given_in_order text (Err fault) given = tt

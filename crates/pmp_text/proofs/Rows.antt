@@ -1,0 +1,50 @@
+-- Reading row by row gives what all rows mean.
+use Rattle.std.proofs.Common.{◌≡◌, ℕ, ◌+◌, ◌<◌, ◌≤◌, Bool, true, false, cond, List, [], ◌∷◌, ◌++◌, length, Option, Some, None, Result, Ok, Err, refl, sym, ap, ◌∙◌, append_assoc}
+use Rattle.std.specs.Prelude.{filter_map}
+use Rattle.std.proofs.lemmas.Bool.{cond-true, cond-false, lt-ltb, le-ltb}
+use Rattle.std.proofs.lemmas.List.{append-nil}
+use Rattle.pmp_text.specs.declared.row_fields.RowFields.{RowFields}
+use Rattle.pmp_text.specs.declared.trace.TraceKind.{TraceKind}
+use Rattle.pmp_text.specs.declared.trace.TraceKind.TheVariants.{BadHeader, TooLong}
+use Rattle.pmp_text.specs.declared.trace.TraceFault.{TraceFault}
+use Rattle.pmp_text.specs.Traces.{at_row, first_row_fault, is_header, records_meaning, row_fault, row_said, rows_judged, rows_meaning, trace_meaning, trace_records}
+
+-- what is meant where so many rows were read, which say this, the last one `last`, and these records are left
+abbrev pub resumed : (publications : ℕ) → (last : Option ℕ) → (count : ℕ) → List RowFields → List (List (List ℕ)) → Result (List RowFields) TraceFault
+resumed publications last count rows left = rows_judged (first_row_fault publications last (count + 1) left) (rows ++ filter_map row_said left)
+
+module _ (publications : ℕ) (last : Option ℕ) (count : ℕ) (rows : List RowFields) where
+  pub no_row_left : resumed publications last count rows [] ≡ Ok rows
+  no_row_left = ap (λ (r : List RowFields). Ok r) (append-nil rows)
+
+  module _ (next : List (List ℕ)) (more : List (List (List ℕ))) where
+    pub faulty_row : (kind : TraceKind) → row_fault publications last (row_said next) ≡ Some kind → resumed publications last count rows (next ∷ more) ≡ Err (at_row (count + 1) kind)
+    faulty_row kind e = rw e refl
+
+    pub one_row_more : (row : RowFields) → row_said next ≡ Some row → row_fault publications last (row_said next) ≡ None → resumed publications last count rows (next ∷ more) ≡ resumed publications (Some row.after) (count + 1) (rows ++ row ∷ []) more
+    one_row_more row says fine = rw (fine, says) (ap (rows_judged (first_row_fault publications (Some row.after) (count + 1 + 1) more)) (sym (append_assoc rows (row ∷ []) (filter_map row_said more))))
+
+-- ---- from the header on
+
+module _ (publications : ℕ) (text : List ℕ) where
+  pub too_long : 16777216 < length text → trace_meaning publications text ≡ Err (at_row 0 TooLong)
+  unfolding trace_meaning
+  too_long long = cond-true _ _ _ (lt-ltb 16777216 (length text) long)
+
+  module _ (short : length text ≤ 16777216) where
+    by_records : trace_meaning publications text ≡ records_meaning publications (trace_records text)
+    unfolding trace_meaning
+    by_records = cond-false _ _ _ (le-ltb 16777216 (length text) short)
+
+    pub no_record : trace_records text ≡ [] → trace_meaning publications text ≡ Err (at_row 0 BadHeader)
+    no_record records = by_records ∙ ap (records_meaning publications) records
+
+    module _ (header : List (List ℕ)) (rows : List (List (List ℕ))) (records : trace_records text ≡ header ∷ rows) where
+      abbrev with_header : Bool → Result (List RowFields) TraceFault
+      with_header is = cond is (rows_meaning publications rows) (Err (at_row 0 BadHeader))
+
+      pub other_header : is_header header ≡ false → trace_meaning publications text ≡ Err (at_row 0 BadHeader)
+      other_header e = by_records ∙ ap (records_meaning publications) records ∙ ap with_header e
+
+      pub this_header : is_header header ≡ true → trace_meaning publications text ≡ rows_meaning publications rows
+      this_header e = by_records ∙ ap (records_meaning publications) records ∙ ap with_header e
