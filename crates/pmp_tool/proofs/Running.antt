@@ -9,18 +9,18 @@ use Rattle.pmp_core.specs.declared.access.Kind.{Kind}
 use Rattle.pmp_core.specs.declared.access.AccessFault.{AccessFault}
 use Rattle.pmp_core.specs.declared.access.AccessFault.TheVariants as access
 use Rattle.pmp_core.specs.Accesses.{access_fault}
-use Rattle.pmp_tool.specs.declared.fault.AuditFault.{AuditFault}
-use Rattle.pmp_tool.specs.declared.fault.AuditFault.TheVariants as audit
+use Rattle.pmp_audit.specs.declared.fault.AuditFault.{AuditFault}
+use Rattle.pmp_audit.specs.declared.fault.AuditFault.TheVariants as audit
 use Rattle.pmp_text.specs.declared.input.InputFault.{InputFault}
 use Rattle.pmp_text.specs.declared.input.InputFault.TheVariants as input
 use Rattle.pmp_tool.specs.declared.refusal.Refusal.{Refusal}
 use Rattle.pmp_tool.specs.declared.refusal.Refusal.TheVariants as why
 use Rattle.pmp_text.specs.declared.script.ScriptFault.{ScriptFault}
 use Rattle.pmp_text.specs.Scripts.{script_meaning}
-use Rattle.pmp_tool.specs.Checks.{IsUnchecked}
-use Rattle.pmp_tool.specs.Dumping.{AsksTooMuch, IsUndumped}
+use Rattle.pmp_audit.specs.Checks.{IsUnchecked}
+use Rattle.pmp_audit.specs.Dumping.{AsksTooMuch, IsUndumped}
 use Rattle.pmp_tool.specs.Refusals.{status_of, refusal_of_input, refusal_of_access}
-use Rattle.pmp_tool.specs.Runs.{AsksFor, IsFaulty, failure_status, unaudited}
+use Rattle.pmp_tool.specs.Runs.{AsksFor, AsksToCheck, IsFaulty, failure_status, unaudited}
 use Rattle.pmp_tool.specs.declared.run.Request.{Request}
 use Rattle.pmp_tool.specs.declared.run.Request.TheVariants.{Check, Dump}
 use Rattle.pmp_tool.specs.Words.{IsAccessOf, mode_named, kind_named, fault_of_words, words_fault}
@@ -123,9 +123,8 @@ no_access mode kind start length refusal fault access named =
 
 -- six words of which the last four have a fault ask for no access
 pub asks_for_none : (words : List (List ℕ)) (command script mode kind start length : List ℕ) (refusal : Refusal) → words ≡ command ∷ script ∷ mode ∷ kind ∷ start ∷ length ∷ [] → words_fault mode kind start length ≡ Some refusal
-    → (path : List ℕ) (request : Request) → AsksFor words path request → ⊥
-asks_for_none words command script mode kind start length refusal words_are fault path Dump asked = let both = sym asked ∙ words_are in absurd cc
-asks_for_none words command script mode kind start length refusal words_are fault path (Check access) asked =
+    → (path : List ℕ) (access : Access) → AsksToCheck words path access → ⊥
+asks_for_none words command script mode kind start length refusal words_are fault path access asked =
     let both = sym asked.words_are ∙ words_are in
     let same_mode : asked.mode ≡ mode = cc in
     let same_kind : asked.kind ≡ kind = cc in

@@ -7,12 +7,12 @@ use Rattle.pmp_tool.specs.declared.run.Outcome.{Outcome}
 use Rattle.pmp_tool.specs.declared.run.Outcome.TheVariants.{Decided, Dumped}
 use Rattle.pmp_tool.specs.declared.run.Failure.{Failure}
 use Rattle.pmp_tool.specs.declared.run.Failure.TheVariants.{Usage, Refused}
-use Rattle.pmp_tool.specs.declared.fault.AuditFault.{AuditFault}
-use Rattle.pmp_tool.specs.declared.fault.AuditFault.TheVariants as audit
+use Rattle.pmp_audit.specs.declared.fault.AuditFault.{AuditFault}
+use Rattle.pmp_audit.specs.declared.fault.AuditFault.TheVariants as audit
 use Rattle.pmp_tool.specs.declared.refusal.Refusal.{Refusal}
 use Rattle.pmp_tool.specs.declared.refusal.Refusal.TheVariants.{BadAfter, Memory, Output}
-use Rattle.pmp_tool.specs.Checks.{IsChecked}
-use Rattle.pmp_tool.specs.Dumping.{IsDumped}
+use Rattle.pmp_audit.specs.Checks.{IsChecked}
+use Rattle.pmp_audit.specs.Dumping.{IsDumped}
 use Rattle.pmp_tool.specs.Refusals.{status_of, refusal_of_script}
 use Rattle.pmp_text.specs.Scripts.{script_meaning}
 use Rattle.pmp_tool.specs.Words.{IsAccessOf}

@@ -1,12 +1,8 @@
 //! The command `pmp`, which decides accesses to physical memory as the PMP unit of one RV64 hart does.
 #![tactic(auto)]
 
-mod check;
-mod dump;
-mod fault;
 mod inputs;
 mod refusal;
-mod replay;
 mod run;
 
 use inputs::SystemInputs;

@@ -1,18 +1,17 @@
 //! The program: from words to an exit status.
 
-ghost use Rattle.std.specs.Prelude.{◌≡◌, ℕ, ◌≤◌, List, map, None, Some, MatchResult, IfOk, IfErr, length, string_bytes};
+ghost use Rattle.std.specs.Prelude.{◌≡◌, ℕ, ◌≤◌, List, map, None, Some, MatchResult, IfOk, IfErr, string_bytes};
 ghost use Rattle.std.specs.Io.KnownBytes.{Keeps};
+ghost use Rattle.pmp_core.specs.declared.access.Access.{Access};
 ghost use Rattle.pmp_tool.specs.Refusals.{refusal_of_input};
-ghost use Rattle.pmp_tool.specs.Runs.{AsksFor, IsAnswered, IsFaulty, failure_status, outcome_status, refused, unaudited};
+ghost use Rattle.pmp_tool.specs.Runs.{AsksFor, AsksToCheck, IsAnswered, IsFaulty, failure_status, outcome_status, refused, unaudited};
 ghost use Rattle.pmp_tool.specs.declared.run.Outcome.{Outcome};
 ghost use Rattle.pmp_tool.specs.declared.run.Request.{Request};
 ghost use Rattle.pmp_tool.specs.Words.{mode_named, kind_named, IsAccessOf, words_fault};
 
-use crate::check::check;
-use crate::dump::dump;
-use crate::fault::AuditFault;
 use crate::inputs::Inputs;
 use crate::refusal::{FaultLine, Refusal};
+use pmp_audit::{AuditFault, check, dump};
 use pmp_core::{Access, Decision, Kind, Mode};
 use pmp_text::{InputFault, read_word_number};
 use std::alloc::Global;
@@ -191,10 +190,9 @@ fn read_command(words: &[String]) -> Result<Command<'_>, Failure>
 
 /// `check SCRIPT MODE KIND START LENGTH`.
 fn read_check(words: &[String]) -> Result<Command<'_>, Failure>
-    requires { (length words.now ≡ 2) → ⊥ }
     ensures ok { IfOk result (λ command. AsksFor (map string_bytes words.now) command.script.now command.request) }
     ensures err { IfErr result (λ failure. (failure_status failure ≡ 2)
-        × ((path : List ℕ) (request : Request) → AsksFor (map string_bytes words.now) path request → ⊥)) }
+        × ((path : List ℕ) (access : Access) → AsksToCheck (map string_bytes words.now) path access → ⊥)) }
 {
     let [command, script, mode, kind, start, length] = words else {
         return Err(Failure::Usage);

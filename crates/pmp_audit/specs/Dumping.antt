@@ -2,12 +2,12 @@
 use Rattle.std.specs.Prelude.{◌≡◌, ℕ, ◌<◌, ◌≤◌, List, length, take, Option, Ok, Err, unwrap_or}
 use Rattle.std.specs.Io.KnownBytes.{Appends, Keeps}
 use Rattle.pmp_core.specs.declared.event.Event.{Event}
-use Rattle.pmp_tool.specs.declared.fault.AuditFault.{AuditFault}
-use Rattle.pmp_tool.specs.declared.fault.AuditFault.TheVariants.{Script, BadAfter, Memory, Output}
+use Rattle.pmp_audit.specs.declared.fault.AuditFault.{AuditFault}
+use Rattle.pmp_audit.specs.declared.fault.AuditFault.TheVariants.{Script, BadAfter, Memory, Output}
 use Rattle.pmp_text.specs.Bytes.{AppendsBeginning}
 use Rattle.pmp_text.specs.Dumps.{dump_text}
 use Rattle.pmp_text.specs.Scripts.{script_meaning}
-use Rattle.pmp_tool.specs.Replays.{file_after}
+use Rattle.pmp_audit.specs.Replays.{file_after}
 
 -- how many publications are taken: all of them where no number is given
 abbrev pub taken : Option ℕ → List (List Event) → ℕ

@@ -1,21 +1,26 @@
 //! Why a script gets no answer.
 
 ghost use Rattle.std.specs.Prelude.{◌≡◌};
-ghost use Rattle.pmp_tool.specs.Answers.{fault_answered};
-ghost use Rattle.pmp_tool.specs.declared.fault.AuditFault.TheVariants.{Memory, Output};
+ghost use Rattle.pmp_audit.specs.Answers.{fault_answered};
+ghost use Rattle.pmp_audit.specs.declared.fault.AuditFault.TheVariants.{Memory, Output};
 
 use pmp_text::{NoMemory, OutputFault, ScriptFault, ScriptKind};
+use thiserror::Error;
 
 /// Why a script gets no answer.
-#[derive(Clone, Copy, Debug, PartialEq, Eq)]
+#[derive(Clone, Copy, Debug, PartialEq, Eq, Error)]
 pub enum AuditFault {
     /// The script's own fault, which isn't `Memory`.
+    #[error("the script has a fault")]
     Script(ScriptFault),
     /// The script has fewer publications than were asked for.
+    #[error("the script has fewer publications than were asked for")]
     BadAfter,
     /// No memory.
+    #[error("out of memory")]
     Memory,
     /// The output can't be written.
+    #[error("the output can't be written")]
     Output,
 }
 

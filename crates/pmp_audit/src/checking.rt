@@ -1,7 +1,7 @@
 //! One access, decided after all publications of a script.
 
 ghost use Rattle.std.specs.Prelude.{IfOk, IfErr};
-ghost use Rattle.pmp_tool.specs.Checks.{IsChecked, IsUnchecked};
+ghost use Rattle.pmp_audit.specs.Checks.{IsChecked, IsUnchecked};
 
 use crate::fault::AuditFault;
 use crate::replay::file_after;

@@ -2,8 +2,8 @@
 use Rattle.pmp_text.specs.declared.script.ScriptFault.{ScriptFault}
 use Rattle.pmp_text.specs.declared.script.ScriptKind.{ScriptKind}
 use Rattle.pmp_text.specs.declared.script.ScriptKind.TheVariants as kind
-use Rattle.pmp_tool.specs.declared.fault.AuditFault.{AuditFault}
-use Rattle.pmp_tool.specs.declared.fault.AuditFault.TheVariants.{Script, Memory}
+use Rattle.pmp_audit.specs.declared.fault.AuditFault.{AuditFault}
+use Rattle.pmp_audit.specs.declared.fault.AuditFault.TheVariants.{Script, Memory}
 
 -- want of memory is the same in every layer
 abbrev pub answered_as : ScriptKind → ScriptFault → AuditFault

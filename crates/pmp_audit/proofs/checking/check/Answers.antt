@@ -2,10 +2,10 @@ use Rattle.std.proofs.Common.{◌≡◌, take, List, [], ◌++◌, ℕ, ap, ◌�
 use Rattle.std.proofs.Math.Seq.{take-length}
 use Rattle.std.proofs.lemmas.Result.{err_from_is_err_and}
 use Rattle.pmp_core.specs.Ranges.{decision_of}
-use Rattle.pmp_tool.specs.Replays.{file_after}
+use Rattle.pmp_audit.specs.Replays.{file_after}
 use Rattle.pmp_text.specs.Reports.{report_row}
-use Rattle.pmp_tool.specs.Checks.{row_after}
-use Rattle.pmp_tool.proofs.check.check.Goals as goal
+use Rattle.pmp_audit.specs.Checks.{row_after}
+use Rattle.pmp_audit.proofs.checking.check.Goals as goal
 
 -- what was appended to an empty vector is all that it holds
 only_row : (held items old row : List ℕ) → held ≡ items → items ≡ old ++ row → old ≡ [] → held ≡ row

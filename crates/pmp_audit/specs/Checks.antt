@@ -6,10 +6,10 @@ use Rattle.pmp_core.specs.declared.decision.Decision.{Decision}
 use Rattle.pmp_core.specs.declared.event.Event.{Event}
 use Rattle.pmp_core.specs.Deciding.{IsDecision}
 use Rattle.pmp_core.specs.Ranges.{decision_of}
-use Rattle.pmp_tool.specs.declared.fault.AuditFault.{AuditFault}
-use Rattle.pmp_tool.specs.declared.fault.AuditFault.TheVariants.{Script, BadAfter, Memory, Output}
+use Rattle.pmp_audit.specs.declared.fault.AuditFault.{AuditFault}
+use Rattle.pmp_audit.specs.declared.fault.AuditFault.TheVariants.{Script, BadAfter, Memory, Output}
 use Rattle.pmp_text.specs.Bytes.{AppendsBeginning}
-use Rattle.pmp_tool.specs.Replays.{file_after}
+use Rattle.pmp_audit.specs.Replays.{file_after}
 use Rattle.pmp_text.specs.Reports.{report_row}
 use Rattle.pmp_text.specs.Scripts.{script_meaning}
 

@@ -5,7 +5,7 @@ use Rattle.std.proofs.lemmas.List.Sums.{fold-append}
 use Rattle.pmp_core.specs.declared.event.Event.{Event}
 use Rattle.pmp_core.specs.Registers.{reset_file}
 use Rattle.pmp_core.specs.Writing.{step, replay}
-use Rattle.pmp_tool.specs.Replays.{joined, file_after}
+use Rattle.pmp_audit.specs.Replays.{joined, file_after}
 
 pub replayed_more : (batches : List (List Event)) (i : ℕ) → i < length batches → file_after (take (i + 1) batches) ≡ fold step (file_after (take i batches)) (slice_index_or batches i [])
 replayed_more batches i inside =

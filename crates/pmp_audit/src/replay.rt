@@ -1,7 +1,7 @@
 //! The register file that publications give.
 
 ghost use Rattle.std.specs.Prelude.{◌≡◌, ◌≤◌, length, take};
-ghost use Rattle.pmp_tool.specs.Replays.{file_after};
+ghost use Rattle.pmp_audit.specs.Replays.{file_after};
 
 use pmp_core::RegFile;
 use pmp_text::Script;

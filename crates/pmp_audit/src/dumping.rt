@@ -1,7 +1,7 @@
 //! The registers after publications of a script.
 
 ghost use Rattle.std.specs.Prelude.{OnOk, IfErr};
-ghost use Rattle.pmp_tool.specs.Dumping.{IsDumped, IsUndumped};
+ghost use Rattle.pmp_audit.specs.Dumping.{IsDumped, IsUndumped};
 
 use crate::fault::AuditFault;
 use crate::replay::file_after;

@@ -1,0 +1,4 @@
+pub mod Answers
+pub mod Checks
+pub mod Dumping
+pub mod Replays
