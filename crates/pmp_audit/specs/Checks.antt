@@ -7,7 +7,7 @@ use Rattle.pmp_core.specs.declared.event.Event.{Event}
 use Rattle.pmp_core.specs.Deciding.{IsDecision}
 use Rattle.pmp_core.specs.Ranges.{decision_of}
 use Rattle.pmp_audit.specs.declared.fault.AuditFault.{AuditFault}
-use Rattle.pmp_audit.specs.declared.fault.AuditFault.TheVariants.{Script, BadAfter, Memory, Output}
+use Rattle.pmp_audit.specs.declared.fault.AuditFault.TheVariants.{Script, Trace, BadAfter, Memory, Output}
 use Rattle.pmp_text.specs.Bytes.{AppendsBeginning}
 use Rattle.pmp_audit.specs.Replays.{file_after}
 use Rattle.pmp_text.specs.Reports.{report_row}
@@ -34,6 +34,7 @@ pub record IsCutShort (text : List ℕ) (access : Access) (before after : Option
 -- the script's own fault; or memory ran out, or the output failed
 abbrev pub IsUnchecked : List ℕ → Access → (before after : Option (List ℕ)) → AuditFault → Type 0
 IsUnchecked text access before after (Script fault) = (script_meaning text ≡ Err fault) × Keeps before after
+IsUnchecked text access before after (Trace fault) = ⊥
 IsUnchecked text access before after BadAfter = ⊥
 IsUnchecked text access before after Memory = Keeps before after
 IsUnchecked text access before after Output = IsCutShort text access before after

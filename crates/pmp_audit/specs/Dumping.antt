@@ -3,7 +3,7 @@ use Rattle.std.specs.Prelude.{◌≡◌, ℕ, ◌<◌, ◌≤◌, List, length, 
 use Rattle.std.specs.Io.KnownBytes.{Appends, Keeps}
 use Rattle.pmp_core.specs.declared.event.Event.{Event}
 use Rattle.pmp_audit.specs.declared.fault.AuditFault.{AuditFault}
-use Rattle.pmp_audit.specs.declared.fault.AuditFault.TheVariants.{Script, BadAfter, Memory, Output}
+use Rattle.pmp_audit.specs.declared.fault.AuditFault.TheVariants.{Script, Trace, BadAfter, Memory, Output}
 use Rattle.pmp_text.specs.Bytes.{AppendsBeginning}
 use Rattle.pmp_text.specs.Dumps.{dump_text}
 use Rattle.pmp_text.specs.Scripts.{script_meaning}
@@ -39,6 +39,7 @@ pub record IsCutShort (text : List ℕ) (after : Option ℕ) (before written : O
 -- the script's own fault, or too much was asked for; or memory ran out, or the output failed
 abbrev pub IsUndumped : List ℕ → Option ℕ → (before written : Option (List ℕ)) → AuditFault → Type 0
 IsUndumped text after before written (Script fault) = (script_meaning text ≡ Err fault) × Keeps before written
+IsUndumped text after before written (Trace fault) = ⊥
 IsUndumped text after before written BadAfter = AsksTooMuch text after × Keeps before written
 IsUndumped text after before written Memory = Keeps before written
 IsUndumped text after before written Output = IsCutShort text after before written

@@ -1,4 +1,5 @@
 pub mod Answers
+pub mod Audits
 pub mod Checks
 pub mod Dumping
 pub mod Replays

@@ -1,18 +1,21 @@
-//! Why a script gets no answer.
+//! Why a script, or a script and a trace, get no answer.
 
 ghost use Rattle.std.specs.Prelude.{◌≡◌};
-ghost use Rattle.pmp_audit.specs.Answers.{fault_answered};
+ghost use Rattle.pmp_audit.specs.Answers.{fault_answered, trace_fault_answered};
 ghost use Rattle.pmp_audit.specs.declared.fault.AuditFault.TheVariants.{Memory, Output};
 
-use pmp_text::{NoMemory, OutputFault, ScriptFault, ScriptKind};
+use pmp_text::{NoMemory, OutputFault, ScriptFault, ScriptKind, TraceFault, TraceKind};
 use thiserror::Error;
 
-/// Why a script gets no answer.
+/// Why a script, or a script and a trace, get no answer.
 #[derive(Clone, Copy, Debug, PartialEq, Eq, Error)]
 pub enum AuditFault {
     /// The script's own fault, which isn't `Memory`.
     #[error("the script has a fault")]
     Script(ScriptFault),
+    /// The trace's own fault, or that its input failed; not `Memory`.
+    #[error("the trace has a fault")]
+    Trace(TraceFault),
     /// The script has fewer publications than were asked for.
     #[error("the script has fewer publications than were asked for")]
     BadAfter,
@@ -31,6 +34,17 @@ impl From<ScriptFault> for AuditFault {
         match fault.kind {
             ScriptKind::Memory => AuditFault::Memory,
             _ => AuditFault::Script(fault),
+        }
+    }
+}
+
+impl From<TraceFault> for AuditFault {
+    ghost from_gives = { λ fault answer. answer ≡ trace_fault_answered fault };
+
+    fn from(fault: TraceFault) -> AuditFault {
+        match fault.kind {
+            TraceKind::Memory => AuditFault::Memory,
+            _ => AuditFault::Trace(fault),
         }
     }
 }

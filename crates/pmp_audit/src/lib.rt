@@ -1,11 +1,13 @@
-//! What a script's publications come to: an access decided after them, and the registers that they leave.
+//! What a script's publications come to: accesses decided after them, and the registers that they leave.
 #![tactic(auto)]
 
+mod auditing;
 mod checking;
 mod dumping;
 mod fault;
 mod replay;
 
+pub use auditing::{Summary, audit};
 pub use checking::check;
 pub use dumping::dump;
 pub use fault::AuditFault;

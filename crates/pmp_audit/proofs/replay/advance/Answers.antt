@@ -1,7 +1,7 @@
 use Rattle.std.proofs.Common.{◌≡◌, ◌<◌, length, sym, ap, ◌∙◌, fold, arith}
 use Rattle.pmp_core.specs.Writing.{step}
 use Rattle.pmp_audit.proofs.Replaying.{replayed_more}
-use Rattle.pmp_audit.proofs.replay.file_after.Goals as goal
+use Rattle.pmp_audit.proofs.replay.advance.Goals as goal
 
 pub loop-index-preserved : goal.loop-index-preserved
 loop-index-preserved c =

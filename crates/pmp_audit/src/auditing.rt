@@ -1,0 +1,79 @@
+//! The accesses of a trace, each decided after the publications that it asks for.
+
+ghost use Rattle.std.specs.Prelude.{◌≡◌, ◌+◌, ◌++◌, ◌^◌, ◌<◌, ◌≤◌, All, OnOk, IfOk, IfErr, length, map, if◌then◌else◌};
+ghost use Rattle.pmp_core.specs.Deciding.{IsDecision};
+ghost use Rattle.pmp_text.specs.TraceFaults.{IsInOrder, afters};
+ghost use Rattle.pmp_text.specs.Views.{row_fields};
+ghost use Rattle.pmp_audit.specs.Audits.{IsAudited, IsUnaudited, file_of_row, report_text, row_decision, summary_of};
+
+use crate::fault::AuditFault;
+use crate::replay::advance;
+use pmp_core::{Decision, RegFile};
+use pmp_text::{NoMemory, Row, Script, read_script, read_trace, write_out, write_row};
+use std::alloc::Global;
+use std::io::Write;
+
+/// How many accesses an audit decided, and how many of them it refused.
+#[derive(Clone, Copy, Debug, Default, PartialEq, Eq)]
+pub struct Summary {
+    pub rows: u64,
+    pub faults: u64,
+}
+
+/// Decides each row of the trace in the register file that the publications give that it asks for, and writes a report
+/// row for each, numbered from 1.
+///
+/// The script's fault comes before any of the trace. The report is whole before its first byte is written, so every
+/// refusal but `Output` leaves the output untouched. The time grows with the events and the rows, not with their
+/// product.
+pub fn audit<W: Write>(
+    alloc: Global,
+    script: &[u8],
+    trace: &[u8],
+    writer: &mut W,
+) -> Result<Summary, AuditFault>
+    ensures ok { IfOk result (IsAudited script.now trace.now (W.contents writer.old) (W.contents writer.new)) }
+    ensures err { IfErr result (IsUnaudited script.now trace.now (W.contents writer.old) (W.contents writer.new)) }
+{
+    let script = read_script(alloc, script)?;
+    let rows = read_trace(alloc, trace, script.batches())?;
+    let mut report = Vec::new(alloc);
+    let summary = write_report(&mut report, &script, &rows)?;
+    write_out(writer, &report)?;
+    Ok(summary)
+}
+
+/// Appends the report of the rows, which ask for the script's publications in order.
+fn write_report(report: &mut Vec<u8>, script: &Script, rows: &[Row]) -> Result<Summary, NoMemory>
+    requires { IsInOrder (length script.now) 0 (afters (map row_fields rows.now)) }
+    ensures report { OnOk result (report.new.items ≡ report.old.items ++ report_text script.now rows.now) }
+    ensures by_bytes { OnOk result (All (λ row. IsDecision (file_of_row script.now row) row.access (row_decision script.now row)) rows.now) }
+    ensures summary { IfOk result (λ summary. summary ≡ summary_of script.now rows.now) }
+{
+    let mut file = RegFile::reset();
+    let mut done = 0;
+    let mut summary = Summary::default();
+    for row in rows {
+        advance(&mut file, script, done, row.after);
+        done = row.after;
+        let decision = file.decide(&row.access);
+        summary.count(decision);
+        write_row(report, summary.rows, &row.access, &decision)?;
+    }
+    Ok(summary)
+}
+
+impl Summary {
+    /// One more row, which was decided so.
+    fn count(&mut self, decision: Decision)
+        requires rows { self.old.rows + 1 < 2 ^ 64 }
+        requires faults { self.old.faults ≤ self.old.rows }
+        ensures rows { self.new.rows ≡ self.old.rows + 1 }
+        ensures faults { self.new.faults ≡ self.old.faults + (if decision.allowed then 0 else 1) }
+    {
+        self.rows += 1;
+        if !decision.allowed {
+            self.faults += 1;
+        }
+    }
+}
