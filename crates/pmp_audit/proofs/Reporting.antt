@@ -71,7 +71,7 @@ module _ (batches : List (List Event)) where
         let all : length (take (i + 1) rows) ≡ i + 1 = ap length taken ∙ length-append (take i rows) (row ∷ []) ∙ ap (λ (n : ℕ). n + 1) so_many in
         let one : length (filter refused (row ∷ [])) ≡ cond decision.allowed 0 1 = one_refused decision.allowed row (ap (λ (d : Decision). d.allowed) (sym decided)) in
         let more : length (filter refused (take (i + 1) rows)) ≡ length (filter refused (take i rows)) + cond decision.allowed 0 1 =
-            ap (λ (l : List Row). length (filter refused l)) taken ∙ ap length (filter-append refused (take i rows) (row ∷ [])) ∙ length-append (filter refused (take i rows)) (filter refused (row ∷ [])) ∙ ap (λ (n : ℕ). length (filter refused (take i rows)) + n) one
+        ap (λ (l : List Row). length (filter refused l)) taken ∙ ap length (filter-append refused (take i rows) (row ∷ [])) ∙ length-append (filter refused (take i rows)) (filter refused (row ∷ [])) ∙ ap (λ (n : ℕ). length (filter refused (take i rows)) + n) one
         in
         same_summary summary (summary_of batches (take (i + 1) rows)) (count ∙ sym all) (faults ∙ sym more)
 

@@ -11,3 +11,6 @@ pub use auditing::{Summary, audit};
 pub use checking::check;
 pub use dumping::dump;
 pub use fault::AuditFault;
+
+#[cfg(test)]
+mod tests;

@@ -1,8 +1,8 @@
 -- The first fault of a trace's rows is that of the least faulty row, and rows without a fault are in order.
-use Rattle.std.proofs.Common.{◌≡◌, ℕ, zero, suc, ◌+◌, ◌<◌, ◌≤◌, Bool, true, false, cond, List, [], ◌∷◌, length, map, Global, Vec, Option, Some, None, IfOk, Result, Ok, Err, refl, sym, ap, ◌∙◌, arith}
+use Rattle.std.proofs.Common.{◌≡◌, ℕ, zero, suc, ◌+◌, ◌≤◌, Bool, true, false, cond, List, [], ◌∷◌, length, map, Global, Vec, Option, Some, None, IfOk, Result, Ok, Err, refl, ap, ◌∙◌, arith}
 use Rattle.std.specs.Prelude.{filter_map, nat_lt, option_map, option_and_then, slice_get, unwrap_or}
 use Rattle.std.specs.Option.{option_or}
-use Rattle.std.proofs.lemmas.Bool.{ltb-false, lt-ltb}
+use Rattle.std.proofs.lemmas.Bool.{ltb-false}
 use Rattle.pmp_core.specs.Accesses.{access_fault}
 use Rattle.pmp_text.specs.declared.row_fields.RowFields.{RowFields}
 use Rattle.pmp_text.specs.declared.trace.TraceKind.{TraceKind}

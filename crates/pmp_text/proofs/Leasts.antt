@@ -1,5 +1,5 @@
 -- The first fault is that of the least faulty line.
-use Rattle.std.proofs.Common.{◌≡◌, ℕ, suc, ◌≤◌, List, [], ◌∷◌, ◌++◌, length, reverse, take, Option, Some, None, Err, refl, sym, ap, ◌∙◌, append_assoc}
+use Rattle.std.proofs.Common.{◌≡◌, ℕ, suc, ◌≤◌, List, [], ◌∷◌, ◌++◌, length, reverse, take, Option, Some, Err, refl, sym, ap, ◌∙◌, append_assoc}
 use Rattle.std.specs.Prelude.{option_map, option_and_then, slice_get}
 use Rattle.std.proofs.lemmas.List.{append-nil, reverse-append}
 use Rattle.pmp_text.specs.declared.script.ScriptFault.{ScriptFault}

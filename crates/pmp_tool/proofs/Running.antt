@@ -1,152 +1,168 @@
--- What the words ask for is one thing, and when the script that they name has a fault.
-use Rattle.std.proofs.Common.{◌≡◌, refl, ℕ, ◌<◌, ◌≤◌, List, [], ◌∷◌, length, get_or, Option, Some, None, option_map, Err, IsErr, IfSome, sym, ◌∙◌, arith}
+-- When an input that the words name has a fault.
+use Rattle.std.proofs.Common.{◌≡◌, ◌⊎◌, refl, ℕ, ◌<◌, List, length, Option, Some, None, Result, Ok, Err, inl, inr, sym, ◌∙◌, arith}
+use Rattle.std.specs.Prelude.{IsErr, IfSome}
 use Rattle.std.specs.Io.KnownBytes.{Keeps}
-use Rattle.std.proofs.lemmas.Bool.Decides.{nat_tests}
 use Rattle.std.proofs.lemmas.Bool.{lt-ltb}
 use Rattle.pmp_core.specs.declared.access.Access.{Access}
-use Rattle.pmp_core.specs.declared.access.Mode.{Mode}
-use Rattle.pmp_core.specs.declared.access.Kind.{Kind}
-use Rattle.pmp_core.specs.declared.access.AccessFault.{AccessFault}
-use Rattle.pmp_core.specs.declared.access.AccessFault.TheVariants as access
-use Rattle.pmp_core.specs.Accesses.{access_fault}
-use Rattle.pmp_audit.specs.declared.fault.AuditFault.{AuditFault}
-use Rattle.pmp_audit.specs.declared.fault.AuditFault.TheVariants as audit
+use Rattle.pmp_core.specs.declared.event.Event.{Event}
 use Rattle.pmp_text.specs.declared.input.InputFault.{InputFault}
 use Rattle.pmp_text.specs.declared.input.InputFault.TheVariants as input
-use Rattle.pmp_tool.specs.declared.refusal.Refusal.{Refusal}
-use Rattle.pmp_tool.specs.declared.refusal.Refusal.TheVariants as why
 use Rattle.pmp_text.specs.declared.script.ScriptFault.{ScriptFault}
+use Rattle.pmp_text.specs.declared.trace.TraceFault.{TraceFault}
+use Rattle.pmp_text.specs.Outcomes.{no_input_for_rows}
 use Rattle.pmp_text.specs.Scripts.{script_meaning}
+use Rattle.pmp_text.specs.Traces.{trace_meaning}
+use Rattle.pmp_audit.specs.declared.fault.AuditFault.{AuditFault}
+use Rattle.pmp_audit.specs.declared.fault.AuditFault.TheVariants as audit
+use Rattle.pmp_audit.specs.Audits.{IsFaultyTrace, IsUnaudited}
 use Rattle.pmp_audit.specs.Checks.{IsUnchecked}
 use Rattle.pmp_audit.specs.Dumping.{AsksTooMuch, IsUndumped}
-use Rattle.pmp_tool.specs.Refusals.{status_of, refusal_of_input, refusal_of_access}
-use Rattle.pmp_tool.specs.Runs.{AsksFor, AsksToCheck, IsFaulty, failure_status, unaudited}
-use Rattle.pmp_tool.specs.declared.run.Request.{Request}
-use Rattle.pmp_tool.specs.declared.run.Request.TheVariants.{Check, Dump}
-use Rattle.pmp_tool.specs.Words.{IsAccessOf, mode_named, kind_named, fault_of_words, words_fault}
-use Rattle.pmp_text.specs.Numbers.{word_number}
+use Rattle.pmp_tool.specs.declared.command.Request.{Request}
+use Rattle.pmp_tool.specs.declared.command.Request.TheVariants.{Check, Audit, Dump}
+use Rattle.pmp_tool.specs.Commands.{AsksFor}
+use Rattle.pmp_tool.specs.Failures.{failure_status, unaudited}
+use Rattle.pmp_tool.specs.Refusals.{status_of, refusal_of_input}
+use Rattle.pmp_tool.specs.Runs.{Inputs, IsFaulty, IsFaultyBeside, IsFaultyInput}
 
 -- nobody asks for more than all of them
 all_are_within : (text : List ℕ) → AsksTooMuch text None → ⊥
 all_are_within text asked = let beyond : length asked.batches < length asked.batches = asked.beyond in absurd (omega arith)
 
--- words ask for one script
-same_path : (words : List (List ℕ)) (path other : List ℕ) (request another : Request) → AsksFor words path request → AsksFor words other another → path ≡ other
-same_path words path other (Check access) (Check more) asked asks = let both = sym asked.words_are ∙ asks.words_are in cc
-same_path words path other (Check access) Dump asked asks = let both = sym asked.words_are ∙ asks in absurd cc
-same_path words path other Dump (Check access) asked asks = let both = sym asked ∙ asks.words_are in absurd cc
-same_path words path other Dump Dump asked asks = let both = sym asked ∙ asks in cc
+-- words ask for one thing
+same_input : (words : List (List ℕ)) (traces : Inputs) (path other : List ℕ) (request another : Request) → AsksFor words path request → AsksFor words other another
+    → (path ≡ other) × ((known : List ℕ) → IsFaultyInput traces request known → IsFaultyInput traces another known)
+same_input words traces path other (Check access) (Check more) asked asks = let both = sym asked.words_are ∙ asks.words_are in (cc, λ known fault. fault)
+same_input words traces path other (Check access) (Audit trace) asked asks = let both = sym asked.words_are ∙ asks in absurd cc
+same_input words traces path other (Check access) Dump asked asks = let both = sym asked.words_are ∙ asks in absurd cc
+same_input words traces path other (Audit trace) (Check access) asked asks = let both = sym asked ∙ asks.words_are in absurd cc
+same_input words traces path other (Audit trace) (Audit more) asked asks =
+    let both = sym asked ∙ asks in
+    let same : trace.now ≡ more.now = cc in
+    (cc, λ known fault. rw (← same) fault)
+same_input words traces path other (Audit trace) Dump asked asks = let both = sym asked ∙ asks in absurd cc
+same_input words traces path other Dump (Check access) asked asks = let both = sym asked ∙ asks.words_are in absurd cc
+same_input words traces path other Dump (Audit trace) asked asks = let both = sym asked ∙ asks in absurd cc
+same_input words traces path other Dump Dump asked asks = let both = sym asked ∙ asks in (cc, λ known fault. fault)
 
-module _ (words : List (List ℕ)) (path : List ℕ) (request : Request) (asked : AsksFor words path request) where
+if_known : (known : Option (List ℕ)) (P Q : List ℕ → Type 0) → ((bytes : List ℕ) → P bytes → Q bytes) → IfSome known P → IfSome known Q
+if_known None P Q more p = tt
+if_known (Some bytes) P Q more p = more bytes p
+
+too_long_script : (bytes : List ℕ) → 1048576 < length bytes → IsErr (script_meaning bytes)
+unfolding script_meaning
+too_long_script bytes long = rw (lt-ltb 1048576 (length bytes) long) refl
+
+too_long_trace : (publications : ℕ) (bytes : List ℕ) → 16777216 < length bytes → IsErr (trace_meaning publications bytes)
+unfolding trace_meaning
+too_long_trace publications bytes long = rw (lt-ltb 16777216 (length bytes) long) refl
+
+long_beside : (script : Result (List (List Event)) ScriptFault) (bytes : List ℕ) → 16777216 < length bytes → IsFaultyBeside script bytes
+long_beside (Err fault) bytes long = tt
+long_beside (Ok batches) bytes long = too_long_trace (length batches) bytes long
+
+faulty_script : (text : List ℕ) (fault : ScriptFault) → script_meaning text ≡ Err fault → IsErr (script_meaning text)
+faulty_script text fault meant = rw meant refl
+
+faulty_beside : (text trace : List ℕ) (fault : ScriptFault) → script_meaning text ≡ Err fault → IsFaultyBeside (script_meaning text) trace
+faulty_beside text trace fault meant = rw meant tt
+
+-- a failed input has another status
+input_status : (fault : TraceFault) → fault ≡ no_input_for_rows → failure_status (unaudited (audit.Trace fault)) ≡ 3
+input_status fault input = rw input refl
+
+faulty_trace : (text trace : List ℕ) (fault : TraceFault) → IsFaultyTrace text trace fault → failure_status (unaudited (audit.Trace fault)) ≡ 2 → IsFaultyBeside (script_meaning text) trace
+faulty_trace text trace fault faulty two = rw faulty.script_means (by faulty.trace_means)
+  where
+    by : (trace_meaning (length faulty.batches) trace ≡ Err fault) ⊎ (fault ≡ no_input_for_rows) → IsErr (trace_meaning (length faulty.batches) trace)
+    by (inl meant) = rw meant refl
+    by (inr input) = let both : 3 ≡ 2 = sym (input_status fault input) ∙ two in absurd cc
+
+always : (known : Option (List ℕ)) {P : List ℕ → Type 0} → ((bytes : List ℕ) → P bytes) → IfSome known P
+always None each = tt
+always (Some bytes) each = each bytes
+
+-- a script that is at fault by itself is at fault whatever is asked for
+script_at_fault : (traces : Inputs) (request : Request) (text : List ℕ) → (fault : ScriptFault) → script_meaning text ≡ Err fault → IsFaultyInput traces request text
+script_at_fault traces (Check access) text fault meant = faulty_script text fault meant
+script_at_fault traces (Audit trace) text fault meant = any (traces trace.now)
+  where
+    any : (known : Option (List ℕ)) → IfSome known (λ bytes. IsFaultyBeside (script_meaning text) bytes)
+    any None = tt
+    any (Some bytes) = faulty_beside text bytes fault meant
+script_at_fault traces Dump text fault meant = faulty_script text fault meant
+
+script_too_long : (traces : Inputs) (request : Request) (text : List ℕ) → 1048576 < length text → IsFaultyInput traces request text
+script_too_long traces request text long = by (script_meaning text) refl (too_long_script text long)
+  where
+    by : (meaning : Result (List (List Event)) ScriptFault) → script_meaning text ≡ meaning → IsErr meaning → IsFaultyInput traces request text
+    by (Ok batches) meant e = absurd cc
+    by (Err fault) meant e = script_at_fault traces request text fault meant
+
+module _ (words : List (List ℕ)) (scripts traces : Inputs) (path : List ℕ) (request : Request) (asked : AsksFor words path request) where
   -- a fact of what is held at the path that was read is one of every path that the words ask for
-  elsewhere : (held : List ℕ → Option (List ℕ)) → IfSome (held path) (λ known. IsErr (script_meaning known)) → IsFaulty words held
-  elsewhere held here other another asks = rw (← same_path words path other request another asked asks) here
+  elsewhere : IfSome (scripts path) (IsFaultyInput traces request) → IsFaulty words scripts traces
+  elsewhere here other another asks =
+      let (same, faulty) = same_input words traces path other request another asked asks in
+      rw (← same) (if_known (scripts path) (IsFaultyInput traces request) (IsFaultyInput traces another) faulty here)
 
-  known_fault : (known : Option (List ℕ)) (text : List ℕ) (fault : ScriptFault) → IfSome known (λ bytes. text ≡ bytes) → script_meaning text ≡ Err fault → IfSome known (λ bytes. IsErr (script_meaning bytes))
-  known_fault None text fault same meant = tt
-  known_fault (Some bytes) text fault same meant = rw (← same, meant) refl
+  -- a fault of the text that was read
+  read_at_fault : (text : List ℕ) → IfSome (scripts path) (λ bytes. text ≡ bytes) → IsFaultyInput traces request text → IsFaulty words scripts traces
+  read_at_fault text same faulty = elsewhere (if_known (scripts path) (λ bytes. text ≡ bytes) (IsFaultyInput traces request) (λ bytes is. rw (← is) faulty) same)
 
-  known_length : (known : Option (List ℕ)) → IfSome known (λ bytes. 1048576 < length bytes) → IfSome known (λ bytes. IsErr (script_meaning bytes))
-  unfolding script_meaning
-  known_length None long = tt
-  known_length (Some bytes) long = rw (lt-ltb 1048576 (length bytes) long) refl
+  -- the script's input failed, and the status says that the words or the inputs are at fault
+  pub unread_script : (fault : InputFault) → (fault ≡ input.TooLong → IfSome (scripts path) (λ bytes. 1048576 < length bytes)) → status_of (refusal_of_input fault) ≡ 2 → IsFaulty words scripts traces
+  unread_script input.TooLong long two = elsewhere (if_known (scripts path) (λ bytes. 1048576 < length bytes) (IsFaultyInput traces request) (script_too_long traces request) (long refl))
+  unread_script input.Input long two = absurd cc
+  unread_script input.Memory long two = absurd cc
 
-  faulty_script : (held : List ℕ → Option (List ℕ)) (text : List ℕ) (fault : ScriptFault) → IfSome (held path) (λ bytes. text ≡ bytes) → script_meaning text ≡ Err fault → IsFaulty words held
-  faulty_script held text fault same meant = elsewhere held (known_fault (held path) text fault same meant)
+  module _ (text : List ℕ) (read : IfSome (scripts path) (λ bytes. text ≡ bytes)) (before after : Option (List ℕ)) where
+    -- the check failed, with that status
+    pub unchecked_script : (access : Access) (fault : AuditFault) → IsUnchecked text access before after fault → failure_status (unaudited fault) ≡ 2 → IsFaulty words scripts traces
+    unchecked_script access (audit.Script fault) unchecked two = read_at_fault text read (script_at_fault traces request text fault unchecked.0)
+    unchecked_script access (audit.Trace fault) unchecked two = absurd unchecked
+    unchecked_script access audit.BadAfter unchecked two = absurd unchecked
+    unchecked_script access audit.Memory unchecked two = absurd cc
+    unchecked_script access audit.Output unchecked two = absurd cc
 
-  long_script : (held : List ℕ → Option (List ℕ)) → IfSome (held path) (λ bytes. 1048576 < length bytes) → IsFaulty words held
-  long_script held long = elsewhere held (known_length (held path) long)
+    -- the dump of all publications failed, with that status
+    pub undumped_script : (fault : AuditFault) → IsUndumped text None before after fault → failure_status (unaudited fault) ≡ 2 → IsFaulty words scripts traces
+    undumped_script (audit.Script fault) undumped two = read_at_fault text read (script_at_fault traces request text fault undumped.0)
+    undumped_script (audit.Trace fault) undumped two = absurd undumped
+    undumped_script audit.BadAfter undumped two = absurd (all_are_within text undumped.0)
+    undumped_script audit.Memory undumped two = absurd cc
+    undumped_script audit.Output undumped two = absurd cc
 
-  -- the input failed, and the status says that the words or the script are at fault
-  pub unread_script : (held : List ℕ → Option (List ℕ)) (fault : InputFault) → (fault ≡ input.TooLong → IfSome (held path) (λ bytes. 1048576 < length bytes)) → status_of (refusal_of_input fault) ≡ 2 → IsFaulty words held
-  unread_script held input.TooLong long two = long_script held (long refl)
-  unread_script held input.Input long two = absurd cc
-  unread_script held input.Memory long two = absurd cc
+  -- the trace at a path was asked for
+  module _ (trace : List ℕ) (is_audit : (text : List ℕ) → IfSome (traces trace) (λ known. IsFaultyBeside (script_meaning text) known) → IsFaultyInput traces request text) where
+    -- its input failed, with that status
+    pub unread_trace : (fault : InputFault) → (fault ≡ input.TooLong → IfSome (traces trace) (λ bytes. 16777216 < length bytes)) → status_of (refusal_of_input fault) ≡ 2 → IsFaulty words scripts traces
+    unread_trace input.TooLong long two =
+        elsewhere (always (scripts path) (λ text. is_audit text (if_known (traces trace) (λ bytes. 16777216 < length bytes) (λ known. IsFaultyBeside (script_meaning text) known) (λ bytes. long_beside (script_meaning text) bytes) (long refl))))
+    unread_trace input.Input long two = absurd cc
+    unread_trace input.Memory long two = absurd cc
 
-  -- the check failed, with that status
-  pub unchecked_script : (access : Access) (held : List ℕ → Option (List ℕ)) (text : List ℕ) (before after : Option (List ℕ)) (fault : AuditFault) → IfSome (held path) (λ bytes. text ≡ bytes) → IsUnchecked text access before after fault
-      → failure_status (unaudited fault) ≡ 2 → IsFaulty words held
-  unchecked_script access held text before after (audit.Script fault) same unchecked two = faulty_script held text fault same unchecked.0
-  unchecked_script access held text before after audit.BadAfter same unchecked two = absurd unchecked
-  unchecked_script access held text before after audit.Memory same unchecked two = absurd cc
-  unchecked_script access held text before after audit.Output same unchecked two = absurd cc
+    module _ (text : List ℕ) (read : IfSome (scripts path) (λ bytes. text ≡ bytes)) (bytes : List ℕ) (known : IfSome (traces trace) (λ known. bytes ≡ known)) (before after : Option (List ℕ)) where
+      beside : IsFaultyBeside (script_meaning text) bytes → IsFaulty words scripts traces
+      beside faulty = read_at_fault text read (is_audit text (if_known (traces trace) (λ known. bytes ≡ known) (λ known. IsFaultyBeside (script_meaning text) known) (λ known is. rw (← is) faulty) known))
 
-  -- the dump of all publications failed, with that status
-  pub undumped_script : (held : List ℕ → Option (List ℕ)) (text : List ℕ) (before after : Option (List ℕ)) (fault : AuditFault) → IfSome (held path) (λ bytes. text ≡ bytes) → IsUndumped text None before after fault
-      → failure_status (unaudited fault) ≡ 2 → IsFaulty words held
-  undumped_script held text before after (audit.Script fault) same undumped two = faulty_script held text fault same undumped.0
-  undumped_script held text before after audit.BadAfter same undumped two = absurd (all_are_within text undumped.0)
-  undumped_script held text before after audit.Memory same undumped two = absurd cc
-  undumped_script held text before after audit.Output same undumped two = absurd cc
+      -- the audit failed, with that status
+      pub unaudited_input : (fault : AuditFault) → IsUnaudited text bytes before after fault → failure_status (unaudited fault) ≡ 2 → IsFaulty words scripts traces
+      unaudited_input (audit.Script fault) failed two = beside (faulty_beside text bytes fault failed.0)
+      unaudited_input (audit.Trace fault) failed two = beside (faulty_trace text bytes fault failed.0 two)
+      unaudited_input audit.BadAfter failed two = absurd failed
+      unaudited_input audit.Memory failed two = absurd cc
+      unaudited_input audit.Output failed two = absurd cc
 
 pub unchecked_keeps : (text : List ℕ) (access : Access) (before after : Option (List ℕ)) (fault : AuditFault) → IsUnchecked text access before after fault → failure_status (unaudited fault) ≡ 2 → Keeps before after
 unchecked_keeps text access before after (audit.Script fault) unchecked two = unchecked.1
+unchecked_keeps text access before after (audit.Trace fault) unchecked two = absurd unchecked
 unchecked_keeps text access before after audit.BadAfter unchecked two = absurd unchecked
 unchecked_keeps text access before after audit.Memory unchecked two = absurd cc
 unchecked_keeps text access before after audit.Output unchecked two = absurd cc
 
 pub undumped_keeps : (text : List ℕ) (before after : Option (List ℕ)) (fault : AuditFault) → IsUndumped text None before after fault → failure_status (unaudited fault) ≡ 2 → Keeps before after
 undumped_keeps text before after (audit.Script fault) undumped two = undumped.1
+undumped_keeps text before after (audit.Trace fault) undumped two = absurd undumped
 undumped_keeps text before after audit.BadAfter undumped two = undumped.1
 undumped_keeps text before after audit.Memory undumped two = absurd cc
 undumped_keeps text before after audit.Output undumped two = absurd cc
-
--- ---- the words
-
-pub two_words : {X : Type 0} (words : List X) (a b : X) → 2 ≤ length words → length words < 3 → a ≡ get_or words 0 a → b ≡ get_or words 1 b → words ≡ a ∷ b ∷ []
-two_words (u ∷ v ∷ []) a b low high p q = cc
-two_words [] a b low high p q = absurd (omega arith)
-two_words (u ∷ []) a b low high p q = absurd (omega arith)
-two_words (u ∷ v ∷ w ∷ more) a b low high p q = absurd (omega arith)
-
-pub six_words : {X : Type 0} (words : List X) (a b c d e f : X) → 6 ≤ length words → length words < 7 → a ≡ get_or words 0 a → b ≡ get_or words 1 b → c ≡ get_or words 2 c → d ≡ get_or words 3 d → e ≡ get_or words 4 e → f ≡ get_or words 5 f
-    → words ≡ a ∷ b ∷ c ∷ d ∷ e ∷ f ∷ []
-six_words (u ∷ v ∷ w ∷ x ∷ y ∷ z ∷ []) a b c d e f low high p q r s t o = cc
-six_words [] a b c d e f low high p q r s t o = absurd (omega arith)
-six_words (u ∷ []) a b c d e f low high p q r s t o = absurd (omega arith)
-six_words (u ∷ v ∷ []) a b c d e f low high p q r s t o = absurd (omega arith)
-six_words (u ∷ v ∷ w ∷ []) a b c d e f low high p q r s t o = absurd (omega arith)
-six_words (u ∷ v ∷ w ∷ x ∷ []) a b c d e f low high p q r s t o = absurd (omega arith)
-six_words (u ∷ v ∷ w ∷ x ∷ y ∷ []) a b c d e f low high p q r s t o = absurd (omega arith)
-six_words (u ∷ v ∷ w ∷ x ∷ y ∷ z ∷ n ∷ more) a b c d e f low high p q r s t o = absurd (omega arith)
-
--- every access is lawful
-lawful : (access : Access) → access_fault access.start access.length ≡ None
-lawful access = grind (arith, nat_tests, access.not_empty, access.not_long, access.inside)
-
--- words with a fault name no access
-no_access : (mode kind start length : List ℕ) (refusal : Refusal) → words_fault mode kind start length ≡ Some refusal → (access : Access) → IsAccessOf mode kind start length access → ⊥
-no_access mode kind start length refusal fault access named =
-    let found : words_fault mode kind start length ≡ None = rw (named.mode_is, named.kind_is, named.start_is, named.length_is, lawful access) refl in
-    let both : None ≡ Some refusal = sym found ∙ fault in
-    cc
-
--- six words of which the last four have a fault ask for no access
-pub asks_for_none : (words : List (List ℕ)) (command script mode kind start length : List ℕ) (refusal : Refusal) → words ≡ command ∷ script ∷ mode ∷ kind ∷ start ∷ length ∷ [] → words_fault mode kind start length ≡ Some refusal
-    → (path : List ℕ) (access : Access) → AsksToCheck words path access → ⊥
-asks_for_none words command script mode kind start length refusal words_are fault path access asked =
-    let both = sym asked.words_are ∙ words_are in
-    let same_mode : asked.mode ≡ mode = cc in
-    let same_kind : asked.kind ≡ kind = cc in
-    let same_start : asked.start ≡ start = cc in
-    let same_length : asked.length ≡ length = cc in
-    no_access mode kind start length refusal fault access (rw (same_mode, same_kind, same_start, same_length) at asked.access_is)
-
-access_status : (refusal : Refusal) (fault : Option AccessFault) → option_map refusal_of_access fault ≡ Some refusal → status_of refusal ≡ 2
-access_status refusal None e = absurd cc
-access_status refusal (Some access.BadLength) e = let same : why.BadLength ≡ refusal = cc in rw (← same) refl
-access_status refusal (Some access.PastEnd) e = let same : why.PastEnd ≡ refusal = cc in rw (← same) refl
-
-word_status : (refusal : Refusal) → Some why.BadWord ≡ Some refusal → status_of refusal ≡ 2
-word_status refusal e = let same : why.BadWord ≡ refusal = cc in rw (← same) refl
-
-fault_status : (refusal : Refusal) (mode : Option Mode) (kind : Option Kind) (start length : Option ℕ) → fault_of_words mode kind start length ≡ Some refusal → status_of refusal ≡ 2
-fault_status refusal None kind start length e = word_status refusal e
-fault_status refusal (Some mode) None start length e = word_status refusal e
-fault_status refusal (Some mode) (Some kind) None length e = word_status refusal e
-fault_status refusal (Some mode) (Some kind) (Some start) None e = word_status refusal e
-fault_status refusal (Some mode) (Some kind) (Some start) (Some length) e = access_status refusal (access_fault start length) e
-
--- what is wrong with words is no fault of the machine
-pub words_status : (mode kind start length : List ℕ) (refusal : Refusal) → words_fault mode kind start length ≡ Some refusal → status_of refusal ≡ 2
-words_status mode kind start length refusal e = fault_status refusal (mode_named mode) (kind_named kind) (word_number start) (word_number length) e

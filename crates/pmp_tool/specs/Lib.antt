@@ -1,3 +1,5 @@
+pub mod Commands
+pub mod Failures
 pub mod Refusals
 pub mod Runs
 pub mod Words

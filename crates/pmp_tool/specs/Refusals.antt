@@ -6,8 +6,12 @@ use Rattle.pmp_text.specs.declared.input.InputFault.{InputFault}
 use Rattle.pmp_text.specs.declared.input.InputFault.TheVariants as input
 use Rattle.pmp_text.specs.declared.script.ScriptKind.{ScriptKind}
 use Rattle.pmp_text.specs.declared.script.ScriptKind.TheVariants as script
+use Rattle.pmp_text.specs.declared.trace.TraceKind.{TraceKind}
+use Rattle.pmp_text.specs.declared.trace.TraceKind.TheVariants as trace
+use Rattle.pmp_tool.specs.declared.refusal.Place.{Place}
+use Rattle.pmp_tool.specs.declared.refusal.Place.TheVariants.{ScriptLine, TraceRow}
 use Rattle.pmp_tool.specs.declared.refusal.Refusal.{Refusal}
-use Rattle.pmp_tool.specs.declared.refusal.Refusal.TheVariants.{BadLength, PastEnd, BadVersion, BadLine, BadName, OddCfg, BadNumber, BatchFull, Unpublished, TooLong, BadAfter, BadWord, Memory, Input, Output}
+use Rattle.pmp_tool.specs.declared.refusal.Refusal.TheVariants.{BadLength, PastEnd, BadVersion, BadLine, BadName, OddCfg, BadNumber, BatchFull, Unpublished, TooLong, BadHeader, BadRow, BadAfter, Order, BadWord, Memory, Input, Output}
 
 abbrev pub number_of : Refusal → ℕ
 number_of BadLength = 3
@@ -20,7 +24,10 @@ number_of BadNumber = 14
 number_of BatchFull = 15
 number_of Unpublished = 16
 number_of TooLong = 17
+number_of BadHeader = 20
+number_of BadRow = 21
 number_of BadAfter = 22
+number_of Order = 23
 number_of BadWord = 24
 number_of Memory = 40
 number_of Input = 41
@@ -37,7 +44,10 @@ name_of BadNumber = codes "BadNumber"
 name_of BatchFull = codes "BatchFull"
 name_of Unpublished = codes "Unpublished"
 name_of TooLong = codes "TooLong"
+name_of BadHeader = codes "BadHeader"
+name_of BadRow = codes "BadRow"
 name_of BadAfter = codes "BadAfter"
+name_of Order = codes "Order"
 name_of BadWord = codes "BadWord"
 name_of Memory = codes "Memory"
 name_of Input = codes "Input"
@@ -53,10 +63,11 @@ status_of _ = 2
 abbrev pub refusal_text : Refusal → List ℕ
 refusal_text refusal = decimal (number_of refusal) ++ (codes " " ++ name_of refusal)
 
--- with the script's line, where it is known
-abbrev pub fault_text : Refusal → Option ℕ → List ℕ
+-- with the script's line or the trace's row, where it is known
+abbrev pub fault_text : Refusal → Option Place → List ℕ
 fault_text refusal None = codes "pmp: refused " ++ refusal_text refusal
-fault_text refusal (Some line) = codes "pmp: script line " ++ (decimal line ++ (codes ": refused " ++ refusal_text refusal))
+fault_text refusal (Some (ScriptLine line)) = codes "pmp: script line " ++ (decimal line ++ (codes ": refused " ++ refusal_text refusal))
+fault_text refusal (Some (TraceRow row)) = codes "pmp: trace row " ++ (decimal row ++ (codes ": refused " ++ refusal_text refusal))
 
 abbrev pub refusal_of_access : AccessFault → Refusal
 refusal_of_access access.BadLength = BadLength
@@ -77,3 +88,14 @@ refusal_of_script script.BatchFull = BatchFull
 refusal_of_script script.Unpublished = Unpublished
 refusal_of_script script.TooLong = TooLong
 refusal_of_script script.Memory = Memory
+
+abbrev pub refusal_of_trace : TraceKind → Refusal
+refusal_of_trace trace.BadHeader = BadHeader
+refusal_of_trace trace.BadRow = BadRow
+refusal_of_trace trace.BadAfter = BadAfter
+refusal_of_trace trace.Order = Order
+refusal_of_trace trace.BadLength = BadLength
+refusal_of_trace trace.PastEnd = PastEnd
+refusal_of_trace trace.TooLong = TooLong
+refusal_of_trace trace.Memory = Memory
+refusal_of_trace trace.Input = Input

@@ -1,74 +1,62 @@
 -- What a run of the program answers.
-use Rattle.std.specs.Prelude.{◌≡◌, ℕ, List, [], ◌∷◌, Option, Some, None, IsErr, IfSome, codes, ◌==◌, if◌then◌else◌}
-use Rattle.pmp_core.specs.declared.access.Access.{Access}
-use Rattle.pmp_tool.specs.declared.run.Request.{Request}
-use Rattle.pmp_tool.specs.declared.run.Request.TheVariants.{Check, Dump}
-use Rattle.pmp_tool.specs.declared.run.Outcome.{Outcome}
-use Rattle.pmp_tool.specs.declared.run.Outcome.TheVariants.{Decided, Dumped}
-use Rattle.pmp_tool.specs.declared.run.Failure.{Failure}
-use Rattle.pmp_tool.specs.declared.run.Failure.TheVariants.{Usage, Refused}
-use Rattle.pmp_audit.specs.declared.fault.AuditFault.{AuditFault}
-use Rattle.pmp_audit.specs.declared.fault.AuditFault.TheVariants as audit
-use Rattle.pmp_tool.specs.declared.refusal.Refusal.{Refusal}
-use Rattle.pmp_tool.specs.declared.refusal.Refusal.TheVariants.{BadAfter, Memory, Output}
+use Rattle.std.specs.Prelude.{◌≡◌, ℕ, List, length, Option, None, Result, Ok, Err, IsErr, IfSome, ⊤, ◌==◌, if◌then◌else◌}
+use Rattle.pmp_core.specs.declared.event.Event.{Event}
+use Rattle.pmp_text.specs.declared.script.ScriptFault.{ScriptFault}
+use Rattle.pmp_text.specs.Scripts.{script_meaning}
+use Rattle.pmp_text.specs.Traces.{trace_meaning}
+use Rattle.pmp_audit.specs.declared.auditing.Summary.{Summary}
+use Rattle.pmp_audit.specs.Audits.{IsAudited}
 use Rattle.pmp_audit.specs.Checks.{IsChecked}
 use Rattle.pmp_audit.specs.Dumping.{IsDumped}
-use Rattle.pmp_tool.specs.Refusals.{status_of, refusal_of_script}
-use Rattle.pmp_text.specs.Scripts.{script_meaning}
-use Rattle.pmp_tool.specs.Words.{IsAccessOf}
+use Rattle.pmp_tool.specs.declared.command.Request.{Request}
+use Rattle.pmp_tool.specs.declared.command.Request.TheVariants.{Check, Audit, Dump}
+use Rattle.pmp_tool.specs.declared.run.Outcome.{Outcome}
+use Rattle.pmp_tool.specs.declared.run.Outcome.TheVariants.{Decided, Audited, Dumped}
+use Rattle.pmp_tool.specs.Commands.{AsksFor}
 
--- the words are `check`, a path, and four that name the access
-pub record AsksToCheck (words : List (List ℕ)) (path : List ℕ) (access : Access) : Type 0 where
-  pub mode : List ℕ
-  pub kind : List ℕ
-  pub start : List ℕ
-  pub length : List ℕ
-  pub words_are : words ≡ codes "check" ∷ path ∷ mode ∷ kind ∷ start ∷ length ∷ []
-  pub access_is : IsAccessOf mode kind start length access
+-- the bytes at each path, where it is known what they are
+abbrev pub Inputs : Type 0
+Inputs = List ℕ → Option (List ℕ)
 
--- what the words ask for, of the script at a path; to dump are `dump` and the path
-abbrev pub AsksFor : (words : List (List ℕ)) (path : List ℕ) → Request → Type 0
-AsksFor words path (Check access) = AsksToCheck words path access
-AsksFor words path Dump = words ≡ codes "dump" ∷ path ∷ []
+-- the trace at a path was audited beside a script's text
+pub record IsAuditOf (traces : Inputs) (text path : List ℕ) (before after : Option (List ℕ)) (summary : Summary) : Type 0 where
+  pub trace : List ℕ
+  pub read : IfSome (traces path) (λ known. trace ≡ known)
+  pub audited : IsAudited text trace before after summary
 
 -- what was asked for of a script's text was written
-abbrev pub IsDone : (text : List ℕ) → Request → (before after : Option (List ℕ)) → Outcome → Type 0
-IsDone text (Check access) before after (Decided decision) = IsChecked text access before after decision
-IsDone text Dump before after Dumped = IsDumped text None before after
-IsDone text (Check access) before after Dumped = ⊥
-IsDone text Dump before after (Decided decision) = ⊥
+abbrev pub IsDone : (traces : Inputs) (text : List ℕ) → Request → (before after : Option (List ℕ)) → Outcome → Type 0
+IsDone traces text (Check access) before after (Decided decision) = IsChecked text access before after decision
+IsDone traces text (Audit trace) before after (Audited summary) = IsAuditOf traces text trace.now before after summary
+IsDone traces text Dump before after Dumped = IsDumped text None before after
+IsDone _ _ _ _ _ _ = ⊥
 
 -- the words ask for something of a script, and that was written
-pub record IsAnswered (words : List (List ℕ)) (held : List ℕ → Option (List ℕ)) (before after : Option (List ℕ)) (outcome : Outcome) : Type 0 where
+pub record IsAnswered (words : List (List ℕ)) (scripts traces : Inputs) (before after : Option (List ℕ)) (outcome : Outcome) : Type 0 where
   pub path : List ℕ
   pub request : Request
   pub text : List ℕ
   pub asked : AsksFor words path request
-  pub script : IfSome (held path) (λ known. text ≡ known)
-  pub done : IsDone text request before after outcome
+  pub read : IfSome (scripts path) (λ known. text ≡ known)
+  pub done : IsDone traces text request before after outcome
 
--- the words ask for nothing, or the script that they name has a fault, where it is known
-abbrev pub IsFaulty : List (List ℕ) → (List ℕ → Option (List ℕ)) → Type 0
-IsFaulty words held = (path : List ℕ) (request : Request) → AsksFor words path request → IfSome (held path) (λ known. IsErr (script_meaning known))
+-- a trace beside a script that is at fault, or that is itself at fault beside the script's publications
+abbrev pub IsFaultyBeside : Result (List (List Event)) ScriptFault → (trace : List ℕ) → Type 0
+IsFaultyBeside (Err fault) trace = ⊤
+IsFaultyBeside (Ok batches) trace = IsErr (trace_meaning (length batches) trace)
 
--- a dump, and an access that is allowed, end well
+-- the script's text, or the trace where one is asked for, is at fault as far as it is known
+abbrev pub IsFaultyInput : (traces : Inputs) → Request → (text : List ℕ) → Type 0
+IsFaultyInput traces (Audit trace) text = IfSome (traces trace.now) (λ known. IsFaultyBeside (script_meaning text) known)
+IsFaultyInput traces (Check access) text = IsErr (script_meaning text)
+IsFaultyInput traces Dump text = IsErr (script_meaning text)
+
+-- the words ask for nothing, or an input that they name has a fault, where it is known
+abbrev pub IsFaulty : List (List ℕ) → (scripts traces : Inputs) → Type 0
+IsFaulty words scripts traces = (path : List ℕ) (request : Request) → AsksFor words path request → IfSome (scripts path) (λ known. IsFaultyInput traces request known)
+
+-- a dump ends well, and accesses do that are all allowed
 abbrev pub outcome_status : Outcome → ℕ
 outcome_status (Decided decision) = if decision.allowed then 0 else 1
+outcome_status (Audited summary) = if summary.faults == 0 then 0 else 1
 outcome_status Dumped = 0
-
-abbrev pub failure_status : Failure → ℕ
-failure_status Usage = 2
-failure_status (Refused line) = status_of line.refusal
-
-abbrev pub refused : Refusal → Failure
-refused refusal = Refused (record { refusal = refusal; script_line = None })
-
--- line 0 stands for none
-abbrev pub refused_at : Refusal → ℕ → Failure
-refused_at refusal line = Refused (record { refusal = refusal; script_line = if line == 0 then None else Some line })
-
-abbrev pub unaudited : AuditFault → Failure
-unaudited (audit.Script fault) = refused_at (refusal_of_script fault.kind) fault.line
-unaudited audit.BadAfter = refused BadAfter
-unaudited audit.Memory = refused Memory
-unaudited audit.Output = refused Output

@@ -1,27 +1,14 @@
 -- The words of the command line that describe an access.
-use Rattle.std.specs.Prelude.{◌≡◌, ℕ, List, Option, Some, None, option_map, codes, bytes_eq, if◌then◌else◌}
+use Rattle.std.specs.Prelude.{◌≡◌, ℕ, List, Option, Some, option_map}
 use Rattle.pmp_core.specs.declared.access.Access.{Access}
 use Rattle.pmp_core.specs.declared.access.Mode.{Mode}
-use Rattle.pmp_core.specs.declared.access.Mode.TheVariants.{M, S, U}
 use Rattle.pmp_core.specs.declared.access.Kind.{Kind}
-use Rattle.pmp_core.specs.declared.access.Kind.TheVariants.{Fetch, Load, Store}
 use Rattle.pmp_core.specs.Accesses.{access_fault}
 use Rattle.pmp_tool.specs.declared.refusal.Refusal.{Refusal}
 use Rattle.pmp_tool.specs.declared.refusal.Refusal.TheVariants.{BadWord}
+use Rattle.pmp_text.specs.AccessWords.{mode_named, kind_named}
 use Rattle.pmp_text.specs.Numbers.{word_number}
 use Rattle.pmp_tool.specs.Refusals.{refusal_of_access}
-
-abbrev pub mode_named : List ℕ → Option Mode
-mode_named word =
-    if bytes_eq word (codes "M") then Some M
-    else (if bytes_eq word (codes "S") then Some S
-    else (if bytes_eq word (codes "U") then Some U else None))
-
-abbrev pub kind_named : List ℕ → Option Kind
-kind_named word =
-    if bytes_eq word (codes "fetch") then Some Fetch
-    else (if bytes_eq word (codes "load") then Some Load
-    else (if bytes_eq word (codes "store") then Some Store else None))
 
 -- the access has what the words name
 pub record IsAccessOf (mode kind start length : List ℕ) (access : Access) : Type 0 where

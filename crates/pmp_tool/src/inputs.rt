@@ -2,7 +2,7 @@
 
 ghost use Rattle.std.specs.Prelude.{◌≡◌, ℕ, ◌<◌, ◌≤◌, List, length, Option, None, Err, IfOk, IfSome};
 
-use pmp_text::{InputFault, MAX_LIMIT, MAX_SCRIPT, read_bytes};
+use pmp_text::{InputFault, MAX_LIMIT, MAX_SCRIPT, MAX_TRACE, read_bytes};
 use std::fs;
 use std::io::Read;
 use std::rt::Files;
@@ -10,19 +10,32 @@ use std::rt::Files;
 /// The most bytes of a script.
 pub const SCRIPT_LIMIT: u64 = MAX_SCRIPT as u64;
 
+/// The most bytes of a trace.
+pub const TRACE_LIMIT: u64 = MAX_TRACE as u64;
+
 /// The inputs that the program's words name.
 pub trait Inputs {
-    /// The bytes at a path, where it is known what they are.
-    ghost held: { Self → List ℕ → Option (List ℕ) } = { λ _ _. None };
+    /// The bytes of the script at a path, where it is known what they are.
+    ghost scripts: { Self → List ℕ → Option (List ℕ) } = { λ _ _. None };
+
+    /// The bytes of the trace at a path, where it is known what they are.
+    ghost traces: { Self → List ℕ → Option (List ℕ) } = { λ _ _. None };
 
     /// The bytes of the script at this path.
     fn script(&mut self, path: &str) -> Result<Vec<u8>, InputFault>
-        ensures read { IfOk result (λ bytes. IfSome (held self.old path.now) (λ known. bytes.items ≡ known)) }
+        ensures read { IfOk result (λ bytes. IfSome (scripts self.old path.now) (λ known. bytes.items ≡ known)) }
         ensures too_long { result ≡ Err InputFault.TooLong →
-            IfSome (held self.old path.now) (λ known. SCRIPT_LIMIT < length known) };
+            IfSome (scripts self.old path.now) (λ known. SCRIPT_LIMIT < length known) }
+        ensures traces { traces self.new ≡ traces self.old };
+
+    /// The bytes of the trace at this path.
+    fn trace(&mut self, path: &str) -> Result<Vec<u8>, InputFault>
+        ensures read { IfOk result (λ bytes. IfSome (traces self.old path.now) (λ known. bytes.items ≡ known)) }
+        ensures too_long { result ≡ Err InputFault.TooLong →
+            IfSome (traces self.old path.now) (λ known. TRACE_LIMIT < length known) };
 }
 
-/// The files of the system. `stdin` as a path means standard input.
+/// The files of the system. `stdin` as a script's path means standard input.
 #[derive(Drop)]
 pub struct SystemInputs<'a, R> {
     runtime: &'a R,
@@ -36,12 +49,23 @@ impl<'a, R> SystemInputs<'a, R> {
 
 impl<R: Files + Input + AllocGlobal> Inputs for SystemInputs<'_, R> {
     fn script(&mut self, path: &str) -> Result<Vec<u8>, InputFault> {
-        read_input(self.runtime, path, SCRIPT_LIMIT)
+        match path {
+            "stdin" => read_bytes(
+                self.runtime.alloc(),
+                &mut self.runtime.reader(),
+                SCRIPT_LIMIT,
+            ),
+            _ => read_file(self.runtime, path, SCRIPT_LIMIT),
+        }
+    }
+
+    fn trace(&mut self, path: &str) -> Result<Vec<u8>, InputFault> {
+        read_file(self.runtime, path, TRACE_LIMIT)
     }
 }
 
-/// The bytes of the file at the path, or of standard input, at most `limit`.
-fn read_input<R: Files + Input + AllocGlobal>(
+/// The bytes of the file at the path, at most `limit`.
+fn read_file<R: Files + AllocGlobal>(
     runtime: &R,
     path: &str,
     limit: u64,
@@ -49,11 +73,7 @@ fn read_input<R: Files + Input + AllocGlobal>(
     requires { limit ≤ MAX_LIMIT }
     ensures { IfOk result (λ bytes. length bytes.items ≤ limit) }
 {
-    let alloc = runtime.alloc();
-    match path {
-        "stdin" => read_bytes(alloc, &mut runtime.reader(), limit),
-        _ => read_bytes(alloc, &mut fs::open(runtime, path)?, limit),
-    }
+    read_bytes(runtime.alloc(), &mut fs::open(runtime, path)?, limit)
 }
 
 #[cfg(test)]
@@ -70,6 +90,8 @@ mod tests {
             ("no/such/script", Err(InputFault::Input)),
         ] {
             let answer = inputs.script(path).map(|bytes| bytes.len());
+            assert_eq!(rt; answer, want);
+            let answer = inputs.trace(path).map(|bytes| bytes.len());
             assert_eq!(rt; answer, want);
         }
     }

@@ -1,6 +1,8 @@
 //! The command `pmp`, which decides accesses to physical memory as the PMP unit of one RV64 hart does.
 #![tactic(auto)]
 
+mod command;
+mod failure;
 mod inputs;
 mod refusal;
 mod run;

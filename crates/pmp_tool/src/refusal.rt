@@ -1,11 +1,12 @@
 //! What the program says and answers where it refuses.
 
-ghost use Rattle.std.specs.Prelude.{◌≡◌, ◌==◌, if◌then◌else◌, None, Some};
-ghost use Rattle.pmp_tool.specs.Refusals.{fault_text, name_of, number_of, refusal_of_access, refusal_of_input, refusal_of_script, refusal_text, status_of};
+ghost use Rattle.std.specs.Prelude.{◌≡◌, None, Some};
+ghost use Rattle.pmp_tool.specs.Refusals.{fault_text, name_of, number_of, refusal_of_access, refusal_of_input, refusal_of_script, refusal_of_trace, refusal_text, status_of};
+ghost use Rattle.pmp_tool.specs.Failures.{script_place, trace_place};
 ghost use Rattle.pmp_tool.specs.declared.refusal.Refusal.TheVariants.{Memory, Output};
 
 use pmp_core::AccessFault;
-use pmp_text::{InputFault, NoMemory, OutputFault, ScriptKind};
+use pmp_text::{InputFault, NoMemory, OutputFault, ScriptKind, TraceKind};
 use std::fmt;
 
 /// Why the program refuses. A variant's value is the number that users see.
@@ -31,8 +32,14 @@ pub enum Refusal {
     Unpublished = 16,
     /// An input with more bytes than its limit.
     TooLong = 17,
+    /// A trace that doesn't begin with the names of its fields.
+    BadHeader = 20,
+    /// A row of a trace that is none.
+    BadRow = 21,
     /// More publications than the script has.
     BadAfter = 22,
+    /// A row of a trace that asks for fewer publications than the row before.
+    Order = 23,
     /// A word of the command line that isn't what its place asks for.
     BadWord = 24,
     /// No memory.
@@ -64,7 +71,10 @@ impl Refusal {
             Refusal::BatchFull => "BatchFull",
             Refusal::Unpublished => "Unpublished",
             Refusal::TooLong => "TooLong",
+            Refusal::BadHeader => "BadHeader",
+            Refusal::BadRow => "BadRow",
             Refusal::BadAfter => "BadAfter",
+            Refusal::Order => "Order",
             Refusal::BadWord => "BadWord",
             Refusal::Memory => "Memory",
             Refusal::Input => "Input",
@@ -122,6 +132,24 @@ impl From<ScriptKind> for Refusal {
     }
 }
 
+impl From<TraceKind> for Refusal {
+    ghost from_gives = { λ kind refusal. refusal ≡ refusal_of_trace kind };
+
+    fn from(kind: TraceKind) -> Refusal {
+        match kind {
+            TraceKind::BadHeader => Refusal::BadHeader,
+            TraceKind::BadRow => Refusal::BadRow,
+            TraceKind::BadAfter => Refusal::BadAfter,
+            TraceKind::Order => Refusal::Order,
+            TraceKind::BadLength => Refusal::BadLength,
+            TraceKind::PastEnd => Refusal::PastEnd,
+            TraceKind::TooLong => Refusal::TooLong,
+            TraceKind::Memory => Refusal::Memory,
+            TraceKind::Input => Refusal::Input,
+        }
+    }
+}
+
 impl From<InputFault> for Refusal {
     ghost from_gives = { λ fault refusal. refusal ≡ refusal_of_input fault };
 
@@ -150,45 +178,60 @@ impl From<OutputFault> for Refusal {
     }
 }
 
+/// Where an input is at fault.
+#[derive(Clone, Copy, Debug, PartialEq, Eq)]
+pub enum Place {
+    /// A line of the script, from 1.
+    ScriptLine(u64),
+    /// A row of the trace, from 1.
+    TraceRow(u64),
+}
+
+impl Place {
+    /// A line of the script, where 0 stands for none.
+    pub fn script_line(line: u64) -> Option<Place>
+        ensures { result ≡ script_place line }
+    {
+        (line > 0).then_some(Place::ScriptLine(line))
+    }
+
+    /// A row of the trace, where 0 stands for none.
+    pub fn trace_row(row: u64) -> Option<Place>
+        ensures { result ≡ trace_place row }
+    {
+        (row > 0).then_some(Place::TraceRow(row))
+    }
+}
+
 /// The line that tells of a refusal, without its LF. Printing it takes no memory.
 #[derive(Clone, Copy, Debug, PartialEq, Eq)]
 pub struct FaultLine {
     pub refusal: Refusal,
-    /// The script's line that is at fault, from 1.
-    pub script_line: Option<u64>,
-}
-
-impl FaultLine {
-    /// Tells of a script's refusal. Line 0 stands for none.
-    pub fn in_script(refusal: Refusal, line: u64) -> FaultLine
-        ensures refusal { result.refusal ≡ refusal }
-        ensures script_line { result.script_line ≡ (if line == 0 then None else Some line) }
-    {
-        FaultLine {
-            refusal,
-            script_line: (line > 0).then_some(line),
-        }
-    }
+    pub place: Option<Place>,
 }
 
 impl From<Refusal> for FaultLine {
-    ghost from_gives = { λ refusal line. (line.refusal ≡ refusal) × (line.script_line ≡ None) };
+    ghost from_gives = { λ refusal line. (line.refusal ≡ refusal) × (line.place ≡ None) };
 
     fn from(refusal: Refusal) -> FaultLine {
         FaultLine {
             refusal,
-            script_line: None,
+            place: None,
         }
     }
 }
 
 impl fmt::Display for FaultLine {
-    ghost output = { λ line. Some (fault_text line.refusal line.script_line) };
+    ghost output = { λ line. Some (fault_text line.refusal line.place) };
 
     fn fmt<W: fmt::Write>(&self, f: &mut fmt::Formatter<W>) -> fmt::Result {
         let refusal = self.refusal;
-        match self.script_line {
-            Some(line) => write!(f, "pmp: script line {line}: refused {refusal}"),
+        match self.place {
+            Some(Place::ScriptLine(line)) => write!(
+                f,
+                "pmp: script line {line}: refused {refusal}"
+            ),
+            Some(Place::TraceRow(row)) => write!(f, "pmp: trace row {row}: refused {refusal}"),
             None => write!(f, "pmp: refused {refusal}"),
         }
     }
@@ -202,59 +245,78 @@ mod tests {
     #[test]
     fn tells_of_each_refusal(rt: HostRuntime) -> Result<(), Fail> {
         let rows = [
-            (Refusal::BadLength, 0, 2, "pmp: refused 3 BadLength"),
-            (Refusal::PastEnd, 0, 2, "pmp: refused 4 PastEnd"),
+            (Refusal::BadLength, None, 2, "pmp: refused 3 BadLength"),
+            (Refusal::PastEnd, None, 2, "pmp: refused 4 PastEnd"),
             (
                 Refusal::BadVersion,
-                1,
+                Some(Place::ScriptLine(1)),
                 2,
                 "pmp: script line 1: refused 10 BadVersion",
             ),
             (
                 Refusal::BadLine,
-                2,
+                Some(Place::ScriptLine(2)),
                 2,
                 "pmp: script line 2: refused 11 BadLine",
             ),
             (
                 Refusal::BadName,
-                3,
+                Some(Place::ScriptLine(3)),
                 2,
                 "pmp: script line 3: refused 12 BadName",
             ),
             (
                 Refusal::OddCfg,
-                2,
+                Some(Place::ScriptLine(2)),
                 2,
                 "pmp: script line 2: refused 13 OddCfg",
             ),
             (
                 Refusal::BadNumber,
-                10,
+                Some(Place::ScriptLine(10)),
                 2,
                 "pmp: script line 10: refused 14 BadNumber",
             ),
             (
                 Refusal::BatchFull,
-                66,
+                Some(Place::ScriptLine(66)),
                 2,
                 "pmp: script line 66: refused 15 BatchFull",
             ),
             (
                 Refusal::Unpublished,
-                2,
+                Some(Place::ScriptLine(2)),
                 2,
                 "pmp: script line 2: refused 16 Unpublished",
             ),
-            (Refusal::TooLong, 0, 2, "pmp: refused 17 TooLong"),
-            (Refusal::BadAfter, 0, 2, "pmp: refused 22 BadAfter"),
-            (Refusal::BadWord, 0, 2, "pmp: refused 24 BadWord"),
-            (Refusal::Memory, 0, 3, "pmp: refused 40 Memory"),
-            (Refusal::Input, 0, 3, "pmp: refused 41 Input"),
-            (Refusal::Output, 0, 3, "pmp: refused 42 Output"),
+            (Refusal::TooLong, None, 2, "pmp: refused 17 TooLong"),
+            (Refusal::BadHeader, None, 2, "pmp: refused 20 BadHeader"),
+            (
+                Refusal::BadRow,
+                Some(Place::TraceRow(1)),
+                2,
+                "pmp: trace row 1: refused 21 BadRow",
+            ),
+            (Refusal::BadAfter, None, 2, "pmp: refused 22 BadAfter"),
+            (
+                Refusal::BadAfter,
+                Some(Place::TraceRow(30)),
+                2,
+                "pmp: trace row 30: refused 22 BadAfter",
+            ),
+            (
+                Refusal::Order,
+                Some(Place::TraceRow(2)),
+                2,
+                "pmp: trace row 2: refused 23 Order",
+            ),
+            (Refusal::BadWord, None, 2, "pmp: refused 24 BadWord"),
+            (Refusal::Memory, None, 3, "pmp: refused 40 Memory"),
+            (Refusal::Input, None, 3, "pmp: refused 41 Input"),
+            (Refusal::Output, None, 3, "pmp: refused 42 Output"),
         ];
-        for (refusal, line, status, text) in rows {
-            let told = FaultLine::in_script(refusal, line).to_string(rt.alloc())?;
+        for (refusal, place, status, text) in rows {
+            let told = FaultLine { refusal, place }.to_string(rt.alloc())?;
             assert_eq!(rt; told.as_bytes(), text.as_bytes());
             assert_eq!(rt; refusal.status(), status, "{refusal}");
         }

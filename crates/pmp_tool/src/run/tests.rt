@@ -1,23 +1,37 @@
 //! The program on worked examples, with inputs from a table and outputs to vectors.
 
+mod audits;
+mod checks;
 mod dumps;
 
 use super::*;
+use pmp_text::InputFault;
 use std::alloc::AllocError;
 use std::process::Abort;
 use std::test::Fail;
 
-/// One script, under the name `table`; every other name can't be opened.
-#[derive(Drop)]
+/// One script, under the name `table`, and one trace, under the name `trace`. What is named `long` is too long, and
+/// nothing else can be opened.
+#[derive(Clone, Copy)]
 struct Table<'a> {
     alloc: Global,
     script: &'a [u8],
+    trace: &'a [u8],
 }
 
 impl Inputs for Table<'_> {
     fn script(&mut self, path: &str) -> Result<Vec<u8>, InputFault> {
         match path {
             "table" => Ok(Vec::from_slice(self.alloc, self.script)?),
+            "long" => Err(InputFault::TooLong),
+            _ => Err(InputFault::Input),
+        }
+    }
+
+    fn trace(&mut self, path: &str) -> Result<Vec<u8>, InputFault> {
+        match path {
+            "trace" => Ok(Vec::from_slice(self.alloc, self.trace)?),
+            "long" => Err(InputFault::TooLong),
             _ => Err(InputFault::Input),
         }
     }
@@ -31,324 +45,29 @@ struct Answer {
 }
 
 /// Runs the program on words that blanks part.
-fn run(alloc: Global, script: &[u8], words: &str) -> Result<Answer, AllocError> {
+fn run_on(mut inputs: Table, words: &str) -> Result<Answer, AllocError> {
+    let alloc = inputs.alloc;
     let mut list = Vec::new(alloc);
     for word in words.split_whitespace() {
         list.push(word.to_string(alloc)?)?;
     }
-    let mut inputs = Table { alloc, script };
     let mut out = Vec::new(alloc);
     let mut err = Vec::new(alloc);
     let status = run_tool(alloc, &list, &mut inputs, &mut out, &mut err);
     Ok(Answer { status, out, err })
 }
 
-/// Asserts the report row of each access after these writes, and the status that goes with it.
-fn assert_rows<R: Abort + AllocGlobal>(
-    rt: &R,
-    writes: &str,
-    rows: &[(&str, &str)],
-) -> Result<(), Fail> {
-    let script = format!(in rt.alloc(); "pmp 1\n{writes}\npublish\n")?;
-    for (access, row) in rows {
-        let words = format!(in rt.alloc(); "check table {access}")?;
-        let answer = run(rt.alloc(), script.as_bytes(), words.as_str())?;
-        let line = format!(in rt.alloc(); "{row}\n")?;
-        assert_eq!(rt;
-            answer.out.as_slice(),
-            line.as_bytes(),
-            "{access} after {writes}"
-        );
-        assert!(rt; answer.err.is_empty(), "{access} after {writes}");
-        let status = if row.starts_with("1,allow") { 0 } else { 1 };
-        assert_eq!(rt; answer.status, status, "{access} after {writes}");
-    }
-    Ok(())
-}
-
-/// Asserts a refusal: nothing but this line on standard error, and this status.
-fn assert_refused<R: Abort + AllocGlobal>(
-    rt: &R,
-    script: &[u8],
-    words: &str,
-    line: &str,
-    status: u8,
-) -> Result<(), Fail> {
-    let answer = run(rt.alloc(), script, words)?;
-    let line = format!(in rt.alloc(); "{line}\n")?;
-    assert_eq!(rt; answer.err.as_slice(), line.as_bytes(), "{words}");
-    assert!(rt; answer.out.is_empty(), "{words}");
-    assert_eq!(rt; answer.status, status, "{words}");
-    Ok(())
-}
-
-#[test]
-fn a_unit_after_reset(rt: HostRuntime) -> Result<(), Fail> {
-    for (words, line, status) in [
-        ("check table M load 0x0 8", "1,allow,,none,\n", 0),
-        ("check table U load 0x0 8", "1,fault,5,none,\n", 1),
-    ] {
-        let answer = run(rt.alloc(), b"pmp 1", words)?;
-        assert_eq!(rt; answer.out.as_slice(), line.as_bytes());
-        assert_eq!(rt; answer.status, status);
-    }
-    Ok(())
-}
-
-#[test]
-fn four_bytes(rt: HostRuntime) -> Result<(), Fail> {
-    assert_rows(
-        &rt,
-        "write pmpaddr0 3\nwrite pmpcfg0 0x17",
-        &[
-            ("U load 0x8 8", "1,fault,5,split,0"),
-            ("M load 0x8 8", "1,fault,5,split,0"),
-            ("U load 0xc 4", "1,allow,,rule,0"),
-        ],
+/// The same with this script, and an empty trace.
+fn run(alloc: Global, script: &[u8], words: &str) -> Result<Answer, AllocError> {
+    let trace = b"";
+    run_on(
+        Table {
+            alloc,
+            script,
+            trace,
+        },
+        words,
     )
-}
-
-#[test]
-fn a_readable_page(rt: HostRuntime) -> Result<(), Fail> {
-    assert_rows(
-        &rt,
-        "write pmpaddr0 0x200001ff\nwrite pmpcfg0 0x19",
-        &[
-            ("U load 0x80000ff8 8", "1,allow,,rule,0"),
-            ("U store 0x80000ff8 8", "1,fault,7,rule,0"),
-            ("U fetch 0x80000ff8 8", "1,fault,1,rule,0"),
-            ("M store 0x80000ff8 8", "1,allow,,rule,0"),
-            // The last four bytes lie behind the page.
-            ("U load 0x80000ffc 8", "1,fault,5,split,0"),
-            ("M load 0x80000ffc 8", "1,fault,5,split,0"),
-        ],
-    )
-}
-
-#[test]
-fn all_of_memory(rt: HostRuntime) -> Result<(), Fail> {
-    assert_rows(
-        &rt,
-        "write pmpaddr0 0xffffffffffffffff\nwrite pmpcfg0 0x19",
-        &[("U load 0xffffffffffffff 1", "1,allow,,rule,0")],
-    )
-}
-
-#[test]
-fn an_empty_range(rt: HostRuntime) -> Result<(), Fail> {
-    assert_rows(
-        &rt,
-        "write pmpaddr0 0x100\nwrite pmpaddr1 0x100\nwrite pmpcfg0 0x0900",
-        &[("U load 0x400 4", "1,fault,5,none,")],
-    )
-}
-
-/// Each of two neighbours would allow its half.
-#[test]
-fn an_access_over_two_entries(rt: HostRuntime) -> Result<(), Fail> {
-    assert_rows(
-        &rt,
-        "write pmpaddr0 0x10\nwrite pmpaddr1 0x11\nwrite pmpcfg0 0x1111",
-        &[("U load 0x40 8", "1,fault,5,split,0")],
-    )
-}
-
-#[test]
-fn a_hole_in_a_page(rt: HostRuntime) -> Result<(), Fail> {
-    assert_rows(
-        &rt,
-        "write pmpaddr0 0x20000004\nwrite pmpaddr1 0x200001ff\nwrite pmpcfg0 0x1910",
-        &[
-            ("U load 0x80000010 4", "1,fault,5,rule,0"),
-            ("U load 0x80000014 4", "1,allow,,rule,1"),
-        ],
-    )
-}
-
-/// The entry before gives the low end, though it is off.
-#[test]
-fn a_range_above_an_off_entry(rt: HostRuntime) -> Result<(), Fail> {
-    assert_rows(
-        &rt,
-        "write pmpaddr0 0x400\nwrite pmpaddr1 0x800\nwrite pmpcfg0 0x0f00",
-        &[
-            ("U load 0x1000 8", "1,allow,,rule,1"),
-            ("U load 0xff8 8", "1,fault,5,none,"),
-            ("U load 0xffc 8", "1,fault,5,split,1"),
-        ],
-    )
-}
-
-#[test]
-fn a_range_from_zero(rt: HostRuntime) -> Result<(), Fail> {
-    assert_rows(
-        &rt,
-        "write pmpaddr0 0xffffffffffffffff\nwrite pmpcfg0 0x0f",
-        &[
-            ("U load 0x0 4", "1,allow,,rule,0"),
-            ("U load 0xfffffffffffff8 8", "1,fault,5,split,0"),
-            ("U load 0xfffffffffffffc 1", "1,fault,5,none,"),
-        ],
-    )
-}
-
-#[test]
-fn a_locked_page_binds_machine_mode(rt: HostRuntime) -> Result<(), Fail> {
-    assert_rows(
-        &rt,
-        "write pmpaddr0 0x200001ff\nwrite pmpcfg0 0x99",
-        &[
-            ("M store 0x80000000 4", "1,fault,7,rule,0"),
-            ("M load 0x80000000 4", "1,allow,,rule,0"),
-        ],
-    )
-}
-
-/// Every bit of a locked rule set: under lockdown a region that all modes may read, and none may write.
-#[test]
-fn a_shared_read_only_page(rt: HostRuntime) -> Result<(), Fail> {
-    assert_rows(
-        &rt,
-        "write mseccfg 5\nwrite pmpaddr0 0x200001ff\nwrite pmpcfg0 0x9f",
-        &[
-            ("U load 0x80000000 4", "1,allow,,rule,0"),
-            ("M store 0x80000000 4", "1,fault,7,rule,0"),
-            ("M fetch 0x80000000 4", "1,fault,1,rule,0"),
-        ],
-    )
-}
-
-#[test]
-fn lockdown_and_allow_list_where_no_entry_matches(rt: HostRuntime) -> Result<(), Fail> {
-    assert_rows(
-        &rt,
-        "write mseccfg 1",
-        &[
-            ("M fetch 0x0 4", "1,fault,1,none,"),
-            ("M load 0x0 4", "1,allow,,none,"),
-        ],
-    )?;
-    assert_rows(&rt, "write 0x747 3", &[("M load 0x0 4", "1,fault,5,none,")])
-}
-
-/// Lockdown takes the rules of the other modes from machine mode.
-#[test]
-fn a_page_before_and_after_lockdown(rt: HostRuntime) -> Result<(), Fail> {
-    assert_rows(
-        &rt,
-        "write pmpaddr0 0x200001ff\nwrite pmpcfg0 0x1f",
-        &[("M load 0x80000000 4", "1,allow,,rule,0")],
-    )?;
-    assert_rows(
-        &rt,
-        "write pmpaddr0 0x200001ff\nwrite pmpcfg0 0x1f\nwrite mseccfg 1",
-        &[
-            ("M load 0x80000000 4", "1,fault,5,rule,0"),
-            ("U load 0x80000000 4", "1,allow,,rule,0"),
-        ],
-    )
-}
-
-#[test]
-fn registers_without_an_entry_take_no_write(rt: HostRuntime) -> Result<(), Fail> {
-    assert_rows(
-        &rt,
-        "write pmpaddr16 7\nwrite pmpcfg4 0x1f",
-        &[("U load 0x0 4", "1,fault,5,none,")],
-    )
-}
-
-#[test]
-fn words_are_judged_before_the_script(rt: HostRuntime) -> Result<(), Fail> {
-    let usage = "usage: pmp check SCRIPT MODE KIND START LENGTH";
-    for (words, line, status) in [
-        ("", usage, 2),
-        ("check", usage, 2),
-        ("check table U load 0x0", usage, 2),
-        ("check table U load 0x0 4 4", usage, 2),
-        ("decide table U load 0x0 4", usage, 2),
-        ("check table u load 0x0 4", "pmp: refused 24 BadWord", 2),
-        ("check table U read 0x0 4", "pmp: refused 24 BadWord", 2),
-        ("check table U load x 4", "pmp: refused 24 BadWord", 2),
-        ("check table U load 0x0 -4", "pmp: refused 24 BadWord", 2),
-        // Words come before the access, and both before the script.
-        ("check none Q load 0x0 0", "pmp: refused 24 BadWord", 2),
-        ("check none U load 0x0 0", "pmp: refused 3 BadLength", 2),
-        ("check table U load 0x0 4097", "pmp: refused 3 BadLength", 2),
-        (
-            "check table U load 0xffffffffffffff 2",
-            "pmp: refused 4 PastEnd",
-            2,
-        ),
-        ("check none U load 0x0 4", "pmp: refused 41 Input", 3),
-        (
-            "check table U load 0x0 4",
-            "pmp: script line 1: refused 10 BadVersion",
-            2,
-        ),
-    ] {
-        assert_refused(&rt, b"", words, line, status)?;
-    }
-    Ok(())
-}
-
-#[test]
-fn scripts_are_refused_with_their_line(rt: HostRuntime) -> Result<(), Fail> {
-    for (script, line) in [
-        ("", "pmp: script line 1: refused 10 BadVersion"),
-        ("pmp 2\n", "pmp: script line 1: refused 10 BadVersion"),
-        ("pmp 1\nstop\n", "pmp: script line 2: refused 11 BadLine"),
-        (
-            "pmp 1\nreset\n",
-            "pmp: script line 2: refused 16 Unpublished",
-        ),
-        (
-            "pmp 1\nwrite mseccfg 0\n",
-            "pmp: script line 2: refused 16 Unpublished",
-        ),
-        (
-            "pmp 1\nwrite pmpaddr64 0\n",
-            "pmp: script line 2: refused 12 BadName",
-        ),
-        (
-            "pmp 1\nwrite pmpcfg1 0\n",
-            "pmp: script line 2: refused 13 OddCfg",
-        ),
-        (
-            "pmp 1\nwrite pmpcfg0 x\n",
-            "pmp: script line 2: refused 14 BadNumber",
-        ),
-        (
-            "pmp 1\n\nwrite pmpcfg0 0\n",
-            "pmp: script line 3: refused 16 Unpublished",
-        ),
-    ] {
-        assert_refused(&rt, script.as_bytes(), "check table U load 0x0 4", line, 2)?;
-    }
-    Ok(())
-}
-
-#[test]
-fn a_batch_has_no_room_for_a_sixty_fifth_event(rt: HostRuntime) -> Result<(), Fail> {
-    let mut script = "pmp 1\n".to_string(rt.alloc())?;
-    for _ in 0..65 {
-        script.push_str("write pmpaddr0 0\n")?;
-    }
-    assert_refused(
-        &rt,
-        script.as_bytes(),
-        "check table U load 0x0 4",
-        "pmp: script line 66: refused 15 BatchFull",
-        2,
-    )
-}
-
-/// A script of one byte above the limit, which an `Inputs` of the program would have stopped reading at.
-#[test]
-fn a_script_is_too_long(rt: HostRuntime) -> Result<(), Fail> {
-    let script = vec![in rt.alloc(); b'\n'; 1_048_577]?;
-    let line = "pmp: refused 17 TooLong";
-    assert_refused(&rt, &script, "check table U load 0x0 4", line, 2)
 }
 
 /// An output that takes no byte.
@@ -368,17 +87,28 @@ impl Write for Full {
 #[test]
 fn a_full_output_is_refused(rt: HostRuntime) -> Result<(), Fail> {
     let alloc = rt.alloc();
-    let mut words = Vec::new(alloc);
-    for word in "check table M load 0x0 4".split_whitespace() {
-        words.push(word.to_string(alloc)?)?;
+    for command in [
+        "check table M load 0x0 4",
+        "audit table trace",
+        "dump table",
+    ] {
+        let mut words = Vec::new(alloc);
+        for word in command.split_whitespace() {
+            words.push(word.to_string(alloc)?)?;
+        }
+        let mut inputs = Table {
+            alloc,
+            script: b"pmp 1",
+            trace: b"after,mode,kind,start,length\n0,M,load,0x0,4\n",
+        };
+        let mut err = Vec::new(alloc);
+        let status = run_tool(alloc, &words, &mut inputs, &mut Full, &mut err);
+        assert_eq!(rt; status, 3, "{command}");
+        assert_eq!(rt;
+            err.as_slice(),
+            b"pmp: refused 42 Output\n".as_slice(),
+            "{command}"
+        );
     }
-    let mut inputs = Table {
-        alloc,
-        script: b"pmp 1",
-    };
-    let mut err = Vec::new(alloc);
-    let status = run_tool(alloc, &words, &mut inputs, &mut Full, &mut err);
-    assert_eq!(rt; err.as_slice(), b"pmp: refused 42 Output\n".as_slice());
-    assert_eq!(rt; status, 3);
     Ok(())
 }

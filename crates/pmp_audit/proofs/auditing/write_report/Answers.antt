@@ -1,4 +1,4 @@
-use Rattle.std.proofs.Common.{◌≡◌, ℕ, ◌+◌, ◌<◌, cond, List, ◌++◌, length, take, sym, ap, ◌∙◌, append-nil, append_assoc, refl, arith}
+use Rattle.std.proofs.Common.{◌≡◌, ℕ, ◌+◌, ◌<◌, cond, List, ◌++◌, length, take, sym, ap, ◌∙◌, append-nil, append_assoc, arith}
 use Rattle.std.proofs.Math.Seq.{take-length}
 use Rattle.pmp_core.specs.Ranges.{decision_of}
 use Rattle.pmp_core.specs.Registers.{RegisterFile}
@@ -26,15 +26,14 @@ loop-row-preserved c =
     let so_far = c.loop-row.invariant in
     let done : c.loop-row.summary.rows ≡ i = ap (λ (s : Summary). s.rows) so_far.3 ∙ rows_so_far script rows i row inside c.row-item.is in
     let number : c.count.new.self.rows ≡ i + 1 = c.count.ensures.rows ∙ ap (λ (n : ℕ). n + 1) done in
-    let faults : c.count.new.self.faults ≡ (summary_of script (take i rows)).faults + cond c.decide-decision.result.allowed 0 1 = c.count.ensures.faults ∙ ap (λ (s : Summary). s.faults + cond c.decide-decision.result.allowed 0 1) so_far.3 in
-    (
+    let faults : c.count.new.self.faults ≡ (summary_of script (take i rows)).faults + cond c.decide-decision.result.allowed 0 1 = c.count.ensures.faults ∙ ap (λ (s : Summary). s.faults + cond c.decide-decision.result.allowed 0 1) so_far.3 in (
       c.advance.ensures,
       ordered_more script rows i row inside c.row-item.is c.loop-row.done so_far.1,
       c.in_ok-write_row.ensures.ok
-      ∙ ap (λ (n : ℕ). c.loop-row.report.items ++ report_row n row.access c.decide-decision.result) number
-      ∙ ap (λ (l : List ℕ). l ++ report_row (i + 1) row.access c.decide-decision.result) so_far.2
-      ∙ append_assoc c.args.report.now.items (report_text script (take i rows)) (report_row (i + 1) row.access c.decide-decision.result)
-      ∙ ap (λ (l : List ℕ). c.args.report.now.items ++ l) (sym (reported_more script rows i row inside c.row-item.is c.decide-decision.result decided)),
+          ∙ ap (λ (n : ℕ). c.loop-row.report.items ++ report_row n row.access c.decide-decision.result) number
+          ∙ ap (λ (l : List ℕ). l ++ report_row (i + 1) row.access c.decide-decision.result) so_far.2
+          ∙ append_assoc c.args.report.now.items (report_text script (take i rows)) (report_row (i + 1) row.access c.decide-decision.result)
+          ∙ ap (λ (l : List ℕ). c.args.report.now.items ++ l) (sym (reported_more script rows i row inside c.row-item.is c.decide-decision.result decided)),
       summed_more script rows i row inside c.row-item.is c.count.new.self c.decide-decision.result decided number faults,
       decided_more script rows i row inside c.row-item.is c.advance.new.file c.decide-decision.result c.advance.ensures c.decide-decision.ensures.computed c.decide-decision.ensures.by_bytes so_far.4,
     )

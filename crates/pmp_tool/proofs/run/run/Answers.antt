@@ -1,6 +1,7 @@
 use Rattle.std.proofs.Common.{ap, Err}
 use Rattle.std.proofs.lemmas.Result.{err_from_is_err_and}
-use Rattle.pmp_tool.proofs.Running.{unread_script, unchecked_script, unchecked_keeps, undumped_script, undumped_keeps}
+use Rattle.pmp_tool.specs.declared.command.Request.TheVariants.{Audit}
+use Rattle.pmp_tool.proofs.Running.{unread_script, unread_trace, unaudited_input, unchecked_script, unchecked_keeps, undumped_script, undumped_keeps}
 use Rattle.pmp_tool.proofs.run.run.Goals as goal
 
 pub returns-in_err-command-clause-faulty : goal.returns-in_err-command-clause-faulty
@@ -11,18 +12,17 @@ returns-in_err-command-clause-faulty g c =
 pub returns-in_err-script-clause-faulty : goal.returns-in_err-script-clause-faulty
 returns-in_err-script-clause-faulty g c =
     let p = err_from_is_err_and c.from_residual-in_err-script.result c.from_residual-in_err-script.ensures.1 in
-    let asked = c.in_ok-command.ensures.ok in
-    rw (p.1, p.2) (unread_script _ c.in_ok-command.command.script.now c.in_ok-command.command.request asked (g.I.Inputs.held c.args.inputs.now) c.in_err-script.field-0.0 (λ e. c.in_err-script.ensures.too_long (ap Err e)))
+    rw (p.1, p.2) (unread_script _ (g.I.Inputs.scripts c.args.inputs.now) (g.I.Inputs.traces c.args.inputs.now) c.in_ok-command.command.script.now c.in_ok-command.command.request c.in_ok-command.ensures.ok c.in_err-script.field-0.0 (λ e. c.in_err-script.ensures.too_long (ap Err e)))
 
 pub returns-in_err-check-in-Check-clause-faulty : goal.returns-in_err-check-in-Check-clause-faulty
 returns-in_err-check-in-Check-clause-faulty g c =
     let p = err_from_is_err_and c.from_residual-in_err-check-in-Check.result c.from_residual-in_err-check-in-Check.ensures.1 in
-    rw (p.1, p.2) (unchecked_script _ c.in_ok-command.command.script.now c.in_ok-command.command.request c.in_ok-command.ensures.ok c.in-Check.access (g.I.Inputs.held c.args.inputs.now) c.in_ok-script.script.items _ _ c.in_err-check-in-Check.field-0.0 c.in_ok-script.ensures.read (rw c.deref.ensures.value at c.in_err-check-in-Check.ensures.err))
+    rw (p.1, p.2) (unchecked_script _ (g.I.Inputs.scripts c.args.inputs.now) (g.I.Inputs.traces c.args.inputs.now) c.in_ok-command.command.script.now c.in_ok-command.command.request c.in_ok-command.ensures.ok c.in_ok-script.script.items c.in_ok-script.ensures.read _ _ c.in-Check.access c.in_err-check-in-Check.field-0.0 (rw c.deref.ensures.value at c.in_err-check-in-Check.ensures.err))
 
 pub returns-in_err-dump-in-Dump-clause-faulty : goal.returns-in_err-dump-in-Dump-clause-faulty
 returns-in_err-dump-in-Dump-clause-faulty g c =
     let p = err_from_is_err_and c.from_residual-in_err-dump-in-Dump.result c.from_residual-in_err-dump-in-Dump.ensures.1 in
-    rw (p.1, p.2) (undumped_script _ c.in_ok-command.command.script.now c.in_ok-command.command.request c.in_ok-command.ensures.ok (g.I.Inputs.held c.args.inputs.now) c.in_ok-script.script.items _ _ c.in_err-dump-in-Dump.field-0.0 c.in_ok-script.ensures.read (rw c.deref-in-Dump.ensures.value at c.in_err-dump-in-Dump.ensures.err))
+    rw (p.1, p.2) (undumped_script _ (g.I.Inputs.scripts c.args.inputs.now) (g.I.Inputs.traces c.args.inputs.now) c.in_ok-command.command.script.now c.in_ok-command.command.request c.in_ok-command.ensures.ok c.in_ok-script.script.items c.in_ok-script.ensures.read _ _ c.in_err-dump-in-Dump.field-0.0 (rw c.deref-in-Dump.ensures.value at c.in_err-dump-in-Dump.ensures.err))
 
 pub returns-in_err-check-in-Check-clause-untouched : goal.returns-in_err-check-in-Check-clause-untouched
 returns-in_err-check-in-Check-clause-untouched g c =
@@ -33,3 +33,16 @@ pub returns-in_err-dump-in-Dump-clause-untouched : goal.returns-in_err-dump-in-D
 returns-in_err-dump-in-Dump-clause-untouched g c =
     let p = err_from_is_err_and c.from_residual-in_err-dump-in-Dump.result c.from_residual-in_err-dump-in-Dump.ensures.1 in
     rw (p.1, p.2) (undumped_keeps c.in_ok-script.script.items _ _ c.in_err-dump-in-Dump.field-0.0 (rw c.deref-in-Dump.ensures.value at c.in_err-dump-in-Dump.ensures.err))
+
+pub returns-in_err-trace-in-Audit-clause-faulty : goal.returns-in_err-trace-in-Audit-clause-faulty
+returns-in_err-trace-in-Audit-clause-faulty g c =
+    let p = err_from_is_err_and c.from_residual-in_err-trace-in-Audit.result c.from_residual-in_err-trace-in-Audit.ensures.1 in
+    let long = rw c.in_ok-script.ensures.traces at c.in_err-trace-in-Audit.ensures.too_long in
+    rw (p.1, p.2) (unread_trace _ (g.I.Inputs.scripts c.args.inputs.now) (g.I.Inputs.traces c.args.inputs.now) c.in_ok-command.command.script.now (Audit c.in-Audit.trace) (rw c.in-Audit.is at c.in_ok-command.ensures.ok) c.in-Audit.trace.now (λ text faulty. faulty) c.in_err-trace-in-Audit.field-0.0 (λ e. long (ap Err e)))
+
+pub returns-in_err-audit-in-Audit-clause-faulty : goal.returns-in_err-audit-in-Audit-clause-faulty
+returns-in_err-audit-in-Audit-clause-faulty g c =
+    let p = err_from_is_err_and c.from_residual-in_err-audit-in-Audit.result c.from_residual-in_err-audit-in-Audit.ensures.1 in
+    let known = rw c.in_ok-script.ensures.traces at c.in_ok-trace-in-Audit.ensures.read in
+    rw (p.1, p.2) (unaudited_input _ (g.I.Inputs.scripts c.args.inputs.now) (g.I.Inputs.traces c.args.inputs.now) c.in_ok-command.command.script.now (Audit c.in-Audit.trace) (rw c.in-Audit.is at c.in_ok-command.ensures.ok) c.in-Audit.trace.now (λ text faulty. faulty) c.in_ok-script.script.items c.in_ok-script.ensures.read c.in_ok-trace-in-Audit.trace.items known _ _ c.in_err-audit-in-Audit.field-0.0
+    (rw (c.deref-in-Audit.ensures.value, c.deref-in-Audit-2.ensures.value) at c.in_err-audit-in-Audit.ensures.err))

@@ -1,5 +1,6 @@
 //! `pmp dump` on worked examples.
 
+use super::checks::assert_refused;
 use super::*;
 
 const NAMES: [&str; 19] = [
@@ -185,21 +186,4 @@ fn resets_fill_a_batch(rt: HostRuntime) -> Result<(), Fail> {
     }
     let line = "pmp: script line 66: refused 15 BatchFull";
     assert_refused(&rt, script.as_bytes(), "dump table", line, 2)
-}
-
-#[test]
-fn a_full_output_takes_no_dump(rt: HostRuntime) -> Result<(), Fail> {
-    let alloc = rt.alloc();
-    let mut words = Vec::new(alloc);
-    words.push("dump".to_string(alloc)?)?;
-    words.push("table".to_string(alloc)?)?;
-    let mut inputs = Table {
-        alloc,
-        script: b"pmp 1",
-    };
-    let mut err = Vec::new(alloc);
-    let status = run_tool(alloc, &words, &mut inputs, &mut Full, &mut err);
-    assert_eq!(rt; err.as_slice(), b"pmp: refused 42 Output\n".as_slice());
-    assert_eq!(rt; status, 3);
-    Ok(())
 }

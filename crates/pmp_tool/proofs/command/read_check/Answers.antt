@@ -2,9 +2,9 @@ use Rattle.std.proofs.Common.{◌≡◌, [], ◌∷◌, map, string_bytes, codes
 use Rattle.std.proofs.lemmas.Bool.{not-false}
 use Rattle.std.proofs.lemmas.Result.{err_from_is_err_and}
 use Rattle.std.proofs.lemmas.Slice.Eq.{bytes_eq-Decides}
-use Rattle.pmp_tool.proofs.Running.{six_words, asks_for_none, words_status}
-use Rattle.pmp_tool.proofs.run.read_check.Goals as goal
-use Rattle.pmp_tool.proofs.run.read_check.Goals.{After-read_access}
+use Rattle.pmp_tool.proofs.Wording.{six_words, asks_for_none, words_status}
+use Rattle.pmp_tool.proofs.command.read_check.Goals as goal
+use Rattle.pmp_tool.proofs.command.read_check.Goals.{After-read_access}
 
 six : (c : After-read_access)
     → map string_bytes c.args.words.now ≡ string_bytes c.command-item.result ∷ string_bytes c.script-item.result ∷ string_bytes c.mode-item.result ∷ string_bytes c.kind-item.result ∷ string_bytes c.start-item.result ∷ string_bytes c.length-item.result ∷ []

@@ -1,8 +1,8 @@
 use Rattle.std.proofs.Common.{◌≡◌, map, string_bytes, codes, refl, sym, ap, ◌∙◌}
 use Rattle.std.proofs.lemmas.Bool.{not-false}
 use Rattle.std.proofs.lemmas.Slice.Eq.{bytes_eq-Decides}
-use Rattle.pmp_tool.proofs.Running.{two_words}
-use Rattle.pmp_tool.proofs.run.read_command.Goals as goal
+use Rattle.pmp_tool.proofs.Wording.{two_words}
+use Rattle.pmp_tool.proofs.command.read_command.Goals as goal
 
 pub returns-clause-ok : goal.returns-clause-ok
 returns-clause-ok c =

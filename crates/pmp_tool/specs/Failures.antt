@@ -1,0 +1,36 @@
+-- How the program tells of a failure, and the status of that.
+use Rattle.std.specs.Prelude.{ℕ, Option, Some, None, ◌==◌, if◌then◌else◌}
+use Rattle.pmp_audit.specs.declared.fault.AuditFault.{AuditFault}
+use Rattle.pmp_audit.specs.declared.fault.AuditFault.TheVariants as audit
+use Rattle.pmp_tool.specs.declared.failure.Failure.{Failure}
+use Rattle.pmp_tool.specs.declared.failure.Failure.TheVariants.{Usage, Refused}
+use Rattle.pmp_tool.specs.declared.refusal.Place.{Place}
+use Rattle.pmp_tool.specs.declared.refusal.Place.TheVariants.{ScriptLine, TraceRow}
+use Rattle.pmp_tool.specs.declared.refusal.Refusal.{Refusal}
+use Rattle.pmp_tool.specs.declared.refusal.Refusal.TheVariants.{BadAfter, Memory, Output}
+use Rattle.pmp_tool.specs.Refusals.{status_of, refusal_of_script, refusal_of_trace}
+
+abbrev pub failure_status : Failure → ℕ
+failure_status Usage = 2
+failure_status (Refused line) = status_of line.refusal
+
+-- a refusal at a place, where one is known
+abbrev pub refused_at : Refusal → Option Place → Failure
+refused_at refusal place = Refused (record { refusal = refusal; place = place })
+
+abbrev pub refused : Refusal → Failure
+refused refusal = refused_at refusal None
+
+-- line 0 stands for none, and so does row 0
+abbrev pub script_place : ℕ → Option Place
+script_place line = if line == 0 then None else Some (ScriptLine line)
+
+abbrev pub trace_place : ℕ → Option Place
+trace_place row = if row == 0 then None else Some (TraceRow row)
+
+abbrev pub unaudited : AuditFault → Failure
+unaudited (audit.Script fault) = refused_at (refusal_of_script fault.kind) (script_place fault.line)
+unaudited (audit.Trace fault) = refused_at (refusal_of_trace fault.kind) (trace_place fault.row)
+unaudited audit.BadAfter = refused BadAfter
+unaudited audit.Memory = refused Memory
+unaudited audit.Output = refused Output

@@ -1,0 +1,144 @@
+//! `pmp audit` on worked examples.
+
+use super::*;
+
+/// Two publications: entry 0 reads a page, then entry 1 does in its place.
+const SCRIPT: &str =
+    "pmp 1\nwrite pmpaddr0 0x200001ff\nwrite pmpcfg0 0x19\npublish\nwrite pmpcfg0 0x1900\nwrite pmpaddr1 0x200001ff\npublish\n";
+
+const HEADER: &str = "after,mode,kind,start,length";
+
+const REPORT: &str = "1,fault,5,none,\n2,allow,,rule,0\n3,fault,7,rule,0\n4,allow,,rule,1\n";
+
+fn audit<R: AllocGlobal>(rt: &R, script: &str, trace: &str) -> Result<Answer, AllocError> {
+    let inputs = Table {
+        alloc: rt.alloc(),
+        script: script.as_bytes(),
+        trace: trace.as_bytes(),
+    };
+    run_on(inputs, "audit table trace")
+}
+
+fn assert_report<R: Abort + AllocGlobal>(
+    rt: &R,
+    trace: &str,
+    report: &str,
+    status: u8,
+) -> Result<(), Fail> {
+    let answer = audit(rt, SCRIPT, trace)?;
+    assert_eq!(rt; answer.out.as_slice(), report.as_bytes(), "{trace}");
+    assert!(rt; answer.err.is_empty(), "{trace}");
+    assert_eq!(rt; answer.status, status, "{trace}");
+    Ok(())
+}
+
+fn assert_faulty<R: Abort + AllocGlobal>(
+    rt: &R,
+    script: &str,
+    rows: &str,
+    line: &str,
+) -> Result<(), Fail> {
+    let trace = format!(in rt.alloc(); "{HEADER}\n{rows}\n")?;
+    let answer = audit(rt, script, trace.as_str())?;
+    let line = format!(in rt.alloc(); "pmp: {line}\n")?;
+    assert_eq!(rt; answer.err.as_slice(), line.as_bytes(), "{rows}");
+    assert!(rt; answer.out.is_empty(), "{rows}");
+    assert_eq!(rt; answer.status, 2, "{rows}");
+    Ok(())
+}
+
+#[test]
+fn each_row_is_decided_after_its_publications(rt: HostRuntime) -> Result<(), Fail> {
+    for trace in [
+        "after,mode,kind,start,length\n0,U,load,0x80000000,4\n1,U,load,0x80000000,4\n1,U,store,0x80000000,4\n2,U,load,0x80000000,4\n",
+        "after,mode,kind,start,length\r\n0,U,load,0x80000000,4\r\n1,U,load,0x80000000,4\r\n1,U,store,0x80000000,4\r\n2,U,load,0x80000000,4\r\n",
+        "after,mode,kind,start,length\n0,U,load,0x80000000,4\n1,U,load,0x80000000,4\n1,U,store,0x80000000,4\n2,U,load,0x80000000,4",
+        "\"after\",\"mode\",\"kind\",\"start\",\"length\"\n\"0\",\"U\",\"load\",\"0x80000000\",\"4\"\n\"1\",\"U\",\"load\",\"0x80000000\",\"4\"\n\"1\",\"U\",\"store\",\"0x80000000\",\"4\"\n\"2\",\"U\",\"load\",\"0x80000000\",\"4\"\n",
+    ] {
+        assert_report(&rt, trace, REPORT, 1)?;
+    }
+    Ok(())
+}
+
+#[test]
+fn rows_that_are_all_allowed_end_well(rt: HostRuntime) -> Result<(), Fail> {
+    assert_report(&rt, HEADER, "", 0)?;
+    assert_report(
+        &rt,
+        "after,mode,kind,start,length\n1,U,load,0x80000000,4\n2,M,store,0x0,4096\n",
+        "1,allow,,rule,0\n2,allow,,none,\n",
+        0,
+    )
+}
+
+#[test]
+fn traces_are_refused_with_their_row(rt: HostRuntime) -> Result<(), Fail> {
+    for (rows, line) in [
+        (
+            "1,U,load,0x0,4\n0,U,load,0x0,4",
+            "trace row 2: refused 23 Order",
+        ),
+        ("3,U,load,0x0,4", "trace row 1: refused 22 BadAfter"),
+        ("0,U,load,0x0", "trace row 1: refused 21 BadRow"),
+        ("0,u,load,0x0,4", "trace row 1: refused 21 BadRow"),
+        ("0,U,load,0x0,0", "trace row 1: refused 3 BadLength"),
+        (
+            "0,U,load,0xffffffffffffff,2",
+            "trace row 1: refused 4 PastEnd",
+        ),
+        ("3,U,load,0x0,0", "trace row 1: refused 22 BadAfter"),
+    ] {
+        assert_faulty(&rt, SCRIPT, rows, line)?;
+    }
+    let empty = audit(&rt, SCRIPT, "")?;
+    assert_eq!(rt;
+        empty.err.as_slice(),
+        b"pmp: refused 20 BadHeader\n".as_slice()
+    );
+    assert!(rt; empty.out.is_empty());
+    assert_eq!(rt; empty.status, 2);
+    Ok(())
+}
+
+#[test]
+fn a_fault_of_the_script_comes_before_any_of_the_trace(rt: HostRuntime) -> Result<(), Fail> {
+    assert_faulty(
+        &rt,
+        "pmp 1\nreset\n",
+        "x",
+        "script line 2: refused 16 Unpublished",
+    )?;
+    assert_faulty(
+        &rt,
+        "pmp 2\n",
+        "9,U,load,0x0,4",
+        "script line 1: refused 10 BadVersion",
+    )
+}
+
+#[test]
+fn both_inputs_are_read_before_either_is_judged(rt: HostRuntime) -> Result<(), Fail> {
+    for (words, line, status) in [
+        ("audit table nothing", "pmp: refused 41 Input\n", 3),
+        ("audit nothing trace", "pmp: refused 41 Input\n", 3),
+        ("audit table stdin", "pmp: refused 41 Input\n", 3),
+        ("audit table long", "pmp: refused 17 TooLong\n", 2),
+        ("audit long nothing", "pmp: refused 17 TooLong\n", 2),
+        (
+            "audit table trace",
+            "pmp: script line 1: refused 10 BadVersion\n",
+            2,
+        ),
+    ] {
+        let inputs = Table {
+            alloc: rt.alloc(),
+            script: b"",
+            trace: b"",
+        };
+        let answer = run_on(inputs, words)?;
+        assert_eq!(rt; answer.err.as_slice(), line.as_bytes(), "{words}");
+        assert!(rt; answer.out.is_empty(), "{words}");
+        assert_eq!(rt; answer.status, status, "{words}");
+    }
+    Ok(())
+}
