@@ -2,7 +2,7 @@
 PREFIX ?= /usr/local
 PROGRAM = crates/pmp_tool/out/pmp_tool
 
-.PHONY: build install bench
+.PHONY: build install bench bench-decide bench-audit
 
 # The launcher builds the program where that is due.
 build:
@@ -12,10 +12,17 @@ install: build
 	install -d "$(DESTDIR)$(PREFIX)/bin"
 	install -m 755 $(PROGRAM) "$(DESTDIR)$(PREFIX)/bin/pmp"
 
-# Proves and builds the library, and times it beside a plain C unit.
-bench:
+# Proves and builds the library and the program, and times them beside plain C.
+bench: bench-decide bench-audit
+
+bench-decide:
 	@mkdir -p bench/out
 	@echo "proving and building the library; the log is bench/out/library.log"
 	@(cd crates/pmp_bench && rt lib --jobs 2) >bench/out/library.log 2>&1 || { cat bench/out/library.log >&2; exit 1; }
 	gcc -O2 -std=c11 -Wall -Wextra bench/decide.c crates/pmp_bench/out/libpmp_bench.a -o bench/out/decide
 	bench/out/decide
+
+bench-audit: build
+	@mkdir -p bench/out
+	gcc -O2 -std=c11 -Wall -Wextra bench/audit.c -o bench/out/audit
+	bench/out/audit $(PROGRAM)

@@ -1,137 +1,16 @@
 /* Times the proved unit beside a plain C one, over the same writes and accesses. */
 #define _POSIX_C_SOURCE 199309L
-#include <stdint.h>
+#include "plain_unit.h"
 #include <stdio.h>
 #include <stdlib.h>
-#include <string.h>
 #include <time.h>
 
-enum { ENTRIES = 16, COUNT = 100000, ROUNDS = 60, SMALL_FILES = 3000, SMALL_COUNT = 200 };
-
-enum { USER = 0, SUPERVISOR = 1, MACHINE = 3 };
-enum { FETCH = 0, LOAD = 1, STORE = 2 };
-enum { SPLIT = 256, NO_MATCH = 512, ALLOWED = 1024 };
-enum { PMPCFG0 = 0x3a0, PMPCFG2 = 0x3a2, PMPADDR0 = 0x3b0 };
-
-struct write {
-    uint16_t number;
-    uint64_t value;
-};
-
-struct request {
-    uint64_t start;
-    uint64_t length;
-    uint8_t mode;
-    uint8_t kind;
-};
+enum { COUNT = 100000, ROUNDS = 60, SMALL_FILES = 3000, SMALL_COUNT = 200 };
 
 /* The proved unit: decides the requests after the writes from reset, and counts the allowed ones.
    There must be as many answers as requests. */
 size_t pmp_bench_decide(const struct write *writes, size_t write_count, const struct request *requests,
                         size_t request_count, uint16_t *answers, size_t answer_count);
-
-/* The plain unit, whose mseccfg is always zero. */
-
-enum { READABLE = 1, WRITABLE = 2, EXECUTABLE = 4, LOCKED = 128 };
-enum { OFF = 0, TOP_OF_RANGE = 1, FOUR_BYTES = 2 };
-
-struct range {
-    uint64_t low;
-    uint64_t high;
-    uint8_t machine_rights;
-    uint8_t other_rights;
-};
-
-struct unit {
-    uint8_t configuration[ENTRIES];
-    uint64_t address[ENTRIES];
-    struct range range[ENTRIES];
-};
-
-static const uint8_t needed[3] = {EXECUTABLE, READABLE, WRITABLE};
-
-static int matching(const struct unit *unit, unsigned entry) {
-    return unit->configuration[entry] >> 3 & 3;
-}
-
-static int is_locked(const struct unit *unit, unsigned entry) {
-    return (unit->configuration[entry] & LOCKED) != 0;
-}
-
-static void decode(struct unit *unit, unsigned entry) {
-    struct range *range = &unit->range[entry];
-    uint64_t address = unit->address[entry];
-    uint64_t ones = address ^ (address + 1);
-    switch (matching(unit, entry)) {
-    case OFF:
-        range->low = range->high = 0;
-        break;
-    case TOP_OF_RANGE:
-        range->low = entry == 0 ? 0 : unit->address[entry - 1] << 2;
-        range->high = address << 2;
-        if (range->low >= range->high)
-            range->low = range->high = 0;
-        break;
-    case FOUR_BYTES:
-        range->low = address << 2;
-        range->high = range->low + 4;
-        break;
-    default:
-        range->low = (address & ~ones) << 2;
-        range->high = range->low + ((ones + 1) << 2);
-    }
-    range->other_rights = unit->configuration[entry] & 7;
-    range->machine_rights = is_locked(unit, entry) ? range->other_rights : 7;
-}
-
-static void write_configurations(struct unit *unit, unsigned first, uint64_t value) {
-    for (unsigned place = 0; place < 8; place++) {
-        uint8_t byte = value >> (8 * place) & 0x9f;
-        if (is_locked(unit, first + place))
-            continue;
-        if ((byte & (WRITABLE | READABLE)) == WRITABLE)
-            byte &= 0x98;
-        unit->configuration[first + place] = byte;
-        decode(unit, first + place);
-    }
-}
-
-static void write_address(struct unit *unit, unsigned entry, uint64_t value) {
-    unsigned next = entry + 1;
-    if (is_locked(unit, entry))
-        return;
-    if (next < ENTRIES && is_locked(unit, next) && matching(unit, next) == TOP_OF_RANGE)
-        return;
-    unit->address[entry] = value & ((UINT64_C(1) << 54) - 1);
-    decode(unit, entry);
-    if (next < ENTRIES && matching(unit, next) == TOP_OF_RANGE)
-        decode(unit, next);
-}
-
-static void write_register(struct unit *unit, const struct write *write) {
-    if (write->number == PMPCFG0)
-        write_configurations(unit, 0, write->value);
-    else if (write->number == PMPCFG2)
-        write_configurations(unit, 8, write->value);
-    else if (write->number >= PMPADDR0 && write->number < PMPADDR0 + ENTRIES)
-        write_address(unit, write->number - PMPADDR0, write->value);
-}
-
-/* Not inlined, like the proved one, so that each decision is a call, as in an emulator. */
-static __attribute__((noinline)) unsigned decide(const struct unit *unit, const struct request *request) {
-    uint64_t start = request->start, end = start + request->length;
-    int is_machine = request->mode == MACHINE;
-    for (unsigned entry = 0; entry < ENTRIES; entry++) {
-        const struct range *range = &unit->range[entry];
-        if (start >= range->high || end <= range->low)
-            continue;
-        if (start < range->low || end > range->high)
-            return SPLIT + entry;
-        uint8_t rights = is_machine ? range->machine_rights : range->other_rights;
-        return entry + (rights & needed[request->kind] ? ALLOWED : 0);
-    }
-    return NO_MATCH + (is_machine ? ALLOWED : 0);
-}
 
 static __attribute__((noinline)) size_t plain_decide(const struct write *writes, size_t write_count,
                                                      const struct request *requests, size_t request_count,
@@ -139,9 +18,7 @@ static __attribute__((noinline)) size_t plain_decide(const struct write *writes,
     struct unit unit;
     size_t allowed = 0;
     (void)answer_count;
-    memset(&unit, 0, sizeof unit);
-    for (unsigned entry = 0; entry < ENTRIES; entry++)
-        unit.range[entry].machine_rights = 7;
+    reset(&unit);
     for (size_t i = 0; i < write_count; i++)
         write_register(&unit, &writes[i]);
     for (size_t i = 0; i < request_count; i++) {
@@ -158,26 +35,6 @@ static struct write writes[COUNT + 32];
 static struct request requests[COUNT];
 static uint16_t proved_answers[COUNT], plain_answers[COUNT];
 static size_t write_count, request_count;
-
-static uint64_t next_random(void) {
-    static uint64_t state = UINT64_C(0x9e3779b97f4a7c15);
-    state ^= state >> 12;
-    state ^= state << 25;
-    state ^= state >> 27;
-    return state * UINT64_C(0x2545f4914f6cdd1d) >> 16;
-}
-
-static uint64_t below(uint64_t limit) {
-    return next_random() % limit;
-}
-
-static uint64_t region(uint64_t index) {
-    return UINT64_C(0x80000000) + index * 0x10000;
-}
-
-static uint64_t napot_of_page(uint64_t base) {
-    return base >> 2 | 0x1ff;
-}
 
 static void add_write(uint16_t number, uint64_t value) {
     writes[write_count++] = (struct write){number, value};

@@ -1,0 +1,232 @@
+/* Times `pmp audit` on a long trace beside a plain C audit that reads the same files. */
+#define _GNU_SOURCE
+#include "plain_unit.h"
+#include <fcntl.h>
+#include <inttypes.h>
+#include <stdio.h>
+#include <stdlib.h>
+#include <sys/resource.h>
+#include <sys/stat.h>
+#include <sys/wait.h>
+#include <time.h>
+#include <unistd.h>
+
+enum { MAX_TRACE = 16777216, PUBLICATIONS = 10, ROUNDS = 7, MAX_EVENTS = 64 };
+
+#define SCRIPT "bench/out/audit.pmp"
+#define TRACE "bench/out/audit.csv"
+#define PROVED_REPORT "bench/out/audit.proved"
+#define PLAIN_REPORT "bench/out/audit.plain"
+
+static void *checked(void *pointer, const char *what) {
+    if (pointer == NULL) {
+        perror(what);
+        exit(2);
+    }
+    return pointer;
+}
+
+/* What both are given. */
+
+/* Each publication sets one more region of 4 KiB, 64 KiB apart, readable, writable or both. */
+static void write_script(void) {
+    FILE *file = checked(fopen(SCRIPT, "w"), SCRIPT);
+    uint64_t low = 0, high = 0;
+    fprintf(file, "pmp 1\n");
+    for (unsigned i = 0; i < PUBLICATIONS; i++) {
+        uint64_t byte = 0x19 + 2 * (i % 2);
+        *(i < 8 ? &low : &high) |= byte << (8 * (i % 8));
+        fprintf(file, "write pmpaddr%u 0x%" PRIx64 "\n", i, napot_of_page(region(i)));
+        fprintf(file, "write pmpcfg%u 0x%" PRIx64 "\npublish\n", i < 8 ? 0 : 2, i < 8 ? low : high);
+    }
+    fclose(file);
+}
+
+/* As many rows as fit, in order of their publications; most hit a region. */
+static size_t write_trace(void) {
+    static const char *modes = "MSU", *kinds[3] = {"fetch", "load", "store"};
+    FILE *file = checked(fopen(TRACE, "w"), TRACE);
+    size_t size = fprintf(file, "after,mode,kind,start,length\n"), rows = 0;
+    for (;;) {
+        char row[64];
+        unsigned after = size * (PUBLICATIONS + 1) / MAX_TRACE;
+        uint64_t start = region(below(PUBLICATIONS)) + below(0x1100);
+        int length = snprintf(row, sizeof row, "%u,%c,%s,0x%" PRIx64 ",8\n", after, modes[below(3)], kinds[below(3)], start);
+        if (size + length >= MAX_TRACE)
+            break;
+        fputs(row, file);
+        size += length;
+        rows++;
+    }
+    fclose(file);
+    return rows;
+}
+
+/* The plain audit. */
+
+static char *read_all(const char *path, size_t *size) {
+    FILE *file = checked(fopen(path, "r"), path);
+    struct stat about;
+    fstat(fileno(file), &about);
+    char *bytes = checked(malloc(about.st_size + 1), "malloc");
+    *size = fread(bytes, 1, about.st_size, file);
+    bytes[*size] = '\0';
+    fclose(file);
+    return bytes;
+}
+
+struct publication {
+    size_t count;
+    struct write writes[MAX_EVENTS];
+};
+
+static size_t read_publications(char *text, struct publication *publications) {
+    size_t done = 0;
+    for (char *line = strtok(text, "\n"); line != NULL; line = strtok(NULL, "\n")) {
+        unsigned number;
+        uint64_t value;
+        struct publication *batch = &publications[done];
+        if (sscanf(line, "write pmpaddr%u 0x%" SCNx64, &number, &value) == 2)
+            batch->writes[batch->count++] = (struct write){PMPADDR0 + number, value};
+        else if (sscanf(line, "write pmpcfg%u 0x%" SCNx64, &number, &value) == 2)
+            batch->writes[batch->count++] = (struct write){PMPCFG0 + number, value};
+        else if (strcmp(line, "publish") == 0)
+            done++;
+    }
+    return done;
+}
+
+/* A number in decimal, or in hexadecimal after 0x, and the place behind the byte that ends it. */
+static uint64_t read_number(char **at) {
+    uint64_t number = 0;
+    char *here = *at;
+    if (here[0] == '0' && here[1] == 'x') {
+        for (here += 2; *here != ',' && *here != '\n'; here++)
+            number = number << 4 | (*here <= '9' ? *here - '0' : (*here | 32) - 'a' + 10);
+    } else {
+        for (; *here != ',' && *here != '\n'; here++)
+            number = 10 * number + (*here - '0');
+    }
+    *at = here + 1;
+    return number;
+}
+
+static struct request read_access(char **at) {
+    struct request request;
+    request.mode = **at == 'M' ? MACHINE : **at == 'S' ? SUPERVISOR : USER;
+    *at += 2;
+    request.kind = **at == 'f' ? FETCH : **at == 'l' ? LOAD : STORE;
+    *at = strchr(*at, ',') + 1;
+    request.start = read_number(at);
+    request.length = read_number(at);
+    return request;
+}
+
+static void write_answer(FILE *report, size_t row, unsigned answer, uint8_t kind) {
+    static const int codes[3] = {1, 5, 7};
+    unsigned entry = answer & 255;
+    const char *cause = answer & SPLIT ? "split" : answer & NO_MATCH ? "none" : "rule";
+    fprintf(report, "%zu,", row);
+    if (answer & ALLOWED)
+        fprintf(report, "allow,,%s,", cause);
+    else
+        fprintf(report, "fault,%d,%s,", codes[kind], cause);
+    if (answer & NO_MATCH)
+        fputc('\n', report);
+    else
+        fprintf(report, "%u\n", entry);
+}
+
+static void plain_audit(void) {
+    static struct publication publications[PUBLICATIONS + 1];
+    size_t size, row = 0, done = 0;
+    struct unit unit;
+    read_publications(read_all(SCRIPT, &size), publications);
+    char *text = read_all(TRACE, &size), *end = text + size;
+    FILE *report = checked(fopen(PLAIN_REPORT, "w"), PLAIN_REPORT);
+    reset(&unit);
+    for (char *at = strchr(text, '\n') + 1; at < end;) {
+        uint64_t after = read_number(&at);
+        struct request request = read_access(&at);
+        for (; done < after; done++)
+            for (size_t i = 0; i < publications[done].count; i++)
+                write_register(&unit, &publications[done].writes[i]);
+        write_answer(report, ++row, decide(&unit, &request), request.kind);
+    }
+    fclose(report);
+}
+
+/* The runs. */
+
+struct run {
+    double seconds;
+    double mebibytes;
+};
+
+static double seconds(void) {
+    struct timespec time;
+    clock_gettime(CLOCK_MONOTONIC, &time);
+    return time.tv_sec + 1e-9 * time.tv_nsec;
+}
+
+/* Runs a command with its output in a file. */
+static struct run run(char *const words[], const char *output) {
+    double before = seconds();
+    struct rusage usage;
+    int status;
+    pid_t child = fork();
+    if (child == 0) {
+        int file = open(output, O_WRONLY | O_CREAT | O_TRUNC, 0644);
+        if (file >= 0 && dup2(file, STDOUT_FILENO) >= 0)
+            execv(words[0], words);
+        _exit(127);
+    }
+    if (wait4(child, &status, 0, &usage) != child || !WIFEXITED(status) || WEXITSTATUS(status) > 1) {
+        fprintf(stderr, "%s failed\n", words[0]);
+        exit(2);
+    }
+    return (struct run){seconds() - before, usage.ru_maxrss / 1024.0};
+}
+
+static struct run best_of_rounds(char *const words[], const char *output) {
+    struct run best = {1e18, 0};
+    for (unsigned round = 0; round < ROUNDS; round++) {
+        struct run one = run(words, output);
+        if (one.seconds < best.seconds)
+            best.seconds = one.seconds;
+        if (one.mebibytes > best.mebibytes)
+            best.mebibytes = one.mebibytes;
+    }
+    return best;
+}
+
+static void tell(const char *name, struct run run, size_t rows) {
+    double trace = MAX_TRACE / 1048576.0;
+    printf("%-10s %6.3f s %12.0f rows/s %7.1f MiB, %.1f times the trace\n", name, run.seconds, rows / run.seconds, run.mebibytes,
+           run.mebibytes / trace);
+}
+
+int main(int count, char **words) {
+    if (count != 2) {
+        fprintf(stderr, "usage: audit PROGRAM, or audit plain\n");
+        return 2;
+    }
+    if (strcmp(words[1], "plain") == 0) {
+        plain_audit();
+        return 0;
+    }
+    write_script();
+    size_t rows = write_trace(), proved_size, plain_size;
+    struct run proved = best_of_rounds((char *const[]){words[1], "audit", SCRIPT, TRACE, NULL}, PROVED_REPORT);
+    struct run plain = best_of_rounds((char *const[]){words[0], "plain", NULL}, "/dev/null");
+    char *one = read_all(PROVED_REPORT, &proved_size), *other = read_all(PLAIN_REPORT, &plain_size);
+    if (proved_size != plain_size || memcmp(one, other, plain_size) != 0) {
+        fprintf(stderr, "the reports differ\n");
+        return 1;
+    }
+    printf("%zu rows, %d publications, the same report of %zu bytes\n", rows, PUBLICATIONS, plain_size);
+    tell("proved", proved, rows);
+    tell("plain C", plain, rows);
+    printf("ratio      %6.2f\n", proved.seconds / plain.seconds);
+    return 0;
+}
