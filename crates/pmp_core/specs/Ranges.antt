@@ -1,4 +1,4 @@
--- The same decision computed from the entries' ranges: `laws::decided_by_ranges` says that it is the manual's.
+-- The same decision computed from the entries' ranges: `laws::law_decided_by_ranges` says that it is the manual's.
 use Rattle.std.specs.Prelude.{ℕ, suc, ◌+◌, ◌*◌, ◌/◌, ◌^◌, ◌<◌, ◌≤◌, Bool, false, ◌&&◌, nat_le, nat_lt, min, max, if◌then◌else◌, List, [], ◌∷◌, length, map}
 use Rattle.std.specs.List.{range_with_len}
 use Rattle.std.specs.Int.{w64, trailing_ones}

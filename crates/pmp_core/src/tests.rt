@@ -5,128 +5,78 @@ ghost use Rattle.std.specs.Prelude.{◌≡◌, length};
 use super::*;
 use std::process::Abort;
 
-/// The values that registers read after events from reset, as the manual's rules give them.
-#[test]
-fn registers_read_what_was_stored(rt: HostRuntime) {
-    let addr0 = |value| Event::Write(Csr::Addr(0), value);
-    let addr1 = |value| Event::Write(Csr::Addr(1), value);
-    let cfg0 = |value| Event::Write(Csr::Cfg(0), value);
-    let cases: [([Event; 4], Csr, u64); 8] = [
-        // Bits 63 to 54 of an address register read as zero.
-        (
-            [addr0(u64::MAX), cfg0(0x19), cfg0(0x19), cfg0(0x19)],
-            Csr::Addr(0),
-            0x003f_ffff_ffff_ffff,
-        ),
-        // The low end of a locked range keeps its address.
-        (
-            [addr0(0x10), addr1(0x20), cfg0(0x8900), addr0(0)],
-            Csr::Addr(0),
-            0x10,
-        ),
-        // The same with the range unlocked.
-        (
-            [addr0(0x10), addr1(0x20), cfg0(0x0900), addr0(0)],
-            Csr::Addr(0),
-            0,
-        ),
-        // The reserved W without R is stored as no right.
-        (
-            [cfg0(0x1a), cfg0(0x1a), cfg0(0x1a), cfg0(0x1a)],
-            Csr::Cfg(0),
-            0x18,
-        ),
-        // L locks an entry that is off.
-        ([cfg0(0x80), addr0(5), addr0(6), addr0(7)], Csr::Addr(0), 0),
-        // Bits 6 and 5 of a configuration byte read as zero.
-        (
-            [cfg0(0x7f), cfg0(0x60ff), cfg0(0x60ff), cfg0(0x60ff)],
-            Csr::Cfg(0),
-            0x009f,
-        ),
-        // Only the frozen byte of a write stays.
-        (
-            [cfg0(0x80), cfg0(0x0f0f), cfg0(0x0f0f), cfg0(0x0f0f)],
-            Csr::Cfg(0),
-            0x0f80,
-        ),
-        (
-            [cfg0(0x80), addr1(7), Event::Reset, addr1(9)],
-            Csr::Addr(1),
-            9,
-        ),
-    ];
-    for (events, csr, value) in cases {
-        let mut file = RegFile::reset();
-        file.run_events(&events);
-        assert_eq!(rt; file.read(csr), value, "{csr:?} after {events:?}");
-    }
+/// A write to `mseccfg`.
+fn security(value: u64) -> Event {
+    Event::Write(Csr::Mseccfg, value)
 }
 
-/// What `mseccfg` and the locks let a write change.
+/// A write to `pmpcfg0`.
+fn cfg0(value: u64) -> Event {
+    Event::Write(Csr::Cfg(0), value)
+}
+
+/// A write to an address register.
+fn addr(register: u8, value: u64) -> Event {
+    Event::Write(Csr::Addr(register), value)
+}
+
+/// Asserts what a register reads after these events from reset, by the manual's rules.
+fn assert_reads<R: Abort>(rt: &R, events: &[Event], csr: Csr, value: u64) {
+    let mut file = RegFile::reset();
+    file.run_events(events);
+    assert_eq!(rt; file.read(csr), value, "{csr:?} after {events:?}");
+}
+
 #[test]
-fn lockdown_and_bypass(rt: HostRuntime) {
-    let security = |value| Event::Write(Csr::Mseccfg, value);
-    let cfg0 = |value| Event::Write(Csr::Cfg(0), value);
-    let cases: [([Event; 4], Csr, u64); 9] = [
-        // Under lockdown W without R is a rule of its own.
-        (
-            [security(1), cfg0(0x1a), cfg0(0x1a), cfg0(0x1a)],
-            Csr::Cfg(0),
-            0x1a,
-        ),
-        // MML and MMWP are sticky, RLB isn't.
-        (
-            [security(7), security(0), security(0), security(0)],
-            Csr::Mseccfg,
-            3,
-        ),
-        // RLB doesn't rise over a lock, be the entry off or not.
-        (
-            [cfg0(0x80), security(4), security(4), security(4)],
-            Csr::Mseccfg,
-            0,
-        ),
-        (
-            [security(4), cfg0(0x99), security(0), security(4)],
-            Csr::Mseccfg,
-            0,
-        ),
-        // Only the barred byte of a write is left out, and bypass lets it in.
-        (
-            [security(1), cfg0(0x199c), cfg0(0x199c), cfg0(0x199c)],
-            Csr::Cfg(0),
-            0x1900,
-        ),
-        (
-            [security(5), cfg0(0x199c), cfg0(0x199c), cfg0(0x199c)],
-            Csr::Cfg(0),
-            0x199c,
-        ),
-        // Bypass lets a locked entry be written.
-        (
-            [security(4), cfg0(0x99), cfg0(0x18), cfg0(0x18)],
-            Csr::Cfg(0),
-            0x18,
-        ),
-        // A rule from before lockdown stays.
-        (
-            [cfg0(0x8c), security(1), security(1), security(1)],
-            Csr::Cfg(0),
-            0x8c,
-        ),
-        // Other bits of the register read as zero.
-        (
-            [security(u64::MAX), security(0), security(4), security(4)],
-            Csr::Mseccfg,
-            7,
-        ),
-    ];
-    for (events, csr, value) in cases {
-        let mut file = RegFile::reset();
-        file.run_events(&events);
-        assert_eq!(rt; file.read(csr), value, "{csr:?} after {events:?}");
-    }
+fn registers_read_what_was_stored(rt: HostRuntime) {
+    // Bits 63 to 54 of an address register read as zero.
+    let address = 0x003f_ffff_ffff_ffff;
+    assert_reads(&rt, &[addr(0, u64::MAX)], Csr::Addr(0), address);
+    // The low end of a locked range keeps its address, that of an unlocked one doesn't.
+    let locked = [addr(0, 0x10), addr(1, 0x20), cfg0(0x8900), addr(0, 0)];
+    assert_reads(&rt, &locked, Csr::Addr(0), 0x10);
+    let unlocked = [addr(0, 0x10), addr(1, 0x20), cfg0(0x0900), addr(0, 0)];
+    assert_reads(&rt, &unlocked, Csr::Addr(0), 0);
+    // The reserved W without R is stored as no right.
+    assert_reads(&rt, &[cfg0(0x1a)], Csr::Cfg(0), 0x18);
+    // L locks an entry that is off.
+    assert_reads(&rt, &[cfg0(0x80), addr(0, 5)], Csr::Addr(0), 0);
+    // Bits 6 and 5 of a configuration byte read as zero.
+    assert_reads(&rt, &[cfg0(0x7f), cfg0(0x60ff)], Csr::Cfg(0), 0x009f);
+    // Only the frozen byte of a write stays.
+    assert_reads(&rt, &[cfg0(0x80), cfg0(0x0f0f)], Csr::Cfg(0), 0x0f80);
+    // Reset clears an address.
+    let cleared = [cfg0(0x80), addr(1, 7), Event::Reset, addr(1, 9)];
+    assert_reads(&rt, &cleared, Csr::Addr(1), 9);
+    let forgotten = [addr(1, 7), Event::Reset];
+    assert_reads(&rt, &forgotten, Csr::Addr(1), 0);
+}
+
+#[test]
+fn bits_of_the_security_register(rt: HostRuntime) {
+    // MML and MMWP are sticky, RLB isn't.
+    assert_reads(&rt, &[security(7), security(0)], Csr::Mseccfg, 3);
+    // RLB doesn't rise over a lock, be the entry off or not.
+    assert_reads(&rt, &[cfg0(0x80), security(4)], Csr::Mseccfg, 0);
+    let lowered = [security(4), cfg0(0x99), security(0), security(4)];
+    assert_reads(&rt, &lowered, Csr::Mseccfg, 0);
+    // Other bits of the register read as zero.
+    let all = [security(u64::MAX), security(0), security(4)];
+    assert_reads(&rt, &all, Csr::Mseccfg, 7);
+}
+
+#[test]
+fn rules_under_lockdown_and_bypass(rt: HostRuntime) {
+    // Under lockdown W without R is a rule of its own.
+    assert_reads(&rt, &[security(1), cfg0(0x1a)], Csr::Cfg(0), 0x1a);
+    // Only the barred byte of a write is left out, and bypass lets it in.
+    assert_reads(&rt, &[security(1), cfg0(0x199c)], Csr::Cfg(0), 0x1900);
+    assert_reads(&rt, &[security(5), cfg0(0x199c)], Csr::Cfg(0), 0x199c);
+    // Bypass lets a locked entry be written.
+    let bypassed = [security(4), cfg0(0x99), cfg0(0x18)];
+    assert_reads(&rt, &bypassed, Csr::Cfg(0), 0x18);
+    // A rule from before lockdown stays.
+    assert_reads(&rt, &[cfg0(0x8c), security(1)], Csr::Cfg(0), 0x8c);
 }
 
 /// Which locked rules lockdown lets a write add, without bypass.

@@ -1,18 +1,11 @@
 -- The text of a register file's registers.
-use Rattle.std.specs.Prelude.{ℕ, ◌+◌, ◌-◌, ◌*◌, ◌/◌, ◌%◌, ◌^◌, List, [], ◌∷◌, ◌++◌, map, nat_lt, if◌then◌else◌, codes, decimal}
+use Rattle.std.specs.Prelude.{ℕ, List, [], ◌∷◌, ◌++◌, map, codes, decimal}
 use Rattle.std.specs.List.{flat_map, range_with_len}
 use Rattle.pmp_core.specs.declared.csr.Csr.{Csr}
 use Rattle.pmp_core.specs.declared.csr.Csr.TheVariants.{Cfg, Addr, Mseccfg}
 use Rattle.pmp_core.specs.Registers.{RegisterFile}
 use Rattle.pmp_core.specs.Reading.{register_value}
-
--- in lower case
-abbrev pub hex_digit : ℕ → ℕ
-hex_digit digit = if nat_lt digit 10 then 48 + digit else 87 + digit
-
--- so many digits of four bits each, the highest first
-unfoldable pub hex_text : (width value : ℕ) → List ℕ
-hex_text width value = map (λ place. hex_digit (value / 2 ^ (4 * (width - 1 - place)) % 16)) (range_with_len 0 width)
+use Rattle.pmp_text.specs.Hexadecimal.{hex_text}
 
 abbrev pub register_name : Csr → List ℕ
 register_name (Cfg number) = codes "pmpcfg" ++ decimal number

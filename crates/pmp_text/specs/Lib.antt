@@ -2,6 +2,7 @@ pub mod AccessWords
 pub mod Bytes
 pub mod Dumps
 pub mod Faults
+pub mod Hexadecimal
 pub mod Lines
 pub mod Names
 pub mod Numbers

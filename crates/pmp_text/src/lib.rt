@@ -2,6 +2,7 @@
 #![tactic(auto)]
 
 mod access_words;
+mod hexadecimal;
 mod input;
 pub mod laws;
 mod lines;

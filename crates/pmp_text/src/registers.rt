@@ -1,15 +1,13 @@
 //! The registers of a register file as text.
 
-ghost use Rattle.std.specs.Prelude.{◌≡◌, ◌<◌, ◌++◌, IfOk, OnOk, OnErr, Some, codes, string_bytes};
-ghost use Rattle.pmp_text.specs.Dumps.{hex_digit, hex_text, register_name, register_line, dump_text};
+ghost use Rattle.std.specs.Prelude.{◌≡◌, ◌++◌, IfOk, OnOk, OnErr, Some, codes, string_bytes};
+ghost use Rattle.pmp_text.specs.Dumps.{register_name, register_line, dump_text};
 
+use crate::hexadecimal::hex_text;
 use crate::report::NoMemory;
 use pmp_core::{Csr, RegFile};
 use std::alloc::{AllocError, Global};
 use std::fmt;
-
-/// How many digits the value of a register has.
-const DIGITS: usize = 16;
 
 /// The registers of a unit of sixteen entries, in the order of their lines.
 const DUMPED: [Csr; 19] = [
@@ -50,28 +48,6 @@ impl fmt::Display for Name {
     }
 }
 
-fn hex_digit(digit: u8) -> u8
-    requires { digit < 16 }
-    ensures { result ≡ hex_digit digit }
-{
-    if digit < 10 {
-        b'0' + digit
-    } else {
-        b'a' + (digit - 10)
-    }
-}
-
-/// The digits of a value, the highest first.
-fn hex_text(value: u64) -> [u8; DIGITS]
-    ensures { result ≡ hex_text 16 value }
-{
-    let mut digits = [b'0'; DIGITS];
-    for place in 0..DIGITS {
-        digits[place] = hex_digit((value >> (4 * (DIGITS - 1 - place)) & 15) as u8);
-    }
-    digits
-}
-
 /// What stands before the digits.
 fn line_start(alloc: Global, csr: Csr) -> Result<String, AllocError>
     ensures { IfOk result (λ start. string_bytes start ≡ register_name csr ++ codes " 0x") }
@@ -86,7 +62,7 @@ fn write_register(text: &mut Vec<u8>, file: &RegFile, csr: Csr) -> Result<(), No
 {
     let start = line_start(*text.allocator(), csr)?;
     text.extend_from_slice(start.as_bytes())?;
-    text.extend_from_slice(&hex_text(file.read(csr)))?;
+    text.extend_from_slice(&hex_text::<16>(file.read(csr)))?;
     text.extend_from_slice(b"\n")?;
     Ok(())
 }
