@@ -10,7 +10,7 @@ use Rattle.pmp_core.specs.declared.decision.Decision.{Decision}
 use Rattle.pmp_core.specs.declared.entry.Entry.{Entry}
 use Rattle.pmp_core.specs.declared.range.ByteRange.{ByteRange}
 use Rattle.pmp_core.specs.Registers.{RegisterFile, entry_at}
-use Rattle.pmp_core.specs.Matching.{low_address}
+use Rattle.pmp_core.specs.Matching.{Matches, low_address}
 use Rattle.pmp_core.specs.Rights.{allows, rights, default_rights}
 
 abbrev pub IsInRange : ByteRange → ℕ → Type 0
@@ -34,6 +34,15 @@ range_of entries i = range_by (entry_at entries i).configuration.matching (low_a
 
 abbrev pub ranges_of : List Entry → List ByteRange
 ranges_of entries = map (range_of entries) (range_with_len 0 (length entries))
+
+-- range i; past the last, an empty one
+abbrev pub range_in : List ByteRange → ℕ → ByteRange
+range_in ranges i = slice_index_or ranges i (record { start = 0; end = 0 })
+
+-- as many ranges as entries, and a byte is in range i exactly where entry i matches it
+pub record AreRanges (entries : List Entry) (ranges : List ByteRange) : Type 0 where
+  pub count : length ranges ≡ length entries
+  pub by_bytes : (i byte : ℕ) → Matches entries i byte ↔ IsInRange (range_in ranges i) byte
 
 abbrev pub is_touched : Access → ByteRange → Bool
 is_touched access range = nat_lt (max range.start access.start) (min range.end (access.start + access.length))

@@ -21,11 +21,12 @@ mod rights;
 mod security;
 mod writing;
 
-pub use access::{Access, AccessFault, Kind, Mode};
+pub use access::{ADDRESS_LIMIT, Access, AccessFault, Kind, Mode};
 pub use csr::{Csr, CsrFault};
 pub use decision::{Cause, Decision, fault_code};
 pub use event::Event;
 pub use perms::Perms;
+pub use range::ByteRange;
 pub use register_file::{ENTRIES, RegFile};
 pub use security::Mseccfg;
 

@@ -1,13 +1,13 @@
 //! The register file.
 
 ghost use Rattle.std.specs.Prelude.{◌≡◌, ◌<◌, ◌^◌, ◌↔◌, IsTrue, length, fold};
-ghost use Rattle.pmp_core.specs.Registers.{reset_file, is_frozen};
+ghost use Rattle.pmp_core.specs.Registers.{IsLegal, reset_file, is_frozen};
 ghost use Rattle.pmp_core.specs.Matching.{Matches};
 ghost use Rattle.pmp_core.specs.Deciding.{IsDecision};
 ghost use Rattle.pmp_core.specs.Rights.{perms_of, rights, default_rights};
 ghost use Rattle.pmp_core.specs.Writing.{step};
 ghost use Rattle.pmp_core.specs.Reading.{register_value};
-ghost use Rattle.pmp_core.specs.Ranges.{decision_of};
+ghost use Rattle.pmp_core.specs.Ranges.{AreRanges, decision_of};
 
 use crate::access::{Access, Mode};
 use crate::csr::Csr;
@@ -137,5 +137,13 @@ impl RegFile {
         ensures { IsTrue result ↔ Matches self.now.entries entry byte }
     {
         self.ranges[usize::from(entry)].contains(byte)
+    }
+
+    /// Where each entry matches.
+    pub fn ranges(&self) -> &[ByteRange; ENTRIES]
+        ensures ranges { AreRanges self.now.entries result.now }
+        ensures legal { IsLegal self.now }
+    {
+        &self.ranges
     }
 }
