@@ -1,0 +1,40 @@
+-- What an access is answered by the owners of its bytes (Volume II, 3.7.1.3).
+use Rattle.std.specs.Prelude.{◌≡◌, ℕ, false, Option, Some, None, List}
+use Rattle.pmp_core.specs.declared.access.Access.{Access}
+use Rattle.pmp_core.specs.declared.access.Mode.{Mode}
+use Rattle.pmp_core.specs.declared.access.Mode.TheVariants.{M, U}
+use Rattle.pmp_core.specs.declared.decision.Cause.{Cause}
+use Rattle.pmp_core.specs.declared.decision.Cause.TheVariants.{Rule, Split, NoMatch}
+use Rattle.pmp_core.specs.declared.decision.Decision.{Decision}
+use Rattle.pmp_core.specs.Registers.{RegisterFile}
+use Rattle.pmp_core.specs.Rights.{Rights, perms_of, allows, rights, default_rights}
+use Rattle.pmp_map.specs.declared.answers.Answers.{Answers}
+
+-- the owner's rule, and the default where there is no owner (3.7.1.3)
+abbrev pub owned_rights : RegisterFile → Option ℕ → Mode → Rights
+owned_rights file None = default_rights file
+owned_rights file (Some i) = rights file i
+
+abbrev pub whole_cause : Option ℕ → Cause
+whole_cause None = NoMatch
+whole_cause (Some i) = Rule i
+
+abbrev pub split_cause : Option ℕ → Cause
+split_cause None = NoMatch
+split_cause (Some i) = Split i
+
+-- the decision where all bytes of the access have this owner
+abbrev pub decision_by : RegisterFile → Option ℕ → Access → Decision
+decision_by file owner access = record { allowed = allows (owned_rights file owner access.mode) access.kind; cause = whole_cause owner }
+
+-- the decision where they have several, of which this is the least
+abbrev pub refusal_by : Option ℕ → Decision
+refusal_by owner = record { allowed = false; cause = split_cause owner }
+
+-- what a run of this owner keeps
+abbrev pub answers_of : RegisterFile → Option ℕ → Answers
+answers_of file owner = record {
+  cause = whole_cause owner;
+  machine = perms_of (owned_rights file owner M);
+  others = perms_of (owned_rights file owner U);
+}

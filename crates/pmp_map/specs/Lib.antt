@@ -1,0 +1,4 @@
+pub mod Runs
+pub mod Owners
+pub mod Answers
+pub mod Maps

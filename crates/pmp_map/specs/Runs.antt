@@ -1,0 +1,31 @@
+-- The runs of a register file: bytes side by side that have one owner (Volume II, 3.7.1.3).
+use Rattle.std.specs.Prelude.{◌≡◌, ◌≢◌, ℕ, ◌+◌, ◌^◌, ◌<◌, ◌≤◌, Option, None, List, length}
+use Rattle.std.specs.List.{slice_index_or}
+use Rattle.pmp_core.specs.declared.entry.Entry.{Entry}
+use Rattle.pmp_core.specs.Deciding.{IsOwner}
+use Rattle.pmp_map.specs.declared.run.Run.{Run}
+
+-- the byte is one of the run's
+abbrev pub IsInRun : Run → ℕ → Type 0
+IsInRun run byte = (run.first ≤ byte) × (byte ≤ run.last)
+
+-- run k; past the last, one that begins at `to`
+abbrev pub run_at : (to : ℕ) → List Run → ℕ → Run
+run_at to runs k = slice_index_or runs k (record { first = to; last = to; owner = None })
+
+-- the runs of the bytes below `to`, where Owns says which owner a byte has
+pub record AreRunsTo (to : ℕ) (Owns : ℕ → Option ℕ → Type 0) (runs : List Run) : Type 0 where
+  -- the first begins at byte 0
+  pub begins : (run_at to runs 0).first ≡ 0
+  -- none is empty
+  pub proper : (k : ℕ) → k < length runs → (run_at to runs k).first ≤ (run_at to runs k).last
+  -- each ends right before the next, and the last right before `to`
+  pub gapless : (k : ℕ) → k < length runs → (run_at to runs k).last + 1 ≡ (run_at to runs (k + 1)).first
+  -- a run's owner is the owner of each of its bytes
+  pub owned : (k byte : ℕ) → k < length runs → IsInRun (run_at to runs k) byte → Owns byte (run_at to runs k).owner
+  -- neighbours have different owners
+  pub apart : (k : ℕ) → k + 1 < length runs → (run_at to runs k).owner ≢ (run_at to runs (k + 1)).owner
+
+-- the runs of all bytes
+abbrev pub AreRuns : List Entry → List Run → Type 0
+AreRuns entries = AreRunsTo (2 ^ 56) (IsOwner entries)

@@ -1,0 +1,18 @@
+//! Laws of the definitions, each the contract of a function that does nothing.
+
+ghost use Rattle.std.specs.Prelude.{◌≡◌, ◌+◌, ◌*◌, ◌≤◌, List, length};
+ghost use Rattle.pmp_core.specs.declared.entry.Entry.{Entry};
+ghost use Rattle.pmp_core.specs.Registers.{HasAddresses};
+ghost use Rattle.pmp_map.specs.declared.run.Run.{Run};
+ghost use Rattle.pmp_map.specs.Runs.{AreRuns};
+
+/// Entries have one list of runs.
+pub fn law_one_list_of_runs()
+    ensures { (entries : List Entry) (one other : List Run) → AreRuns entries one → AreRuns entries other → one ≡ other }
+{}
+
+/// Each entry adds at most two cuts, so that there is at most one run more than twice as many as entries.
+pub fn law_few_runs()
+    ensures { (entries : List Entry) (runs : List Run) → HasAddresses entries → AreRuns entries runs
+        → length runs ≤ 2 * length entries + 1 }
+{}

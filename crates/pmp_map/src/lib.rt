@@ -1,0 +1,20 @@
+//! The interval map of a PMP register file: the runs of bytes that one entry owns, and decisions by them.
+//!
+//! `RunMap` is built once from a register file, and answers from then on by halving a table of where runs begin. The
+//! definitions that its contracts cite are in `specs/` and in those of `pmp_core`.
+#![tactic(auto)]
+
+mod answers;
+mod building;
+mod cutting;
+mod deciding;
+pub mod laws;
+mod run;
+mod run_map;
+mod searching;
+
+pub use run::{RUNS, Run};
+pub use run_map::RunMap;
+
+#[cfg(test)]
+mod tests;

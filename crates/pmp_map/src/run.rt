@@ -1,0 +1,18 @@
+//! The runs of a map.
+
+use pmp_core::ENTRIES;
+
+/// The most runs that a map has: each entry adds at most two cuts.
+pub const RUNS: usize = 2 * ENTRIES + 1;
+
+/// Bytes that lie side by side and have one owner, the lowest-numbered entry that matches them
+/// (Volume II, 3.7.1.3).
+#[derive(Clone, Copy, Debug, Default, PartialEq, Eq)]
+pub struct Run {
+    /// The byte address of its first byte.
+    pub first: u64,
+    /// The byte address of its last byte.
+    pub last: u64,
+    /// The entry's number, or none where no entry matches.
+    pub owner: Option<u8>,
+}

@@ -1,0 +1,86 @@
+//! The map.
+
+ghost use Rattle.std.specs.Prelude.{◌≡◌, ◌+◌, ◌*◌, ◌<◌, ◌≤◌, ◌^◌, length};
+ghost use Rattle.pmp_core.specs.Deciding.{IsOwner, IsDecision};
+ghost use Rattle.pmp_core.specs.Ranges.{decision_of};
+ghost use Rattle.pmp_map.specs.Runs.{AreRuns};
+
+use crate::answers::Answers;
+use crate::building::{answers_of, runs_of, starts_of};
+use crate::deciding::refuse_straddling;
+use crate::run::{RUNS, Run};
+use crate::searching::{PLACES, place_of};
+use arrayvec::ArrayVec;
+use pmp_core::{Access, Decision, RegFile};
+use std::marker::Model;
+
+/// The owners of all bytes, as runs. A contract sees a map as the register file that it was built from.
+#[derive(Drop)]
+pub struct RunMap {
+    /// Kept for the contracts: no answer reads it.
+    file: RegFile,
+    runs: ArrayVec<Run, RUNS>,
+    /// Where each run begins; past the last, the end of the address space.
+    starts: [u64; PLACES],
+    answers: [Answers; RUNS],
+}
+
+impl Model for RunMap {
+    ghost use Rattle.pmp_core.specs.Registers.{RegisterFile};
+
+    ghost Value = { RegisterFile };
+
+    ghost use Rattle.pmp_map.specs.Maps.{IsMapOf};
+
+    ghost view = { λ m. m.file };
+
+    ghost invariant = { λ m. IsMapOf m.file m.runs.items m.starts m.answers };
+}
+
+impl RunMap {
+    /// The map of a register file.
+    pub fn build(file: &RegFile) -> RunMap
+        ensures { result ≡ file.now }
+    {
+        let runs = runs_of(file.ranges());
+        let starts = starts_of(&runs);
+        let answers = answers_of(file, &runs);
+        RunMap {
+            file: *file,
+            runs,
+            starts,
+            answers,
+        }
+    }
+
+    /// The runs, from byte address 0 to `2^56 - 1`.
+    pub fn runs(&self) -> &[Run]
+        ensures runs { AreRuns self.now.entries result.now }
+        ensures few { length result.now ≤ 2 * length self.now.entries + 1 }
+    {
+        &self.runs
+    }
+
+    /// The lowest-numbered entry that matches the byte at this byte address (Volume II, 3.7.1.3).
+    pub fn owner(&self, byte: u64) -> Option<u8>
+        requires { byte < 2 ^ 56 }
+        ensures { IsOwner self.now.entries byte result }
+    {
+        self.runs[place_of(&self.starts, byte)].owner
+    }
+
+    /// Decides an access as the register file does, which is the one that the map was built from.
+    pub fn decide(&self, file: &RegFile, access: &Access) -> Decision
+        requires { self.now ≡ file.now }
+        ensures by_bytes { IsDecision file.now access.now result }
+        ensures computed { result ≡ decision_of file.now access.now }
+    {
+        let place = place_of(&self.starts, access.start);
+        let end = access.start + access.length;
+        if end <= self.starts[place + 1] {
+            return self.answers[place].decision(access);
+        }
+        let last = place_of(&self.starts, end - 1);
+        refuse_straddling(&self.runs[place..last + 1])
+    }
+}
