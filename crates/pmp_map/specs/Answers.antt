@@ -2,10 +2,11 @@
 use Rattle.std.specs.Prelude.{◌≡◌, ℕ, false, Option, Some, None, List}
 use Rattle.pmp_core.specs.declared.access.Access.{Access}
 use Rattle.pmp_core.specs.declared.access.Mode.{Mode}
-use Rattle.pmp_core.specs.declared.access.Mode.TheVariants.{M, U}
+use Rattle.pmp_core.specs.declared.access.Mode.TheVariants.{M, S, U}
 use Rattle.pmp_core.specs.declared.decision.Cause.{Cause}
 use Rattle.pmp_core.specs.declared.decision.Cause.TheVariants.{Rule, Split, NoMatch}
 use Rattle.pmp_core.specs.declared.decision.Decision.{Decision}
+use Rattle.pmp_core.specs.declared.perms.Perms.{Perms}
 use Rattle.pmp_core.specs.Registers.{RegisterFile}
 use Rattle.pmp_core.specs.Rights.{Rights, perms_of, allows, rights, default_rights}
 use Rattle.pmp_map.specs.declared.answers.Answers.{Answers}
@@ -31,10 +32,17 @@ decision_by file owner access = record { allowed = allows (owned_rights file own
 abbrev pub refusal_by : Option ℕ → Decision
 refusal_by owner = record { allowed = false; cause = split_cause owner }
 
+-- what the answers allow the mode
+abbrev pub kept_rights : Answers → Mode → Perms
+kept_rights answers M = answers.machine
+kept_rights answers S = answers.supervisor
+kept_rights answers U = answers.user
+
 -- what a run of this owner keeps
 abbrev pub answers_of : RegisterFile → Option ℕ → Answers
 answers_of file owner = record {
   cause = whole_cause owner;
   machine = perms_of (owned_rights file owner M);
-  others = perms_of (owned_rights file owner U);
+  supervisor = perms_of (owned_rights file owner S);
+  user = perms_of (owned_rights file owner U);
 }

@@ -1,5 +1,6 @@
 -- Owners by the ranges of entries.
-use Rattle.std.specs.Prelude.{◌≡◌, ℕ, ◌<◌, ◌≤◌, Option, Some, List, length, Contains, map}
+use Rattle.std.specs.Prelude.{◌≡◌, ℕ, ◌<◌, ◌≤◌, Option, List, min}
+use Rattle.std.specs.List.{filter_map, reduce}
 use Rattle.pmp_core.specs.declared.range.ByteRange.{ByteRange}
 use Rattle.pmp_core.specs.Deciding.{IsLeast}
 use Rattle.pmp_core.specs.Ranges.{IsInRange, range_in}
@@ -13,6 +14,6 @@ IsOwnerIn ranges byte = IsLeast (λ i. IsInRange (range_in ranges i) byte)
 abbrev pub OwnsBytes : List ByteRange → (first end : ℕ) → Option ℕ → Type 0
 OwnsBytes ranges first end owner = (byte : ℕ) → first ≤ byte → byte < end → IsOwnerIn ranges byte owner
 
--- the lowest-numbered entry that owns one of the runs
-abbrev pub IsLeastOwner : List Run → Option ℕ → Type 0
-IsLeastOwner runs = IsLeast (λ i. Contains (map (λ run. run.owner) runs) (Some i))
+-- the lowest-numbered owner of the runs, or none where none of them has one
+abbrev pub least_owner : List Run → Option ℕ
+least_owner runs = reduce min (filter_map (λ run. run.owner) runs)

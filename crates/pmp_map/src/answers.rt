@@ -3,7 +3,7 @@
 ghost use Rattle.std.specs.Prelude.{◌≡◌, ◌<◌, ℕ, Option, length};
 ghost use Rattle.std.specs.Option.{ForSome};
 ghost use Rattle.pmp_core.specs.Registers.{RegisterFile};
-ghost use Rattle.pmp_map.specs.Answers.{decision_by, answers_of};
+ghost use Rattle.pmp_map.specs.Answers.{decision_by, answers_of, kept_rights};
 
 use pmp_core::{Access, Cause, Decision, Mode, Perms, RegFile};
 
@@ -13,8 +13,8 @@ pub struct Answers {
     pub cause: Cause,
     /// What machine mode may do.
     pub machine: Perms,
-    /// What the other modes may do.
-    pub others: Perms,
+    pub supervisor: Perms,
+    pub user: Perms,
 }
 
 impl Answers {
@@ -27,13 +27,25 @@ impl Answers {
             Some(entry) => Answers {
                 cause: Cause::Rule(entry),
                 machine: file.rights(entry, Mode::M),
-                others: file.rights(entry, Mode::U),
+                supervisor: file.rights(entry, Mode::S),
+                user: file.rights(entry, Mode::U),
             },
             None => Answers {
                 cause: Cause::NoMatch,
                 machine: file.default_rights(Mode::M),
-                others: file.default_rights(Mode::U),
+                supervisor: file.default_rights(Mode::S),
+                user: file.default_rights(Mode::U),
             },
+        }
+    }
+
+    fn rights(&self, mode: Mode) -> Perms
+        ensures { result ≡ kept_rights self.now mode }
+    {
+        match mode {
+            Mode::M => self.machine,
+            Mode::S => self.supervisor,
+            Mode::U => self.user,
         }
     }
 
@@ -42,13 +54,8 @@ impl Answers {
         ensures { (file : RegisterFile) (owner : Option ℕ) → self.now ≡ answers_of file owner
             → result ≡ decision_by file owner access.now }
     {
-        let rights = if access.mode == Mode::M {
-            self.machine
-        } else {
-            self.others
-        };
         Decision {
-            allowed: rights.allows(access.kind),
+            allowed: self.rights(access.mode).allows(access.kind),
             cause: self.cause,
         }
     }

@@ -1,7 +1,7 @@
 //! Decisions on accesses that straddle runs.
 
-ghost use Rattle.std.specs.Prelude.{◌≡◌, ℕ, Option};
-ghost use Rattle.pmp_map.specs.Owners.{IsLeastOwner};
+ghost use Rattle.std.specs.Prelude.{◌≡◌};
+ghost use Rattle.pmp_map.specs.Owners.{least_owner};
 ghost use Rattle.pmp_map.specs.Answers.{refusal_by};
 
 use crate::run::Run;
@@ -9,7 +9,7 @@ use pmp_core::{Cause, Decision};
 
 /// The lowest-numbered owner of the runs.
 fn least_owner(runs: &[Run]) -> Option<u8>
-    ensures { IsLeastOwner runs.now result }
+    ensures { result ≡ least_owner runs.now }
 {
     runs.iter().filter_map(|run| run.owner).min()
 }
@@ -18,7 +18,7 @@ fn least_owner(runs: &[Run]) -> Option<u8>
 #[cold]
 #[inline(never)]
 pub fn refuse_straddling(runs: &[Run]) -> Decision
-    ensures { (owner : Option ℕ) × IsLeastOwner runs.now owner × (result ≡ refusal_by owner) }
+    ensures { result ≡ refusal_by (least_owner runs.now) }
 {
     Decision {
         allowed: false,
