@@ -91,7 +91,7 @@ decided_by_ranges file access small = decided_from file access small 0 (ranges_o
 
 -- ---- one decision
 
-least_once : (P : ℕ → Type 0) (one other : Option ℕ) → IsLeast P one → IsLeast P other → one ≡ other
+pub least_once : (P : ℕ → Type 0) (one other : Option ℕ) → IsLeast P one → IsLeast P other → one ≡ other
 least_once P None None p q = refl
 least_once P None (Some j) p q = absurd (p j q.0)
 least_once P (Some i) None p q = absurd (q i p.0)

@@ -1,3 +1,5 @@
 pub mod Cuts
 pub mod Halving
+pub mod Order
+pub mod OneList
 pub mod Decided
