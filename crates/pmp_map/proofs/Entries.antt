@@ -1,14 +1,20 @@
 -- Owners by entries and by their ranges.
-use Rattle.std.proofs.Common.{ℕ, ◌≡◌, List, Option}
+use Rattle.std.proofs.Common.{ℕ, ◌≡◌, ◌+◌, ◌*◌, ◌^◌, ◌≤◌, List, length, Option, Some, arith, inl, inr}
+use Rattle.std.proofs.lemmas.Bool.{cases_lt}
+use Rattle.std.proofs.lemmas.List.{get_or_past}
 use Rattle.pmp_core.specs.declared.entry.Entry.{Entry}
 use Rattle.pmp_core.specs.declared.range.ByteRange.{ByteRange}
 use Rattle.pmp_core.specs.Deciding.{IsOwner}
 use Rattle.pmp_core.specs.Matching.{Matches}
-use Rattle.pmp_core.specs.Ranges.{IsInRange, range_in, AreRanges}
+use Rattle.pmp_core.specs.Registers.{HasAddresses}
+use Rattle.pmp_core.specs.Ranges.{IsInRange, range_in, ranges_of, AreRanges}
+use Rattle.pmp_core.proofs.Matches.{are_ranges}
 use Rattle.pmp_map.specs.declared.run.Run.{Run}
 use Rattle.pmp_map.specs.Owners.{IsOwnerIn}
-use Rattle.pmp_map.specs.Runs.{AreRunsTo}
+use Rattle.pmp_map.specs.Maps.{map_run, HasOwnersBelow}
+use Rattle.pmp_map.specs.Runs.{AreRunsTo, AreRuns}
 use Rattle.pmp_map.proofs.Cuts.{least_alike}
+use Rattle.pmp_map.proofs.FewRuns.{few_runs}
 
 runs_alike : (to : ℕ) (Owns Has : ℕ → Option ℕ → Type 0) (runs : List Run) → ((byte : ℕ) (owner : Option ℕ) → Owns byte owner → Has byte owner) → AreRunsTo to Owns runs → AreRunsTo to Has runs
 runs_alike to Owns Has runs alike are = record {
@@ -27,3 +33,17 @@ module _ (entries : List Entry) (ranges : List ByteRange) (decoded : AreRanges e
   pub runs_by_entries : AreRunsTo to (IsOwnerIn ranges) runs → AreRunsTo to (IsOwner entries) runs
   runs_by_entries = runs_alike to (IsOwnerIn ranges) (IsOwner entries) runs (λ byte owner.
       least_alike (λ i. IsInRange (range_in ranges i) byte) (λ i. Matches entries i byte) owner (λ i. ((decoded.by_bytes i byte).1, (decoded.by_bytes i byte).0)))
+
+pub few_runs_of_entries : (entries : List Entry) (runs : List Run) → HasAddresses entries → AreRuns entries runs → length runs ≤ 2 * length entries + 1
+few_runs_of_entries entries runs small are =
+    let decoded = are_ranges entries small in
+    omega (arith, decoded.count, few_runs (2 ^ 56) (ranges_of entries) runs (runs_by_ranges entries (ranges_of entries) decoded (2 ^ 56) runs are))
+
+-- only a range that there is has a byte
+pub owners_below : (ranges : List ByteRange) (runs : List Run) → AreRunsTo (2 ^ 56) (IsOwnerIn ranges) runs → HasOwnersBelow (length ranges) runs
+owners_below ranges runs are k inside i owned =
+    let owns : IsOwnerIn ranges (map_run runs k).first (Some i) = rw owned at (are.owned k (map_run runs k).first inside (omega arith, are.proper k inside)) in
+    elim (cases_lt i (length ranges)) [
+      | inl lt ↦ lt
+      | inr past ↦ let none = rw (get_or_past ranges i (record { start = 0; end = 0 }) past) at owns.0 in absurd (omega arith)
+    ]

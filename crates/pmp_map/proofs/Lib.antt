@@ -2,7 +2,9 @@ pub mod Cuts
 pub mod Halving
 pub mod Order
 pub mod OneList
-pub mod Entries
 pub mod FewRuns
+pub mod Entries
 pub mod Pushes
+pub mod LeastOwner
 pub mod Decided
+pub mod Lookups

@@ -1,10 +1,10 @@
 -- What a map keeps of its register file.
-use Rattle.std.specs.Prelude.{◌≡◌, ℕ, ◌^◌, ◌<◌, Option, None, List, length, slice_index}
-use Rattle.std.specs.List.{slice_index_or}
+use Rattle.std.specs.Prelude.{◌≡◌, ℕ, ◌^◌, ◌<◌, ◌≤◌, Some, List, length, slice_index, slice_get}
 use Rattle.std.specs.Option.{ForSome}
 use Rattle.pmp_core.specs.Registers.{RegisterFile, HasAddresses}
 use Rattle.pmp_map.specs.declared.run.Run.{Run}
 use Rattle.pmp_map.specs.declared.answers.Answers.{Answers}
+use Rattle.pmp_map.specs.declared.run.TheConstants.{RUNS}
 use Rattle.pmp_map.specs.declared.searching.TheConstants.{PLACES}
 use Rattle.pmp_map.specs.Runs.{run_at, AreRuns}
 use Rattle.pmp_map.specs.Answers.{answers_of}
@@ -19,7 +19,7 @@ AreStarts runs starts = (k : ℕ) → k < PLACES → slice_index starts k ≡ (m
 
 -- what each run answers
 abbrev pub AreAnswers : RegisterFile → List Run → List Answers → Type 0
-AreAnswers file runs answers = (k : ℕ) → k < length runs → slice_index_or answers k (answers_of file None) ≡ answers_of file (map_run runs k).owner
+AreAnswers file runs answers = (k : ℕ) → k < length runs → slice_get answers k ≡ Some (answers_of file (map_run runs k).owner)
 
 -- every owner is below n
 abbrev pub HasOwnersBelow : (n : ℕ) → List Run → Type 0
@@ -29,5 +29,6 @@ HasOwnersBelow n runs = (k : ℕ) → k < length runs → ForSome (map_run runs 
 pub record IsMapOf (file : RegisterFile) (runs : List Run) (starts : List ℕ) (answers : List Answers) : Type 0 where
   pub addresses : HasAddresses file.entries
   pub runs_are : AreRuns file.entries runs
+  pub few : length runs ≤ RUNS
   pub starts_are : AreStarts runs starts
   pub answers_are : AreAnswers file runs answers
