@@ -1,5 +1,5 @@
 pub mod Answers
 pub mod Audits
 pub mod Checks
-pub mod Dumping
 pub mod Replays
+pub mod Showing

@@ -7,8 +7,8 @@ ghost use Rattle.pmp_text.specs.Views.{row_fields};
 ghost use Rattle.pmp_audit.specs.Audits.{IsAudited, IsUnaudited, file_of_row, report_text, row_decision, summary_of};
 
 use crate::fault::AuditFault;
-use crate::replay::advance;
-use pmp_core::{Decision, RegFile};
+use crate::stage::Stage;
+use pmp_core::Decision;
 use pmp_text::{NoMemory, Row, Script, read_script, read_trace, write_out, write_row};
 use std::alloc::Global;
 use std::io::Write;
@@ -50,13 +50,11 @@ fn write_report(report: &mut Vec<u8>, script: &Script, rows: &[Row]) -> Result<S
     ensures by_bytes { OnOk result (All (λ row. IsDecision (file_of_row script.now row) row.access (row_decision script.now row)) rows.now) }
     ensures summary { IfOk result (λ summary. summary ≡ summary_of script.now rows.now) }
 {
-    let mut file = RegFile::reset();
-    let mut done = 0;
+    let mut stage = Stage::reset();
     let mut summary = Summary::default();
     for row in rows {
-        advance(&mut file, script, done, row.after);
-        done = row.after;
-        let decision = file.decide(&row.access);
+        stage.advance(script, row.after);
+        let decision = stage.decide(&row.access);
         summary.count(decision);
         write_row(report, summary.rows, &row.access, &decision)?;
     }

@@ -6,6 +6,7 @@ ghost use Rattle.pmp_audit.specs.Checks.{IsChecked, IsUnchecked};
 use crate::fault::AuditFault;
 use crate::replay::file_after;
 use pmp_core::{Access, Decision};
+use pmp_map::RunMap;
 use pmp_text::{read_script, write_out, write_row};
 use std::alloc::Global;
 use std::io::Write;
@@ -23,7 +24,8 @@ pub fn check<W: Write>(
     ensures err { IfErr result (IsUnchecked script.now access.now (W.contents writer.old) (W.contents writer.new)) }
 {
     let script = read_script(alloc, script)?;
-    let decision = file_after(&script, script.batches()).decide(access);
+    let file = file_after(&script, script.batches());
+    let decision = RunMap::build(&file).decide(&file, access);
     let mut row = Vec::new(alloc);
     write_row(&mut row, 1, access, &decision)?;
     write_out(writer, &row)?;

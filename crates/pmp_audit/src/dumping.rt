@@ -1,10 +1,10 @@
 //! The registers after publications of a script.
 
 ghost use Rattle.std.specs.Prelude.{OnOk, IfErr};
-ghost use Rattle.pmp_audit.specs.Dumping.{IsDumped, IsUndumped};
+ghost use Rattle.pmp_audit.specs.Showing.{IsDumped, IsUndumped};
 
 use crate::fault::AuditFault;
-use crate::replay::file_after;
+use crate::replay::file_taken;
 use pmp_text::{read_script, write_out, write_registers};
 use std::alloc::Global;
 use std::io::Write;
@@ -22,12 +22,9 @@ pub fn dump<W: Write>(
     ensures err { IfErr result (IsUndumped script.now after (W.contents writer.old) (W.contents writer.new)) }
 {
     let script = read_script(alloc, script)?;
-    let count = after.unwrap_or(script.batches());
-    if count > script.batches() {
-        return Err(AuditFault::BadAfter);
-    }
+    let file = file_taken(&script, after)?;
     let mut text = Vec::new(alloc);
-    write_registers(&mut text, &file_after(&script, count))?;
+    write_registers(&mut text, &file)?;
     write_out(writer, &text)?;
     Ok(())
 }

@@ -1,8 +1,11 @@
 //! The register file that publications give.
 
-ghost use Rattle.std.specs.Prelude.{◌≡◌, ◌≤◌, length, take};
+ghost use Rattle.std.specs.Prelude.{◌≡◌, ◌<◌, ◌≤◌, IfOk, IfErr, length, take};
 ghost use Rattle.pmp_audit.specs.Replays.{file_after};
+ghost use Rattle.pmp_audit.specs.Showing.{file_taken, taken};
+ghost use Rattle.pmp_audit.specs.declared.fault.AuditFault.TheVariants.{BadAfter};
 
+use crate::fault::AuditFault;
 use pmp_core::RegFile;
 use pmp_text::Script;
 
@@ -26,4 +29,18 @@ pub fn file_after(script: &Script, count: u64) -> RegFile
     let mut file = RegFile::reset();
     advance(&mut file, script, 0, count);
     file
+}
+
+/// The register file that the first `after` publications give, or all of them where that is none; `BadAfter` where
+/// there are fewer.
+pub fn file_taken(script: &Script, after: Option<u64>) -> Result<RegFile, AuditFault>
+    ensures file { IfOk result (λ file. file ≡ file_taken after script.now) }
+    ensures within { IfOk result (λ _. taken after script.now ≤ length script.now) }
+    ensures beyond { IfErr result (λ fault. (fault ≡ BadAfter) × (length script.now < taken after script.now)) }
+{
+    let count = after.unwrap_or(script.batches());
+    if count > script.batches() {
+        return Err(AuditFault::BadAfter);
+    }
+    Ok(file_after(script, count))
 }

@@ -1,6 +1,7 @@
 //! Audits written to vectors, and to outputs that fail.
 
 mod firmware;
+mod maps;
 
 use crate::auditing::{Summary, audit};
 use crate::fault::AuditFault;

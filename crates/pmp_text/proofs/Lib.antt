@@ -10,4 +10,5 @@ pub mod Lefts
 pub mod Meanings
 pub mod RecordsLeft
 pub mod Rows
+pub mod RunLines
 pub mod Transfers

@@ -10,6 +10,7 @@ pub mod Outcomes
 pub mod Progress
 pub mod Records
 pub mod Reports
+pub mod RunLines
 pub mod Scripts
 pub mod Sizes
 pub mod Statements

@@ -1,9 +1,33 @@
 //! What OpenSBI 1.1 writes while it boots on QEMU's virt machine, audited at the ends of each range.
 
+use super::maps::assert_map;
 use super::*;
 
 /// How many address registers firmware probes.
 const PROBED: usize = 16;
+
+/// Entry 0 closes the interrupt controller, 0x2000000 to 0x200ffff: 0x801fff ends in thirteen ones, so it matches
+/// 2^16 bytes. Entry 1 closes the firmware, 0x80000000 to 0x8007ffff: 0x2000ffff ends in sixteen ones, 2^19 bytes.
+/// Entry 2 opens everything. None is locked, so machine mode may do everything.
+const DEFAULT_DOMAIN: [(&str, &str); 3] = [
+    ("pmpaddr0 0x801fff", "0x18"),
+    ("pmpaddr1 0x2000ffff", "0x1818"),
+    ("pmpaddr2 0xffffffffffffffff", "0x1f1818"),
+];
+
+/// Each address ends in so many ones that the entry matches, in hexadecimal: 0: 10000000 to 10000fff rw-; 1: 80400000
+/// to 80400fff r-x, locked; 2: 80402000 to 80403fff rw-, locked; 3: 2000000 to 200ffff ---; 4: 80000000 to 8007ffff
+/// ---; 5: 80100000 to 801fffff ---; 6: 20000000 to 21ffffff r--; 7: everything rwx.
+const OWN_DOMAIN: [(&str, &str); 8] = [
+    ("pmpaddr0 0x40001ff", "0x1b"),
+    ("pmpaddr1 0x201001ff", "0x9d1b"),
+    ("pmpaddr2 0x20100bff", "0x9b9d1b"),
+    ("pmpaddr3 0x801fff", "0x189b9d1b"),
+    ("pmpaddr4 0x2000ffff", "0x18189b9d1b"),
+    ("pmpaddr5 0x2005ffff", "0x1818189b9d1b"),
+    ("pmpaddr6 0x83fffff", "0x191818189b9d1b"),
+    ("pmpaddr7 0xffffffffffffffff", "0x1f191818189b9d1b"),
+];
 
 /// The first publication: firmware probes each register.
 fn probe(script: &mut String) -> Result<(), AllocError> {
@@ -18,6 +42,19 @@ fn probe(script: &mut String) -> Result<(), AllocError> {
         script.push_str(writes.as_str())?;
     }
     script.push_str("publish\n")
+}
+
+/// The whole boot: probing, and then a publication for each of these pairs of writes.
+fn boot(alloc: Global, publications: &[(&str, &str)]) -> Result<String, AllocError> {
+    let mut script = String::new(alloc);
+    probe(&mut script)?;
+    for (address, configuration) in publications {
+        let writes = format!(in alloc;
+            "write {address}\nwrite pmpcfg0 {configuration}\npublish\n"
+        )?;
+        script.push_str(writes.as_str())?;
+    }
+    Ok(script)
 }
 
 /// Asserts the rest of the row that follows each access, audited behind the probing and these publications.
@@ -55,18 +92,11 @@ fn assert_accesses<R: std::process::Abort + AllocGlobal>(
     Ok(())
 }
 
-/// Entry 0 closes the interrupt controller, 0x2000000 to 0x200ffff: 0x801fff ends in thirteen ones, so it matches
-/// 2^16 bytes. Entry 1 closes the firmware, 0x80000000 to 0x8007ffff: 0x2000ffff ends in sixteen ones, 2^19 bytes.
-/// Entry 2 opens everything. None is locked, so machine mode may do everything.
 #[test]
 fn the_default_domain(rt: HostRuntime) -> Result<(), Fail> {
     assert_accesses(
         &rt,
-        &[
-            ("pmpaddr0 0x801fff", "0x18"),
-            ("pmpaddr1 0x2000ffff", "0x1818"),
-            ("pmpaddr2 0xffffffffffffffff", "0x1f1818"),
-        ],
+        &DEFAULT_DOMAIN,
         &[
             // Probing leaves every entry off.
             ("0,S,load,0x80000000,8", "fault,5,none,"),
@@ -105,23 +135,11 @@ fn the_default_domain(rt: HostRuntime) -> Result<(), Fail> {
     )
 }
 
-/// Each address ends in so many ones that the entry matches, in hexadecimal: 0: 10000000 to 10000fff rw-; 1: 80400000
-/// to 80400fff r-x, locked; 2: 80402000 to 80403fff rw-, locked; 3: 2000000 to 200ffff ---; 4: 80000000 to 8007ffff
-/// ---; 5: 80100000 to 801fffff ---; 6: 20000000 to 21ffffff r--; 7: everything rwx.
 #[test]
 fn a_domain_of_its_own(rt: HostRuntime) -> Result<(), Fail> {
     assert_accesses(
         &rt,
-        &[
-            ("pmpaddr0 0x40001ff", "0x1b"),
-            ("pmpaddr1 0x201001ff", "0x9d1b"),
-            ("pmpaddr2 0x20100bff", "0x9b9d1b"),
-            ("pmpaddr3 0x801fff", "0x189b9d1b"),
-            ("pmpaddr4 0x2000ffff", "0x18189b9d1b"),
-            ("pmpaddr5 0x2005ffff", "0x1818189b9d1b"),
-            ("pmpaddr6 0x83fffff", "0x191818189b9d1b"),
-            ("pmpaddr7 0xffffffffffffffff", "0x1f191818189b9d1b"),
-        ],
+        &OWN_DOMAIN,
         &[
             ("2,U,store,0x10000000,1", "allow,,rule,0"),
             ("2,U,store,0x10000fff,1", "allow,,rule,0"),
@@ -169,4 +187,97 @@ fn a_domain_of_its_own(rt: HostRuntime) -> Result<(), Fail> {
             ("9,U,fetch,0xffffffffffffff,1", "allow,,rule,7"),
         ],
     )
+}
+
+#[test]
+fn maps_of_the_default_domain(rt: HostRuntime) -> Result<(), Fail> {
+    let script = boot(rt.alloc(), &DEFAULT_DOMAIN)?;
+    let nothing = ["00000000000000,ffffffffffffff,-,rwx,---"];
+    assert_map(&rt, &script, Some(0), &nothing)?;
+    assert_map(&rt, &script, Some(1), &nothing)?;
+    assert_map(
+        &rt,
+        &script,
+        Some(2),
+        &[
+            "00000000000000,00000001ffffff,-,rwx,---",
+            "00000002000000,0000000200ffff,0,rwx,---",
+            "00000002010000,ffffffffffffff,-,rwx,---",
+        ],
+    )?;
+    assert_map(
+        &rt,
+        &script,
+        Some(3),
+        &[
+            "00000000000000,00000001ffffff,-,rwx,---",
+            "00000002000000,0000000200ffff,0,rwx,---",
+            "00000002010000,0000007fffffff,-,rwx,---",
+            "00000080000000,0000008007ffff,1,rwx,---",
+            "00000080080000,ffffffffffffff,-,rwx,---",
+        ],
+    )?;
+    assert_map(
+        &rt,
+        &script,
+        None,
+        &[
+            "00000000000000,00000001ffffff,2,rwx,rwx",
+            "00000002000000,0000000200ffff,0,rwx,---",
+            "00000002010000,0000007fffffff,2,rwx,rwx",
+            "00000080000000,0000008007ffff,1,rwx,---",
+            "00000080080000,ffffffffffffff,2,rwx,rwx",
+        ],
+    )
+}
+
+/// The map of the domain of its own after the first publications, as far as they go: what isn't listed has no owner.
+fn assert_owned<R: std::process::Abort + AllocGlobal>(
+    rt: &R,
+    after: u64,
+    owned: &[(u64, u64, &str)],
+    others: &str,
+) -> Result<(), Fail> {
+    let alloc = rt.alloc();
+    let script = boot(alloc, &OWN_DOMAIN)?;
+    let mut expected = String::new(alloc);
+    let mut next = 0;
+    for (first, last, answer) in owned {
+        let before = first.saturating_sub(1);
+        let lines = format!(in alloc;
+            "{next:014x},{before:014x},{others}\n{first:014x},{last:014x},{answer}\n"
+        )?;
+        expected.push_str(lines.as_str())?;
+        next = last.saturating_add(1);
+    }
+    let line = format!(in alloc; "{next:014x},ffffffffffffff,{others}\n")?;
+    expected.push_str(line.as_str())?;
+    let mut map = Vec::new(alloc);
+    let answer = crate::mapping::map_of(alloc, script.as_bytes(), Some(after), &mut map);
+    assert_eq!(rt; map.as_slice(), expected.as_bytes(), "after {after}");
+    assert_eq!(rt; answer, Ok(()));
+    Ok(())
+}
+
+#[test]
+fn maps_of_a_domain_of_its_own(rt: HostRuntime) -> Result<(), Fail> {
+    let serial = (0x1000_0000, 0x1000_0fff, "0,rwx,rw-");
+    let code = (0x8040_0000, 0x8040_0fff, "1,r-x,r-x");
+    let data = (0x8040_2000, 0x8040_3fff, "2,rw-,rw-");
+    let interrupts = (0x200_0000, 0x200_ffff, "3,rwx,---");
+    let firmware = (0x8000_0000, 0x8007_ffff, "4,rwx,---");
+    let memory = (0x8010_0000, 0x801f_ffff, "5,rwx,---");
+    let flash = (0x2000_0000, 0x21ff_ffff, "6,rwx,r--");
+    let nobody = "-,rwx,---";
+    assert_owned(&rt, 1, &[], nobody)?;
+    assert_owned(&rt, 2, &[serial], nobody)?;
+    assert_owned(&rt, 3, &[serial, code], nobody)?;
+    assert_owned(&rt, 4, &[serial, code, data], nobody)?;
+    assert_owned(&rt, 5, &[interrupts, serial, code, data], nobody)?;
+    assert_owned(&rt, 6, &[interrupts, serial, firmware, code, data], nobody)?;
+    let seven = [interrupts, serial, firmware, memory, code, data];
+    assert_owned(&rt, 7, &seven, nobody)?;
+    let eight = [interrupts, serial, flash, firmware, memory, code, data];
+    assert_owned(&rt, 8, &eight, nobody)?;
+    assert_owned(&rt, 9, &eight, "7,rwx,rwx")
 }

@@ -10,7 +10,7 @@ use Rattle.pmp_audit.proofs.auditing.write_report.Goals as goal
 
 pub loop-row-init : goal.loop-row-init
 unfolding report_from
-loop-row-init c = (c.reset-file.ensures, c.requires, sym (append-nil c.args.report.now.items), no_rows c.args.script.now c.default-summary.result c.default-summary.ensures.0 c.default-summary.ensures.1, λ k d below. absurd (omega arith))
+loop-row-init c = rw c.reset-stage.ensures.done (c.reset-stage.ensures.file, c.requires, sym (append-nil c.args.report.now.items), no_rows c.args.script.now c.default-summary.result c.default-summary.ensures.0 c.default-summary.ensures.1, λ k d below. absurd (omega arith))
 
 pub count-requires-clause-faults : goal.count-requires-clause-faults
 count-requires-clause-faults c = rw c.loop-row.invariant.3 (refused_at_most c.args.script.now _)
@@ -22,20 +22,20 @@ loop-row-preserved c =
     let i = c.loop-row.row-index in
     let row = c.row-item.result in
     let inside : i < length rows = omega (arith, c.loop-row-test.true) in
-    let decided : c.decide-decision.result ≡ row_decision script row = c.decide-decision.ensures.computed ∙ ap (λ (file : RegisterFile). decision_of file row.access) c.advance.ensures in
+    let decided : c.decide-decision.result ≡ row_decision script row = c.decide-decision.ensures.computed ∙ ap (λ (file : RegisterFile). decision_of file row.access) c.advance.ensures.file in
     let so_far = c.loop-row.invariant in
     let done : c.loop-row.summary.rows ≡ i = ap (λ (s : Summary). s.rows) so_far.3 ∙ rows_so_far script rows i row inside c.row-item.is in
     let number : c.count.new.self.rows ≡ i + 1 = c.count.ensures.rows ∙ ap (λ (n : ℕ). n + 1) done in
-    let faults : c.count.new.self.faults ≡ (summary_of script (take i rows)).faults + cond c.decide-decision.result.allowed 0 1 = c.count.ensures.faults ∙ ap (λ (s : Summary). s.faults + cond c.decide-decision.result.allowed 0 1) so_far.3 in (
-      c.advance.ensures,
-      ordered_more script rows i row inside c.row-item.is c.loop-row.done so_far.1,
+    let faults : c.count.new.self.faults ≡ (summary_of script (take i rows)).faults + cond c.decide-decision.result.allowed 0 1 = c.count.ensures.faults ∙ ap (λ (s : Summary). s.faults + cond c.decide-decision.result.allowed 0 1) so_far.3 in rw c.advance.ensures.done (
+      c.advance.ensures.file,
+      ordered_more script rows i row inside c.row-item.is c.loop-row.stage.done so_far.1,
       c.in_ok-write_row.ensures.ok
           ∙ ap (λ (n : ℕ). c.loop-row.report.items ++ report_row n row.access c.decide-decision.result) number
           ∙ ap (λ (l : List ℕ). l ++ report_row (i + 1) row.access c.decide-decision.result) so_far.2
           ∙ append_assoc c.args.report.now.items (report_text script (take i rows)) (report_row (i + 1) row.access c.decide-decision.result)
           ∙ ap (λ (l : List ℕ). c.args.report.now.items ++ l) (sym (reported_more script rows i row inside c.row-item.is c.decide-decision.result decided)),
       summed_more script rows i row inside c.row-item.is c.count.new.self c.decide-decision.result decided number faults,
-      decided_more script rows i row inside c.row-item.is c.advance.new.file c.decide-decision.result c.advance.ensures c.decide-decision.ensures.computed c.decide-decision.ensures.by_bytes so_far.4,
+      decided_more script rows i row inside c.row-item.is c.advance.new.self.file c.decide-decision.result c.advance.ensures.file c.decide-decision.ensures.computed c.decide-decision.ensures.by_bytes so_far.4,
     )
 
 pub returns-clause-by_bytes : goal.returns-clause-by_bytes

@@ -1,0 +1,32 @@
+//! The runs of a register file after publications of a script.
+
+ghost use Rattle.std.specs.Prelude.{OnOk, IfErr};
+ghost use Rattle.pmp_audit.specs.Showing.{IsMapped, IsUnmapped};
+
+use crate::fault::AuditFault;
+use crate::replay::file_taken;
+use pmp_map::RunMap;
+use pmp_text::{read_script, write_out, write_runs};
+use std::alloc::Global;
+use std::io::Write;
+
+/// Writes the runs after the first `after` publications of the script, or after all of them where that is none: which
+/// bytes each entry owns, and what it lets each mode do there.
+///
+/// The text is whole before its first byte is written, so every refusal but `Output` leaves the output untouched.
+pub fn map_of<W: Write>(
+    alloc: Global,
+    script: &[u8],
+    after: Option<u64>,
+    writer: &mut W,
+) -> Result<(), AuditFault>
+    ensures ok { OnOk result (IsMapped script.now after (W.contents writer.old) (W.contents writer.new)) }
+    ensures err { IfErr result (IsUnmapped script.now after (W.contents writer.old) (W.contents writer.new)) }
+{
+    let script = read_script(alloc, script)?;
+    let file = file_taken(&script, after)?;
+    let mut text = Vec::new(alloc);
+    write_runs(&mut text, &file, &RunMap::build(&file))?;
+    write_out(writer, &text)?;
+    Ok(())
+}
