@@ -12,7 +12,7 @@ use Rattle.pmp_core.specs.Rights.{perms_of}
 use Rattle.pmp_map.specs.declared.run.Run.{Run}
 use Rattle.pmp_map.specs.Answers.{owned_rights, decision_by, refusal_by, kept_rights, answers_of}
 use Rattle.pmp_map.specs.Runs.{IsInRun, run_at, AreRuns}
-use Rattle.pmp_map.proofs.Order.{start_at, starts_rise, start_rises, run_among}
+use Rattle.pmp_map.proofs.Order.{start_at, starts_rise, run_among}
 use Rattle.pmp_map.proofs.LeastOwner.{OwnsOne}
 
 pub rights_kept : (file : RegisterFile) (owner : Option ℕ) (mode : Mode) → kept_rights (answers_of file owner) mode ≡ perms_of (owned_rights file owner mode)
@@ -109,9 +109,15 @@ module _ (file : RegisterFile) (access : Access) (runs part : List Run) (p q : �
       let to : p + k ≤ q = omega (arith, least.0.1, straddles.count) in
       let owner : owner_at (p + k) ≡ Some i = sym (ap (λ (run : Run). run.owner) (straddles.runs_are k least.0.1)) ∙ least.0.2 in
       let byte = touched (p + k) (omega arith) to in
-      let owned : IsOwner file.entries byte.0 (Some i) = rw owner at (owner_of_byte (p + k) byte.0 to byte.2) in
-      (((byte.0, byte.1, owned.0), λ j below touches.
-          let lower = owned_up_to j touches.0 touches.1 touches.2 in
-          least.1 lower.0 (omega (arith, lower.2)) lower.1), λ covers.
-          let same : (n : ℕ) → p ≤ n → n ≤ q → owner_at n ≡ Some i = λ n from to. owned_alone i least.1 covers n from to in
-          absurd (are.apart p (omega (arith, straddles.inside)) (same p (omega arith) (omega arith) ∙ sym (same (p + 1) (omega arith) (omega arith)))), refl)
+      let owned : IsOwner file.entries byte.0 (Some i) = rw owner at (owner_of_byte (p + k) byte.0 to byte.2) in (
+        (
+          (byte.0, byte.1, owned.0),
+          λ j below touches.
+              let lower = owned_up_to j touches.0 touches.1 touches.2 in
+              least.1 lower.0 (omega (arith, lower.2)) lower.1,
+        ),
+        λ covers.
+            let same : (n : ℕ) → p ≤ n → n ≤ q → owner_at n ≡ Some i = λ n from to. owned_alone i least.1 covers n from to in
+            absurd (are.apart p (omega (arith, straddles.inside)) (same p (omega arith) (omega arith) ∙ sym (same (p + 1) (omega arith) (omega arith)))),
+        refl,
+      )

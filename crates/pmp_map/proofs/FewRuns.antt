@@ -1,12 +1,12 @@
 -- Owners change at cuts, the ends of ranges, of which each range has two. So there are few runs.
-use Rattle.std.proofs.Common.{◌≡◌, ◌≢◌, ℕ, zero, suc, ◌+◌, ◌-◌, ◌*◌, ◌<◌, ◌≤◌, ◌⊎◌, Bool, true, false, cond, List, [], ◌∷◌, length, Option, Some, None, nat_le, refl, ap, arith, add-one, inl, inr}
+use Rattle.std.proofs.Common.{◌≡◌, ◌≢◌, ℕ, zero, suc, ◌+◌, ◌-◌, ◌*◌, ◌<◌, ◌≤◌, ◌⊎◌, cond, List, [], ◌∷◌, length, Option, Some, None, nat_le, refl, ap, arith, add-one, inl, inr}
 use Rattle.std.proofs.lemmas.Bool.{cases_lt, le-leb, lt-leb}
 use Rattle.pmp_core.specs.declared.range.ByteRange.{ByteRange}
 use Rattle.pmp_core.specs.Ranges.{IsInRange, range_in}
 use Rattle.pmp_map.specs.declared.run.Run.{Run}
 use Rattle.pmp_map.specs.Owners.{IsOwnerIn}
 use Rattle.pmp_map.specs.Runs.{run_at, AreRunsTo}
-use Rattle.pmp_map.proofs.Order.{start_at, start_rises}
+use Rattle.pmp_map.proofs.Order.{start_at}
 
 -- ---- where owners change
 

@@ -1,5 +1,5 @@
 -- The least of the runs' owners is one of them, and none of them is lower.
-use Rattle.std.proofs.Common.{◌≡◌, ℕ, zero, suc, ◌+◌, ◌<◌, ◌≤◌, ◌⊎◌, List, [], ◌∷◌, length, fold, Option, Some, None, min, refl, sym, ap, ◌∙◌, arith, inl, inr}
+use Rattle.std.proofs.Common.{◌≡◌, ℕ, zero, suc, ◌<◌, ◌≤◌, ◌⊎◌, List, [], ◌∷◌, length, fold, Option, Some, None, min, refl, sym, ap, ◌∙◌, arith, inl, inr}
 use Rattle.std.specs.List.{filter_map, cons_option, reduce}
 use Rattle.std.proofs.lemmas.Bool.{cases_lt}
 use Rattle.pmp_core.specs.Deciding.{IsLeast}
@@ -59,11 +59,13 @@ module _ (to : ℕ) where
       → ((n : ℕ) → IsLeastWith runs n (fold min n (owners runs))) → IsLeast (OwnsOne to (run ∷ runs)) (reduce min (cons_option owner (owners runs)))
   least_step run runs None none least rest = least_alike (OwnsOne to runs) (OwnsOne to (run ∷ runs)) (least_owner runs)
       (λ i. (owns_later run runs i, λ owned. elim (owns_first run runs i owned) [ inl first ↦ cc | inr later ↦ later ])) least
-  least_step run runs (Some j) some least rest =
-      (elim (rest j).one [ inl same ↦ (0, omega arith, some ∙ ap Some (sym same)) | inr owned ↦ owns_later run runs _ owned ], λ i below owned. elim (owns_first run runs i owned) [
-        | inl first ↦ let same : j ≡ i = cc in absurd (omega (arith, (rest j).bound))
-        | inr later ↦ absurd (omega (arith, (rest j).each i later))
-      ])
+  least_step run runs (Some j) some least rest = (
+    elim (rest j).one [ inl same ↦ (0, omega arith, some ∙ ap Some (sym same)) | inr owned ↦ owns_later run runs _ owned ],
+    λ i below owned. elim (owns_first run runs i owned) [
+      | inl first ↦ let same : j ≡ i = cc in absurd (omega (arith, (rest j).bound))
+      | inr later ↦ absurd (omega (arith, (rest j).each i later))
+    ],
+  )
 
   pub least_owner_is : (runs : List Run) → IsLeast (OwnsOne to runs) (least_owner runs)
   least_owner_is [] = owns_none

@@ -1,5 +1,5 @@
 -- What the search finds in the tables of a map.
-use Rattle.std.proofs.Common.{◌≡◌, ℕ, ◌+◌, ◌-◌, ◌<◌, ◌≤◌, ◌^◌, List, length, slice_index, take, drop, length-take, length-drop, sym, ap, ◌∙◌, arith, inl, inr}
+use Rattle.std.proofs.Common.{◌≡◌, ℕ, ◌+◌, ◌-◌, ◌<◌, ◌≤◌, ◌^◌, List, length, slice_index, drop, length-take, length-drop, ◌∙◌, arith, inl, inr}
 use Rattle.std.specs.List.{slice_range}
 use Rattle.std.proofs.lemmas.Bool.{cases_lt}
 use Rattle.std.proofs.lemmas.List.{get_or-take, get_or-drop}
@@ -14,11 +14,11 @@ use Rattle.pmp_map.specs.declared.run_map.RunMap.TheInside.{Inside}
 use Rattle.pmp_map.specs.declared.searching.TheConstants.{PLACES}
 use Rattle.pmp_map.specs.Answers.{decision_by, refusal_by}
 use Rattle.pmp_map.specs.Owners.{least_owner}
-use Rattle.pmp_map.specs.Runs.{IsInRun, AreRuns}
+use Rattle.pmp_map.specs.Runs.{IsInRun}
 use Rattle.pmp_map.specs.Maps.{map_run, IsMapOf}
 use Rattle.pmp_map.proofs.Order.{start_at, start_past, starts_rise, in_run, run_before}
 use Rattle.pmp_map.proofs.LeastOwner.{least_owner_is}
-use Rattle.pmp_map.proofs.Decided.{Straddles, decided_whole, decided_split}
+use Rattle.pmp_map.proofs.Decided.{decided_whole, decided_split}
 
 -- the place is that of the byte's run
 pub record IsPlaceOf (runs : List Run) (byte place : ℕ) : Type 0 where

@@ -4,7 +4,7 @@ use Rattle.std.proofs.lemmas.Bool.{cases_lt}
 use Rattle.std.proofs.lemmas.List.{get_or_default, same_lists}
 use Rattle.pmp_map.specs.declared.run.Run.{Run}
 use Rattle.pmp_map.specs.Runs.{run_at, AreRunsTo}
-use Rattle.pmp_map.proofs.Order.{start_at, start_past, start_rises, starts_rise, start_below, run_before}
+use Rattle.pmp_map.proofs.Order.{start_at, start_past, starts_rise, start_below}
 
 abbrev run_of : (first last : ℕ) → Option ℕ → Run
 run_of first last owner = record { first = first; last = last; owner = owner }
@@ -63,4 +63,4 @@ module _ (to : ℕ) (Owns : ℕ → Option ℕ → Type 0) (once : (byte : ℕ) 
   one_list one other p q =
       let lengths = same_length one other p q in
       same_lists one other lengths (λ k d inside.
-          get_or_default one k d _ inside ∙ same_run one other p q k inside (omega arith) (same_starts one other p q k (omega arith) (omega arith)) ∙ sym (get_or_default other k d _ (omega arith)))
+      get_or_default one k d _ inside ∙ same_run one other p q k inside (omega arith) (same_starts one other p q k (omega arith) (omega arith)) ∙ sym (get_or_default other k d _ (omega arith)))

@@ -1,5 +1,5 @@
 -- What an access is answered by the owners of its bytes (Volume II, 3.7.1.3).
-use Rattle.std.specs.Prelude.{◌≡◌, ℕ, false, Option, Some, None, List}
+use Rattle.std.specs.Prelude.{ℕ, false, Option, Some, None}
 use Rattle.pmp_core.specs.declared.access.Access.{Access}
 use Rattle.pmp_core.specs.declared.access.Mode.{Mode}
 use Rattle.pmp_core.specs.declared.access.Mode.TheVariants.{M, S, U}
@@ -16,10 +16,12 @@ abbrev pub owned_rights : RegisterFile → Option ℕ → Mode → Rights
 owned_rights file None = default_rights file
 owned_rights file (Some i) = rights file i
 
+-- the owner matches all bytes
 abbrev pub whole_cause : Option ℕ → Cause
 whole_cause None = NoMatch
 whole_cause (Some i) = Rule i
 
+-- the owner matches a byte, but not all of them
 abbrev pub split_cause : Option ℕ → Cause
 split_cause None = NoMatch
 split_cause (Some i) = Split i

@@ -1,5 +1,5 @@
 -- Owners by the ranges of entries.
-use Rattle.std.specs.Prelude.{◌≡◌, ℕ, ◌<◌, ◌≤◌, Option, List, min}
+use Rattle.std.specs.Prelude.{ℕ, ◌<◌, ◌≤◌, Option, List, min}
 use Rattle.std.specs.List.{filter_map, reduce}
 use Rattle.pmp_core.specs.declared.range.ByteRange.{ByteRange}
 use Rattle.pmp_core.specs.Deciding.{IsLeast}

@@ -13,7 +13,9 @@ pub struct Answers {
     pub cause: Cause,
     /// What machine mode may do.
     pub machine: Perms,
+    /// What supervisor mode may do.
     pub supervisor: Perms,
+    /// What user mode may do.
     pub user: Perms,
 }
 

@@ -1,9 +1,8 @@
 //! A map's tables.
 
-ghost use Rattle.std.specs.Prelude.{◌≡◌, ℕ, ◌<◌, ◌≤◌, ◌^◌, length, slice_index, slice_index_or};
-ghost use Rattle.pmp_core.specs.Registers.{RegisterFile};
+ghost use Rattle.std.specs.Prelude.{◌≤◌, ◌^◌, length};
 ghost use Rattle.pmp_map.specs.Owners.{IsOwnerIn};
-ghost use Rattle.pmp_map.specs.Runs.{AreRunsTo, run_at};
+ghost use Rattle.pmp_map.specs.Runs.{AreRunsTo};
 ghost use Rattle.pmp_map.specs.Maps.{AreStarts, AreAnswers, HasOwnersBelow};
 
 use crate::answers::Answers;

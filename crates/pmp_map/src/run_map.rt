@@ -15,13 +15,14 @@ use pmp_core::{Access, Decision, RegFile};
 use std::marker::Model;
 
 /// The owners of all bytes, as runs. A contract sees a map as the register file that it was built from.
-#[derive(Drop)]
+#[derive(Debug, Drop)]
 pub struct RunMap {
     /// Kept for the contracts: no answer reads it.
     file: RegFile,
     runs: ArrayVec<Run, RUNS>,
     /// Where each run begins; past the last, the end of the address space.
     starts: [u64; PLACES],
+    /// What each run answers; no place past the last is read.
     answers: [Answers; RUNS],
 }
 
@@ -38,7 +39,7 @@ impl Model for RunMap {
 }
 
 impl RunMap {
-    /// The map of a register file.
+    /// The map of a register file, swept from one change of owner to the next.
     pub fn build(file: &RegFile) -> RunMap
         ensures { result ≡ file.now }
     {
@@ -69,7 +70,8 @@ impl RunMap {
         self.runs[place_of(&self.starts, byte)].owner
     }
 
-    /// Decides an access as the register file does, which is the one that the map was built from.
+    /// Decides an access as the register file does that the map was built from (Volume II, 3.7.1.3). The contract
+    /// alone reads `file`.
     pub fn decide(&self, file: &RegFile, access: &Access) -> Decision
         requires { self.now ≡ file.now }
         ensures by_bytes { IsDecision file.now access.now result }

@@ -1,4 +1,4 @@
-use Rattle.std.proofs.Common.{◌≡◌, ◌^◌, None, ap, ◌∙◌}
+use Rattle.std.proofs.Common.{◌^◌, None, ap, ◌∙◌}
 use Rattle.std.proofs.lemmas.List.{get_or_default}
 use Rattle.pmp_map.specs.declared.run.Run.{Run}
 use Rattle.pmp_map.proofs.building.answers_of.Goals as goal

@@ -1,8 +1,8 @@
-use Rattle.std.proofs.Common.{◌≡◌, ◌≢◌, ℕ, ◌+◌, ◌-◌, ◌*◌, ◌<◌, ◌≤◌, ◌^◌, List, [], ◌∷◌, ◌++◌, Option, length, length-append, sym, ap, ◌∙◌, arith}
+use Rattle.std.proofs.Common.{◌≡◌, ◌-◌, ◌<◌, ◌^◌, [], ◌∷◌, ◌++◌, length, length-append, sym, ap, ◌∙◌, arith}
 use Rattle.pmp_map.specs.declared.run.Run.{Run}
 use Rattle.pmp_map.specs.declared.run.TheConstants.{RUNS}
 use Rattle.pmp_map.specs.Owners.{IsOwnerIn}
-use Rattle.pmp_map.specs.Runs.{AreRunsTo, run_at}
+use Rattle.pmp_map.specs.Runs.{AreRunsTo}
 use Rattle.pmp_map.proofs.FewRuns.{few_runs}
 use Rattle.pmp_map.proofs.Pushes.{IsNextRun, next_run, pushed, last_pushed}
 use Rattle.pmp_map.proofs.building.runs_of.Goals as goal
@@ -31,9 +31,12 @@ pub loop-first-preserved : goal.loop-first-preserved
 loop-first-preserved c =
     let at = (goal.at.loop-first-preserved c).After-run_end-end in
     let end = c.run_end-end.result in
-    rw c.push.ensures.items
-    (longer at, c.run_end-end.ensures.bounded, λ inside k last other owned same. c.run_end-end.ensures.apart inside other owned
-    (sym (ap (λ (run : Run). run.owner) (last_pushed c.loop-first.first (IsOwnerIn c.args.ranges.now) c.loop-first.runs.items (run_found at) c.loop-first.invariant.0 (follows at) end k last)) ∙ same))
+    rw c.push.ensures.items (
+      longer at,
+      c.run_end-end.ensures.bounded,
+      λ inside k last other owned same. c.run_end-end.ensures.apart inside other owned
+          (sym (ap (λ (run : Run). run.owner) (last_pushed c.loop-first.first (IsOwnerIn c.args.ranges.now) c.loop-first.runs.items (run_found at) c.loop-first.invariant.0 (follows at) end k last)) ∙ same),
+    )
 
 pub returns : goal.returns
 returns c =

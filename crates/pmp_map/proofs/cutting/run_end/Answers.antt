@@ -1,4 +1,4 @@
-use Rattle.std.proofs.Common.{◌≡◌, Option, ℕ, sym, ◌∙◌, arith}
+use Rattle.std.proofs.Common.{◌≡◌, sym, ◌∙◌, arith}
 use Rattle.pmp_map.specs.Owners.{OwnsBytes}
 use Rattle.pmp_map.proofs.Cuts.{owns_alike, owns_more, options_alike}
 use Rattle.pmp_map.proofs.cutting.run_end.Goals as goal

@@ -1,4 +1,3 @@
-use Rattle.std.proofs.Common.{ℕ}
 use Rattle.std.specs.Int.{IsPowerOfTwo}
 use Rattle.pmp_map.specs.declared.searching.TheConstants.{PLACES}
 use Rattle.pmp_map.proofs.Halving.{IsBetween}

@@ -1,4 +1,4 @@
-use Rattle.std.proofs.Common.{◌≡◌, ◌^◌, ◌≤◌, length}
+use Rattle.std.proofs.Common.{◌^◌, ◌≤◌, length}
 use Rattle.pmp_map.specs.declared.run.TheConstants.{RUNS}
 use Rattle.pmp_map.specs.Maps.{HasOwnersBelow, AreStarts, AreAnswers}
 use Rattle.pmp_map.proofs.Entries.{runs_by_entries, owners_below}

@@ -1,6 +1,5 @@
-use Rattle.std.proofs.Common.{◌≡◌, ◌<◌, ◌^◌, None, length, ap}
+use Rattle.std.proofs.Common.{◌^◌, None}
 use Rattle.std.proofs.lemmas.List.{get_or_default}
-use Rattle.pmp_core.specs.Deciding.{IsOwner}
 use Rattle.pmp_map.specs.declared.run.Run.{Run}
 use Rattle.pmp_map.proofs.Lookups.{IsPlaceOf, found}
 use Rattle.pmp_map.proofs.run_map.RunMap.owner.Goals as goal

@@ -1,4 +1,3 @@
-use Rattle.std.proofs.Common.{◌≡◌, ◌^◌, ap, length, arith}
 use Rattle.pmp_map.proofs.Entries.{few_runs_of_entries}
 use Rattle.pmp_map.proofs.run_map.RunMap.runs.Goals as goal
 
