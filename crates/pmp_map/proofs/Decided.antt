@@ -2,23 +2,15 @@
 use Rattle.std.proofs.Common.{◌≡◌, ◌≢◌, ℕ, ◌+◌, ◌-◌, ◌<◌, ◌≤◌, ◌^◌, List, length, Option, Some, None, refl, sym, ap, ◌∙◌, arith, inl, inr}
 use Rattle.std.proofs.lemmas.Bool.{cases_lt}
 use Rattle.pmp_core.specs.declared.access.Access.{Access}
-use Rattle.pmp_core.specs.declared.access.Mode.{Mode}
-use Rattle.pmp_core.specs.declared.access.Mode.TheVariants.{M, S, U}
 use Rattle.pmp_core.specs.declared.entry.Entry.{Entry}
 use Rattle.pmp_core.specs.Registers.{RegisterFile}
 use Rattle.pmp_core.specs.Matching.{Matches}
 use Rattle.pmp_core.specs.Deciding.{IsByteOf, IsLeast, IsOwner, Covers, IsDecision}
-use Rattle.pmp_core.specs.Rights.{perms_of}
 use Rattle.pmp_map.specs.declared.run.Run.{Run}
-use Rattle.pmp_map.specs.Answers.{owned_rights, decision_by, refusal_by, kept_rights, answers_of}
+use Rattle.pmp_map.specs.Answers.{decision_by, refusal_by}
 use Rattle.pmp_map.specs.Runs.{IsInRun, run_at, AreRuns}
 use Rattle.pmp_map.proofs.Order.{start_at, starts_rise, run_among}
 use Rattle.pmp_map.proofs.LeastOwner.{OwnsOne}
-
-pub rights_kept : (file : RegisterFile) (owner : Option ℕ) (mode : Mode) → kept_rights (answers_of file owner) mode ≡ perms_of (owned_rights file owner mode)
-rights_kept file owner M = refl
-rights_kept file owner S = refl
-rights_kept file owner U = refl
 
 -- ---- one owner
 

@@ -37,14 +37,13 @@ refusal_by owner = record { allowed = false; cause = split_cause owner }
 -- what the answers allow the mode
 abbrev pub kept_rights : Answers → Mode → Perms
 kept_rights answers M = answers.machine
-kept_rights answers S = answers.supervisor
-kept_rights answers U = answers.user
+kept_rights answers S = answers.others
+kept_rights answers U = answers.others
 
 -- what a run of this owner keeps
 abbrev pub answers_of : RegisterFile → Option ℕ → Answers
 answers_of file owner = record {
   cause = whole_cause owner;
   machine = perms_of (owned_rights file owner M);
-  supervisor = perms_of (owned_rights file owner S);
-  user = perms_of (owned_rights file owner U);
+  others = perms_of (owned_rights file owner U);
 }

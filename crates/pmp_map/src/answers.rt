@@ -13,10 +13,8 @@ pub struct Answers {
     pub cause: Cause,
     /// What machine mode may do.
     pub machine: Perms,
-    /// What supervisor mode may do.
-    pub supervisor: Perms,
-    /// What user mode may do.
-    pub user: Perms,
+    /// What the other modes may do, which have the same rights.
+    pub others: Perms,
 }
 
 impl Answers {
@@ -29,14 +27,12 @@ impl Answers {
             Some(entry) => Answers {
                 cause: Cause::Rule(entry),
                 machine: file.rights(entry, Mode::M),
-                supervisor: file.rights(entry, Mode::S),
-                user: file.rights(entry, Mode::U),
+                others: file.rights(entry, Mode::U),
             },
             None => Answers {
                 cause: Cause::NoMatch,
                 machine: file.default_rights(Mode::M),
-                supervisor: file.default_rights(Mode::S),
-                user: file.default_rights(Mode::U),
+                others: file.default_rights(Mode::U),
             },
         }
     }
@@ -44,10 +40,10 @@ impl Answers {
     fn rights(&self, mode: Mode) -> Perms
         ensures { result ≡ kept_rights self.now mode }
     {
-        match mode {
-            Mode::M => self.machine,
-            Mode::S => self.supervisor,
-            Mode::U => self.user,
+        if mode == Mode::M {
+            self.machine
+        } else {
+            self.others
         }
     }
 

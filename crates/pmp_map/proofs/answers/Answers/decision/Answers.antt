@@ -4,7 +4,7 @@ use Rattle.pmp_core.specs.declared.decision.Decision.{Decision}
 use Rattle.pmp_core.specs.Rights.{perms_of}
 use Rattle.pmp_map.specs.declared.answers.Answers.{Answers}
 use Rattle.pmp_map.specs.Answers.{owned_rights, whole_cause, kept_rights}
-use Rattle.pmp_map.proofs.Decided.{rights_kept}
+use Rattle.pmp_map.proofs.KeptRights.{rights_kept}
 use Rattle.pmp_map.proofs.answers.Answers.decision.Goals as goal
 
 pub returns : goal.returns
