@@ -13,12 +13,13 @@ use crate::searching::{PLACES, place_of};
 use arrayvec::ArrayVec;
 use pmp_core::{Access, Decision, RegFile};
 use std::marker::Model;
+use std::snapshot::Snapshot;
 
 /// The owners of all bytes, as runs. A contract sees a map as the register file that it was built from.
-#[derive(Debug, Drop)]
+#[derive(Drop)]
 pub struct RunMap {
-    /// Kept for the contracts: no answer reads it.
-    file: RegFile,
+    /// The file that it was built from, for contracts alone.
+    file: Snapshot<RegFile>,
     runs: ArrayVec<Run, RUNS>,
     /// Where each run begins; past the last, the end of the address space.
     starts: [u64; PLACES],
@@ -33,9 +34,9 @@ impl Model for RunMap {
 
     ghost use Rattle.pmp_map.specs.Maps.{IsMapOf};
 
-    ghost view = { λ m. m.file };
+    ghost view = { λ m. m.file.value };
 
-    ghost invariant = { λ m. IsMapOf m.file m.runs.items m.starts m.answers };
+    ghost invariant = { λ m. IsMapOf m.file.value m.runs.items m.starts m.answers };
 }
 
 impl RunMap {
@@ -47,7 +48,7 @@ impl RunMap {
         let starts = starts_of(&runs);
         let answers = answers_of(file, &runs);
         RunMap {
-            file: *file,
+            file: Snapshot::of(file),
             runs,
             starts,
             answers,

@@ -15,10 +15,10 @@ invariant_of-result c =
     let few : length runs ≤ RUNS = rw c.deref.ensures.0 at c.deref.ensures.1 in
     let starts : AreStarts runs c.starts_of-starts.result = rw c.deref.ensures.0 at c.starts_of-starts.ensures in
     let answers : AreAnswers c.args.file.now runs c.answers_of-answers.result = rw c.deref-2.ensures.0 at c.answers_of-answers.ensures in
-    record {
+    rw c.of.ensures (record {
       addresses = c.ranges-2.ensures.legal.addresses;
       runs_are = runs_by_entries c.args.file.now.entries c.ranges-2.result.now c.ranges-2.ensures.ranges (2 ^ 56) runs c.runs_of-runs.ensures;
       few = few;
       starts_are = starts;
       answers_are = answers;
-    }
+    })

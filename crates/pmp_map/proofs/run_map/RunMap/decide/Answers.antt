@@ -25,15 +25,15 @@ rise c =
     let at = goal.at.slice_bounds-refuse_straddling-count c in
     places_rise c.self.inside c.self.invariant c.args.access.now c.place_of-place.result (first at.After-place_of-place) c.place_of-last.result (last at.After-place_of-last) c.if-end-self.false
 
-whole : (c : After-decision) → IsDecision c.self.inside.file c.args.access.now c.decision.result
+whole : (c : After-decision) → IsDecision c.self.inside.file.value c.args.access.now c.decision.result
 whole c =
     let place = c.place_of-place.result in
     let at = first (goal.at.returns-then-end-self-clause-by_bytes c).After-place_of-place in
     let owner = (map_run c.self.inside.runs.items place).owner in
-    rw (c.decision.ensures c.self.inside.file owner (get_or_from_slice_get c.self.inside.answers place _ _ (c.self.invariant.answers_are place at.inside)))
+    rw (c.decision.ensures c.self.inside.file.value owner (get_or_from_slice_get c.self.inside.answers place _ _ (c.self.invariant.answers_are place at.inside)))
     (whole_decided c.self.inside c.self.invariant c.args.access.now place at c.if-end-self.true)
 
-split : (c : After-refuse_straddling) → IsDecision c.self.inside.file c.args.access.now c.refuse_straddling.result
+split : (c : After-refuse_straddling) → IsDecision c.self.inside.file.value c.args.access.now c.refuse_straddling.result
 split c =
     let at = goal.at.returns-clause-by_bytes c in
     rw (c.refuse_straddling.ensures, c.deref.ensures.0)
