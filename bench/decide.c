@@ -1,16 +1,23 @@
-/* Times the proved unit beside a plain C one, over the same writes and accesses. */
+/* Times the proved unit and its map beside a plain C unit, over the same writes and accesses. */
 #define _POSIX_C_SOURCE 199309L
 #include "plain_unit.h"
 #include <stdio.h>
 #include <stdlib.h>
 #include <time.h>
 
-enum { COUNT = 100000, ROUNDS = 60, SMALL_FILES = 3000, SMALL_COUNT = 200 };
+enum { COUNT = 100000, BUILDS = 1000, ROUNDS = 60, SMALL_FILES = 3000, SMALL_COUNT = 200 };
 
 /* The proved unit: decides the requests after the writes from reset, and counts the allowed ones.
    There must be as many answers as requests. */
 size_t pmp_bench_decide(const struct write *writes, size_t write_count, const struct request *requests,
                         size_t request_count, uint16_t *answers, size_t answer_count);
+
+/* The same by a map, which is built once. */
+size_t pmp_bench_decide_by_map(const struct write *writes, size_t write_count, const struct request *requests,
+                               size_t request_count, uint16_t *answers, size_t answer_count);
+
+/* Builds the map after the writes so many times, and answers how many runs it has. */
+size_t pmp_bench_build(const struct write *writes, size_t write_count, uint32_t times);
 
 static __attribute__((noinline)) size_t plain_decide(const struct write *writes, size_t write_count,
                                                      const struct request *requests, size_t request_count,
@@ -33,7 +40,7 @@ static __attribute__((noinline)) size_t plain_decide(const struct write *writes,
 
 static struct write writes[COUNT + 32];
 static struct request requests[COUNT];
-static uint16_t proved_answers[COUNT], plain_answers[COUNT];
+static uint16_t answers[3][COUNT];
 static size_t write_count, request_count;
 
 static void add_write(uint16_t number, uint64_t value) {
@@ -53,6 +60,29 @@ static void set_loads(unsigned regions, uint64_t distance) {
     request_count = COUNT;
     for (size_t i = 0; i < COUNT; i++)
         requests[i] = (struct request){region(below(regions)) + distance + 8 * below(512), 8, USER, LOAD};
+}
+
+/* Sixteen words of four bytes with a word between each: 33 runs. */
+static void set_comb(void) {
+    write_count = 0;
+    for (unsigned entry = 0; entry < ENTRIES; entry++)
+        add_write(PMPADDR0 + entry, 2 * entry + 1);
+    add_write(PMPCFG0, UINT64_C(0x1111111111111111));
+    add_write(PMPCFG2, UINT64_C(0x1111111111111111));
+}
+
+/* Loads of four bytes by user mode, each inside a run of the comb. */
+static void set_words(void) {
+    request_count = COUNT;
+    for (size_t i = 0; i < COUNT; i++)
+        requests[i] = (struct request){4 * below(2 * ENTRIES + 1), 4, USER, LOAD};
+}
+
+/* Loads that begin anywhere in the comb and go on over a few words. */
+static void set_long_words(void) {
+    request_count = COUNT;
+    for (size_t i = 0; i < COUNT; i++)
+        requests[i] = (struct request){below(8 * ENTRIES - 4), 5 + below(28), USER, LOAD};
 }
 
 static void mix_modes_and_kinds(void) {
@@ -113,41 +143,58 @@ static double run(decider *decider, uint16_t *answers, size_t *allowed) {
     return nanoseconds() - before;
 }
 
-static void run_both(const char *name, double *proved, double *plain) {
-    size_t proved_allowed, plain_allowed;
-    *proved = run(pmp_bench_decide, proved_answers, &proved_allowed);
-    *plain = run(plain_decide, plain_answers, &plain_allowed);
-    size_t size = request_count * sizeof *plain_answers;
-    if (proved_allowed != plain_allowed || memcmp(proved_answers, plain_answers, size) != 0) {
-        fprintf(stderr, "%s: the answers differ\n", name);
-        exit(1);
+static decider *const deciders[] = {pmp_bench_decide_by_map, pmp_bench_decide, plain_decide};
+enum { DECIDERS = 3 };
+
+/* All answer the same, and each takes so long. */
+static void run_all(const char *name, double times[DECIDERS]) {
+    size_t allowed[DECIDERS], size = request_count * sizeof **answers;
+    for (unsigned i = 0; i < DECIDERS; i++)
+        times[i] = run(deciders[i], answers[i], &allowed[i]);
+    for (unsigned i = 1; i < DECIDERS; i++) {
+        if (allowed[i] != allowed[0] || memcmp(answers[i], answers[0], size) != 0) {
+            fprintf(stderr, "%s: the answers differ\n", name);
+            exit(1);
+        }
     }
 }
 
 static void measure(const char *name) {
-    double best_proved = 1e18, best_plain = 1e18, proved, plain;
+    double best[DECIDERS] = {1e18, 1e18, 1e18}, times[DECIDERS];
     for (unsigned round = 0; round < ROUNDS; round++) {
-        run_both(name, &proved, &plain);
-        if (proved < best_proved)
-            best_proved = proved;
-        if (plain < best_plain)
-            best_plain = plain;
+        run_all(name, times);
+        for (unsigned i = 0; i < DECIDERS; i++)
+            if (times[i] < best[i])
+                best[i] = times[i];
     }
-    printf("%-44s %9.2f %9.2f %7.2f\n", name, best_proved / COUNT, best_plain / COUNT, best_proved / best_plain);
+    printf("%-44s %9.2f %9.2f %9.2f\n", name, best[0] / COUNT, best[1] / COUNT, best[2] / COUNT);
+}
+
+static void measure_build(const char *name) {
+    double best = 1e18;
+    for (unsigned round = 0; round < ROUNDS; round++) {
+        double before = nanoseconds();
+        size_t runs = pmp_bench_build(writes, write_count, BUILDS);
+        double time = nanoseconds() - before;
+        if (runs != 2 * ENTRIES + 1)
+            exit(1);
+        if (time < best)
+            best = time;
+    }
+    printf("%-44s %9.0f\n", name, best / BUILDS);
 }
 
 static void compare_small_files(void) {
-    double proved, plain;
+    double times[DECIDERS];
     for (unsigned file = 0; file < SMALL_FILES; file++) {
         set_small_file();
-        run_both("small files", &proved, &plain);
+        run_all("small files", times);
     }
     printf("%d answers over small random files agree\n\n", SMALL_FILES * SMALL_COUNT);
 }
 
-int main(void) {
-    compare_small_files();
-    printf("%-44s %9s %9s %7s\n", "nanoseconds each, best of 60 rounds", "proved", "plain C", "ratio");
+static void measure_decisions(void) {
+    printf("%-44s %9s %9s %9s\n", "nanoseconds each, best of 60 rounds", "map", "file", "plain C");
     set_regions(ENTRIES);
     set_loads(ENTRIES, 0);
     measure("decide, one of sixteen regions");
@@ -159,9 +206,27 @@ int main(void) {
     set_regions(ENTRIES);
     set_loads(ENTRIES, 0x2000);
     measure("decide, no match with sixteen regions");
+    set_comb();
+    set_words();
+    measure("decide, one word of a comb of 33 runs");
+    set_long_words();
+    measure("decide, across the words of the comb");
+}
+
+static void measure_writes(void) {
     set_address_writes();
     measure("step, pmpaddr");
     set_configuration_writes();
     measure("step, pmpcfg");
+    set_regions(ENTRIES);
+    measure_build("build, sixteen regions");
+    set_comb();
+    measure_build("build, the comb");
+}
+
+int main(void) {
+    compare_small_files();
+    measure_decisions();
+    measure_writes();
     return 0;
 }

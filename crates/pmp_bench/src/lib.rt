@@ -4,6 +4,7 @@
 ghost use Rattle.std.specs.Prelude.{◌≡◌, ◌≤◌, length};
 
 use pmp_core::{Access, Cause, Csr, Decision, Event, Kind, Mode, RegFile};
+use pmp_map::RunMap;
 
 /// A write to the CSR with this number.
 #[repr(C)]
@@ -53,7 +54,7 @@ fn file_after(writes: &[Write]) -> RegFile {
     file
 }
 
-fn number_of(cause: Cause) -> u16
+fn cause_number(cause: Cause) -> u16
     ensures { result ≤ 512 }
 {
     match cause {
@@ -63,18 +64,29 @@ fn number_of(cause: Cause) -> u16
     }
 }
 
-/// The answer to a request as a number: the entry of the rule, 256 and the entry that it is split by, 512 where no
-/// entry matches, or 513 where it is no access; and 1024 more where it is allowed.
-///
+/// The number of what is no access.
+const NO_ACCESS: u16 = 513;
+
+/// The answer to a request as a number: the entry of the rule, 256 and the entry that it is split by, or 512 where no
+/// entry matches; and 1024 more where it is allowed.
+fn number_of(decision: Decision) -> u16 {
+    1024 * u16::from(decision.allowed) + cause_number(decision.cause)
+}
+
 /// Not inlined, so that the ranges are read behind a reference at each call, as in an emulator.
 #[inline(never)]
 fn answer(file: &RegFile, request: &Request) -> u16 {
+    access_of(request).map_or(NO_ACCESS, |access| number_of(file.decide(&access)))
+}
+
+/// The same by the map of the file, which isn't inlined either.
+#[inline(never)]
+fn mapped_answer(file: &RegFile, map: &RunMap, request: &Request) -> u16
+    requires { map.now ≡ file.now }
+{
     match access_of(request) {
-        Some(access) => {
-            let decision = file.decide(&access);
-            1024 * u16::from(decision.allowed) + number_of(decision.cause)
-        }
-        None => 513,
+        Some(access) => number_of(map.decide(file, &access)),
+        None => NO_ACCESS,
     }
 }
 
@@ -96,4 +108,41 @@ pub extern "C" fn pmp_bench_decide(
         allowed += usize::from(answer >= 1024);
     }
     allowed
+}
+
+/// The same by a map that is built once.
+#[unsafe(no_mangle)]
+pub extern "C" fn pmp_bench_decide_by_map(
+    writes: &[Write],
+    requests: &[Request],
+    answers: &mut [u16],
+) -> usize
+    requires { length answers.old ≡ length requests.now }
+    ensures { result ≤ length requests.now }
+{
+    let file = file_after(writes);
+    let map = RunMap::build(&file);
+    let mut allowed = 0;
+    for index in 0..requests.len() {
+        let answer = mapped_answer(&file, &map, &requests[index]);
+        answers[index] = answer;
+        allowed += usize::from(answer >= 1024);
+    }
+    allowed
+}
+
+#[inline(never)]
+fn count_runs(file: &RegFile) -> usize {
+    RunMap::build(file).runs().len()
+}
+
+/// Builds the map after these writes so many times, and answers how many runs it has.
+#[unsafe(no_mangle)]
+pub extern "C" fn pmp_bench_build(writes: &[Write], times: u32) -> usize {
+    let file = file_after(writes);
+    let mut runs = 0;
+    for _ in 0..times {
+        runs = count_runs(&file);
+    }
+    runs
 }
