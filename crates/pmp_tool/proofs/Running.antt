@@ -16,7 +16,7 @@ use Rattle.pmp_audit.specs.declared.fault.AuditFault.{AuditFault}
 use Rattle.pmp_audit.specs.declared.fault.AuditFault.TheVariants as audit
 use Rattle.pmp_audit.specs.Audits.{IsFaultyTrace, IsUnaudited}
 use Rattle.pmp_audit.specs.Checks.{IsUnchecked}
-use Rattle.pmp_audit.specs.Dumping.{AsksTooMuch, IsUndumped}
+use Rattle.pmp_audit.specs.Showing.{AsksTooMuch, IsUndumped}
 use Rattle.pmp_tool.specs.declared.command.Request.{Request}
 use Rattle.pmp_tool.specs.declared.command.Request.TheVariants.{Check, Audit, Dump}
 use Rattle.pmp_tool.specs.Commands.{AsksFor}

@@ -7,7 +7,7 @@ use Rattle.pmp_text.specs.Traces.{trace_meaning}
 use Rattle.pmp_audit.specs.declared.auditing.Summary.{Summary}
 use Rattle.pmp_audit.specs.Audits.{IsAudited}
 use Rattle.pmp_audit.specs.Checks.{IsChecked}
-use Rattle.pmp_audit.specs.Dumping.{IsDumped}
+use Rattle.pmp_audit.specs.Showing.{IsDumped}
 use Rattle.pmp_tool.specs.declared.command.Request.{Request}
 use Rattle.pmp_tool.specs.declared.command.Request.TheVariants.{Check, Audit, Dump}
 use Rattle.pmp_tool.specs.declared.run.Outcome.{Outcome}
