@@ -1,2 +1,4 @@
+pub mod Building
+pub mod Matching
 pub mod Running
 pub mod Wording

@@ -1,8 +1,11 @@
 -- When an input that the words name has a fault.
-use Rattle.std.proofs.Common.{◌≡◌, ◌⊎◌, refl, ℕ, ◌<◌, List, length, Option, Some, None, Result, Ok, Err, inl, inr, sym, ◌∙◌, arith}
+use Rattle.std.proofs.Common.{◌≡◌, ◌⊎◌, refl, ℕ, ◌<◌, List, [], ◌∷◌, subst, length, Option, Some, None, Result, Ok, Err, codes, inl, inr, sym, ◌∙◌, arith}
 use Rattle.std.specs.Prelude.{IsErr, IfSome}
 use Rattle.std.specs.Io.KnownBytes.{Keeps}
 use Rattle.std.proofs.lemmas.Bool.{lt-ltb}
+use Rattle.clap.specs.Words.{Kinds, Row, Text, fault_of, first_of, subcommand_rows_of}
+use Rattle.clap.specs.declared.error.kind.ErrorKind.TheVariants.{DisplayHelp, DisplayVersion}
+use Rattle.clap.specs.declared.parser.matches.ArgMatches.{ArgMatches}
 use Rattle.pmp_core.specs.declared.access.Access.{Access}
 use Rattle.pmp_core.specs.declared.event.Event.{Event}
 use Rattle.pmp_text.specs.declared.input.InputFault.{InputFault}
@@ -19,30 +22,28 @@ use Rattle.pmp_audit.specs.Checks.{IsUnchecked}
 use Rattle.pmp_audit.specs.Showing.{AsksTooMuch, IsUndumped}
 use Rattle.pmp_tool.specs.declared.command.Request.{Request}
 use Rattle.pmp_tool.specs.declared.command.Request.TheVariants.{Check, Audit, Dump}
-use Rattle.pmp_tool.specs.Commands.{AsksFor}
+use Rattle.pmp_tool.specs.CommandLines.{IsTaken, pmp_app}
+use Rattle.pmp_tool.specs.Commands.{Asks, AsksFor}
 use Rattle.pmp_tool.specs.Failures.{failure_status, unaudited}
 use Rattle.pmp_tool.specs.Refusals.{status_of, refusal_of_input}
-use Rattle.pmp_tool.specs.Runs.{Inputs, IsFaulty, IsFaultyBeside, IsFaultyInput}
+use Rattle.pmp_tool.specs.Runs.{Inputs, IsFaulty, IsFaultyBeside, IsFaultyInput, IsKnownToFail}
+use Rattle.pmp_tool.proofs.Matching.{audit_is_no_dump, check_is_no_audit, check_is_no_dump, same_name, same_rows}
+use Rattle.pmp_tool.proofs.Wording.{same_word}
 
--- nobody asks for more than all of them
-all_are_within : (text : List ℕ) → AsksTooMuch text None → ⊥
-all_are_within text asked = let beyond : length asked.batches < length asked.batches = asked.beyond in absurd (omega arith)
-
--- words ask for one thing
-same_input : (words : List (List ℕ)) (traces : Inputs) (path other : List ℕ) (request another : Request) → AsksFor words path request → AsksFor words other another
-    → (path ≡ other) × ((known : List ℕ) → IsFaultyInput traces request known → IsFaultyInput traces another known)
-same_input words traces path other (Check access) (Check more) asked asks = let both = sym asked.words_are ∙ asks.words_are in (cc, λ known fault. fault)
-same_input words traces path other (Check access) (Audit trace) asked asks = let both = sym asked.words_are ∙ asks in absurd cc
-same_input words traces path other (Check access) Dump asked asks = let both = sym asked.words_are ∙ asks in absurd cc
-same_input words traces path other (Audit trace) (Check access) asked asks = let both = sym asked ∙ asks.words_are in absurd cc
-same_input words traces path other (Audit trace) (Audit more) asked asks =
-    let both = sym asked ∙ asks in
-    let same : trace.now ≡ more.now = cc in
-    (cc, λ known fault. rw (← same) fault)
-same_input words traces path other (Audit trace) Dump asked asks = let both = sym asked ∙ asks in absurd cc
-same_input words traces path other Dump (Check access) asked asks = let both = sym asked ∙ asks.words_are in absurd cc
-same_input words traces path other Dump (Audit trace) asked asks = let both = sym asked ∙ asks in absurd cc
-same_input words traces path other Dump Dump asked asks = let both = sym asked ∙ asks in (cc, λ known fault. fault)
+-- a subcommand asks for one thing
+same_input : (traces : Inputs) (name : Text) (rows : List Row) (request another : Request) → Asks name rows request → Asks name rows another → (text : List ℕ) → IsFaultyInput traces request text → IsFaultyInput traces another text
+same_input traces name rows (Check access) (Check more) asked asks text faulty = faulty
+same_input traces name rows (Check access) (Audit trace) asked asks text faulty = absurd (check_is_no_audit (sym asked.0 ∙ asks.0))
+same_input traces name rows (Check access) (Dump after) asked asks text faulty = absurd (check_is_no_dump (sym asked.0 ∙ asks.0))
+same_input traces name rows (Audit trace) (Check access) asked asks text faulty = absurd (check_is_no_audit (sym asks.0 ∙ asked.0))
+same_input traces name rows (Audit trace) (Audit other) asked asks text faulty = rw (← same_word (sym asked.1 ∙ asks.1)) faulty
+same_input traces name rows (Audit trace) (Dump after) asked asks text faulty = absurd (audit_is_no_dump (sym asked.0 ∙ asks.0))
+same_input traces name rows (Dump after) (Check access) asked asks text faulty = absurd (check_is_no_dump (sym asks.0 ∙ asked.0))
+same_input traces name rows (Dump after) (Audit trace) asked asks text faulty = absurd (audit_is_no_dump (sym asks.0 ∙ asked.0))
+same_input traces name rows (Dump after) (Dump other) asked asks text faulty = rw (← same_number (sym asked.1 ∙ asks.1)) faulty
+  where
+    same_number : {a b : Option ℕ} → Some a ≡ Some b → a ≡ b
+    same_number e = cc
 
 if_known : (known : Option (List ℕ)) (P Q : List ℕ → Type 0) → ((bytes : List ℕ) → P bytes → Q bytes) → IfSome known P → IfSome known Q
 if_known None P Q more p = tt
@@ -89,7 +90,7 @@ script_at_fault traces (Audit trace) text fault meant = any (traces trace.now)
     any : (known : Option (List ℕ)) → IfSome known (λ bytes. IsFaultyBeside (script_meaning text) bytes)
     any None = tt
     any (Some bytes) = faulty_beside text bytes fault meant
-script_at_fault traces Dump text fault meant = faulty_script text fault meant
+script_at_fault traces (Dump after) text fault meant = inl (faulty_script text fault meant)
 
 script_too_long : (traces : Inputs) (request : Request) (text : List ℕ) → 1048576 < length text → IsFaultyInput traces request text
 script_too_long traces request text long = by (script_meaning text) refl (too_long_script text long)
@@ -98,55 +99,72 @@ script_too_long traces request text long = by (script_meaning text) refl (too_lo
     by (Ok batches) meant e = absurd cc
     by (Err fault) meant e = script_at_fault traces request text fault meant
 
-module _ (words : List (List ℕ)) (scripts traces : Inputs) (path : List ℕ) (request : Request) (asked : AsksFor words path request) where
-  -- a fact of what is held at the path that was read is one of every path that the words ask for
-  elsewhere : IfSome (scripts path) (IsFaultyInput traces request) → IsFaulty words scripts traces
-  elsewhere here other another asks =
-      let (same, faulty) = same_input words traces path other request another asked asks in
-      rw (← same) (if_known (scripts path) (IsFaultyInput traces request) (IsFaultyInput traces another) faulty here)
+-- what fails of one path and request does of all that the matches ask for
+pub fails_alike : (scripts traces : Inputs) (found : Option (Text × List Row)) (path other : List ℕ) (request another : Request) → AsksFor found path request → AsksFor found other another
+    → IsKnownToFail scripts traces path request → IsKnownToFail scripts traces other another
+fails_alike scripts traces found path other request another asked asks fails =
+    let both = sym asked.found_is ∙ asks.found_is in
+    let asks_here : Asks asked.name asked.rows another = rw (← same_name both, ← same_rows both) at asks.asks in
+    let script_here : first_of (codes "script") asked.rows ≡ Some other = rw (← same_rows both) at asks.script in
+    let same : path ≡ other = same_word (sym asked.script ∙ script_here) in
+    rw (← same) (if_known (scripts path) (IsFaultyInput traces request) (IsFaultyInput traces another) (same_input traces asked.name asked.rows request another asked.asks asks_here) fails)
 
+-- words that clap takes ask for no text
+no_text : (kinds : Kinds) → kinds ≡ [] → (kinds ≡ DisplayHelp ∷ []) ⊎ (kinds ≡ DisplayVersion ∷ []) → ⊥
+no_text kinds none (inl e) = let both = sym none ∙ e in absurd cc
+no_text kinds none (inr e) = let both = sym none ∙ e in absurd cc
+
+-- clap takes the words, and all that they ask for fails
+pub taken_but_faulty : (scripts traces : Inputs) (words : List Text) (matches : ArgMatches) → IsTaken words matches
+    → ((path : List ℕ) (request : Request) → AsksFor (subcommand_rows_of matches) path request → IsKnownToFail scripts traces path request) → IsFaulty words scripts traces
+taken_but_faulty scripts traces words matches taken fails = record {
+  no_text = no_text (fault_of pmp_app words) taken.0;
+  input = λ path request asked. fails path request (subst (λ found. AsksFor found path request) (sym taken.1) asked.1);
+}
+
+module _ (scripts traces : Inputs) (path : List ℕ) (request : Request) where
   -- a fault of the text that was read
-  read_at_fault : (text : List ℕ) → IfSome (scripts path) (λ bytes. text ≡ bytes) → IsFaultyInput traces request text → IsFaulty words scripts traces
-  read_at_fault text same faulty = elsewhere (if_known (scripts path) (λ bytes. text ≡ bytes) (IsFaultyInput traces request) (λ bytes is. rw (← is) faulty) same)
+  read_at_fault : (text : List ℕ) → IfSome (scripts path) (λ bytes. text ≡ bytes) → IsFaultyInput traces request text → IsKnownToFail scripts traces path request
+  read_at_fault text same faulty = if_known (scripts path) (λ bytes. text ≡ bytes) (IsFaultyInput traces request) (λ bytes is. rw (← is) faulty) same
 
   -- the script's input failed, and the status says that the words or the inputs are at fault
-  pub unread_script : (fault : InputFault) → (fault ≡ input.TooLong → IfSome (scripts path) (λ bytes. 1048576 < length bytes)) → status_of (refusal_of_input fault) ≡ 2 → IsFaulty words scripts traces
-  unread_script input.TooLong long two = elsewhere (if_known (scripts path) (λ bytes. 1048576 < length bytes) (IsFaultyInput traces request) (script_too_long traces request) (long refl))
+  pub unread_script : (fault : InputFault) → (fault ≡ input.TooLong → IfSome (scripts path) (λ bytes. 1048576 < length bytes)) → status_of (refusal_of_input fault) ≡ 2 → IsKnownToFail scripts traces path request
+  unread_script input.TooLong long two = if_known (scripts path) (λ bytes. 1048576 < length bytes) (IsFaultyInput traces request) (script_too_long traces request) (long refl)
   unread_script input.Input long two = absurd cc
   unread_script input.Memory long two = absurd cc
 
-  module _ (text : List ℕ) (read : IfSome (scripts path) (λ bytes. text ≡ bytes)) (before after : Option (List ℕ)) where
+  module _ (text : List ℕ) (read : IfSome (scripts path) (λ bytes. text ≡ bytes)) (before written : Option (List ℕ)) where
     -- the check failed, with that status
-    pub unchecked_script : (access : Access) (fault : AuditFault) → IsUnchecked text access before after fault → failure_status (unaudited fault) ≡ 2 → IsFaulty words scripts traces
+    pub unchecked_script : (access : Access) (fault : AuditFault) → IsUnchecked text access before written fault → failure_status (unaudited fault) ≡ 2 → IsKnownToFail scripts traces path request
     unchecked_script access (audit.Script fault) unchecked two = read_at_fault text read (script_at_fault traces request text fault unchecked.0)
     unchecked_script access (audit.Trace fault) unchecked two = absurd unchecked
     unchecked_script access audit.BadAfter unchecked two = absurd unchecked
     unchecked_script access audit.Memory unchecked two = absurd cc
     unchecked_script access audit.Output unchecked two = absurd cc
 
-    -- the dump of all publications failed, with that status
-    pub undumped_script : (fault : AuditFault) → IsUndumped text None before after fault → failure_status (unaudited fault) ≡ 2 → IsFaulty words scripts traces
-    undumped_script (audit.Script fault) undumped two = read_at_fault text read (script_at_fault traces request text fault undumped.0)
-    undumped_script (audit.Trace fault) undumped two = absurd undumped
-    undumped_script audit.BadAfter undumped two = absurd (all_are_within text undumped.0)
-    undumped_script audit.Memory undumped two = absurd cc
-    undumped_script audit.Output undumped two = absurd cc
+    -- the dump failed, with that status
+    pub undumped_script : (after : Option ℕ) → ((text : List ℕ) → AsksTooMuch text after → IsFaultyInput traces request text) → (fault : AuditFault) → IsUndumped text after before written fault → failure_status (unaudited fault) ≡ 2 → IsKnownToFail scripts traces path request
+    undumped_script after is_dump (audit.Script fault) undumped two = read_at_fault text read (script_at_fault traces request text fault undumped.0)
+    undumped_script after is_dump (audit.Trace fault) undumped two = absurd undumped
+    undumped_script after is_dump audit.BadAfter undumped two = read_at_fault text read (is_dump text undumped.0)
+    undumped_script after is_dump audit.Memory undumped two = absurd cc
+    undumped_script after is_dump audit.Output undumped two = absurd cc
 
   -- the trace at a path was asked for
   module _ (trace : List ℕ) (is_audit : (text : List ℕ) → IfSome (traces trace) (λ known. IsFaultyBeside (script_meaning text) known) → IsFaultyInput traces request text) where
     -- its input failed, with that status
-    pub unread_trace : (fault : InputFault) → (fault ≡ input.TooLong → IfSome (traces trace) (λ bytes. 16777216 < length bytes)) → status_of (refusal_of_input fault) ≡ 2 → IsFaulty words scripts traces
+    pub unread_trace : (fault : InputFault) → (fault ≡ input.TooLong → IfSome (traces trace) (λ bytes. 16777216 < length bytes)) → status_of (refusal_of_input fault) ≡ 2 → IsKnownToFail scripts traces path request
     unread_trace input.TooLong long two =
-        elsewhere (always (scripts path) (λ text. is_audit text (if_known (traces trace) (λ bytes. 16777216 < length bytes) (λ known. IsFaultyBeside (script_meaning text) known) (λ bytes. long_beside (script_meaning text) bytes) (long refl))))
+        always (scripts path) (λ text. is_audit text (if_known (traces trace) (λ bytes. 16777216 < length bytes) (λ known. IsFaultyBeside (script_meaning text) known) (λ bytes. long_beside (script_meaning text) bytes) (long refl)))
     unread_trace input.Input long two = absurd cc
     unread_trace input.Memory long two = absurd cc
 
     module _ (text : List ℕ) (read : IfSome (scripts path) (λ bytes. text ≡ bytes)) (bytes : List ℕ) (known : IfSome (traces trace) (λ known. bytes ≡ known)) (before after : Option (List ℕ)) where
-      beside : IsFaultyBeside (script_meaning text) bytes → IsFaulty words scripts traces
+      beside : IsFaultyBeside (script_meaning text) bytes → IsKnownToFail scripts traces path request
       beside faulty = read_at_fault text read (is_audit text (if_known (traces trace) (λ known. bytes ≡ known) (λ known. IsFaultyBeside (script_meaning text) known) (λ known is. rw (← is) faulty) known))
 
       -- the audit failed, with that status
-      pub unaudited_input : (fault : AuditFault) → IsUnaudited text bytes before after fault → failure_status (unaudited fault) ≡ 2 → IsFaulty words scripts traces
+      pub unaudited_input : (fault : AuditFault) → IsUnaudited text bytes before after fault → failure_status (unaudited fault) ≡ 2 → IsKnownToFail scripts traces path request
       unaudited_input (audit.Script fault) failed two = beside (faulty_beside text bytes fault failed.0)
       unaudited_input (audit.Trace fault) failed two = beside (faulty_trace text bytes fault failed.0 two)
       unaudited_input audit.BadAfter failed two = absurd failed
@@ -160,9 +178,9 @@ unchecked_keeps text access before after audit.BadAfter unchecked two = absurd u
 unchecked_keeps text access before after audit.Memory unchecked two = absurd cc
 unchecked_keeps text access before after audit.Output unchecked two = absurd cc
 
-pub undumped_keeps : (text : List ℕ) (before after : Option (List ℕ)) (fault : AuditFault) → IsUndumped text None before after fault → failure_status (unaudited fault) ≡ 2 → Keeps before after
-undumped_keeps text before after (audit.Script fault) undumped two = undumped.1
-undumped_keeps text before after (audit.Trace fault) undumped two = absurd undumped
-undumped_keeps text before after audit.BadAfter undumped two = undumped.1
-undumped_keeps text before after audit.Memory undumped two = absurd cc
-undumped_keeps text before after audit.Output undumped two = absurd cc
+pub undumped_keeps : (text : List ℕ) (after : Option ℕ) (before written : Option (List ℕ)) (fault : AuditFault) → IsUndumped text after before written fault → failure_status (unaudited fault) ≡ 2 → Keeps before written
+undumped_keeps text after before written (audit.Script fault) undumped two = undumped.1
+undumped_keeps text after before written (audit.Trace fault) undumped two = absurd undumped
+undumped_keeps text after before written audit.BadAfter undumped two = undumped.1
+undumped_keeps text after before written audit.Memory undumped two = absurd cc
+undumped_keeps text after before written audit.Output undumped two = absurd cc

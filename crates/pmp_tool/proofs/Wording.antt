@@ -1,6 +1,8 @@
--- What the words ask for.
-use Rattle.std.proofs.Common.{◌≡◌, refl, ℕ, ◌<◌, ◌≤◌, List, [], ◌∷◌, length, get_or, Option, Some, None, option_map, sym, ◌∙◌, arith}
+-- What the words of a check ask for.
+use Rattle.std.proofs.Common.{◌≡◌, refl, ℕ, List, Option, Some, None, Result, Ok, Err, option_map, codes, sym, ◌∙◌, arith}
+use Rattle.std.specs.Prelude.{IfErr, MatchResult}
 use Rattle.std.proofs.lemmas.Bool.Decides.{nat_tests}
+use Rattle.clap.specs.Words.{Row, Text, first_of}
 use Rattle.pmp_core.specs.declared.access.Access.{Access}
 use Rattle.pmp_core.specs.declared.access.Mode.{Mode}
 use Rattle.pmp_core.specs.declared.access.Kind.{Kind}
@@ -15,29 +17,8 @@ use Rattle.pmp_tool.specs.Commands.{AsksToCheck}
 use Rattle.pmp_tool.specs.Refusals.{status_of, refusal_of_access}
 use Rattle.pmp_tool.specs.Words.{IsAccessOf, fault_of_words, words_fault}
 
-pub two_words : {X : Type 0} (words : List X) (a b : X) → 2 ≤ length words → length words < 3 → a ≡ get_or words 0 a → b ≡ get_or words 1 b → words ≡ a ∷ b ∷ []
-two_words (u ∷ v ∷ []) a b low high p q = cc
-two_words [] a b low high p q = absurd (omega arith)
-two_words (u ∷ []) a b low high p q = absurd (omega arith)
-two_words (u ∷ v ∷ w ∷ more) a b low high p q = absurd (omega arith)
-
-pub three_words : {X : Type 0} (words : List X) (a b c : X) → 3 ≤ length words → length words < 4 → a ≡ get_or words 0 a → b ≡ get_or words 1 b → c ≡ get_or words 2 c → words ≡ a ∷ b ∷ c ∷ []
-three_words (u ∷ v ∷ w ∷ []) a b c low high p q r = cc
-three_words [] a b c low high p q r = absurd (omega arith)
-three_words (u ∷ []) a b c low high p q r = absurd (omega arith)
-three_words (u ∷ v ∷ []) a b c low high p q r = absurd (omega arith)
-three_words (u ∷ v ∷ w ∷ x ∷ more) a b c low high p q r = absurd (omega arith)
-
-pub six_words : {X : Type 0} (words : List X) (a b c d e f : X) → 6 ≤ length words → length words < 7 → a ≡ get_or words 0 a → b ≡ get_or words 1 b → c ≡ get_or words 2 c → d ≡ get_or words 3 d → e ≡ get_or words 4 e → f ≡ get_or words 5 f
-    → words ≡ a ∷ b ∷ c ∷ d ∷ e ∷ f ∷ []
-six_words (u ∷ v ∷ w ∷ x ∷ y ∷ z ∷ []) a b c d e f low high p q r s t o = cc
-six_words [] a b c d e f low high p q r s t o = absurd (omega arith)
-six_words (u ∷ []) a b c d e f low high p q r s t o = absurd (omega arith)
-six_words (u ∷ v ∷ []) a b c d e f low high p q r s t o = absurd (omega arith)
-six_words (u ∷ v ∷ w ∷ []) a b c d e f low high p q r s t o = absurd (omega arith)
-six_words (u ∷ v ∷ w ∷ x ∷ []) a b c d e f low high p q r s t o = absurd (omega arith)
-six_words (u ∷ v ∷ w ∷ x ∷ y ∷ []) a b c d e f low high p q r s t o = absurd (omega arith)
-six_words (u ∷ v ∷ w ∷ x ∷ y ∷ z ∷ n ∷ more) a b c d e f low high p q r s t o = absurd (omega arith)
+pub same_word : {a b : Text} → Some a ≡ Some b → a ≡ b
+same_word e = cc
 
 -- every access is lawful
 lawful : (access : Access) → access_fault access.start access.length ≡ None
@@ -50,16 +31,15 @@ no_access mode kind start length refusal fault access named =
     let both : None ≡ Some refusal = sym found ∙ fault in
     cc
 
--- six words of which the last four have a fault ask for no access
-pub asks_for_none : (words : List (List ℕ)) (command script mode kind start length : List ℕ) (refusal : Refusal) → words ≡ command ∷ script ∷ mode ∷ kind ∷ start ∷ length ∷ [] → words_fault mode kind start length ≡ Some refusal
-    → (path : List ℕ) (access : Access) → AsksToCheck words path access → ⊥
-asks_for_none words command script mode kind start length refusal words_are fault path access asked =
-    let both = sym asked.words_are ∙ words_are in
-    let same_mode : asked.mode ≡ mode = cc in
-    let same_kind : asked.kind ≡ kind = cc in
-    let same_start : asked.start ≡ start = cc in
-    let same_length : asked.length ≡ length = cc in
-    no_access mode kind start length refusal fault access (rw (same_mode, same_kind, same_start, same_length) at asked.access_is)
+-- four matches with a fault ask for no access
+pub asks_for_none : (rows : List Row) (mode kind start size : Text) (refusal : Refusal) → first_of (codes "mode") rows ≡ Some mode → first_of (codes "kind") rows ≡ Some kind
+    → first_of (codes "start") rows ≡ Some start → first_of (codes "length") rows ≡ Some size → words_fault mode kind start size ≡ Some refusal → (access : Access) → AsksToCheck rows access → ⊥
+asks_for_none rows mode kind start size refusal mode_is kind_is start_is size_is fault access asked =
+    let same_mode : asked.mode ≡ mode = same_word (sym asked.mode_is ∙ mode_is) in
+    let same_kind : asked.kind ≡ kind = same_word (sym asked.kind_is ∙ kind_is) in
+    let same_start : asked.start ≡ start = same_word (sym asked.start_is ∙ start_is) in
+    let same_size : asked.length ≡ size = same_word (sym asked.length_is ∙ size_is) in
+    no_access mode kind start size refusal fault access (rw (same_mode, same_kind, same_start, same_size) at asked.access_is)
 
 access_status : (refusal : Refusal) (fault : Option AccessFault) → option_map refusal_of_access fault ≡ Some refusal → status_of refusal ≡ 2
 access_status refusal None e = absurd cc
@@ -79,3 +59,10 @@ fault_status refusal (Some mode) (Some kind) (Some start) (Some length) e = acce
 -- what is wrong with words is no fault of the machine
 pub words_status : (mode kind start length : List ℕ) (refusal : Refusal) → words_fault mode kind start length ≡ Some refusal → status_of refusal ≡ 2
 words_status mode kind start length refusal e = fault_status refusal (mode_named mode) (kind_named kind) (word_number start) (word_number length) e
+
+pub refused_check : (rows : List Row) (mode kind start size : Text) → first_of (codes "mode") rows ≡ Some mode → first_of (codes "kind") rows ≡ Some kind → first_of (codes "start") rows ≡ Some start → first_of (codes "length") rows ≡ Some size
+    → (result : Result Access Refusal) → MatchResult result (IsAccessOf mode kind start size) (λ refusal. words_fault mode kind start size ≡ Some refusal)
+    → IfErr result (λ refusal. (status_of refusal ≡ 2) × ((access : Access) → AsksToCheck rows access → ⊥))
+refused_check rows mode kind start size mode_is kind_is start_is size_is (Ok access) named = tt
+refused_check rows mode kind start size mode_is kind_is start_is size_is (Err refusal) fault =
+    (words_status mode kind start size refusal fault, asks_for_none rows mode kind start size refusal mode_is kind_is start_is size_is fault)

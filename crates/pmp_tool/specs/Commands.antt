@@ -1,22 +1,39 @@
--- What the program's words ask for.
-use Rattle.std.specs.Prelude.{◌≡◌, ℕ, List, [], ◌∷◌, codes}
+-- What the matches of the command line ask for.
+use Rattle.std.specs.Prelude.{◌≡◌, ℕ, List, Option, Some, None, codes, option_map}
+use Rattle.clap.specs.Words.{Row, Text, first_of}
 use Rattle.pmp_core.specs.declared.access.Access.{Access}
+use Rattle.pmp_text.specs.Numbers.{word_number}
 use Rattle.pmp_tool.specs.declared.command.Request.{Request}
 use Rattle.pmp_tool.specs.declared.command.Request.TheVariants.{Check, Audit, Dump}
 use Rattle.pmp_tool.specs.Words.{IsAccessOf}
 
--- the words are `check`, a path, and four that name the access
-pub record AsksToCheck (words : List (List ℕ)) (path : List ℕ) (access : Access) : Type 0 where
-  pub mode : List ℕ
-  pub kind : List ℕ
-  pub start : List ℕ
-  pub length : List ℕ
-  pub words_are : words ≡ codes "check" ∷ path ∷ mode ∷ kind ∷ start ∷ length ∷ []
+-- four of the matches name the access
+pub record AsksToCheck (rows : List Row) (access : Access) : Type 0 where
+  pub mode : Text
+  pub kind : Text
+  pub start : Text
+  pub length : Text
+  pub mode_is : first_of (codes "mode") rows ≡ Some mode
+  pub kind_is : first_of (codes "kind") rows ≡ Some kind
+  pub start_is : first_of (codes "start") rows ≡ Some start
+  pub length_is : first_of (codes "length") rows ≡ Some length
   pub access_is : IsAccessOf mode kind start length access
 
--- what the words ask for, of the script at a path: to audit are `audit`, the path and that of the trace, to dump `dump`
--- and the path
-abbrev pub AsksFor : (words : List (List ℕ)) (path : List ℕ) → Request → Type 0
-AsksFor words path (Check access) = AsksToCheck words path access
-AsksFor words path (Audit trace) = words ≡ codes "audit" ∷ path ∷ trace.now ∷ []
-AsksFor words path Dump = words ≡ codes "dump" ∷ path ∷ []
+-- how many publications are taken by the option's value, where it has one: all of them, or a number of them
+abbrev pub after_of : Option Text → Option (Option ℕ)
+after_of None = Some None
+after_of (Some word) = option_map Some (word_number word)
+
+-- what a subcommand with these matches asks for
+abbrev pub Asks : (name : Text) (rows : List Row) → Request → Type 0
+Asks name rows (Check access) = (name ≡ codes "check") × AsksToCheck rows access
+Asks name rows (Audit trace) = (name ≡ codes "audit") × (first_of (codes "trace") rows ≡ Some trace.now)
+Asks name rows (Dump after) = (name ≡ codes "dump") × (after_of (first_of (codes "after") rows) ≡ Some after)
+
+-- the subcommand with its matches asks for that, of the script at a path
+pub record AsksFor (found : Option (Text × List Row)) (path : List ℕ) (request : Request) : Type 0 where
+  pub name : Text
+  pub rows : List Row
+  pub found_is : found ≡ Some (name, rows)
+  pub script : first_of (codes "script") rows ≡ Some path
+  pub asks : Asks name rows request

@@ -1,9 +1,13 @@
 -- How the program tells of a failure, and the status of that.
 use Rattle.std.specs.Prelude.{ℕ, Option, Some, None, ◌==◌, if◌then◌else◌}
+use Rattle.clap.specs.Words.{kind_of}
+use Rattle.clap.specs.declared.error.Error.{Error}
+use Rattle.clap.specs.declared.error.kind.ErrorKind.{ErrorKind}
+use Rattle.clap.specs.declared.error.kind.ErrorKind.TheVariants.{OutOfMemory}
 use Rattle.pmp_audit.specs.declared.fault.AuditFault.{AuditFault}
 use Rattle.pmp_audit.specs.declared.fault.AuditFault.TheVariants as audit
 use Rattle.pmp_tool.specs.declared.failure.Failure.{Failure}
-use Rattle.pmp_tool.specs.declared.failure.Failure.TheVariants.{Usage, Refused}
+use Rattle.pmp_tool.specs.declared.failure.Failure.TheVariants.{Words, Refused}
 use Rattle.pmp_tool.specs.declared.refusal.Place.{Place}
 use Rattle.pmp_tool.specs.declared.refusal.Place.TheVariants.{ScriptLine, TraceRow}
 use Rattle.pmp_tool.specs.declared.refusal.Refusal.{Refusal}
@@ -11,7 +15,7 @@ use Rattle.pmp_tool.specs.declared.refusal.Refusal.TheVariants.{BadAfter, Memory
 use Rattle.pmp_tool.specs.Refusals.{status_of, refusal_of_script, refusal_of_trace}
 
 abbrev pub failure_status : Failure → ℕ
-failure_status Usage = 2
+failure_status (Words error) = 2
 failure_status (Refused line) = status_of line.refusal
 
 -- a refusal at a place, where one is known
@@ -20,6 +24,14 @@ refused_at refusal place = Refused (record { refusal = refusal; place = place })
 
 abbrev pub refused : Refusal → Failure
 refused refusal = refused_at refusal None
+
+-- words that clap refuses; it may run out of memory, too
+abbrev pub unparsed_as : ErrorKind → Error → Failure
+unparsed_as OutOfMemory error = refused Memory
+unparsed_as _ error = Words error
+
+abbrev pub unparsed : Error → Failure
+unparsed error = unparsed_as (kind_of error) error
 
 -- line 0 stands for none, and so does row 0
 abbrev pub script_place : ℕ → Option Place

@@ -1,21 +1,24 @@
 //! Why the program gives no answer, and the exit status of that.
 
 ghost use Rattle.std.specs.Prelude.{◌≡◌};
-ghost use Rattle.pmp_tool.specs.Failures.{failure_status, refused, unaudited};
+ghost use Rattle.clap.specs.Words.{kind_of};
+ghost use Rattle.pmp_tool.specs.Failures.{failure_status, refused, unaudited, unparsed};
 ghost use Rattle.pmp_tool.specs.Refusals.{refusal_of_input};
 
 use crate::refusal::{FaultLine, Place, Refusal};
+use clap::error::ErrorKind;
 use pmp_audit::AuditFault;
 use pmp_text::InputFault;
 use std::fmt;
 
 /// The exit status of words that have no form that the program knows.
-const USAGE: u8 = 2;
+const UNKNOWN_WORDS: u8 = 2;
 
-/// Why the program gives no answer.
-#[derive(Clone, Copy, Debug, PartialEq, Eq)]
+/// Why the program gives no answer. Its text is whole lines.
+#[derive(Debug, Drop)]
 pub enum Failure {
-    Usage,
+    /// What `clap` says of the words.
+    Words(clap::Error),
     Refused(FaultLine),
 }
 
@@ -24,7 +27,7 @@ impl Failure {
         ensures { result ≡ failure_status self.now }
     {
         match self {
-            Failure::Usage => USAGE,
+            Failure::Words(_) => UNKNOWN_WORDS,
             Failure::Refused(line) => line.refusal.status(),
         }
     }
@@ -33,8 +36,19 @@ impl Failure {
 impl fmt::Display for Failure {
     fn fmt<W: fmt::Write>(&self, f: &mut fmt::Formatter<W>) -> fmt::Result {
         match self {
-            Failure::Usage => write!(f, "usage: pmp check SCRIPT MODE KIND START LENGTH"),
-            Failure::Refused(line) => write!(f, "{line}"),
+            Failure::Words(error) => write!(f, "{error}"),
+            Failure::Refused(line) => writeln!(f, "{line}"),
+        }
+    }
+}
+
+impl From<clap::Error> for Failure {
+    ghost from_gives = { λ error failure. failure ≡ unparsed error };
+
+    fn from(error: clap::Error) -> Failure {
+        match error.kind() {
+            ErrorKind::OutOfMemory => Failure::from(Refusal::Memory),
+            _ => Failure::Words(error),
         }
     }
 }

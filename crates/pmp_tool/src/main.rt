@@ -2,7 +2,9 @@
 #![tactic(auto)]
 
 mod command;
+mod command_line;
 mod failure;
+mod help;
 mod inputs;
 mod refusal;
 mod run;

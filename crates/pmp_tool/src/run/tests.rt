@@ -3,6 +3,8 @@
 mod audits;
 mod checks;
 mod dumps;
+mod refusals;
+mod words;
 
 use super::*;
 use pmp_text::InputFault;
@@ -10,8 +12,12 @@ use std::alloc::AllocError;
 use std::process::Abort;
 use std::test::Fail;
 
-/// One script, under the name `table`, and one trace, under the name `trace`. What is named `long` is too long, and
-/// nothing else can be opened.
+/// Two publications: entry 0 reads a page, then entry 1 does in its place.
+const SCRIPT: &str =
+    "pmp 1\nwrite pmpaddr0 0x200001ff\nwrite pmpcfg0 0x19\npublish\nwrite pmpcfg0 0x1900\nwrite pmpaddr1 0x200001ff\npublish\n";
+
+/// One script, under the name `table`, and one trace, under the name `trace`. What is named `long` is too long, for
+/// what is named `large` there is no memory, and nothing else can be opened.
 #[derive(Clone, Copy)]
 struct Table<'a> {
     alloc: Global,
@@ -24,6 +30,7 @@ impl Inputs for Table<'_> {
         match path {
             "table" => Ok(Vec::from_slice(self.alloc, self.script)?),
             "long" => Err(InputFault::TooLong),
+            "large" => Err(InputFault::Memory),
             _ => Err(InputFault::Input),
         }
     }
@@ -32,6 +39,7 @@ impl Inputs for Table<'_> {
         match path {
             "trace" => Ok(Vec::from_slice(self.alloc, self.trace)?),
             "long" => Err(InputFault::TooLong),
+            "large" => Err(InputFault::Memory),
             _ => Err(InputFault::Input),
         }
     }
@@ -91,6 +99,8 @@ fn a_full_output_is_refused(rt: HostRuntime) -> Result<(), Fail> {
         "check table M load 0x0 4",
         "audit table trace",
         "dump table",
+        "--help",
+        "--version",
     ] {
         let mut words = Vec::new(alloc);
         for word in command.split_whitespace() {

@@ -1,10 +1,16 @@
-use Rattle.std.proofs.Common.{◌≡◌, map, string_bytes, codes, refl, sym, ap, ◌∙◌}
-use Rattle.std.proofs.lemmas.Bool.{not-false}
-use Rattle.std.proofs.lemmas.Slice.Eq.{bytes_eq-Decides}
-use Rattle.pmp_tool.proofs.Wording.{two_words}
+use Rattle.std.proofs.Common.{◌≡◌, ◌∙◌, Some, ap, sym, option_map, subst, IfErr}
+use Rattle.std.proofs.lemmas.Result.{err_from_is_err_and}
+use Rattle.std.specs.Result.{result_ok}
+use Rattle.clap.specs.Words.{found_of, rows_of}
+use Rattle.pmp_tool.proofs.Matching.{asks_for_nothing, entered}
 use Rattle.pmp_tool.proofs.command.read_command.Goals as goal
 
-pub returns-clause-ok : goal.returns-clause-ok
-returns-clause-ok c =
-    let is_dump : string_bytes c.command-item.result ≡ codes "dump" = sym c.as_str.ensures.value ∙ (bytes_eq-Decides c.as_str.result.now (codes "dump")).0 (not-false _ (sym c.if-ne.ensures)) in
-    rw (ap (map string_bytes) (two_words c.args.words.now c.command-item.result c.script-item.result c.in-len2.len_at_least c.in-len2.len_below c.command-item.is c.script-item.is), is_dump, c.deref.ensures) refl
+pub returns-in_err-read_check-in-check-clause-err : goal.returns-in_err-read_check-in-check-clause-err
+returns-in_err-read_check-in-check-clause-err c =
+    let p = err_from_is_err_and c.from_residual-in_err-read_check-in-check.result c.from_residual-in_err-read_check-in-check.ensures.1 in
+    let matches = c.args.matches.now in
+    let found : c.subcommand.result ≡ Some (c.in_ok-name.name, c.in_ok-name.words) = c.ok_or.ensures.ok_part ∙ ap result_ok c.in_ok-name.was in
+    let rows = rows_of (found_of c.in_ok-name.words.now) in
+    let is = entered matches c.in_ok-name.name.now rows (sym c.subcommand.ensures.name ∙ ap (option_map (λ p. p.0.now)) found) (sym c.subcommand.ensures.rows ∙ ap (option_map (λ p. rows_of (found_of p.1.now))) found) in
+    let failed = c.in_err-read_check-in-check.ensures.err in
+    rw (p.1, p.2) (failed.0, asks_for_nothing _ c.in_ok-name.name.now rows is c.in-check.is failed.1)

@@ -1,48 +1,18 @@
-use Rattle.std.proofs.Common.{ap, Err}
-use Rattle.std.proofs.lemmas.Result.{err_from_is_err_and}
-use Rattle.pmp_tool.specs.declared.command.Request.TheVariants.{Audit}
-use Rattle.pmp_tool.proofs.Running.{unread_script, unread_trace, unaudited_input, unchecked_script, unchecked_keeps, undumped_script, undumped_keeps}
+use Rattle.std.proofs.Common.{map, string_bytes}
+use Rattle.std.proofs.lemmas.Result.{IfErr-weaker, err_from_is_err_and}
+use Rattle.pmp_tool.proofs.Running.{fails_alike, taken_but_faulty}
 use Rattle.pmp_tool.proofs.run.run.Goals as goal
 
-pub returns-in_err-command-clause-faulty : goal.returns-in_err-command-clause-faulty
-returns-in_err-command-clause-faulty g c =
+pub returns-in_err-read_command-in-Ok-clause-faulty : goal.returns-in_err-read_command-in-Ok-clause-faulty
+returns-in_err-read_command-in-Ok-clause-faulty g c =
     let p = err_from_is_err_and c.from_residual.result c.from_residual.ensures.1 in
-    rw (p.1, p.2) (λ _ path request asked. absurd (c.in_err-command.ensures.err.1 path request asked))
+    rw p.1 (λ two. taken_but_faulty (g.I.Inputs.scripts c.args.inputs.now) (g.I.Inputs.traces c.args.inputs.now) (map string_bytes c.args.words.now) c.in-Ok.matches c.in-Ok.ensures.ok
+    (λ path request asked. absurd (c.in_err-read_command-in-Ok.ensures.err.1 path request asked)))
 
-pub returns-in_err-script-clause-faulty : goal.returns-in_err-script-clause-faulty
-returns-in_err-script-clause-faulty g c =
-    let p = err_from_is_err_and c.from_residual-in_err-script.result c.from_residual-in_err-script.ensures.1 in
-    rw (p.1, p.2) (unread_script _ (g.I.Inputs.scripts c.args.inputs.now) (g.I.Inputs.traces c.args.inputs.now) c.in_ok-command.command.script.now c.in_ok-command.command.request c.in_ok-command.ensures.ok c.in_err-script.field-0.0 (λ e. c.in_err-script.ensures.too_long (ap Err e)))
-
-pub returns-in_err-check-in-Check-clause-faulty : goal.returns-in_err-check-in-Check-clause-faulty
-returns-in_err-check-in-Check-clause-faulty g c =
-    let p = err_from_is_err_and c.from_residual-in_err-check-in-Check.result c.from_residual-in_err-check-in-Check.ensures.1 in
-    rw (p.1, p.2) (unchecked_script _ (g.I.Inputs.scripts c.args.inputs.now) (g.I.Inputs.traces c.args.inputs.now) c.in_ok-command.command.script.now c.in_ok-command.command.request c.in_ok-command.ensures.ok c.in_ok-script.script.items c.in_ok-script.ensures.read _ _ c.in-Check.access c.in_err-check-in-Check.field-0.0 (rw c.deref.ensures.value at c.in_err-check-in-Check.ensures.err))
-
-pub returns-in_err-dump-in-Dump-clause-faulty : goal.returns-in_err-dump-in-Dump-clause-faulty
-returns-in_err-dump-in-Dump-clause-faulty g c =
-    let p = err_from_is_err_and c.from_residual-in_err-dump-in-Dump.result c.from_residual-in_err-dump-in-Dump.ensures.1 in
-    rw (p.1, p.2) (undumped_script _ (g.I.Inputs.scripts c.args.inputs.now) (g.I.Inputs.traces c.args.inputs.now) c.in_ok-command.command.script.now c.in_ok-command.command.request c.in_ok-command.ensures.ok c.in_ok-script.script.items c.in_ok-script.ensures.read _ _ c.in_err-dump-in-Dump.field-0.0 (rw c.deref-in-Dump.ensures.value at c.in_err-dump-in-Dump.ensures.err))
-
-pub returns-in_err-check-in-Check-clause-untouched : goal.returns-in_err-check-in-Check-clause-untouched
-returns-in_err-check-in-Check-clause-untouched g c =
-    let p = err_from_is_err_and c.from_residual-in_err-check-in-Check.result c.from_residual-in_err-check-in-Check.ensures.1 in
-    rw (p.1, p.2) (unchecked_keeps c.in_ok-script.script.items c.in-Check.access _ _ c.in_err-check-in-Check.field-0.0 (rw c.deref.ensures.value at c.in_err-check-in-Check.ensures.err))
-
-pub returns-in_err-dump-in-Dump-clause-untouched : goal.returns-in_err-dump-in-Dump-clause-untouched
-returns-in_err-dump-in-Dump-clause-untouched g c =
-    let p = err_from_is_err_and c.from_residual-in_err-dump-in-Dump.result c.from_residual-in_err-dump-in-Dump.ensures.1 in
-    rw (p.1, p.2) (undumped_keeps c.in_ok-script.script.items _ _ c.in_err-dump-in-Dump.field-0.0 (rw c.deref-in-Dump.ensures.value at c.in_err-dump-in-Dump.ensures.err))
-
-pub returns-in_err-trace-in-Audit-clause-faulty : goal.returns-in_err-trace-in-Audit-clause-faulty
-returns-in_err-trace-in-Audit-clause-faulty g c =
-    let p = err_from_is_err_and c.from_residual-in_err-trace-in-Audit.result c.from_residual-in_err-trace-in-Audit.ensures.1 in
-    let long = rw c.in_ok-script.ensures.traces at c.in_err-trace-in-Audit.ensures.too_long in
-    rw (p.1, p.2) (unread_trace _ (g.I.Inputs.scripts c.args.inputs.now) (g.I.Inputs.traces c.args.inputs.now) c.in_ok-command.command.script.now (Audit c.in-Audit.trace) (rw c.in-Audit.is at c.in_ok-command.ensures.ok) c.in-Audit.trace.now (λ text faulty. faulty) c.in_err-trace-in-Audit.field-0.0 (λ e. long (ap Err e)))
-
-pub returns-in_err-audit-in-Audit-clause-faulty : goal.returns-in_err-audit-in-Audit-clause-faulty
-returns-in_err-audit-in-Audit-clause-faulty g c =
-    let p = err_from_is_err_and c.from_residual-in_err-audit-in-Audit.result c.from_residual-in_err-audit-in-Audit.ensures.1 in
-    let known = rw c.in_ok-script.ensures.traces at c.in_ok-trace-in-Audit.ensures.read in
-    rw (p.1, p.2) (unaudited_input _ (g.I.Inputs.scripts c.args.inputs.now) (g.I.Inputs.traces c.args.inputs.now) c.in_ok-command.command.script.now (Audit c.in-Audit.trace) (rw c.in-Audit.is at c.in_ok-command.ensures.ok) c.in-Audit.trace.now (λ text faulty. faulty) c.in_ok-script.script.items c.in_ok-script.ensures.read c.in_ok-trace-in-Audit.trace.items known _ _ c.in_err-audit-in-Audit.field-0.0
-    (rw (c.deref-in-Audit.ensures.value, c.deref-in-Audit-2.ensures.value) at c.in_err-audit-in-Audit.ensures.err))
+pub returns-in_ok-read_command-in-Ok-clause-faulty : goal.returns-in_ok-read_command-in-Ok-clause-faulty
+returns-in_ok-read_command-in-Ok-clause-faulty g c =
+    let scripts = g.I.Inputs.scripts c.args.inputs.now in
+    let traces = g.I.Inputs.traces c.args.inputs.now in
+    let command = c.in_ok-read_command-in-Ok.field-0 in
+    IfErr-weaker c.answer.result _ _ (λ failure fails two. taken_but_faulty scripts traces (map string_bytes c.args.words.now) c.in-Ok.matches c.in-Ok.ensures.ok
+    (λ path request asked. fails_alike scripts traces _ command.script.now path command.request request c.in_ok-read_command-in-Ok.ensures.ok asked (fails two))) c.answer.ensures.faulty

@@ -219,23 +219,19 @@ fn registers_without_an_entry_take_no_write(rt: HostRuntime) -> Result<(), Fail>
 
 #[test]
 fn words_are_judged_before_the_script(rt: HostRuntime) -> Result<(), Fail> {
-    let usage = "usage: pmp check SCRIPT MODE KIND START LENGTH";
     for (words, line, status) in [
-        ("", usage, 2),
-        ("check", usage, 2),
-        ("check table U load 0x0", usage, 2),
-        ("check table U load 0x0 4 4", usage, 2),
-        ("decide table U load 0x0 4", usage, 2),
-        ("check table u load 0x0 4", "pmp: refused 24 BadWord", 2),
-        ("check table U read 0x0 4", "pmp: refused 24 BadWord", 2),
-        ("check table U load x 4", "pmp: refused 24 BadWord", 2),
-        ("check table U load 0x0 -4", "pmp: refused 24 BadWord", 2),
+        ("check none Q load 0x0 4", "pmp: refused 24 BadWord", 2),
+        ("check none u load 0x0 4", "pmp: refused 24 BadWord", 2),
+        ("check none U read 0x0 4", "pmp: refused 24 BadWord", 2),
+        ("check none U load x 4", "pmp: refused 24 BadWord", 2),
+        ("check none U load 0x0 x", "pmp: refused 24 BadWord", 2),
+        ("check -- none U load 0x0 -4", "pmp: refused 24 BadWord", 2),
         // Words come before the access, and both before the script.
         ("check none Q load 0x0 0", "pmp: refused 24 BadWord", 2),
         ("check none U load 0x0 0", "pmp: refused 3 BadLength", 2),
-        ("check table U load 0x0 4097", "pmp: refused 3 BadLength", 2),
+        ("check none U load 0x0 4097", "pmp: refused 3 BadLength", 2),
         (
-            "check table U load 0xffffffffffffff 2",
+            "check none U load 0xffffffffffffff 2",
             "pmp: refused 4 PastEnd",
             2,
         ),

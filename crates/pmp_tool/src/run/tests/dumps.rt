@@ -25,10 +25,11 @@ const NAMES: [&str; 19] = [
     "mseccfg",
 ];
 
-/// Asserts the whole dump after these writes: every register that isn't given is zero.
-fn assert_registers<R: Abort + AllocGlobal>(
+/// Asserts the whole dump: every register that isn't given is zero.
+fn assert_dump<R: Abort + AllocGlobal>(
     rt: &R,
-    writes: &str,
+    script: &str,
+    words: &str,
     registers: &[(&str, u64)],
 ) -> Result<(), Fail> {
     let mut expected = Vec::new(rt.alloc());
@@ -43,12 +44,25 @@ fn assert_registers<R: Abort + AllocGlobal>(
         expected.extend_from_slice(name.as_bytes())?;
         expected.extend_from_slice(value.as_bytes())?;
     }
-    let script = format!(in rt.alloc(); "pmp 1\n{writes}\npublish\n")?;
-    let answer = run(rt.alloc(), script.as_bytes(), "dump table")?;
-    assert_eq!(rt; answer.out.as_slice(), expected.as_slice(), "{writes}");
-    assert!(rt; answer.err.is_empty(), "{writes}");
-    assert_eq!(rt; answer.status, 0, "{writes}");
+    let answer = run(rt.alloc(), script.as_bytes(), words)?;
+    assert_eq!(rt;
+        answer.out.as_slice(),
+        expected.as_slice(),
+        "{words}: {script}"
+    );
+    assert!(rt; answer.err.is_empty(), "{words}: {script}");
+    assert_eq!(rt; answer.status, 0, "{words}: {script}");
     Ok(())
+}
+
+/// Asserts the dump after these writes.
+fn assert_registers<R: Abort + AllocGlobal>(
+    rt: &R,
+    writes: &str,
+    registers: &[(&str, u64)],
+) -> Result<(), Fail> {
+    let script = format!(in rt.alloc(); "pmp 1\n{writes}\npublish\n")?;
+    assert_dump(rt, script.as_str(), "dump table", registers)
 }
 
 #[test]
@@ -141,39 +155,84 @@ fn all_publications_are_taken(rt: HostRuntime) -> Result<(), Fail> {
 }
 
 #[test]
-fn dumps_are_refused(rt: HostRuntime) -> Result<(), Fail> {
-    let usage = "usage: pmp check SCRIPT MODE KIND START LENGTH";
+fn the_first_publications_are_taken(rt: HostRuntime) -> Result<(), Fail> {
+    let first = [("pmpcfg0", 0x19), ("pmpaddr0", 0x2000_01ff)];
+    for words in [
+        "dump table --after 1",
+        "dump table --after=0x1",
+        "dump --after 01 table",
+    ] {
+        assert_dump(&rt, SCRIPT, words, &first)?;
+    }
+    let both = [
+        ("pmpcfg0", 0x1900),
+        ("pmpaddr0", 0x2000_01ff),
+        ("pmpaddr1", 0x2000_01ff),
+    ];
+    for words in ["dump table --after 2", "dump table"] {
+        assert_dump(&rt, SCRIPT, words, &both)?;
+    }
+    assert_dump(&rt, SCRIPT, "dump table --after 0", &[])
+}
+
+/// The number is read before the script, and beside a script without a fault it is then tested.
+#[test]
+fn more_publications_than_there_are(rt: HostRuntime) -> Result<(), Fail> {
     for (script, words, line, status) in [
-        ("pmp 1", "dump", usage, 2),
-        ("pmp 1", "check table", usage, 2),
-        ("pmp 1", "dump table 1", usage, 2),
-        ("pmp 1", "dump none", "pmp: refused 41 Input", 3),
         (
-            "",
-            "dump table",
-            "pmp: script line 1: refused 10 BadVersion",
+            SCRIPT,
+            "dump table --after 3",
+            "pmp: refused 22 BadAfter",
             2,
         ),
+        (
+            SCRIPT,
+            "dump table --after 18446744073709551615",
+            "pmp: refused 22 BadAfter",
+            2,
+        ),
+        (SCRIPT, "dump table --after x", "pmp: refused 24 BadWord", 2),
+        (
+            SCRIPT,
+            "dump table --after 18446744073709551616",
+            "pmp: refused 24 BadWord",
+            2,
+        ),
+        (
+            SCRIPT,
+            "dump table --after=-1",
+            "pmp: refused 24 BadWord",
+            2,
+        ),
+        (SCRIPT, "dump none --after x", "pmp: refused 24 BadWord", 2),
+        (SCRIPT, "dump none --after 9", "pmp: refused 41 Input", 3),
         (
             "pmp 1\nreset\n",
-            "dump table",
+            "dump table --after 9",
             "pmp: script line 2: refused 16 Unpublished",
-            2,
-        ),
-        (
-            "pmp 1\nreset 1\n",
-            "dump table",
-            "pmp: script line 2: refused 11 BadLine",
-            2,
-        ),
-        (
-            "pmp 1\nwrite pmpcfg1 0\n",
-            "dump table",
-            "pmp: script line 2: refused 13 OddCfg",
             2,
         ),
     ] {
         assert_refused(&rt, script.as_bytes(), words, line, status)?;
+    }
+    Ok(())
+}
+
+#[test]
+fn faulty_scripts_are_not_dumped(rt: HostRuntime) -> Result<(), Fail> {
+    for (script, line) in [
+        ("", "pmp: script line 1: refused 10 BadVersion"),
+        (
+            "pmp 1\nreset\n",
+            "pmp: script line 2: refused 16 Unpublished",
+        ),
+        ("pmp 1\nreset 1\n", "pmp: script line 2: refused 11 BadLine"),
+        (
+            "pmp 1\nwrite pmpcfg1 0\n",
+            "pmp: script line 2: refused 13 OddCfg",
+        ),
+    ] {
+        assert_refused(&rt, script.as_bytes(), "dump table", line, 2)?;
     }
     Ok(())
 }

@@ -1,0 +1,86 @@
+//! What the program's help says.
+
+/// The version of the project.
+pub const VERSION: &str = "0.1.0";
+
+pub const ABOUT: &str = "Decides accesses to physical memory as the PMP unit of one RV64 hart does.";
+
+pub const CHECK: &str = "Decides one access after all publications of a script, and writes its row";
+
+pub const AUDIT: &str = "Decides each access of a trace after publications of a script, and writes a row for each";
+
+pub const DUMP: &str = "Writes the unit's registers after publications of a script";
+
+pub const SCRIPT: &str = "The path of a script of at most 1048576 bytes, or stdin for standard input";
+
+pub const TRACE: &str = "The path of a trace of at most 16777216 bytes";
+
+pub const MODE: &str = "The mode of the access: M, S or U";
+
+pub const KIND: &str = "The kind of the access: fetch, load or store";
+
+pub const START: &str = "The address of its first byte, a number";
+
+pub const LENGTH: &str = "How many bytes it has, a number from 1 to 4096; it ends at or below 2^56";
+
+pub const AFTER: &str = "Takes the first N publications, a number up to how many there are; all without this option";
+
+pub const MORE: &str = "\
+Exit status:
+  0  every access is allowed, or what was asked for was written
+  1  the unit refuses an access
+  2  no answer: the words, the script or the trace are at fault
+  3  no answer: memory, an input or the output failed
+
+Example:
+  echo 'pmp 1' | pmp check stdin M load 0x0 8
+  It answers 1,allow,,none,
+
+`pmp help COMMAND` tells of a command and its words. docs/FORMATS.md describes
+scripts, traces, all that is written, and every refusal with its number.";
+
+pub const MORE_OF_CHECK: &str = "\
+A number is 1 to 20 decimal digits, or 0x and 1 to 16 hexadecimal digits, and is
+below 2^64.
+
+Exit status:
+  0  the access is allowed
+  1  the unit refuses it
+  2  no answer: the words or the script are at fault
+  3  no answer: memory, the script's input or the output failed
+
+Example:
+  echo 'pmp 1' | pmp check stdin U load 0x80000ff8 8
+  It answers 1,fault,5,none,
+
+docs/FORMATS.md describes scripts, the row, and every refusal with its number.";
+
+pub const MORE_OF_AUDIT: &str = "\
+Exit status:
+  0  every access of the trace is allowed
+  1  the unit refuses one of them
+  2  no answer: the words, the script or the trace are at fault
+  3  no answer: memory, an input or the output failed
+
+Example:
+  printf 'after,mode,kind,start,length\\n0,M,load,0x0,8\\n' > trace.csv
+  echo 'pmp 1' | pmp audit stdin trace.csv
+  It answers 1,allow,,none,
+
+docs/FORMATS.md describes scripts, traces, rows, and every refusal with its
+number.";
+
+pub const MORE_OF_DUMP: &str = "\
+A number is 1 to 20 decimal digits, or 0x and 1 to 16 hexadecimal digits.
+
+Exit status:
+  0  the registers were written
+  2  no answer: the words or the script are at fault
+  3  no answer: memory, the script's input or the output failed
+
+Example:
+  echo 'pmp 1' | pmp dump stdin --after 0
+  It answers pmpcfg0 0x0000000000000000
+
+docs/FORMATS.md describes scripts, the register lines, and every refusal with
+its number.";

@@ -1,0 +1,107 @@
+//! Each refusal, by its line and its status.
+
+use super::*;
+
+/// A script with one event more than a batch has room for.
+fn overfull(alloc: Global) -> Result<String, AllocError> {
+    let mut script = "pmp 1\n".to_string(alloc)?;
+    for _ in 0..65 {
+        script.push_str("reset\n")?;
+    }
+    Ok(script)
+}
+
+fn assert_line<R: Abort + AllocGlobal>(
+    rt: &R,
+    script: &str,
+    trace: &str,
+    words: &str,
+    line: &str,
+    status: u8,
+) -> Result<(), Fail> {
+    let inputs = Table {
+        alloc: rt.alloc(),
+        script: script.as_bytes(),
+        trace: trace.as_bytes(),
+    };
+    let answer = run_on(inputs, words)?;
+    let line = format!(in rt.alloc(); "pmp: {line}\n")?;
+    assert_eq!(rt; answer.err.as_slice(), line.as_bytes(), "{words}");
+    assert!(rt; answer.out.is_empty(), "{line}");
+    assert_eq!(rt; answer.status, status, "{line}");
+    Ok(())
+}
+
+#[test]
+fn of_words_and_inputs(rt: HostRuntime) -> Result<(), Fail> {
+    for (words, line, status) in [
+        ("check table U load 0 0", "refused 3 BadLength", 2),
+        (
+            "check table U load 0xffffffffffffff 2",
+            "refused 4 PastEnd",
+            2,
+        ),
+        ("check long U load 0 4", "refused 17 TooLong", 2),
+        ("dump table --after 3", "refused 22 BadAfter", 2),
+        ("check table Q load 0 4", "refused 24 BadWord", 2),
+        ("dump large", "refused 40 Memory", 3),
+        ("dump none", "refused 41 Input", 3),
+    ] {
+        assert_line(&rt, SCRIPT, "", words, line, status)?;
+    }
+    Ok(())
+}
+
+#[test]
+fn of_scripts(rt: HostRuntime) -> Result<(), Fail> {
+    let overfull = overfull(rt.alloc())?;
+    for (script, line) in [
+        ("pmp 2\n", "script line 1: refused 10 BadVersion"),
+        ("pmp 1\nstop\n", "script line 2: refused 11 BadLine"),
+        (
+            "pmp 1\nwrite pmpaddr64 0\n",
+            "script line 2: refused 12 BadName",
+        ),
+        (
+            "pmp 1\nwrite pmpcfg1 0\n",
+            "script line 2: refused 13 OddCfg",
+        ),
+        (
+            "pmp 1\nwrite pmpcfg0 x\n",
+            "script line 2: refused 14 BadNumber",
+        ),
+        (overfull.as_str(), "script line 66: refused 15 BatchFull"),
+        ("pmp 1\nreset\n", "script line 2: refused 16 Unpublished"),
+    ] {
+        assert_line(&rt, script, "", "dump table", line, 2)?;
+    }
+    Ok(())
+}
+
+#[test]
+fn of_traces(rt: HostRuntime) -> Result<(), Fail> {
+    for (rows, line) in [
+        ("1\n", "trace row 1: refused 21 BadRow"),
+        ("3,U,load,0,4\n", "trace row 1: refused 22 BadAfter"),
+        (
+            "1,U,load,0,4\n0,U,load,0,4\n",
+            "trace row 2: refused 23 Order",
+        ),
+        ("1,U,load,0,0\n", "trace row 1: refused 3 BadLength"),
+        (
+            "1,U,load,0xffffffffffffff,2\n",
+            "trace row 1: refused 4 PastEnd",
+        ),
+    ] {
+        let trace = format!(in rt.alloc(); "after,mode,kind,start,length\n{rows}")?;
+        assert_line(&rt, SCRIPT, trace.as_str(), "audit table trace", line, 2)?;
+    }
+    assert_line(
+        &rt,
+        SCRIPT,
+        "",
+        "audit table trace",
+        "refused 20 BadHeader",
+        2,
+    )
+}
