@@ -12,7 +12,7 @@ use Rattle.clap.proofs.WalkLemmas.{first_value-rows}
 use Rattle.pmp_core.specs.declared.access.Access.{Access}
 use Rattle.pmp_tool.specs.Commands.{AsksFor, AsksToCheck}
 use Rattle.pmp_tool.specs.declared.command.Request.{Request}
-use Rattle.pmp_tool.specs.declared.command.Request.TheVariants.{Check, Audit, Dump}
+use Rattle.pmp_tool.specs.declared.command.Request.TheVariants.{Check, Audit, Dump, Map}
 use Rattle.pmp_tool.specs.declared.refusal.Refusal.{Refusal}
 use Rattle.pmp_tool.specs.declared.refusal.Refusal.TheVariants.{BadWord}
 
@@ -64,9 +64,19 @@ check_is_no_dump e = absurd (true≢false (ap (λ (t : List ℕ). nat_eq (slice_
 pub audit_is_no_dump : codes "audit" ≡ codes "dump" → ⊥
 audit_is_no_dump e = absurd (true≢false (ap (λ (t : List ℕ). nat_eq (slice_index t 0) 97) e))
 
+pub check_is_no_map : codes "check" ≡ codes "map" → ⊥
+check_is_no_map e = absurd (true≢false (ap (λ (t : List ℕ). nat_eq (slice_index t 0) 99) e))
+
+pub audit_is_no_map : codes "audit" ≡ codes "map" → ⊥
+audit_is_no_map e = absurd (true≢false (ap (λ (t : List ℕ). nat_eq (slice_index t 0) 97) e))
+
+pub dump_is_no_map : codes "dump" ≡ codes "map" → ⊥
+dump_is_no_map e = absurd (true≢false (ap (λ (t : List ℕ). nat_eq (slice_index t 0) 100) e))
+
 -- a check without an access asks for nothing
 pub asks_for_nothing : (found : Option (Text × List Row)) (name : Text) (rows : List Row) → found ≡ Some (name, rows) → name ≡ codes "check" → ((access : Access) → AsksToCheck rows access → ⊥)
     → (path : List ℕ) (request : Request) → AsksFor found path request → ⊥
 asks_for_nothing found name rows is is_check none path (Check access) asked = none access (rw (same_rows (sym asked.found_is ∙ is)) at asked.asks.1)
 asks_for_nothing found name rows is is_check none path (Audit trace) asked = absurd (check_is_no_audit (sym is_check ∙ same_name (sym is ∙ asked.found_is) ∙ asked.asks.0))
 asks_for_nothing found name rows is is_check none path (Dump after) asked = absurd (check_is_no_dump (sym is_check ∙ same_name (sym is ∙ asked.found_is) ∙ asked.asks.0))
+asks_for_nothing found name rows is is_check none path (Map after) asked = absurd (check_is_no_map (sym is_check ∙ same_name (sym is ∙ asked.found_is) ∙ asked.asks.0))

@@ -8,6 +8,7 @@ use Rattle.clap.specs.declared.error.kind.ErrorKind.TheVariants.{DisplayHelp, Di
 use Rattle.clap.specs.declared.parser.matches.ArgMatches.{ArgMatches}
 use Rattle.pmp_core.specs.declared.access.Access.{Access}
 use Rattle.pmp_core.specs.declared.event.Event.{Event}
+use Rattle.pmp_core.specs.Registers.{RegisterFile}
 use Rattle.pmp_text.specs.declared.input.InputFault.{InputFault}
 use Rattle.pmp_text.specs.declared.input.InputFault.TheVariants as input
 use Rattle.pmp_text.specs.declared.script.ScriptFault.{ScriptFault}
@@ -19,16 +20,19 @@ use Rattle.pmp_audit.specs.declared.fault.AuditFault.{AuditFault}
 use Rattle.pmp_audit.specs.declared.fault.AuditFault.TheVariants as audit
 use Rattle.pmp_audit.specs.Audits.{IsFaultyTrace, IsUnaudited}
 use Rattle.pmp_audit.specs.Checks.{IsUnchecked}
-use Rattle.pmp_audit.specs.Showing.{AsksTooMuch, IsUndumped}
+use Rattle.pmp_audit.specs.Showing.{AsksTooMuch, IsNotShown}
 use Rattle.pmp_tool.specs.declared.command.Request.{Request}
-use Rattle.pmp_tool.specs.declared.command.Request.TheVariants.{Check, Audit, Dump}
+use Rattle.pmp_tool.specs.declared.command.Request.TheVariants.{Check, Audit, Dump, Map}
 use Rattle.pmp_tool.specs.CommandLines.{IsTaken, pmp_app}
 use Rattle.pmp_tool.specs.Commands.{Asks, AsksFor}
 use Rattle.pmp_tool.specs.Failures.{failure_status, unaudited}
 use Rattle.pmp_tool.specs.Refusals.{status_of, refusal_of_input}
 use Rattle.pmp_tool.specs.Runs.{Inputs, IsFaulty, IsFaultyBeside, IsFaultyInput, IsKnownToFail}
-use Rattle.pmp_tool.proofs.Matching.{audit_is_no_dump, check_is_no_audit, check_is_no_dump, same_name, same_rows}
+use Rattle.pmp_tool.proofs.Matching.{audit_is_no_dump, audit_is_no_map, check_is_no_audit, check_is_no_dump, check_is_no_map, dump_is_no_map, same_name, same_rows}
 use Rattle.pmp_tool.proofs.Wording.{same_word}
+
+same_number : {a b : Option ℕ} → Some a ≡ Some b → a ≡ b
+same_number e = cc
 
 -- a subcommand asks for one thing
 same_input : (traces : Inputs) (name : Text) (rows : List Row) (request another : Request) → Asks name rows request → Asks name rows another → (text : List ℕ) → IsFaultyInput traces request text → IsFaultyInput traces another text
@@ -41,9 +45,13 @@ same_input traces name rows (Audit trace) (Dump after) asked asks text faulty = 
 same_input traces name rows (Dump after) (Check access) asked asks text faulty = absurd (check_is_no_dump (sym asks.0 ∙ asked.0))
 same_input traces name rows (Dump after) (Audit trace) asked asks text faulty = absurd (audit_is_no_dump (sym asks.0 ∙ asked.0))
 same_input traces name rows (Dump after) (Dump other) asked asks text faulty = rw (← same_number (sym asked.1 ∙ asks.1)) faulty
-  where
-    same_number : {a b : Option ℕ} → Some a ≡ Some b → a ≡ b
-    same_number e = cc
+same_input traces name rows (Check access) (Map after) asked asks text faulty = absurd (check_is_no_map (sym asked.0 ∙ asks.0))
+same_input traces name rows (Audit trace) (Map after) asked asks text faulty = absurd (audit_is_no_map (sym asked.0 ∙ asks.0))
+same_input traces name rows (Dump after) (Map other) asked asks text faulty = absurd (dump_is_no_map (sym asked.0 ∙ asks.0))
+same_input traces name rows (Map after) (Check access) asked asks text faulty = absurd (check_is_no_map (sym asks.0 ∙ asked.0))
+same_input traces name rows (Map after) (Audit trace) asked asks text faulty = absurd (audit_is_no_map (sym asks.0 ∙ asked.0))
+same_input traces name rows (Map after) (Dump other) asked asks text faulty = absurd (dump_is_no_map (sym asks.0 ∙ asked.0))
+same_input traces name rows (Map after) (Map other) asked asks text faulty = rw (← same_number (sym asked.1 ∙ asks.1)) faulty
 
 if_known : (known : Option (List ℕ)) (P Q : List ℕ → Type 0) → ((bytes : List ℕ) → P bytes → Q bytes) → IfSome known P → IfSome known Q
 if_known None P Q more p = tt
@@ -91,6 +99,7 @@ script_at_fault traces (Audit trace) text fault meant = any (traces trace.now)
     any None = tt
     any (Some bytes) = faulty_beside text bytes fault meant
 script_at_fault traces (Dump after) text fault meant = inl (faulty_script text fault meant)
+script_at_fault traces (Map after) text fault meant = inl (faulty_script text fault meant)
 
 script_too_long : (traces : Inputs) (request : Request) (text : List ℕ) → 1048576 < length text → IsFaultyInput traces request text
 script_too_long traces request text long = by (script_meaning text) refl (too_long_script text long)
@@ -142,13 +151,13 @@ module _ (scripts traces : Inputs) (path : List ℕ) (request : Request) where
     unchecked_script access audit.Memory unchecked two = absurd cc
     unchecked_script access audit.Output unchecked two = absurd cc
 
-    -- the dump failed, with that status
-    pub undumped_script : (after : Option ℕ) → ((text : List ℕ) → AsksTooMuch text after → IsFaultyInput traces request text) → (fault : AuditFault) → IsUndumped text after before written fault → failure_status (unaudited fault) ≡ 2 → IsKnownToFail scripts traces path request
-    undumped_script after is_dump (audit.Script fault) undumped two = read_at_fault text read (script_at_fault traces request text fault undumped.0)
-    undumped_script after is_dump (audit.Trace fault) undumped two = absurd undumped
-    undumped_script after is_dump audit.BadAfter undumped two = read_at_fault text read (is_dump text undumped.0)
-    undumped_script after is_dump audit.Memory undumped two = absurd cc
-    undumped_script after is_dump audit.Output undumped two = absurd cc
+    -- the dump or the map failed, with that status
+    pub unshown_script : (Shows : RegisterFile → List ℕ → Type 0) (after : Option ℕ) → ((text : List ℕ) → AsksTooMuch text after → IsFaultyInput traces request text) → (fault : AuditFault) → IsNotShown Shows text after before written fault → failure_status (unaudited fault) ≡ 2 → IsKnownToFail scripts traces path request
+    unshown_script Shows after asks_for (audit.Script fault) unshown two = read_at_fault text read (script_at_fault traces request text fault unshown.0)
+    unshown_script Shows after asks_for (audit.Trace fault) unshown two = absurd unshown
+    unshown_script Shows after asks_for audit.BadAfter unshown two = read_at_fault text read (asks_for text unshown.0)
+    unshown_script Shows after asks_for audit.Memory unshown two = absurd cc
+    unshown_script Shows after asks_for audit.Output unshown two = absurd cc
 
   -- the trace at a path was asked for
   module _ (trace : List ℕ) (is_audit : (text : List ℕ) → IfSome (traces trace) (λ known. IsFaultyBeside (script_meaning text) known) → IsFaultyInput traces request text) where
@@ -178,9 +187,9 @@ unchecked_keeps text access before after audit.BadAfter unchecked two = absurd u
 unchecked_keeps text access before after audit.Memory unchecked two = absurd cc
 unchecked_keeps text access before after audit.Output unchecked two = absurd cc
 
-pub undumped_keeps : (text : List ℕ) (after : Option ℕ) (before written : Option (List ℕ)) (fault : AuditFault) → IsUndumped text after before written fault → failure_status (unaudited fault) ≡ 2 → Keeps before written
-undumped_keeps text after before written (audit.Script fault) undumped two = undumped.1
-undumped_keeps text after before written (audit.Trace fault) undumped two = absurd undumped
-undumped_keeps text after before written audit.BadAfter undumped two = undumped.1
-undumped_keeps text after before written audit.Memory undumped two = absurd cc
-undumped_keeps text after before written audit.Output undumped two = absurd cc
+pub unshown_keeps : (Shows : RegisterFile → List ℕ → Type 0) (text : List ℕ) (after : Option ℕ) (before written : Option (List ℕ)) (fault : AuditFault) → IsNotShown Shows text after before written fault → failure_status (unaudited fault) ≡ 2 → Keeps before written
+unshown_keeps Shows text after before written (audit.Script fault) unshown two = unshown.1
+unshown_keeps Shows text after before written (audit.Trace fault) unshown two = absurd unshown
+unshown_keeps Shows text after before written audit.BadAfter unshown two = unshown.1
+unshown_keeps Shows text after before written audit.Memory unshown two = absurd cc
+unshown_keeps Shows text after before written audit.Output unshown two = absurd cc

@@ -41,6 +41,10 @@ audit_app = with_rule (script_app (codes "audit")) (word_rule (codes "trace"))
 abbrev pub dump_app : App
 dump_app = with_rule (script_app (codes "dump")) after_rule
 
+-- `map SCRIPT [--after N]`
+abbrev pub map_app : App
+map_app = with_rule (script_app (codes "map")) after_rule
+
 -- it has a version, its words begin with a subcommand, and help answers where there are none
 abbrev pub as_top : App → App
 as_top app = record app {
@@ -52,7 +56,7 @@ top_app = as_top (new_app (codes "pmp"))
 
 -- the program, with a subcommand for each thing that it does
 abbrev pub pmp_app : App
-pmp_app = with_subcommand (with_subcommand (with_subcommand top_app check_app.top) audit_app.top) dump_app.top
+pmp_app = with_subcommand (with_subcommand (with_subcommand (with_subcommand top_app check_app.top) audit_app.top) dump_app.top) map_app.top
 
 -- clap reads the command as it does this one
 abbrev pub IsCommand : Command → App → Type 0

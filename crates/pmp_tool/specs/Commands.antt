@@ -4,7 +4,7 @@ use Rattle.clap.specs.Words.{Row, Text, first_of}
 use Rattle.pmp_core.specs.declared.access.Access.{Access}
 use Rattle.pmp_text.specs.Numbers.{word_number}
 use Rattle.pmp_tool.specs.declared.command.Request.{Request}
-use Rattle.pmp_tool.specs.declared.command.Request.TheVariants.{Check, Audit, Dump}
+use Rattle.pmp_tool.specs.declared.command.Request.TheVariants.{Check, Audit, Dump, Map}
 use Rattle.pmp_tool.specs.Words.{IsAccessOf}
 
 -- four of the matches name the access
@@ -29,6 +29,7 @@ abbrev pub Asks : (name : Text) (rows : List Row) → Request → Type 0
 Asks name rows (Check access) = (name ≡ codes "check") × AsksToCheck rows access
 Asks name rows (Audit trace) = (name ≡ codes "audit") × (first_of (codes "trace") rows ≡ Some trace.now)
 Asks name rows (Dump after) = (name ≡ codes "dump") × (after_of (first_of (codes "after") rows) ≡ Some after)
+Asks name rows (Map after) = (name ≡ codes "map") × (after_of (first_of (codes "after") rows) ≡ Some after)
 
 -- the subcommand with its matches asks for that, of the script at a path
 pub record AsksFor (found : Option (Text × List Row)) (path : List ℕ) (request : Request) : Type 0 where

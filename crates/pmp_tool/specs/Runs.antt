@@ -8,11 +8,11 @@ use Rattle.pmp_text.specs.Traces.{trace_meaning}
 use Rattle.pmp_audit.specs.declared.auditing.Summary.{Summary}
 use Rattle.pmp_audit.specs.Audits.{IsAudited}
 use Rattle.pmp_audit.specs.Checks.{IsChecked}
-use Rattle.pmp_audit.specs.Showing.{AsksTooMuch, IsDumped}
+use Rattle.pmp_audit.specs.Showing.{AsksTooMuch, IsDumped, IsMapped}
 use Rattle.pmp_tool.specs.declared.command.Request.{Request}
-use Rattle.pmp_tool.specs.declared.command.Request.TheVariants.{Check, Audit, Dump}
+use Rattle.pmp_tool.specs.declared.command.Request.TheVariants.{Check, Audit, Dump, Map}
 use Rattle.pmp_tool.specs.declared.run.Outcome.{Outcome}
-use Rattle.pmp_tool.specs.declared.run.Outcome.TheVariants.{Decided, Audited, Dumped, Told}
+use Rattle.pmp_tool.specs.declared.run.Outcome.TheVariants.{Decided, Audited, Dumped, Mapped, Told}
 use Rattle.pmp_tool.specs.CommandLines.{AskForText, MayAskForText, WordsAskFor}
 
 -- the bytes at each path, where it is known what they are
@@ -30,6 +30,7 @@ abbrev pub IsDone : (traces : Inputs) (text : List ℕ) → Request → (before 
 IsDone traces text (Check access) before after (Decided decision) = IsChecked text access before after decision
 IsDone traces text (Audit trace) before after (Audited summary) = IsAuditOf traces text trace.now before after summary
 IsDone traces text (Dump count) before after Dumped = IsDumped text count before after
+IsDone traces text (Map count) before after Mapped = IsMapped text count before after
 IsDone _ _ _ _ _ _ = ⊥
 
 -- what was asked for of the script at a path was written
@@ -65,6 +66,7 @@ abbrev pub IsFaultyInput : (traces : Inputs) → Request → (text : List ℕ) �
 IsFaultyInput traces (Audit trace) text = IfSome (traces trace.now) (λ known. IsFaultyBeside (script_meaning text) known)
 IsFaultyInput traces (Check access) text = IsErr (script_meaning text)
 IsFaultyInput traces (Dump after) text = IsErr (script_meaning text) ⊎ AsksTooMuch text after
+IsFaultyInput traces (Map after) text = IsErr (script_meaning text) ⊎ AsksTooMuch text after
 
 -- that is so of the script at a path, where it is known
 abbrev pub IsKnownToFail : (scripts traces : Inputs) (path : List ℕ) → Request → Type 0
@@ -75,9 +77,10 @@ pub record IsFaulty (words : List (List ℕ)) (scripts traces : Inputs) : Type 0
   pub no_text : AskForText words → ⊥
   pub input : (path : List ℕ) (request : Request) → WordsAskFor words path request → IsKnownToFail scripts traces path request
 
--- a text and a dump end well, and accesses do that are all allowed
+-- a text, a dump and a map end well, and accesses do that are all allowed
 abbrev pub outcome_status : Outcome → ℕ
 outcome_status (Decided decision) = if decision.allowed then 0 else 1
 outcome_status (Audited summary) = if summary.faults == 0 then 0 else 1
 outcome_status Dumped = 0
+outcome_status Mapped = 0
 outcome_status Told = 0

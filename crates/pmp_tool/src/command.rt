@@ -22,6 +22,8 @@ pub enum Request<'a> {
     Audit(&'a str),
     /// How many publications are taken, where not all are.
     Dump(Option<u64>),
+    /// The same.
+    Map(Option<u64>),
 }
 
 /// What the program's words ask for.
@@ -44,6 +46,7 @@ pub fn read_command<'a>(matches: &ArgMatches<'a>) -> Result<Command<'a>, Refusal
         "check" => Request::Check(read_check(words)?),
         "audit" => Request::Audit(word_of(words, "trace")?),
         "dump" => Request::Dump(read_after(words)?),
+        "map" => Request::Map(read_after(words)?),
         _ => return Err(Refusal::BadWord),
     };
     Ok(Command { script, request })
@@ -91,9 +94,7 @@ fn read_after(words: &ArgMatches) -> Result<Option<u64>, Refusal>
         (λ refusal. (refusal ≡ BadWord) × (after_of (first_of (codes "after") (rows_of (found_of words.now))) ≡ None)) }
 {
     match words.get_str("after") {
-        Some(word) => Ok(Some(
-            read_word_number(word.as_bytes()).ok_or(Refusal::BadWord)?,
-        )),
+        Some(word) => Ok(Some(read_word_number(word.as_bytes()).ok_or(Refusal::BadWord)?)),
         None => Ok(None),
     }
 }

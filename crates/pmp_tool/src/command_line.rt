@@ -2,7 +2,7 @@
 
 ghost use Rattle.std.specs.Prelude.{◌≡◌, map, false, IfOk, IfErr, string_bytes};
 ghost use Rattle.clap.specs.Words.{HasKind, fault_of, rule_of};
-ghost use Rattle.pmp_tool.specs.CommandLines.{IsCommand, IsTaken, after_rule, audit_app, check_app, dump_app, pmp_app, word_rule};
+ghost use Rattle.pmp_tool.specs.CommandLines.{IsCommand, IsTaken, after_rule, audit_app, check_app, dump_app, map_app, pmp_app, word_rule};
 
 use crate::help;
 use clap::{Arg, ArgMatches, Command, Error};
@@ -30,7 +30,8 @@ fn pmp<'a>(alloc: Global) -> Result<Command<'a>, AllocError>
         .arg_required_else_help(true)
         .subcommand(check(alloc)?)?
         .subcommand(audit(alloc)?)?
-        .subcommand(dump(alloc)?)
+        .subcommand(dump(alloc)?)?
+        .subcommand(map(alloc)?)
 }
 
 fn check<'a>(alloc: Global) -> Result<Command<'a>, AllocError>
@@ -62,6 +63,16 @@ fn dump<'a>(alloc: Global) -> Result<Command<'a>, AllocError>
     Command::new(alloc, "dump")
         .about(help::DUMP)
         .after_help(help::MORE_OF_DUMP)
+        .arg(word(alloc, "script", "SCRIPT", help::SCRIPT))?
+        .arg(after(alloc))
+}
+
+fn map<'a>(alloc: Global) -> Result<Command<'a>, AllocError>
+    ensures { IfOk result (λ command. IsCommand command map_app) }
+{
+    Command::new(alloc, "map")
+        .about(help::MAP)
+        .after_help(help::MORE_OF_MAP)
         .arg(word(alloc, "script", "SCRIPT", help::SCRIPT))?
         .arg(after(alloc))
 }

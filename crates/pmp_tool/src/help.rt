@@ -3,15 +3,20 @@
 /// The version of the project.
 pub const VERSION: &str = "0.1.0";
 
-pub const ABOUT: &str = "Decides accesses to physical memory as the PMP unit of one RV64 hart does.";
+pub const ABOUT: &str =
+    "Decides accesses to physical memory as the PMP unit of one RV64 hart does.";
 
 pub const CHECK: &str = "Decides one access after all publications of a script, and writes its row";
 
-pub const AUDIT: &str = "Decides each access of a trace after publications of a script, and writes a row for each";
+pub const AUDIT: &str =
+    "Decides each access of a trace after publications of a script, and writes a row for each";
 
 pub const DUMP: &str = "Writes the unit's registers after publications of a script";
 
-pub const SCRIPT: &str = "The path of a script of at most 1048576 bytes, or stdin for standard input";
+pub const MAP: &str = "Writes which bytes each entry owns after publications of a script";
+
+pub const SCRIPT: &str =
+    "The path of a script of at most 1048576 bytes, or stdin for standard input";
 
 pub const TRACE: &str = "The path of a trace of at most 16777216 bytes";
 
@@ -23,7 +28,8 @@ pub const START: &str = "The address of its first byte, a number";
 
 pub const LENGTH: &str = "How many bytes it has, a number from 1 to 4096; it ends at or below 2^56";
 
-pub const AFTER: &str = "Takes the first N publications, a number up to how many there are; all without this option";
+pub const AFTER: &str =
+    "Takes the first N publications, a number up to how many there are; all without this option";
 
 pub const MORE: &str = "\
 Exit status:
@@ -84,3 +90,26 @@ Example:
 
 docs/FORMATS.md describes scripts, the register lines, and every refusal with
 its number.";
+
+pub const MORE_OF_MAP: &str = "\
+A number is 1 to 20 decimal digits, or 0x and 1 to 16 hexadecimal digits.
+
+Each line is a run of bytes that one entry owns, the lowest-numbered one that
+matches them: FIRST,LAST,OWNER,MRIGHTS,SURIGHTS.
+  FIRST,LAST  the addresses of its first and last byte, in hexadecimal digits
+  OWNER       the entry's number, or - where no entry matches
+  MRIGHTS     what machine mode may do there: r, w and x, or - for each
+  SURIGHTS    the same for supervisor and user mode
+An access that goes across runs is refused.
+
+Exit status:
+  0  the runs were written
+  2  no answer: the words or the script are at fault
+  3  no answer: memory, the script's input or the output failed
+
+Example:
+  echo 'pmp 1' | pmp map stdin
+  It answers 00000000000000,ffffffffffffff,-,rwx,---
+
+docs/FORMATS.md describes scripts, the run lines, and every refusal with its
+number.";

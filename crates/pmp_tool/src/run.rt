@@ -12,23 +12,23 @@ use crate::command_line::parse_words;
 use crate::failure::Failure;
 use crate::inputs::Inputs;
 use crate::refusal::Refusal;
-use pmp_audit::{Summary, audit, check, dump};
+use pmp_audit::{Summary, audit, check, dump, map_of};
 use pmp_core::Decision;
 use pmp_text::write_out;
 use std::alloc::Global;
 use std::io::Write;
 
-/// The exit status of texts and registers that were written, and of accesses that are all allowed.
+/// The exit status of texts, registers and runs that were written, and of accesses that are all allowed.
 const DONE: u8 = 0;
 
 /// The exit status of an access that is refused.
 const REFUSED: u8 = 1;
 
 /// Runs the program on its words, those after its own name, and answers its exit status: 0 where each access is
-/// allowed, or the registers or a text of help were written, 1 where an access is refused, 2 or 3 where there is no
+/// allowed, or the registers, the runs or a text of help were written, 1 where an access is refused, 2 or 3 where there is no
 /// answer, with a text on `err` that says why.
 ///
-/// `out` gets the report rows, the register lines or the text. Where nothing can be written to `err`, the status is the
+/// `out` gets the report rows, the register lines, the run lines or the text. Where nothing can be written to `err`, the status is the
 /// same.
 pub fn run_tool<I: Inputs, O: Write, E: Write>(
     alloc: Global,
@@ -112,6 +112,10 @@ fn answer<I: Inputs, O: Write>(
             dump(alloc, &script, after, out)?;
             Ok(Outcome::Dumped)
         }
+        Request::Map(after) => {
+            map_of(alloc, &script, after, out)?;
+            Ok(Outcome::Mapped)
+        }
     }
 }
 
@@ -121,6 +125,7 @@ enum Outcome {
     Decided(Decision),
     Audited(Summary),
     Dumped,
+    Mapped,
     /// A text of help or the version was written.
     Told,
 }

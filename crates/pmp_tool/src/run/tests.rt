@@ -3,6 +3,7 @@
 mod audits;
 mod checks;
 mod dumps;
+mod maps;
 mod refusals;
 mod words;
 

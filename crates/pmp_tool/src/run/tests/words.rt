@@ -14,7 +14,7 @@ fn assert_says<R: Abort>(rt: &R, text: &[u8], wanted: &[&str]) {
 
 #[test]
 fn help_tells_what_a_user_needs(rt: HostRuntime) -> Result<(), Fail> {
-    let program = ["check", "audit", "dump", "stdin", "--version"].as_slice();
+    let program = ["check", "audit", "dump", "map", "stdin", "--version"].as_slice();
     let check = [
         "<SCRIPT> <MODE> <KIND> <START> <LENGTH>",
         "stdin",
@@ -28,11 +28,18 @@ fn help_tells_what_a_user_needs(rt: HostRuntime) -> Result<(), Fail> {
     .as_slice();
     let audit = ["<SCRIPT> <TRACE>", "16777216 bytes"].as_slice();
     let dump = ["--after <N>", "<SCRIPT>", "publications", "0x"].as_slice();
+    let map = [
+        "--after <N>",
+        "FIRST,LAST,OWNER,MRIGHTS,SURIGHTS",
+        "lowest-numbered",
+    ]
+    .as_slice();
     for (commands, wanted) in [
         (["--help", "-h", "help"], program),
         (["check --help", "check -h", "help check"], check),
         (["audit --help", "audit -h", "help audit"], audit),
         (["dump --help", "dump -h", "help dump"], dump),
+        (["map --help", "map -h", "help map"], map),
     ] {
         for words in commands {
             let answer = run(rt.alloc(), b"", words)?;
