@@ -2,7 +2,12 @@
 PREFIX ?= /usr/local
 PROGRAM = crates/pmp_tool/out/pmp_tool
 
-.PHONY: build install bench bench-decide bench-audit
+.PHONY: test build install bench bench-decide bench-audit
+
+# Proves and tests everything, then runs the program and each example of the documents.
+test:
+	rt ci
+	checks/program
 
 # The launcher builds the program where that is due.
 build:

@@ -1,5 +1,5 @@
 -- When an input that the words name has a fault.
-use Rattle.std.proofs.Common.{◌≡◌, ◌⊎◌, refl, ℕ, ◌<◌, List, [], ◌∷◌, subst, length, Option, Some, None, Result, Ok, Err, codes, inl, inr, sym, ◌∙◌, arith}
+use Rattle.std.proofs.Common.{◌≡◌, ◌⊎◌, refl, ℕ, ◌<◌, List, [], ◌∷◌, subst, length, Option, Some, None, Result, Ok, Err, codes, inl, inr, sym, ◌∙◌}
 use Rattle.std.specs.Prelude.{IsErr, IfSome}
 use Rattle.std.specs.Io.KnownBytes.{Keeps}
 use Rattle.std.proofs.lemmas.Bool.{lt-ltb}

@@ -1,5 +1,5 @@
 -- What a run of the program answers.
-use Rattle.std.specs.Prelude.{◌≡◌, ◌⊎◌, ℕ, List, length, Option, None, Result, Ok, Err, IsErr, IfSome, ⊤, ◌==◌, if◌then◌else◌}
+use Rattle.std.specs.Prelude.{◌≡◌, ◌⊎◌, ℕ, List, length, Option, Result, Ok, Err, IsErr, IfSome, ⊤, ◌==◌, if◌then◌else◌}
 use Rattle.std.specs.Io.KnownBytes.{Appends}
 use Rattle.pmp_core.specs.declared.event.Event.{Event}
 use Rattle.pmp_text.specs.declared.script.ScriptFault.{ScriptFault}

@@ -1,6 +1,6 @@
-use Rattle.std.proofs.Common.{◌≡◌, ◌∙◌, Option, Some, refl, sym, ap, codes, option_map}
+use Rattle.std.proofs.Common.{◌≡◌, ◌∙◌, Some, refl, sym, ap, codes, option_map}
 use Rattle.std.proofs.lemmas.Result.{err_from_is_err_and}
-use Rattle.clap.specs.Words.{Text, first_of, found_of, rows_of}
+use Rattle.clap.specs.Words.{first_of, found_of, rows_of}
 use Rattle.clap.proofs.WalkLemmas.{first_value-rows}
 use Rattle.pmp_text.specs.Numbers.{word_number}
 use Rattle.pmp_tool.proofs.Matching.{a_number, no_number}
