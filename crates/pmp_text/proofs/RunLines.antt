@@ -1,11 +1,10 @@
 -- The lines of a register file's runs, one after another.
-use Rattle.std.proofs.Common.{◌≡◌, ℕ, ◌+◌, ◌^◌, ◌<◌, ◌≤◌, List, [], ◌∷◌, ◌++◌, length, get_or, Option, Some, None, codes, refl, sym, ap, ◌∙◌, append_assoc, arith, inl, inr}
+use Rattle.std.proofs.Common.{◌≡◌, ℕ, ◌^◌, ◌<◌, List, [], ◌∷◌, ◌++◌, length, get_or, Option, Some, None, codes, append_assoc, arith, inl, inr}
 use Rattle.std.specs.Prelude.{IfSome}
-use Rattle.std.specs.List.{slice_index_or}
 use Rattle.std.proofs.lemmas.Bool.{cases_lt}
 use Rattle.std.proofs.lemmas.List.{get_or_default, get_or_past}
 use Rattle.pmp_core.specs.declared.entry.Entry.{Entry}
-use Rattle.pmp_core.specs.Registers.{entry_at, reset_entry}
+use Rattle.pmp_core.specs.Registers.{reset_entry}
 use Rattle.pmp_core.specs.Deciding.{IsOwner}
 use Rattle.pmp_core.specs.Matching.{Matches}
 use Rattle.pmp_map.specs.declared.run.Run.{Run}

@@ -1,4 +1,4 @@
-use Rattle.std.proofs.Common.{◌≡◌, take, List, [], ◌++◌, ℕ, ap, ◌∙◌}
+use Rattle.std.proofs.Common.{◌≡◌, take, ap, ◌∙◌}
 use Rattle.std.proofs.Math.Seq.{take-length}
 use Rattle.std.proofs.lemmas.Result.{err_from_is_err_and}
 use Rattle.pmp_core.specs.Ranges.{decision_of}

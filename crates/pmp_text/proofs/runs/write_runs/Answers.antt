@@ -26,8 +26,7 @@ returns-clause-ok c =
     let runs = c.runs-run-items.result.now in
     let all : c.loop-run.run-index ≡ length runs = omega arith in
     let whole : take c.loop-run.run-index runs ≡ runs = ap (λ (n : ℕ). take n runs) all ∙ take-length runs in
-    let lines : c.loop-run.text.items ≡ flat_map (run_line c.args.file.now) runs = rw whole at c.loop-run.invariant in
-    (
+    let lines : c.loop-run.text.items ≡ flat_map (run_line c.args.file.now) runs = rw whole at c.loop-run.invariant in (
       c.loop-run.text.items,
       record { runs = runs; runs_are = rw c.requires at c.runs-run-items.ensures.runs; lines = lines },
       c.in_ok-extend_from_slice.ensures.items ∙ ap (λ (l : List ℕ). c.args.out.now.items ++ l) c.deref.ensures.value,
