@@ -1,5 +1,5 @@
 -- Every step keeps a register file legal, and as long as it is.
-use Rattle.std.proofs.Common.{◌≡◌, ℕ, ◌-◌, ◌*◌, ◌^◌, ◌%◌, ◌<◌, ◌≤◌, Bool, true, false, cond, not, ◌&&◌, ◌||◌, ◌==◌, List, length, replicate, slice_index, refl, inl, inr, arith, length-set, get_or-set_other, get_or-set_same}
+use Rattle.std.proofs.Common.{◌≡◌, ℕ, ◌-◌, ◌*◌, ◌^◌, ◌%◌, ◌<◌, ◌≤◌, Bool, true, false, cond, not, ◌&&◌, ◌||◌, ◌==◌, List, [], ◌∷◌, fold, length, replicate, slice_index, refl, inl, inr, arith, length-set, get_or-set_other, get_or-set_same}
 use Rattle.std.specs.Int.{w64, to_le_bytes}
 use Rattle.std.proofs.Math.ListN.{set}
 use Rattle.std.proofs.lemmas.Bool.{cases_lt, cases_eq}
@@ -13,6 +13,7 @@ use Rattle.pmp_core.specs.declared.event.Event.{Event}
 use Rattle.pmp_core.specs.declared.event.Event.TheVariants.{Write, Reset}
 use Rattle.pmp_core.specs.Bytes.{configuration_of}
 use Rattle.pmp_core.specs.Registers.{RegisterFile, reset_entry, reset_file, entry_at, is_reserved, IsLegal}
+use Rattle.pmp_core.specs.Histories.{LegalLaw}
 use Rattle.pmp_core.specs.Writing.{without_reserved, stored_over, stored, holds_byte_of, configured, is_address_frozen, written, step}
 
 -- ---- reset
@@ -128,3 +129,10 @@ module _ (file : RegisterFile) (legal : IsLegal file) where
 pub length-step : (file : RegisterFile) (event : Event) → length (step file event).entries ≡ length file.entries
 length-step file Reset = length-replicate (length file.entries) reset_entry
 length-step file (Write csr value) = length-written file csr value
+
+replay_legal_from : (file : RegisterFile) → IsLegal file → (events : List Event) → IsLegal (fold step file events)
+replay_legal_from file legal [] = legal
+replay_legal_from file legal (event ∷ events) = replay_legal_from (step file event) (step_legal file legal event) events
+
+pub legal_law : LegalLaw
+legal_law n events = replay_legal_from (reset_file n) (reset_legal n) events

@@ -11,4 +11,5 @@ pub mod Deciding
 pub mod Writing
 pub mod Reading
 pub mod Ranges
+pub mod Histories
 pub mod Locking

@@ -1,13 +1,10 @@
--- What a lock keeps, and what a right to store implies.
-use Rattle.std.specs.Prelude.{◌≡◌, ◌↔◌, ℕ, Bool, true, false, IsTrue, List, fold}
+-- What a lock keeps (Volume II, 3.7.1.2 and Smepmp).
+use Rattle.std.specs.Prelude.{◌≡◌, ◌↔◌, ℕ, Bool, true, false, List, fold}
 use Rattle.std.specs.List.{list_all}
-use Rattle.pmp_core.specs.declared.access.Mode.{Mode}
-use Rattle.pmp_core.specs.declared.access.Kind.TheVariants.{Load, Store}
 use Rattle.pmp_core.specs.declared.event.Event.{Event}
 use Rattle.pmp_core.specs.declared.event.Event.TheVariants.{Write, Reset}
-use Rattle.pmp_core.specs.Registers.{RegisterFile, entry_at, is_frozen, IsLegal}
+use Rattle.pmp_core.specs.Registers.{RegisterFile, entry_at, is_frozen}
 use Rattle.pmp_core.specs.Matching.{Matches}
-use Rattle.pmp_core.specs.Rights.{Rights, allows, rights, default_rights}
 use Rattle.pmp_core.specs.Writing.{step}
 
 abbrev pub is_write : Event → Bool
@@ -23,11 +20,3 @@ pub record StaysLocked (before after : RegisterFile) (i : ℕ) : Type 0 where
 -- a frozen entry stays as it is through every list of writes, if no reset is among them (3.7.1.2 and Smepmp)
 abbrev pub LockLaw : Type 0
 LockLaw = (file : RegisterFile) (i : ℕ) (events : List Event) → is_frozen file i ≡ true → list_all is_write events ≡ true → StaysLocked file (fold step file events) i
-
--- a right to store comes with the right to load
-abbrev pub LoadsWhatItStores : Rights → Type 0
-LoadsWhatItStores rights = IsTrue (allows rights Store) → IsTrue (allows rights Load)
-
--- by every rule of a legal file, and where no entry matches
-abbrev pub StoreLaw : Type 0
-StoreLaw = (file : RegisterFile) → IsLegal file → (i : ℕ) (mode : Mode) → LoadsWhatItStores (rights file i mode) × LoadsWhatItStores (default_rights file mode)

@@ -1,5 +1,5 @@
 -- What a write to a register leaves (Volume II, 3.7.1, 3.7.1.2 and Smepmp).
-use Rattle.std.specs.Prelude.{ℕ, suc, ◌+◌, ◌-◌, ◌*◌, ◌%◌, ◌^◌, Bool, true, false, not, ◌&&◌, ◌||◌, ◌==◌, nat_le, nat_lt, if◌then◌else◌, List, length, map, fold, slice_index, slice_set}
+use Rattle.std.specs.Prelude.{ℕ, suc, ◌+◌, ◌-◌, ◌*◌, ◌%◌, ◌^◌, Bool, true, false, not, ◌&&◌, ◌||◌, ◌==◌, nat_le, nat_lt, if◌then◌else◌, List, length, map, slice_index, slice_set}
 use Rattle.std.specs.List.{range_with_len, list_any}
 use Rattle.std.specs.Int.{w64, to_le_bytes}
 use Rattle.pmp_core.specs.declared.configuration.AddressMatching.{AddressMatching}
@@ -13,18 +13,11 @@ use Rattle.pmp_core.specs.declared.event.Event.TheVariants.{Write, Reset}
 use Rattle.pmp_core.specs.Bytes.{configuration_of}
 use Rattle.pmp_core.specs.Securities.{secured}
 use Rattle.pmp_core.specs.Registers.{RegisterFile, reset_file, entry_at, is_frozen, is_reserved}
+use Rattle.pmp_core.specs.Rights.{is_barred}
 
 -- a reserved combination is stored as no rights at all (3.7.1)
 abbrev pub without_reserved : Configuration → Configuration
 without_reserved c = if is_reserved c then record c { read = false; write = false; execute = false } else c
-
--- the combinations L R W X that no write adds under lockdown: rules by which machine mode executes (Smepmp)
-abbrev pub is_barred : (l r w x : Bool) → Bool
-is_barred true false false true = true
-is_barred true false true false = true
-is_barred true false true true = true
-is_barred true true false true = true
-is_barred _ _ _ _ = false
 
 -- what is stored of a new configuration over the old one, by MML and RLB (3.7.1 and Smepmp)
 abbrev pub admitted : (mml rlb : Bool) → (old new : Configuration) → Configuration
@@ -81,7 +74,3 @@ written file Mseccfg value = record file { security = secured file.security (is_
 abbrev pub step : RegisterFile → Event → RegisterFile
 step file Reset = reset_file (length file.entries)
 step file (Write csr value) = written file csr value
-
--- a whole history, from reset
-abbrev pub replay : ℕ → List Event → RegisterFile
-replay n = fold step (reset_file n)

@@ -2,6 +2,9 @@
 
 use crate::csr::Csr;
 
+/// The most events that one batch of a history holds.
+pub const BATCH_EVENTS: usize = 64;
+
 /// One step of a unit's history.
 #[derive(Clone, Copy, Debug, PartialEq, Eq, Default)]
 pub enum Event {

@@ -7,7 +7,9 @@ ghost use Rattle.pmp_core.specs.declared.entry.Entry.{Entry};
 ghost use Rattle.pmp_core.specs.Registers.{RegisterFile, HasAddresses};
 ghost use Rattle.pmp_core.specs.Matching.{Matches};
 ghost use Rattle.pmp_core.specs.Deciding.{IsOwner, IsDecider, IsDecision};
-ghost use Rattle.pmp_core.specs.Locking.{LockLaw, StoreLaw};
+ghost use Rattle.pmp_core.specs.Rights.{BarredRulesLaw, StoreLaw};
+ghost use Rattle.pmp_core.specs.Histories.{LegalLaw};
+ghost use Rattle.pmp_core.specs.Locking.{LockLaw};
 ghost use Rattle.pmp_core.specs.Ranges.{decision_of};
 
 /// What is computed from the entries' ranges is the manual's decision.
@@ -30,6 +32,17 @@ pub fn law_owner_decides_byte()
 /// Only an entry of the file matches a byte.
 pub fn law_matching_entry()
     ensures { (entries : List Entry) (i byte : ℕ) → Matches entries i byte → i < length entries }
+{}
+
+/// Whatever events follow a reset, the register file is legal, for any number of entries.
+pub fn law_legal()
+    ensures { LegalLaw }
+{}
+
+/// The rules that no write adds under lockdown, unless bypass is on, are the locked ones by which machine mode
+/// executes in the truth table of Smepmp.
+pub fn law_barred_rules()
+    ensures { BarredRulesLaw }
 {}
 
 /// The lock law: an entry that is frozen keeps its configuration and its bytes through every list of writes, and

@@ -24,7 +24,7 @@ mod writing;
 pub use access::{ADDRESS_LIMIT, Access, AccessFault, Kind, Mode};
 pub use csr::{Csr, CsrFault};
 pub use decision::{Cause, Decision, fault_code};
-pub use event::Event;
+pub use event::{BATCH_EVENTS, Event};
 pub use perms::Perms;
 pub use range::ByteRange;
 pub use register_file::{ENTRIES, RegFile};

@@ -1,6 +1,6 @@
 //! Sets of rights.
 
-ghost use Rattle.std.specs.Prelude.{⊤, ◌≡◌, [], ◌∷◌, codes};
+ghost use Rattle.std.specs.Prelude.{⊤, ◌≡◌, ◌/◌, ◌%◌, ◌==◌, [], ◌∷◌, codes};
 ghost use Rattle.pmp_core.specs.Rights.{Rights, perms_of, allows};
 ghost use Rattle.pmp_core.specs.Perms.{right_of};
 
@@ -63,7 +63,8 @@ impl Perms {
 
     /// Whether it has the right that an access of this kind needs.
     pub fn allows(self, kind: Kind) -> bool
-        ensures { (rights : Rights) → self ≡ perms_of rights → result ≡ allows rights kind }
+        ensures by_bit { result ≡ (self.0 / (right_of kind).0 % 2 == 1) }
+        ensures by_rights { (rights : Rights) → self ≡ perms_of rights → result ≡ allows rights kind }
     {
         self.contains(Perms::of_kind(kind))
     }

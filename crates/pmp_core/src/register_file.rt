@@ -35,8 +35,9 @@ pub struct RegFile {
 }
 
 impl Model for RegFile {
-    ghost use Rattle.std.specs.Prelude.{◌≡◌};
+    ghost use Rattle.std.specs.Prelude.{◌≡◌, length};
     ghost use Rattle.std.proofs.Common.{sym, ap};
+    ghost use Rattle.pmp_core.specs.declared.register_file.TheConstants.{ENTRIES};
     ghost use Rattle.pmp_core.specs.Registers.{RegisterFile, file_of, IsLegal};
     ghost use Rattle.pmp_core.specs.Ranges.{ranges_of};
 
@@ -44,7 +45,7 @@ impl Model for RegFile {
 
     ghost view = { λ f. file_of f.security f.entries };
 
-    ghost invariant = { λ f. IsLegal (file_of f.security f.entries) × (f.ranges ≡ ranges_of f.entries) };
+    ghost invariant = { λ f. IsLegal (file_of f.security f.entries) × (f.ranges ≡ ranges_of f.entries) × (length f.entries ≡ ENTRIES) };
 
     ghost inverse = { λ file. record { entries = file.entries; security = file.security; ranges = ranges_of file.entries } };
 
@@ -54,7 +55,7 @@ impl Model for RegFile {
 impl RegFile {
     /// The register file that reset leaves: all registers are zero.
     pub fn reset() -> RegFile
-        ensures { result ≡ reset_file 16 }
+        ensures { result ≡ reset_file ENTRIES }
     {
         RegFile {
             entries: [Entry::RESET; ENTRIES],
@@ -63,9 +64,19 @@ impl RegFile {
         }
     }
 
+    /// How many entries the unit has.
+    pub fn entries(&self) -> u8
+        ensures count { result ≡ length self.now.entries }
+        ensures sixteen { result ≡ ENTRIES }
+    {
+        let entries = &self.entries;
+        entries.len() as u8
+    }
+
     /// Takes one event.
     pub fn step(&mut self, event: Event)
         ensures step { self.new ≡ step self.old event }
+        ensures legal { IsLegal self.new }
         ensures entries { length self.new.entries ≡ length self.old.entries }
     {
         match event {
@@ -105,7 +116,7 @@ impl RegFile {
     /// Whether the entry is frozen: its lock bit is set and rule-locking bypass is off, so that writes leave it as it
     /// is.
     pub fn is_locked(&self, entry: u8) -> bool
-        requires { entry < length self.now.entries }
+        requires { entry < ENTRIES }
         ensures { result ≡ is_frozen self.now entry }
     {
         self.entries[usize::from(entry)].configuration.locked && !self.security.rule_locking_bypass
@@ -113,8 +124,9 @@ impl RegFile {
 
     /// What the entry's rule allows the mode, where the entry matches every byte of an access.
     pub fn rights(&self, entry: u8, mode: Mode) -> Perms
-        requires { entry < length self.now.entries }
-        ensures { result ≡ perms_of (rights self.now entry mode) }
+        requires { entry < ENTRIES }
+        ensures rights { result ≡ perms_of (rights self.now entry mode) }
+        ensures legal { IsLegal self.now }
     {
         rule_rights(
             &self.entries[usize::from(entry)].configuration,
@@ -125,23 +137,25 @@ impl RegFile {
 
     /// What the mode may do where no entry matches any byte of an access.
     pub fn default_rights(&self, mode: Mode) -> Perms
-        ensures { result ≡ perms_of (default_rights self.now mode) }
+        ensures rights { result ≡ perms_of (default_rights self.now mode) }
+        ensures legal { IsLegal self.now }
     {
         unmatched_rights(mode, &self.security)
     }
 
     /// Whether the entry matches the byte at this byte address.
     pub fn matches(&self, entry: u8, byte: u64) -> bool
-        requires entry { entry < length self.now.entries }
+        requires entry { entry < ENTRIES }
         requires byte { byte < 2 ^ 56 }
         ensures { IsTrue result ↔ Matches self.now.entries entry byte }
     {
         self.ranges[usize::from(entry)].contains(byte)
     }
 
-    /// Where each entry matches.
-    pub fn ranges(&self) -> &[ByteRange; ENTRIES]
+    /// Where each entry matches: a range of byte addresses for each, in their order.
+    pub fn ranges(&self) -> &[ByteRange]
         ensures ranges { AreRanges self.now.entries result.now }
+        ensures count { length result.now ≡ ENTRIES }
         ensures legal { IsLegal self.now }
     {
         &self.ranges

@@ -1,9 +1,8 @@
 //! What a rule allows.
 
 ghost use Rattle.std.specs.Prelude.{◌≡◌};
-ghost use Rattle.pmp_core.specs.Rights.{allows, bits_of, perms_of, lockdown_rights, rule_rights, unmatched_rights};
+ghost use Rattle.pmp_core.specs.Rights.{allows, bits_of, perms_of, is_barred, lockdown_rights, rule_rights, unmatched_rights};
 ghost use Rattle.pmp_core.specs.Perms.{right_of};
-ghost use Rattle.pmp_core.specs.Writing.{is_barred};
 
 use crate::access::{Access, Mode};
 use crate::configuration::Configuration;

@@ -1,9 +1,8 @@
 //! Worked examples, and the decision read off byte by byte.
 
-ghost use Rattle.std.specs.Prelude.{◌≡◌, length};
-
 use super::*;
 use std::process::Abort;
+use std::test::Fail;
 
 /// A write to `mseccfg`.
 fn security(value: u64) -> Event {
@@ -139,7 +138,13 @@ const LOCKDOWN_ROWS: [(u64, &str, &str); 16] = [
 ];
 
 /// Asserts what a rule over all of memory with these bits lets each mode do.
-fn assert_rights(rt: &impl Abort, mseccfg: u64, lrwx: u64, machine: &str, others: &str) {
+fn assert_rights(
+    rt: &impl Abort,
+    mseccfg: u64,
+    lrwx: u64,
+    machine: &str,
+    others: &str,
+) -> Result<(), AccessFault> {
     let mut file = RegFile::reset();
     let byte = (lrwx & 8) << 4 | 0x18 | (lrwx & 1) << 2 | lrwx & 2 | (lrwx & 4) >> 2;
     file.run_events(&[
@@ -150,9 +155,7 @@ fn assert_rights(rt: &impl Abort, mseccfg: u64, lrwx: u64, machine: &str, others
     for (mode, rights) in [(Mode::M, machine), (Mode::S, others), (Mode::U, others)] {
         for (kind, letter) in [(Kind::Fetch, "x"), (Kind::Load, "r"), (Kind::Store, "w")] {
             let allowed = rights.contains(letter);
-            let Ok(access) = Access::new(mode, kind, 0x1000, 4) else {
-                continue;
-            };
+            let access = Access::new(mode, kind, 0x1000, 4)?;
             let cause = Cause::Rule(0);
             let decision = Decision { allowed, cause };
             assert_eq!(rt;
@@ -168,17 +171,19 @@ fn assert_rights(rt: &impl Abort, mseccfg: u64, lrwx: u64, machine: &str, others
             );
         }
     }
+    Ok(())
 }
 
 /// Bypass is on, so that every rule can be written.
 #[test]
-fn rights_of_every_rule(rt: HostRuntime) {
+fn rights_of_every_rule(rt: HostRuntime) -> Result<(), Fail> {
     for (lrwx, machine, others) in PLAIN_ROWS {
-        assert_rights(&rt, 4, lrwx, machine, others);
+        assert_rights(&rt, 4, lrwx, machine, others)?;
     }
     for (lrwx, machine, others) in LOCKDOWN_ROWS {
-        assert_rights(&rt, 5, lrwx, machine, others);
+        assert_rights(&rt, 5, lrwx, machine, others)?;
     }
+    Ok(())
 }
 
 #[test]
@@ -266,58 +271,123 @@ fn accesses_have_a_lawful_length_and_end(rt: HostRuntime) {
     }
 }
 
-/// What the unit should decide, read off the bytes one by one.
-fn cause_by_bytes(file: &RegFile, access: &Access) -> Cause
-    requires { length file.now.entries ≡ 16 }
-{
-    for entry in 0..16 {
-        let mut some = false;
-        let mut all = true;
-        for byte in access.start..access.start + access.length {
-            let matches = file.matches(entry, byte);
-            some = some || matches;
-            all = all && matches;
+/// What `Default` gives, which vectors of fixed capacity fill their places with.
+#[test]
+fn defaults_are_reset_and_a_refusal(rt: HostRuntime) {
+    assert_eq!(rt; Event::default(), Event::Reset);
+    assert_eq!(rt; Cause::default(), Cause::NoMatch);
+    assert_eq!(rt;
+        Decision::default(),
+        Decision {
+            allowed: false,
+            cause: Cause::NoMatch
         }
-        if all {
-            return Cause::Rule(entry);
-        }
-        if some {
-            return Cause::Split(entry);
+    );
+}
+
+/// Whether an entry with this configuration byte and this word address, after one with the word address `low`,
+/// matches the byte: the manual's four modes, without ranges.
+fn is_matched(configuration: u8, low: u8, address: u8, byte: u64) -> bool {
+    match configuration / 8 % 4 {
+        0 => false,
+        1 => 4 * u64::from(low) <= byte && byte < 4 * u64::from(address),
+        2 => byte / 4 == u64::from(address),
+        _ => is_napot_matched(u16::from(address), byte),
+    }
+}
+
+/// The address is some bits, a zero bit and k one bits, and the region has 2^(k+3) bytes.
+fn is_napot_matched(address: u16, byte: u64) -> bool {
+    for k in 0..9u32 {
+        let ones = 1u16.wrapping_shl(k).wrapping_sub(1);
+        let ending = 2u16.wrapping_shl(k).wrapping_sub(1);
+        if address & ending == ones {
+            return byte >> (k + 3) == u64::from(address >> (k + 1));
         }
     }
-    Cause::NoMatch
+    false
+}
+
+/// Configuration bytes and word addresses of the first five entries.
+#[derive(Clone, Copy, Debug)]
+struct SmallFile {
+    configurations: [u8; 5],
+    addresses: [u8; 5],
+}
+
+impl SmallFile {
+    /// What a user's load is answered, read off its bytes one by one.
+    fn decision(&self, start: u64, end: u64) -> Decision {
+        let mut low = 0;
+        for (entry, address) in self.addresses.iter().enumerate() {
+            let configuration = self.configurations[entry];
+            let matches = |byte| is_matched(configuration, low, *address, byte);
+            if (start..end).all(matches) {
+                return Decision {
+                    allowed: configuration % 2 == 1,
+                    cause: Cause::Rule(entry as u8),
+                };
+            }
+            if (start..end).any(matches) {
+                return Decision {
+                    allowed: false,
+                    cause: Cause::Split(entry as u8),
+                };
+            }
+            low = *address;
+        }
+        Decision {
+            allowed: false,
+            cause: Cause::NoMatch,
+        }
+    }
+
+    fn registers(&self) -> RegFile {
+        let [a, b, c, d, e] = self.configurations;
+        let mut file = RegFile::reset();
+        for (entry, address) in self.addresses.iter().enumerate() {
+            file.step(Event::Write(Csr::Addr(entry as u8), u64::from(*address)));
+        }
+        file.step(Event::Write(Csr::Cfg(0), u64::from_le_bytes([a, b, c, d, e, 0, 0, 0])));
+        file
+    }
 }
 
 /// Overlapping, nested, empty and inverted regions of all four kinds below byte 64.
-const SMALL_FILES: [(u64, [u64; 5]); 5] = [
-    (0x0000_0000_0000_0000, [4, 8, 12, 15, 3]),
-    (0x0000_001f_1b19_1117, [4, 5, 2, 7, 15]),
-    (0x0000_000f_0909_0b0c, [2, 9, 4, 4, 12]),
-    (0x0000_0098_8f91_0f9f, [1, 6, 6, 3, 0]),
-    (0x0000_0009_1100_0b17, [3, 11, 2, 14, 15]),
+const SMALL_FILES: [SmallFile; 5] = [
+    SmallFile {
+        configurations: [0; 5],
+        addresses: [4, 8, 12, 15, 3],
+    },
+    SmallFile {
+        configurations: [0x17, 0x11, 0x19, 0x1b, 0x1f],
+        addresses: [4, 5, 2, 7, 15],
+    },
+    SmallFile {
+        configurations: [0x0c, 0x0b, 0x09, 0x09, 0x0f],
+        addresses: [2, 9, 4, 4, 12],
+    },
+    SmallFile {
+        configurations: [0x9f, 0x0f, 0x91, 0x8f, 0x98],
+        addresses: [1, 6, 6, 3, 0],
+    },
+    SmallFile {
+        configurations: [0x17, 0x0b, 0x00, 0x11, 0x09],
+        addresses: [3, 11, 2, 14, 15],
+    },
 ];
 
 #[test]
-fn decisions_agree_with_the_bytes(rt: HostRuntime) {
-    for (configuration, addresses) in SMALL_FILES {
-        let mut file = RegFile::reset();
-        file.run_events(&[
-            Event::Write(Csr::Addr(0), addresses[0]),
-            Event::Write(Csr::Addr(1), addresses[1]),
-            Event::Write(Csr::Addr(2), addresses[2]),
-            Event::Write(Csr::Addr(3), addresses[3]),
-            Event::Write(Csr::Addr(4), addresses[4]),
-            Event::Write(Csr::Cfg(0), configuration),
-        ]);
+fn small_files_decide_as_their_bytes_say(rt: HostRuntime) -> Result<(), Fail> {
+    for small in SMALL_FILES {
+        let file = small.registers();
         for start in 0..72 {
             for length in 1..20 {
-                let Ok(access) = Access::new(Mode::U, Kind::Load, start, length) else {
-                    continue;
-                };
-                let decision = file.decide(&access);
-                let cause = cause_by_bytes(&file, &access);
-                assert_eq!(rt; decision.cause, cause, "{configuration:#x}: {access:?}");
+                let access = Access::new(Mode::U, Kind::Load, start, length)?;
+                let want = small.decision(start, start + length);
+                assert_eq!(rt; file.decide(&access), want, "{small:?}: {access:?}");
             }
         }
     }
+    Ok(())
 }

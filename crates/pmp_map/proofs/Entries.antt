@@ -1,5 +1,7 @@
 -- Owners by entries and by their ranges.
-use Rattle.std.proofs.Common.{ℕ, ◌+◌, ◌*◌, ◌^◌, ◌≤◌, List, length, Option, Some, arith, inl, inr}
+use Rattle.std.proofs.Common.{◌≡◌, ℕ, ◌+◌, ◌*◌, ◌^◌, ◌<◌, ◌≤◌, List, length, Option, Some, None, refl, arith, inl, inr}
+use Rattle.std.specs.Prelude.{IfSome}
+use Rattle.std.proofs.lemmas.List.Elements.{All-from_get_or}
 use Rattle.std.proofs.lemmas.Bool.{cases_lt}
 use Rattle.std.proofs.lemmas.List.{get_or_past}
 use Rattle.pmp_core.specs.declared.entry.Entry.{Entry}
@@ -11,8 +13,8 @@ use Rattle.pmp_core.specs.Ranges.{IsInRange, range_in, ranges_of, AreRanges}
 use Rattle.pmp_core.proofs.Matches.{are_ranges}
 use Rattle.pmp_map.specs.declared.run.Run.{Run}
 use Rattle.pmp_map.specs.Owners.{IsOwnerIn}
-use Rattle.pmp_map.specs.Maps.{map_run, HasOwnersBelow}
-use Rattle.pmp_map.specs.Runs.{AreRunsTo, AreRuns}
+use Rattle.pmp_map.specs.Maps.{map_run}
+use Rattle.pmp_map.specs.Runs.{AreRunsTo, AreRuns, HasOwnersBelow}
 use Rattle.pmp_map.proofs.Cuts.{least_alike}
 use Rattle.pmp_map.proofs.FewRuns.{few_runs}
 
@@ -40,10 +42,13 @@ few_runs_of_entries entries runs small are =
     omega (arith, decoded.count, few_runs (2 ^ 56) (ranges_of entries) runs (runs_by_ranges entries (ranges_of entries) decoded (2 ^ 56) runs are))
 
 -- only a range that there is has a byte
+owner_below : (ranges : List ByteRange) (byte : ℕ) (owner : Option ℕ) → IsOwnerIn ranges byte owner → IfSome owner (λ i. i < length ranges)
+owner_below ranges byte None owned = tt
+owner_below ranges byte (Some i) owned = elim (cases_lt i (length ranges)) [
+  | inl lt ↦ lt
+  | inr past ↦ let none = rw (get_or_past ranges i (record { start = 0; end = 0 }) past) at owned.0 in absurd (omega arith)
+]
+
 pub owners_below : (ranges : List ByteRange) (runs : List Run) → AreRunsTo (2 ^ 56) (IsOwnerIn ranges) runs → HasOwnersBelow (length ranges) runs
-owners_below ranges runs are k inside i owned =
-    let owns : IsOwnerIn ranges (map_run runs k).first (Some i) = rw owned at (are.owned k (map_run runs k).first inside (omega arith, are.proper k inside)) in
-    elim (cases_lt i (length ranges)) [
-      | inl lt ↦ lt
-      | inr past ↦ let none = rw (get_or_past ranges i (record { start = 0; end = 0 }) past) at owns.0 in absurd (omega arith)
-    ]
+owners_below ranges runs are = All-from_get_or (λ (run : Run). IfSome run.owner (λ i. i < length ranges)) runs _
+    (λ k inside. owner_below ranges (map_run runs k).first (map_run runs k).owner (are.owned k (map_run runs k).first inside (omega arith, are.proper k inside)))

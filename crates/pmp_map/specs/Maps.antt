@@ -1,12 +1,12 @@
 -- What a map keeps of its register file.
 use Rattle.std.specs.Prelude.{◌≡◌, ℕ, ◌^◌, ◌<◌, ◌≤◌, Some, List, length, slice_index, slice_get}
-use Rattle.std.specs.Option.{ForSome}
 use Rattle.pmp_core.specs.Registers.{RegisterFile, HasAddresses}
+use Rattle.pmp_core.specs.declared.register_file.TheConstants.{ENTRIES}
 use Rattle.pmp_map.specs.declared.run.Run.{Run}
 use Rattle.pmp_map.specs.declared.answers.Answers.{Answers}
 use Rattle.pmp_map.specs.declared.run.TheConstants.{RUNS}
 use Rattle.pmp_map.specs.declared.searching.TheConstants.{PLACES}
-use Rattle.pmp_map.specs.Runs.{run_at, AreRuns}
+use Rattle.pmp_map.specs.Runs.{run_at, AreRuns, HasOwnersBelow}
 use Rattle.pmp_map.specs.Answers.{answers_of}
 
 -- run k of all bytes; past the last, one that begins at their end
@@ -21,14 +21,11 @@ AreStarts runs starts = (k : ℕ) → k < PLACES → slice_index starts k ≡ (m
 abbrev pub AreAnswers : RegisterFile → List Run → List Answers → Type 0
 AreAnswers file runs answers = (k : ℕ) → k < length runs → slice_get answers k ≡ Some (answers_of file (map_run runs k).owner)
 
--- every owner is below n
-abbrev pub HasOwnersBelow : (n : ℕ) → List Run → Type 0
-HasOwnersBelow n runs = (k : ℕ) → k < length runs → ForSome (map_run runs k).owner (λ i. i < n)
-
 -- the tables of a register file
 pub record IsMapOf (file : RegisterFile) (runs : List Run) (starts : List ℕ) (answers : List Answers) : Type 0 where
   pub addresses : HasAddresses file.entries
   pub runs_are : AreRuns file.entries runs
   pub few : length runs ≤ RUNS
+  pub owners : HasOwnersBelow ENTRIES runs
   pub starts_are : AreStarts runs starts
   pub answers_are : AreAnswers file runs answers

@@ -1,5 +1,5 @@
 -- The runs of a register file: bytes side by side that have one owner (Volume II, 3.7.1.3).
-use Rattle.std.specs.Prelude.{◌≡◌, ◌≢◌, ℕ, ◌+◌, ◌^◌, ◌<◌, ◌≤◌, Option, None, List, length}
+use Rattle.std.specs.Prelude.{◌≡◌, ◌≢◌, ℕ, ◌+◌, ◌^◌, ◌<◌, ◌≤◌, Option, None, IfSome, List, length, All}
 use Rattle.std.specs.List.{slice_index_or}
 use Rattle.pmp_core.specs.declared.entry.Entry.{Entry}
 use Rattle.pmp_core.specs.Deciding.{IsOwner}
@@ -29,3 +29,7 @@ pub record AreRunsTo (to : ℕ) (Owns : ℕ → Option ℕ → Type 0) (runs : L
 -- the runs of all bytes
 abbrev pub AreRuns : List Entry → List Run → Type 0
 AreRuns entries = AreRunsTo (2 ^ 56) (IsOwner entries)
+
+-- every owner is below n
+abbrev pub HasOwnersBelow : (n : ℕ) → List Run → Type 0
+HasOwnersBelow n runs = All (λ run. IfSome run.owner (λ i. i < n)) runs

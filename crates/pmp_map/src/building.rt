@@ -2,8 +2,8 @@
 
 ghost use Rattle.std.specs.Prelude.{◌≤◌, ◌^◌, length};
 ghost use Rattle.pmp_map.specs.Owners.{IsOwnerIn};
-ghost use Rattle.pmp_map.specs.Runs.{AreRunsTo};
-ghost use Rattle.pmp_map.specs.Maps.{AreStarts, AreAnswers, HasOwnersBelow};
+ghost use Rattle.pmp_map.specs.Runs.{AreRunsTo, HasOwnersBelow};
+ghost use Rattle.pmp_map.specs.Maps.{AreStarts, AreAnswers};
 
 use crate::answers::Answers;
 use crate::cutting::{owner_in, run_end};
@@ -47,7 +47,7 @@ pub fn starts_of(runs: &[Run]) -> [u64; PLACES]
 /// What each run answers.
 pub fn answers_of(file: &RegFile, runs: &[Run]) -> [Answers; RUNS]
     requires few { length runs.now ≤ RUNS }
-    requires owners { HasOwnersBelow (length file.now.entries) runs.now }
+    requires owners { HasOwnersBelow ENTRIES runs.now }
     ensures { AreAnswers file.now runs.now result }
 {
     let mut answers = [Answers::of_owner(file, None); RUNS];

@@ -3,7 +3,7 @@
 ghost use Rattle.std.specs.Prelude.{◌≡◌, ◌+◌, ◌*◌, ◌<◌, ◌≤◌, ◌^◌, length};
 ghost use Rattle.pmp_core.specs.Deciding.{IsOwner, IsDecision};
 ghost use Rattle.pmp_core.specs.Ranges.{decision_of};
-ghost use Rattle.pmp_map.specs.Runs.{AreRuns};
+ghost use Rattle.pmp_map.specs.Runs.{AreRuns, HasOwnersBelow};
 
 use crate::answers::Answers;
 use crate::building::{answers_of, runs_of, starts_of};
@@ -11,7 +11,7 @@ use crate::deciding::refuse_straddling;
 use crate::run::{RUNS, Run};
 use crate::searching::{PLACES, place_of};
 use arrayvec::ArrayVec;
-use pmp_core::{Access, Decision, RegFile};
+use pmp_core::{Access, Decision, ENTRIES, RegFile};
 use std::marker::Model;
 use std::snapshot::Snapshot;
 
@@ -59,6 +59,8 @@ impl RunMap {
     pub fn runs(&self) -> &[Run]
         ensures runs { AreRuns self.now.entries result.now }
         ensures few { length result.now ≤ 2 * length self.now.entries + 1 }
+        ensures most { length result.now ≤ RUNS }
+        ensures owners { HasOwnersBelow ENTRIES result.now }
     {
         &self.runs
     }

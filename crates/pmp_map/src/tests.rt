@@ -1,10 +1,9 @@
-//! Worked maps, and decisions beside those of the register file.
-
-ghost use Rattle.std.specs.Prelude.{◌≡◌, ◌<◌, ◌^◌, length};
+//! Worked maps, and decisions by them.
 
 use super::*;
 use pmp_core::{Access, Cause, Csr, Decision, Event, Kind, Mode, RegFile};
 use std::process::Abort;
+use std::test::Fail;
 
 /// The last byte of the address space.
 const LAST: u64 = (1 << 56) - 1;
@@ -22,9 +21,7 @@ fn run(first: u64, last: u64, owner: Option<u8>) -> Run {
 }
 
 /// The register file that these events leave after reset.
-fn replay(events: &[Event]) -> RegFile
-    ensures { length result.entries ≡ 16 }
-{
+fn replay(events: &[Event]) -> RegFile {
     let mut file = RegFile::reset();
     file.run_events(events);
     file
@@ -137,7 +134,7 @@ fn the_comb_has_the_most_runs(rt: HostRuntime) {
 }
 
 #[test]
-fn accesses_that_straddle_runs_are_split(rt: HostRuntime) {
+fn accesses_that_straddle_runs_are_split(rt: HostRuntime) -> Result<(), Fail> {
     let file = comb();
     let map = RunMap::build(&file);
     for (start, length, allowed, cause) in [
@@ -146,95 +143,15 @@ fn accesses_that_straddle_runs_are_split(rt: HostRuntime) {
         (0, 256, false, Cause::Split(0)),
         (0, 4, false, Cause::NoMatch),
     ] {
-        let Ok(access) = Access::new(Mode::U, Kind::Load, start, length) else {
-            continue;
-        };
+        let access = Access::new(Mode::U, Kind::Load, start, length)?;
         let decision = Decision { allowed, cause };
         assert_eq!(rt; map.decide(&file, &access), decision, "{access:?}");
     }
+    Ok(())
 }
 
-/// The lowest-numbered entry that matches the byte, found entry by entry.
-fn owner_by_entries(file: &RegFile, byte: u64) -> Option<u8>
-    requires entries { length file.now.entries ≡ 16 }
-    requires byte { byte < 2 ^ 56 }
-{
-    for entry in 0..16 {
-        if file.matches(entry, byte) {
-            return Some(entry);
-        }
-    }
-    None
-}
-
-/// The next number of a fixed sequence.
-fn next(number: u64) -> u64 {
-    number
-        .wrapping_mul(6_364_136_223_846_793_005)
-        .wrapping_add(1_442_695_040_888_963_407)
-}
-
-/// A register file with entries of all kinds, most of which overlap, in the low bytes.
-fn crowded(seed: u64) -> RegFile
-    ensures { length result.entries ≡ 16 }
-{
-    let mut events = [Event::Write(Csr::Mseccfg, seed % 8); 19];
-    let mut number = next(seed);
-    for entry in 0..16 {
-        events[usize::from(entry) + 1] = address(entry, (number >> 40) % 1024);
-        number = next(number);
-    }
-    events[17] = configuration(0, number);
-    events[18] = configuration(2, next(number));
-    replay(&events)
-}
-
-const FILES: u64 = 24;
-
+/// What vectors of fixed capacity fill their places with.
 #[test]
-fn owners_agree_with_the_entries(rt: HostRuntime) {
-    for seed in 0..FILES {
-        let file = crowded(seed);
-        let map = RunMap::build(&file);
-        for byte in 0..5000 {
-            let owner = owner_by_entries(&file, byte);
-            assert_eq!(rt; map.owner(byte), owner, "byte {byte:#x} of file {seed}");
-        }
-    }
-}
-
-fn assert_decided_alike(rt: &impl Abort, file: &RegFile, map: &RunMap, start: u64, length: u64)
-    requires { map.now ≡ file.now }
-{
-    for mode in [Mode::M, Mode::S, Mode::U] {
-        for kind in [Kind::Fetch, Kind::Load, Kind::Store] {
-            let Ok(access) = Access::new(mode, kind, start, length) else {
-                continue;
-            };
-            let decision = file.decide(&access);
-            assert_eq!(rt;
-                map.decide(file, &access),
-                decision,
-                "{access:?} in {file:?}"
-            );
-        }
-    }
-}
-
-/// At the ends of every range, and one byte beside them.
-#[test]
-fn decisions_agree_with_the_register_file(rt: HostRuntime) {
-    for seed in 0..FILES {
-        let file = crowded(seed);
-        let map = RunMap::build(&file);
-        for range in file.ranges() {
-            for end in [range.start, range.end] {
-                for start in [end.saturating_sub(1), end, end.saturating_add(1)] {
-                    for length in [1, 2, 3, 4, 5, 6, 7, 8, 64, 4096] {
-                        assert_decided_alike(&rt, &file, &map, start, length);
-                    }
-                }
-            }
-        }
-    }
+fn a_default_run_is_zeros_without_owner(rt: HostRuntime) {
+    assert_eq!(rt; Run::default(), run(0, 0, None));
 }

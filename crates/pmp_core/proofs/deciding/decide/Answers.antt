@@ -31,5 +31,5 @@ pub returns : goal.returns
 returns c =
     let file = file_of c.args.security.now c.args.entries.now in
     let unmatched : Bool → Decision = λ allowed. record { allowed = allowed; cause = NoMatch } in
-    ap unmatched (c.allows.ensures _ c.unmatched_rights.ensures) ∙ sym (pass_end file c.args.access.now c.args.ranges.now c.loop-index.index c.loop-index-test.false)
+    ap unmatched (c.allows.ensures.by_rights _ c.unmatched_rights.ensures) ∙ sym (pass_end file c.args.access.now c.args.ranges.now c.loop-index.index c.loop-index-test.false)
     ∙ c.loop-index.invariant

@@ -1,3 +1,4 @@
+use Rattle.std.proofs.Common.{◌∙◌}
 use Rattle.pmp_core.specs.declared.event.Event.TheVariants.{Write}
 use Rattle.pmp_core.specs.Registers.{file_of, IsLegal}
 use Rattle.pmp_core.proofs.Legal.{step_legal}
@@ -12,4 +13,7 @@ pub decode_ranges-requires-clause-addresses : goal.decode_ranges-requires-clause
 decode_ranges-requires-clause-addresses c = (kept (goal.at.decode_ranges-requires-clause-addresses c).After-write).addresses
 
 pub invariant_of-self : goal.invariant_of-self
-invariant_of-self c = (kept (goal.at.invariant_of-self c).After-write, c.decode_ranges.ensures)
+invariant_of-self c = (kept (goal.at.invariant_of-self c).After-write, c.decode_ranges.ensures, c.write.auto.entries ∙ c.self.invariant.2)
+
+pub returns-in-Write-clause-legal : goal.returns-in-Write-clause-legal
+returns-in-Write-clause-legal c = kept (goal.at.returns-in-Write-clause-legal c).After-write
