@@ -34,17 +34,17 @@ module _ (file : RegisterFile) (q value k : ℕ) where
 module _ (file : RegisterFile) (q value : ℕ) where
   -- the entry whose byte has the place
   pub configured_at : (place : ℕ) → q % 2 ≡ 0 → place < 8 → configured file q value (4 * q + place)
-      ≡ (let entry = entry_at file.entries (4 * q + place) in record entry { configuration = stored_over file.security.machine_mode_lockdown file.security.rule_locking_bypass entry.configuration (slice_index (to_le_bytes w64 value) place) })
+      ≡ (let entry = entry_at file.entries (4 * q + place) in record entry { configuration = stored_over file.mseccfg.mml file.mseccfg.rlb entry.configuration (slice_index (to_le_bytes w64 value) place) })
   configured_at place even near =
       let held : holds_byte_of q (4 * q + place) ≡ true = grind (arith, nat_tests) in
       let at : 4 * q + place - 4 * q ≡ place = omega arith in
       rw (held, at) refl
 
   pub configured_next : (entries : List Entry) (place : ℕ) (configuration : Configuration) → q % 2 ≡ 0 → place < 8 → Configured file q value entries place
-      → configuration ≡ stored_over file.security.machine_mode_lockdown file.security.rule_locking_bypass (entry_at entries (4 * q + place)).configuration (slice_index (to_le_bytes w64 value) place)
+      → configuration ≡ stored_over file.mseccfg.mml file.mseccfg.rlb (entry_at entries (4 * q + place)).configuration (slice_index (to_le_bytes w64 value) place)
       → (let entry = entry_at entries (4 * q + place) in record entry { configuration = configuration }) ≡ configured file q value (4 * q + place)
   configured_next entries place configuration even near so_far stored =
-      let with_byte : Entry → Entry = λ e. record e { configuration = stored_over file.security.machine_mode_lockdown file.security.rule_locking_bypass e.configuration (slice_index (to_le_bytes w64 value) place) } in
+      let with_byte : Entry → Entry = λ e. record e { configuration = stored_over file.mseccfg.mml file.mseccfg.rlb e.configuration (slice_index (to_le_bytes w64 value) place) } in
       rw stored (ap with_byte (so_far.rest (4 * q + place) (omega arith)) ∙ sym (configured_at place even near))
 
   pub configured_more : (entries : List Entry) (done : ℕ) (entry : Entry) → Configured file q value entries done → 4 * q + done < length entries → entry ≡ configured file q value (4 * q + done) → Configured file q value (set entries (4 * q + done) entry) (done + 1)

@@ -11,8 +11,8 @@ use Rattle.pmp_core.specs.declared.csr.Csr.TheVariants.{Cfg, Addr, Mseccfg}
 use Rattle.pmp_core.specs.declared.entry.Entry.{Entry}
 use Rattle.pmp_core.specs.declared.event.Event.{Event}
 use Rattle.pmp_core.specs.declared.event.Event.TheVariants.{Write, Reset}
-use Rattle.pmp_core.specs.Bytes.{configuration_of}
-use Rattle.pmp_core.specs.Registers.{RegisterFile, reset_entry, reset_file, entry_at, is_reserved, IsLegal}
+use Rattle.pmp_core.specs.Bytes.{configuration_of, is_reserved}
+use Rattle.pmp_core.specs.Registers.{RegisterFile, reset_entry, reset_file, entry_at, IsLegal}
 use Rattle.pmp_core.specs.Histories.{LegalLaw}
 use Rattle.pmp_core.specs.Writing.{without_reserved, stored_over, stored, holds_byte_of, configured, is_address_frozen, written, step}
 
@@ -77,21 +77,21 @@ or_false true b h = h
 or_false false b h = refl
 
 module _ (file : RegisterFile) (legal : IsLegal file) where
-  legal_place : (i : ℕ) → IsLegalEntry file.security.machine_mode_lockdown (entry_at file.entries i)
+  legal_place : (i : ℕ) → IsLegalEntry file.mseccfg.mml (entry_at file.entries i)
   legal_place i = (legal.addresses i, λ off. legal.unreserved off i)
 
-  configured_legal : (q value i : ℕ) → IsLegalEntry file.security.machine_mode_lockdown (configured file q value i)
+  configured_legal : (q value i : ℕ) → IsLegalEntry file.mseccfg.mml (configured file q value i)
   configured_legal q value i =
       let entry = entry_at file.entries i in
       let byte = slice_index (to_le_bytes w64 value) (i - 4 * q) in
-      let kept : file.security.machine_mode_lockdown ≡ false → is_reserved (stored file i byte) ≡ false =
-      λ off. rw off (stored_unreserved file.security.rule_locking_bypass entry.configuration byte (legal.unreserved off i)) in
-      either (holds_byte_of q i) file.security.machine_mode_lockdown (record entry { configuration = stored file i byte }) entry (legal.addresses i, kept) (legal_place i)
+      let kept : file.mseccfg.mml ≡ false → is_reserved (stored file i byte) ≡ false =
+      λ off. rw off (stored_unreserved file.mseccfg.rlb entry.configuration byte (legal.unreserved off i)) in
+      either (holds_byte_of q i) file.mseccfg.mml (record entry { configuration = stored file i byte }) entry (legal.addresses i, kept) (legal_place i)
 
-  past : (entries : List Entry) (i : ℕ) → length entries ≤ i → IsLegalEntry file.security.machine_mode_lockdown (entry_at entries i)
-  past entries i over = rw (get_or_past entries i reset_entry over) (reset_entry_legal file.security.machine_mode_lockdown)
+  past : (entries : List Entry) (i : ℕ) → length entries ≤ i → IsLegalEntry file.mseccfg.mml (entry_at entries i)
+  past entries i over = rw (get_or_past entries i reset_entry over) (reset_entry_legal file.mseccfg.mml)
 
-  addressed_legal : (j value i : ℕ) → IsLegalEntry file.security.machine_mode_lockdown (entry_at (set file.entries j (record (entry_at file.entries j) { address = value % 2 ^ 54 })) i)
+  addressed_legal : (j value i : ℕ) → IsLegalEntry file.mseccfg.mml (entry_at (set file.entries j (record (entry_at file.entries j) { address = value % 2 ^ 54 })) i)
   addressed_legal j value i = elim (cases_lt i (length file.entries)) [
     | inr over ↦ past _ i (simp length-set over)
     | inl inside ↦ elim (cases_eq i j) [
@@ -100,24 +100,24 @@ module _ (file : RegisterFile) (legal : IsLegal file) where
     ]
   ]
 
-  written_legal : (csr : Csr) (value i : ℕ) → IsLegalEntry file.security.machine_mode_lockdown (entry_at (written file csr value).entries i)
+  written_legal : (csr : Csr) (value i : ℕ) → IsLegalEntry file.mseccfg.mml (entry_at (written file csr value).entries i)
   written_legal (Cfg q) value i = elim (cases_lt i (length file.entries)) [
     | inl inside ↦ rw (configured_place file q value i inside) (configured_legal q value i)
     | inr over ↦ past (written file (Cfg q) value).entries i (omega (arith, length-written file (Cfg q) value))
   ]
   written_legal (Addr j) value i =
       let new = set file.entries j (record (entry_at file.entries j) { address = value % 2 ^ 54 }) in
-      elim (is_address_frozen file j) as (λ frozen. IsLegalEntry file.security.machine_mode_lockdown (entry_at (cond frozen file.entries new) i)) [
+      elim (is_address_frozen file j) as (λ frozen. IsLegalEntry file.mseccfg.mml (entry_at (cond frozen file.entries new) i)) [
         | true ↦ legal_place i
         | false ↦ addressed_legal j value i
       ]
   written_legal Mseccfg value i = legal_place i
 
   -- lockdown that is off after a write was off before it
-  was_off : (csr : Csr) (value : ℕ) → (written file csr value).security.machine_mode_lockdown ≡ false → file.security.machine_mode_lockdown ≡ false
+  was_off : (csr : Csr) (value : ℕ) → (written file csr value).mseccfg.mml ≡ false → file.mseccfg.mml ≡ false
   was_off (Cfg q) value off = off
   was_off (Addr j) value off = off
-  was_off Mseccfg value off = or_false file.security.machine_mode_lockdown (value % 2 == 1) off
+  was_off Mseccfg value off = or_false file.mseccfg.mml (value % 2 == 1) off
 
   pub step_legal : (event : Event) → IsLegal (step file event)
   step_legal Reset = reset_legal (length file.entries)

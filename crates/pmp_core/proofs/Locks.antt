@@ -14,7 +14,7 @@ use Rattle.pmp_core.specs.declared.event.Event.{Event}
 use Rattle.pmp_core.specs.declared.event.Event.TheVariants.{Write, Reset}
 use Rattle.pmp_core.specs.Registers.{RegisterFile, reset_entry, entry_at, is_frozen}
 use Rattle.pmp_core.specs.Matching.{low_address, MatchesBy, Matches}
-use Rattle.pmp_core.specs.Writing.{stored, holds_byte_of, configured, is_tor, is_address_frozen, addressed, is_any_locked, written, step}
+use Rattle.pmp_core.specs.Writing.{stored, holds_byte_of, configured, is_tor, is_address_frozen, address_written, is_any_locked, written, step}
 use Rattle.pmp_core.specs.Locking.{is_write, LockLaw}
 use Rattle.pmp_core.proofs.Legal.{configured_place}
 
@@ -22,7 +22,7 @@ use Rattle.pmp_core.proofs.Legal.{configured_place}
 record Held (before after : RegisterFile) (i : ℕ) : Type 0 where
   pub entry : entry_at after.entries i ≡ entry_at before.entries i
   pub low : is_tor (entry_at before.entries i).configuration.matching ≡ true → low_address after.entries i ≡ low_address before.entries i
-  pub bypass : after.security.rule_locking_bypass ≡ false
+  pub bypass : after.mseccfg.rlb ≡ false
 
 both : (a b : Bool) → (a && b) ≡ true → (a ≡ true) × (b ≡ true)
 both true b h = (refl, h)
@@ -50,7 +50,7 @@ configured_address file q value k =
     elim (holds_byte_of q k) as (λ held. (cond held (record entry { configuration = new }) entry).address ≡ entry.address) [ true ↦ refl | false ↦ refl ]
 
 -- a write to another address register
-other_address : (file : RegisterFile) (j value k : ℕ) → k ≢ j → entry_at (addressed file j value) k ≡ entry_at file.entries k
+other_address : (file : RegisterFile) (j value k : ℕ) → k ≢ j → entry_at (address_written file j value) k ≡ entry_at file.entries k
 other_address file j value k other =
     let new = set file.entries j (record (entry_at file.entries j) { address = value % 2 ^ 54 }) in
     elim (is_address_frozen file j) as (λ kept. entry_at (cond kept file.entries new) k ≡ entry_at file.entries k) [
@@ -58,7 +58,7 @@ other_address file j value k other =
       | false ↦ rw get_or-set_other refl
     ]
 
-frozen_address : (file : RegisterFile) (j value k : ℕ) → is_address_frozen file j ≡ true → entry_at (addressed file j value) k ≡ entry_at file.entries k
+frozen_address : (file : RegisterFile) (j value k : ℕ) → is_address_frozen file j ≡ true → entry_at (address_written file j value) k ≡ entry_at file.entries k
 frozen_address file j value k kept = rw kept refl
 
 low_kept : (before after : List Entry) (i : ℕ) → ((k : ℕ) → suc k ≡ i → (entry_at after k).address ≡ (entry_at before k).address) → low_address after i ≡ low_address before i
@@ -69,7 +69,7 @@ module _ (file : RegisterFile) (i : ℕ) (frozen : is_frozen file i ≡ true) wh
   locked : (entry_at file.entries i).configuration.locked ≡ true
   locked = (both _ _ frozen).0
 
-  no_bypass : file.security.rule_locking_bypass ≡ false
+  no_bypass : file.mseccfg.rlb ≡ false
   no_bypass = not-true _ (both _ _ frozen).1
 
   inside : i < length file.entries
@@ -96,13 +96,13 @@ module _ (file : RegisterFile) (i : ℕ) (frozen : is_frozen file i ≡ true) wh
   low_kept_frozen : (k : ℕ) → suc k ≡ i → is_tor (entry_at file.entries i).configuration.matching ≡ true → is_address_frozen file k ≡ true
   low_kept_frozen k above tor = or_true (is_frozen file k) _ (rw above (rw (frozen, tor) refl))
 
-  after_address : (j value : ℕ) → Held file (record file { entries = addressed file j value }) i
+  after_address : (j value : ℕ) → Held file (record file { entries = address_written file j value }) i
   after_address j value = record {
     entry = elim (cases_eq i j) [
       | inl same ↦ frozen_address file j value i (rw same at own_address)
       | inr other ↦ other_address file j value i other
     ];
-    low = λ tor. low_kept file.entries (addressed file j value) i (λ k above. ap (λ (entry : Entry). entry.address)
+    low = λ tor. low_kept file.entries (address_written file j value) i (λ k above. ap (λ (entry : Entry). entry.address)
         (elim (cases_eq k j) [
           | inl same ↦ frozen_address file j value k (rw same at (low_kept_frozen k above tor))
           | inr other ↦ other_address file j value k other
@@ -120,7 +120,7 @@ module _ (file : RegisterFile) (i : ℕ) (frozen : is_frozen file i ≡ true) wh
   after_write Mseccfg value = record {
     entry = refl;
     low = λ tor. refl;
-    bypass = and_false (value / 4 % 2 == 1) (file.security.rule_locking_bypass || not (is_any_locked file.entries))
+    bypass = and_false (value / 4 % 2 == 1) (file.mseccfg.rlb || not (is_any_locked file.entries))
         (rw (no_bypass, list_any_at (λ (entry : Entry). entry.configuration.locked) file.entries i reset_entry inside locked) refl);
   }
 

@@ -1,5 +1,5 @@
 -- A configuration byte (Volume II, 3.7.1): L in bit 7, zeros in 6 and 5, A in 4 and 3, X in 2, W in 1, R in 0.
-use Rattle.std.specs.Prelude.{ℕ, ◌+◌, ◌*◌, ◌/◌, ◌%◌, Bool, true, false, ◌==◌, if◌then◌else◌}
+use Rattle.std.specs.Prelude.{ℕ, ◌+◌, ◌*◌, ◌/◌, ◌%◌, Bool, true, false, not, ◌&&◌, ◌==◌, if◌then◌else◌}
 use Rattle.pmp_core.specs.declared.configuration.AddressMatching.{AddressMatching}
 use Rattle.pmp_core.specs.declared.configuration.AddressMatching.TheVariants.{Off, Tor, Na4, Napot}
 use Rattle.pmp_core.specs.declared.configuration.Configuration.{Configuration}
@@ -31,3 +31,7 @@ configuration_of byte = record {
 -- and read as zero (3.7.1)
 abbrev pub byte_of : Configuration → ℕ
 byte_of c = 128 * bit_of c.locked + 8 * field_of c.matching + 4 * bit_of c.execute + 2 * bit_of c.write + bit_of c.read
+
+-- W without R, which is reserved where MML is 0 (3.7.1)
+abbrev pub is_reserved : Configuration → Bool
+is_reserved c = c.write && not c.read

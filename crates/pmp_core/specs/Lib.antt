@@ -3,7 +3,7 @@ pub mod Csrs
 pub mod Faults
 pub mod Bytes
 pub mod Registers
-pub mod Securities
+pub mod Mseccfg
 pub mod Matching
 pub mod Perms
 pub mod Rights

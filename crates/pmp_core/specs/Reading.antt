@@ -6,7 +6,7 @@ use Rattle.pmp_core.specs.declared.csr.Csr.{Csr}
 use Rattle.pmp_core.specs.declared.csr.Csr.TheVariants.{Cfg, Addr, Mseccfg}
 use Rattle.pmp_core.specs.declared.entry.Entry.{Entry}
 use Rattle.pmp_core.specs.Bytes.{byte_of}
-use Rattle.pmp_core.specs.Securities.{mseccfg_value}
+use Rattle.pmp_core.specs.Mseccfg.{mseccfg_value}
 use Rattle.pmp_core.specs.Registers.{RegisterFile, entry_at}
 
 -- the bytes of the eight entries from the first on, that one's lowest (3.7.1)
@@ -18,4 +18,4 @@ configuration_word entries first =
 abbrev pub register_value : RegisterFile → Csr → ℕ
 register_value file (Cfg q) = if q % 2 == 0 then configuration_word file.entries (4 * q) else 0
 register_value file (Addr i) = (entry_at file.entries i).address
-register_value file Mseccfg = mseccfg_value file.security
+register_value file Mseccfg = mseccfg_value file.mseccfg

@@ -83,17 +83,17 @@ rule_rights true c = lockdown_rights c.locked c.read c.write c.execute
 
 -- what entry i's rule allows the mode
 abbrev pub rights : RegisterFile → ℕ → Mode → Rights
-rights file i = rule_rights file.security.machine_mode_lockdown (entry_at file.entries i).configuration
+rights file i = rule_rights file.mseccfg.mml (entry_at file.entries i).configuration
 
 -- where no entry matches, by MML and MMWP (3.7.1.3 and Smepmp)
-abbrev pub unmatched_rights : (mml mmwp : Bool) → Mode → Rights
-unmatched_rights false false = for_mode rwx nothing
-unmatched_rights true false = for_mode rw nothing
-unmatched_rights _ true = for_mode nothing nothing
+abbrev pub default_rights_by : (mml mmwp : Bool) → Mode → Rights
+default_rights_by false false = for_mode rwx nothing
+default_rights_by true false = for_mode rw nothing
+default_rights_by _ true = for_mode nothing nothing
 
 -- what the mode may do where no entry matches
 abbrev pub default_rights : RegisterFile → Mode → Rights
-default_rights file = unmatched_rights file.security.machine_mode_lockdown file.security.machine_mode_allowlist
+default_rights file = default_rights_by file.mseccfg.mml file.mseccfg.mmwp
 
 -- the combinations L R W X that no write adds under lockdown (Smepmp)
 abbrev pub is_barred : (l r w x : Bool) → Bool

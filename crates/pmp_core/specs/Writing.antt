@@ -10,9 +10,9 @@ use Rattle.pmp_core.specs.declared.csr.Csr.TheVariants.{Cfg, Addr, Mseccfg}
 use Rattle.pmp_core.specs.declared.entry.Entry.{Entry}
 use Rattle.pmp_core.specs.declared.event.Event.{Event}
 use Rattle.pmp_core.specs.declared.event.Event.TheVariants.{Write, Reset}
-use Rattle.pmp_core.specs.Bytes.{configuration_of}
-use Rattle.pmp_core.specs.Securities.{secured}
-use Rattle.pmp_core.specs.Registers.{RegisterFile, reset_file, entry_at, is_frozen, is_reserved}
+use Rattle.pmp_core.specs.Bytes.{configuration_of, is_reserved}
+use Rattle.pmp_core.specs.Mseccfg.{mseccfg_written}
+use Rattle.pmp_core.specs.Registers.{RegisterFile, reset_file, entry_at, is_frozen}
 use Rattle.pmp_core.specs.Rights.{is_barred}
 
 -- a reserved combination is stored as no rights at all (3.7.1)
@@ -31,7 +31,7 @@ stored_over mml rlb old byte = if old.locked && not rlb then old else admitted m
 
 -- entry i's configuration after the byte is written to it
 abbrev pub stored : RegisterFile → ℕ → ℕ → Configuration
-stored file i = stored_over file.security.machine_mode_lockdown file.security.rule_locking_bypass (entry_at file.entries i).configuration
+stored file i = stored_over file.mseccfg.mml file.mseccfg.rlb (entry_at file.entries i).configuration
 
 -- pmpcfg q holds the bytes of the eight entries from 4q on, where q is even (3.7.1)
 abbrev pub holds_byte_of : (q i : ℕ) → Bool
@@ -55,10 +55,14 @@ abbrev pub is_address_frozen : RegisterFile → ℕ → Bool
 is_address_frozen file i = is_frozen file i || (is_frozen file (suc i) && is_tor (entry_at file.entries (suc i)).configuration.matching)
 
 -- the entries after pmpaddr i is written (3.7.1)
-abbrev pub addressed : RegisterFile → (i value : ℕ) → List Entry
-addressed file i value =
+abbrev pub address_written : RegisterFile → (i value : ℕ) → List Entry
+address_written file i value =
     if is_address_frozen file i then file.entries
     else slice_set file.entries i (record (entry_at file.entries i) { address = value % 2 ^ 54 })
+
+-- the entries after pmpcfg q is written (3.7.1)
+abbrev pub configurations_written : RegisterFile → (q value : ℕ) → List Entry
+configurations_written file q value = map (configured file q value) (range_with_len 0 (length file.entries))
 
 -- some entry is locked, be it off or not (Smepmp)
 abbrev pub is_any_locked : List Entry → Bool
@@ -66,9 +70,9 @@ is_any_locked entries = list_any (λ entry. entry.configuration.locked) entries
 
 -- the file after a register is written
 abbrev pub written : RegisterFile → Csr → ℕ → RegisterFile
-written file (Cfg q) value = record file { entries = map (configured file q value) (range_with_len 0 (length file.entries)) }
-written file (Addr i) value = record file { entries = addressed file i value }
-written file Mseccfg value = record file { security = secured file.security (is_any_locked file.entries) value }
+written file (Cfg q) value = record file { entries = configurations_written file q value }
+written file (Addr i) value = record file { entries = address_written file i value }
+written file Mseccfg value = record file { mseccfg = mseccfg_written file.mseccfg (is_any_locked file.entries) value }
 
 -- one step; a reset keeps the number of entries
 abbrev pub step : RegisterFile → Event → RegisterFile

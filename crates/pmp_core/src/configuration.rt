@@ -1,7 +1,7 @@
 //! Configuration bytes, decoded.
 
 ghost use Rattle.std.specs.Prelude.{◌≡◌};
-ghost use Rattle.pmp_core.specs.Bytes.{configuration_of, byte_of};
+ghost use Rattle.pmp_core.specs.Bytes.{configuration_of, byte_of, is_reserved};
 
 /// How an entry's address register is read: the field A (Volume II, 3.7.1.1).
 #[derive(Clone, Copy, Debug, PartialEq, Eq)]
@@ -57,6 +57,13 @@ impl Configuration {
             write: byte / 2 % 2 == 1,
             read: byte % 2 == 1,
         }
+    }
+
+    /// Whether it has W without R, which is reserved where MML is 0.
+    pub fn is_reserved(&self) -> bool
+        ensures { result ≡ is_reserved self.now }
+    {
+        self.write && !self.read
     }
 
     /// The byte that stands for it.

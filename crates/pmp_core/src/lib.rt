@@ -7,28 +7,28 @@
 mod access;
 mod configuration;
 mod csr;
-mod deciding;
 mod decision;
-mod decoding;
+mod decision_by_ranges;
 mod entry;
 mod event;
 pub mod laws;
+mod mseccfg;
 mod perms;
 mod range;
-mod reading;
+mod ranges;
 mod register_file;
+mod register_value;
+mod register_write;
 mod rights;
-mod security;
-mod writing;
 
 pub use access::{ADDRESS_LIMIT, Access, AccessFault, Kind, Mode};
 pub use csr::{Csr, CsrFault};
 pub use decision::{Cause, Decision, fault_code};
 pub use event::{BATCH_EVENTS, Event};
+pub use mseccfg::Mseccfg;
 pub use perms::Perms;
 pub use range::ByteRange;
 pub use register_file::{ENTRIES, RegFile};
-pub use security::Mseccfg;
 
 #[cfg(test)]
 mod tests;

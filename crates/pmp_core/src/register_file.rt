@@ -12,14 +12,14 @@ ghost use Rattle.pmp_core.specs.Ranges.{AreRanges, decision_of};
 use crate::access::{Access, Mode};
 use crate::csr::Csr;
 use crate::decision::Decision;
-use crate::decoding::decode_ranges;
 use crate::entry::Entry;
 use crate::event::Event;
+use crate::mseccfg::MseccfgFields;
 use crate::perms::Perms;
 use crate::range::ByteRange;
-use crate::rights::{rule_rights, unmatched_rights};
-use crate::security::Security;
-use crate::{deciding, reading, writing};
+use crate::ranges::decode_ranges;
+use crate::rights::{default_rights_by, rule_rights};
+use crate::{decision_by_ranges, register_value, register_write};
 use std::marker::Model;
 
 /// How many entries the unit has.
@@ -29,7 +29,7 @@ pub const ENTRIES: usize = 16;
 #[derive(Clone, Copy, Debug, PartialEq, Eq)]
 pub struct RegFile {
     entries: [Entry; ENTRIES],
-    security: Security,
+    mseccfg: MseccfgFields,
     /// Where each entry matches, decoded when a register is written.
     ranges: [ByteRange; ENTRIES],
 }
@@ -43,13 +43,13 @@ impl Model for RegFile {
 
     ghost Value = { RegisterFile };
 
-    ghost view = { λ f. file_of f.security f.entries };
+    ghost view = { λ f. file_of f.mseccfg f.entries };
 
-    ghost invariant = { λ f. IsLegal (file_of f.security f.entries) × (f.ranges ≡ ranges_of f.entries) × (length f.entries ≡ ENTRIES) };
+    ghost invariant = { λ f. IsLegal (file_of f.mseccfg f.entries) × (f.ranges ≡ ranges_of f.entries) × (length f.entries ≡ ENTRIES) };
 
-    ghost inverse = { λ file. record { entries = file.entries; security = file.security; ranges = ranges_of file.entries } };
+    ghost inverse = { λ file. record { entries = file.entries; mseccfg = file.mseccfg; ranges = ranges_of file.entries } };
 
-    ghost inverse_ok = { λ f h. ap (λ ranges. record { entries = f.entries; security = f.security; ranges = ranges }) (sym h.1) };
+    ghost inverse_ok = { λ f h. ap (λ ranges. record { entries = f.entries; mseccfg = f.mseccfg; ranges = ranges }) (sym h.1) };
 }
 
 impl RegFile {
@@ -59,7 +59,7 @@ impl RegFile {
     {
         RegFile {
             entries: [Entry::RESET; ENTRIES],
-            security: Security::RESET,
+            mseccfg: MseccfgFields::RESET,
             ranges: [ByteRange::EMPTY; ENTRIES],
         }
     }
@@ -81,7 +81,7 @@ impl RegFile {
     {
         match event {
             Event::Write(csr, value) => {
-                writing::write(&mut self.entries, &mut self.security, csr, value);
+                register_write::write(&mut self.entries, &mut self.mseccfg, csr, value);
                 decode_ranges(&self.entries, &mut self.ranges);
             }
             Event::Reset => *self = RegFile::reset(),
@@ -102,7 +102,7 @@ impl RegFile {
     pub fn read(&self, csr: Csr) -> u64
         ensures { result ≡ register_value self.now csr }
     {
-        reading::read(&self.entries, &self.security, csr)
+        register_value::read(&self.entries, &self.mseccfg, csr)
     }
 
     /// Decides an access, in one pass over the entries.
@@ -110,7 +110,7 @@ impl RegFile {
         ensures by_bytes { IsDecision self.now access.now result }
         ensures computed { result ≡ decision_of self.now access.now }
     {
-        deciding::decide(&self.entries, &self.security, &self.ranges, access)
+        decision_by_ranges::decide(&self.entries, &self.mseccfg, &self.ranges, access)
     }
 
     /// Whether the entry is frozen: its lock bit is set and rule-locking bypass is off, so that writes leave it as it
@@ -119,7 +119,7 @@ impl RegFile {
         requires { entry < ENTRIES }
         ensures { result ≡ is_frozen self.now entry }
     {
-        self.entries[usize::from(entry)].configuration.locked && !self.security.rule_locking_bypass
+        self.entries[usize::from(entry)].configuration.locked && !self.mseccfg.rlb
     }
 
     /// What the entry's rule allows the mode, where the entry matches every byte of an access.
@@ -131,7 +131,7 @@ impl RegFile {
         rule_rights(
             &self.entries[usize::from(entry)].configuration,
             mode,
-            &self.security,
+            &self.mseccfg,
         )
     }
 
@@ -140,7 +140,7 @@ impl RegFile {
         ensures rights { result ≡ perms_of (default_rights self.now mode) }
         ensures legal { IsLegal self.now }
     {
-        unmatched_rights(mode, &self.security)
+        default_rights_by(mode, &self.mseccfg)
     }
 
     /// Whether the entry matches the byte at this byte address.

@@ -1,13 +1,13 @@
 //! What a rule allows.
 
 ghost use Rattle.std.specs.Prelude.{◌≡◌};
-ghost use Rattle.pmp_core.specs.Rights.{allows, bits_of, perms_of, is_barred, lockdown_rights, rule_rights, unmatched_rights};
+ghost use Rattle.pmp_core.specs.Rights.{allows, bits_of, perms_of, is_barred, lockdown_rights, rule_rights, default_rights_by};
 ghost use Rattle.pmp_core.specs.Perms.{right_of};
 
 use crate::access::{Access, Mode};
 use crate::configuration::Configuration;
+use crate::mseccfg::MseccfgFields;
 use crate::perms::Perms;
-use crate::security::Security;
 use bitflags::Flags;
 
 /// The bits R, W and X themselves.
@@ -48,10 +48,10 @@ fn lockdown_rights(configuration: &Configuration, mode: Mode) -> Perms
 }
 
 /// What the rule allows the mode.
-pub fn rule_rights(configuration: &Configuration, mode: Mode, security: &Security) -> Perms
-    ensures { result ≡ perms_of (rule_rights security.now.machine_mode_lockdown configuration.now mode) }
+pub fn rule_rights(configuration: &Configuration, mode: Mode, mseccfg: &MseccfgFields) -> Perms
+    ensures { result ≡ perms_of (rule_rights mseccfg.now.mml configuration.now mode) }
 {
-    if security.machine_mode_lockdown {
+    if mseccfg.mml {
         lockdown_rights(configuration, mode)
     } else if mode == Mode::M && !configuration.locked {
         Perms::RWX
@@ -61,12 +61,12 @@ pub fn rule_rights(configuration: &Configuration, mode: Mode, security: &Securit
 }
 
 /// What the mode may do where no entry matches any byte.
-pub fn unmatched_rights(mode: Mode, security: &Security) -> Perms
-    ensures { result ≡ perms_of (unmatched_rights security.now.machine_mode_lockdown security.now.machine_mode_allowlist mode) }
+pub fn default_rights_by(mode: Mode, mseccfg: &MseccfgFields) -> Perms
+    ensures { result ≡ perms_of (default_rights_by mseccfg.now.mml mseccfg.now.mmwp mode) }
 {
-    if mode != Mode::M || security.machine_mode_allowlist {
+    if mode != Mode::M || mseccfg.mmwp {
         Perms::NONE
-    } else if security.machine_mode_lockdown {
+    } else if mseccfg.mml {
         Perms::RW
     } else {
         Perms::RWX

@@ -5,7 +5,7 @@ use std::process::Abort;
 use std::test::Fail;
 
 /// A write to `mseccfg`.
-fn security(value: u64) -> Event {
+fn mseccfg(value: u64) -> Event {
     Event::Write(Csr::Mseccfg, value)
 }
 
@@ -54,28 +54,28 @@ fn registers_read_what_was_stored(rt: HostRuntime) {
 #[test]
 fn bits_of_the_security_register(rt: HostRuntime) {
     // MML and MMWP are sticky, RLB isn't.
-    assert_reads(&rt, &[security(7), security(0)], Csr::Mseccfg, 3);
+    assert_reads(&rt, &[mseccfg(7), mseccfg(0)], Csr::Mseccfg, 3);
     // RLB doesn't rise over a lock, be the entry off or not.
-    assert_reads(&rt, &[cfg0(0x80), security(4)], Csr::Mseccfg, 0);
-    let lowered = [security(4), cfg0(0x99), security(0), security(4)];
+    assert_reads(&rt, &[cfg0(0x80), mseccfg(4)], Csr::Mseccfg, 0);
+    let lowered = [mseccfg(4), cfg0(0x99), mseccfg(0), mseccfg(4)];
     assert_reads(&rt, &lowered, Csr::Mseccfg, 0);
     // Other bits of the register read as zero.
-    let all = [security(u64::MAX), security(0), security(4)];
+    let all = [mseccfg(u64::MAX), mseccfg(0), mseccfg(4)];
     assert_reads(&rt, &all, Csr::Mseccfg, 7);
 }
 
 #[test]
 fn rules_under_lockdown_and_bypass(rt: HostRuntime) {
     // Under lockdown W without R is a rule of its own.
-    assert_reads(&rt, &[security(1), cfg0(0x1a)], Csr::Cfg(0), 0x1a);
+    assert_reads(&rt, &[mseccfg(1), cfg0(0x1a)], Csr::Cfg(0), 0x1a);
     // Only the barred byte of a write is left out, and bypass lets it in.
-    assert_reads(&rt, &[security(1), cfg0(0x199c)], Csr::Cfg(0), 0x1900);
-    assert_reads(&rt, &[security(5), cfg0(0x199c)], Csr::Cfg(0), 0x199c);
+    assert_reads(&rt, &[mseccfg(1), cfg0(0x199c)], Csr::Cfg(0), 0x1900);
+    assert_reads(&rt, &[mseccfg(5), cfg0(0x199c)], Csr::Cfg(0), 0x199c);
     // Bypass lets a locked entry be written.
-    let bypassed = [security(4), cfg0(0x99), cfg0(0x18)];
+    let bypassed = [mseccfg(4), cfg0(0x99), cfg0(0x18)];
     assert_reads(&rt, &bypassed, Csr::Cfg(0), 0x18);
     // A rule from before lockdown stays.
-    assert_reads(&rt, &[cfg0(0x8c), security(1)], Csr::Cfg(0), 0x8c);
+    assert_reads(&rt, &[cfg0(0x8c), mseccfg(1)], Csr::Cfg(0), 0x8c);
 }
 
 /// Which locked rules lockdown lets a write add, without bypass.

@@ -15,7 +15,7 @@ use Rattle.pmp_map.specs.declared.run.Run.{Run}
 use Rattle.pmp_map.specs.Owners.{IsOwnerIn}
 use Rattle.pmp_map.specs.Maps.{map_run}
 use Rattle.pmp_map.specs.Runs.{AreRunsTo, AreRuns, HasOwnersBelow}
-use Rattle.pmp_map.proofs.Cuts.{least_alike}
+use Rattle.pmp_map.proofs.CutFacts.{least_alike}
 use Rattle.pmp_map.proofs.FewRuns.{few_runs}
 
 runs_alike : (to : ℕ) (Owns Has : ℕ → Option ℕ → Type 0) (runs : List Run) → ((byte : ℕ) (owner : Option ℕ) → Owns byte owner → Has byte owner) → AreRunsTo to Owns runs → AreRunsTo to Has runs

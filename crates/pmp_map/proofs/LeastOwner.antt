@@ -6,7 +6,7 @@ use Rattle.pmp_core.specs.Deciding.{IsLeast}
 use Rattle.pmp_map.specs.declared.run.Run.{Run}
 use Rattle.pmp_map.specs.Owners.{least_owner}
 use Rattle.pmp_map.specs.Runs.{run_at}
-use Rattle.pmp_map.proofs.Cuts.{least_alike}
+use Rattle.pmp_map.proofs.CutFacts.{least_alike}
 
 -- entry i owns one of the runs
 abbrev pub OwnsOne : (to : ℕ) → List Run → ℕ → Type 0

@@ -1,4 +1,4 @@
-pub mod Cuts
+pub mod CutFacts
 pub mod Halving
 pub mod Order
 pub mod OneList

@@ -5,7 +5,7 @@ use Rattle.pmp_core.specs.declared.register_file.TheConstants.{ENTRIES}
 use Rattle.pmp_map.specs.declared.run.Run.{Run}
 use Rattle.pmp_map.specs.declared.answers.Answers.{Answers}
 use Rattle.pmp_map.specs.declared.run.TheConstants.{RUNS}
-use Rattle.pmp_map.specs.declared.searching.TheConstants.{PLACES}
+use Rattle.pmp_map.specs.declared.search.TheConstants.{PLACES}
 use Rattle.pmp_map.specs.Runs.{run_at, AreRuns, HasOwnersBelow}
 use Rattle.pmp_map.specs.Answers.{answers_of}
 

@@ -5,13 +5,13 @@
 #![tactic(auto)]
 
 mod answers;
-mod building;
-mod cutting;
-mod deciding;
+mod cuts;
 pub mod laws;
 mod run;
 mod run_map;
-mod searching;
+mod search;
+mod straddling;
+mod tables;
 
 pub use run::{RUNS, Run};
 pub use run_map::RunMap;

@@ -6,10 +6,10 @@ ghost use Rattle.pmp_core.specs.Ranges.{decision_of};
 ghost use Rattle.pmp_map.specs.Runs.{AreRuns, HasOwnersBelow};
 
 use crate::answers::Answers;
-use crate::building::{answers_of, runs_of, starts_of};
-use crate::deciding::refuse_straddling;
 use crate::run::{RUNS, Run};
-use crate::searching::{PLACES, place_of};
+use crate::search::{PLACES, place_of};
+use crate::straddling::refuse_straddling;
+use crate::tables::{answers_of, runs_of, starts_of};
 use arrayvec::ArrayVec;
 use pmp_core::{Access, Decision, ENTRIES, RegFile};
 use std::marker::Model;

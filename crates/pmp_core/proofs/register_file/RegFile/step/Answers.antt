@@ -6,8 +6,8 @@ use Rattle.pmp_core.proofs.register_file.RegFile.step.Goals as goal
 use Rattle.pmp_core.proofs.register_file.RegFile.step.Goals.{After-write}
 
 -- the entries are legal after the write
-kept : (c : After-write) → IsLegal (file_of c.write.new.security c.write.new.entries)
-kept c = rw c.write.ensures (step_legal (file_of c.self.inside.security c.self.inside.entries) c.self.invariant.0 (Write c.in-Write.csr c.in-Write.value))
+kept : (c : After-write) → IsLegal (file_of c.write.new.mseccfg c.write.new.entries)
+kept c = rw c.write.ensures (step_legal (file_of c.self.inside.mseccfg c.self.inside.entries) c.self.invariant.0 (Write c.in-Write.csr c.in-Write.value))
 
 pub decode_ranges-requires-clause-addresses : goal.decode_ranges-requires-clause-addresses
 decode_ranges-requires-clause-addresses c = (kept (goal.at.decode_ranges-requires-clause-addresses c).After-write).addresses

@@ -1,0 +1,39 @@
+//! What a register reads.
+
+ghost use Rattle.std.specs.Prelude.{◌≡◌, ◌*◌};
+ghost use Rattle.pmp_core.specs.Registers.{file_of};
+ghost use Rattle.pmp_core.specs.Reading.{configuration_word, register_value};
+
+use crate::csr::Csr;
+use crate::entry::Entry;
+use crate::mseccfg::MseccfgFields;
+
+/// Packs the bytes of the eight entries that the configuration register holds, if there are any.
+fn configuration_word(entries: &[Entry], register: u8) -> u64
+    ensures { result ≡ configuration_word entries.now (4 * register) }
+{
+    let first = 4 * usize::from(register);
+    let mut bytes = [0; 8];
+    for place in 0..bytes.len() {
+        bytes[place] = match entries.get(first + place) {
+            Some(entry) => entry.configuration.byte(),
+            None => 0,
+        };
+    }
+    u64::from_le_bytes(bytes)
+}
+
+/// The value of a register.
+pub fn read(entries: &[Entry], mseccfg: &MseccfgFields, csr: Csr) -> u64
+    ensures { result ≡ register_value (file_of mseccfg.now entries.now) csr }
+{
+    match csr {
+        Csr::Cfg(register) if register % 2 == 1 => 0,
+        Csr::Cfg(register) => configuration_word(entries, register),
+        Csr::Addr(register) => match entries.get(usize::from(register)) {
+            Some(entry) => entry.address,
+            None => 0,
+        },
+        Csr::Mseccfg => mseccfg.value(),
+    }
+}

@@ -1,0 +1,113 @@
+//! What a write to a register leaves.
+
+ghost use Rattle.std.specs.Prelude.{◌≡◌, ◌<◌, ◌%◌, length};
+ghost use Rattle.pmp_core.specs.Registers.{file_of};
+ghost use Rattle.pmp_core.specs.Writing.{without_reserved, stored_over, configurations_written, is_address_frozen, address_written, is_any_locked, written};
+
+use crate::configuration::{AddressMatching, Configuration};
+use crate::csr::Csr;
+use crate::entry::Entry;
+use crate::mseccfg::MseccfgFields;
+use crate::rights::is_barred;
+
+/// How many word addresses there are: the address registers keep 54 bits.
+const WORD_ADDRESSES: u64 = 1 << 54;
+
+/// How many entries a configuration register has bytes of.
+const ENTRIES_PER_CFG: usize = 8;
+
+fn without_reserved(configuration: Configuration) -> Configuration
+    ensures { result ≡ without_reserved configuration }
+{
+    if configuration.is_reserved() {
+        Configuration {
+            read: false,
+            write: false,
+            execute: false,
+            ..configuration
+        }
+    } else {
+        configuration
+    }
+}
+
+/// What a byte leaves that is written over a configuration.
+fn stored_over(old: Configuration, byte: u8, mseccfg: &MseccfgFields) -> Configuration
+    ensures { result ≡ stored_over mseccfg.now.mml mseccfg.now.rlb old byte }
+{
+    if old.locked && !mseccfg.rlb {
+        return old;
+    }
+    let new = Configuration::from_byte(byte);
+    if !mseccfg.mml {
+        without_reserved(new)
+    } else if is_barred(&new) && !mseccfg.rlb {
+        old
+    } else {
+        new
+    }
+}
+
+/// Writes the configuration register with this number, the lowest byte to the lowest entry.
+fn write_configurations(entries: &mut [Entry], mseccfg: &MseccfgFields, register: u8, value: u64)
+    requires { length entries.old % 8 ≡ 0 }
+    ensures { entries.new ≡ configurations_written (file_of mseccfg.now entries.old) register value }
+{
+    let first = 4 * usize::from(register);
+    if register % 2 == 1 || first >= entries.len() {
+        return;
+    }
+    let bytes = value.to_le_bytes();
+    for place in 0..ENTRIES_PER_CFG {
+        let entry = &mut entries[first + place];
+        entry.configuration = stored_over(entry.configuration, bytes[place], mseccfg);
+    }
+}
+
+/// Whether entry `index` keeps its address, for its own lock or as the low end of a locked range.
+fn is_address_frozen(entries: &[Entry], mseccfg: &MseccfgFields, index: usize) -> bool
+    requires { index < length entries.now }
+    ensures { result ≡ is_address_frozen (file_of mseccfg.now entries.now) index }
+{
+    if mseccfg.rlb {
+        return false;
+    }
+    if entries[index].configuration.locked {
+        return true;
+    }
+    match entries.get(index + 1) {
+        Some(next) => {
+            next.configuration.locked && next.configuration.matching == AddressMatching::Tor
+        }
+        None => false,
+    }
+}
+
+/// Writes the address register with this number.
+fn write_address(entries: &mut [Entry], mseccfg: &MseccfgFields, register: u8, value: u64)
+    ensures { entries.new ≡ address_written (file_of mseccfg.now entries.old) register value }
+{
+    let index = usize::from(register);
+    if index < entries.len() && !is_address_frozen(entries, mseccfg, index) {
+        entries[index].address = value % WORD_ADDRESSES;
+    }
+}
+
+/// Whether some entry is locked, be it off or not.
+fn is_any_locked(entries: &[Entry]) -> bool
+    ensures { result ≡ is_any_locked entries.now }
+{
+    entries.iter().any(|entry| entry.configuration.locked)
+}
+
+/// Writes a register.
+pub fn write(entries: &mut [Entry], mseccfg: &mut MseccfgFields, csr: Csr, value: u64)
+    requires { length entries.old % 8 ≡ 0 }
+    ensures { file_of mseccfg.new entries.new ≡ written (file_of mseccfg.old entries.old) csr value }
+{
+    match csr {
+        Csr::Cfg(register) => write_configurations(entries, mseccfg, register, value),
+        Csr::Addr(register) => write_address(entries, mseccfg, register, value),
+        Csr::Mseccfg => *mseccfg = mseccfg.written(value, is_any_locked(entries)),
+    }
+}

@@ -1,7 +1,0 @@
-use Rattle.std.proofs.Common.{◌^◌, refl, arith}
-use Rattle.std.proofs.lemmas.List.{get_or-replicate}
-use Rattle.pmp_map.specs.declared.searching.TheConstants.{PLACES}
-use Rattle.pmp_map.proofs.building.starts_of.Goals as goal
-
-pub loop-place-init : goal.loop-place-init
-loop-place-init c = (refl, λ k below. absurd (omega arith), λ k from below. get_or-replicate PLACES k (2 ^ 56) 0 below)
