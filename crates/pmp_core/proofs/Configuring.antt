@@ -1,5 +1,6 @@
 -- A configuration register written entry by entry.
-use Rattle.std.proofs.Common.{◌≡◌, ◌≢◌, ℕ, ◌+◌, ◌-◌, ◌*◌, ◌%◌, ◌<◌, ◌≤◌, inl, inr, true, false, List, length, map, slice_index, get_or-set_other, get_or-set_same, length-set, sym, ap, ◌∙◌, arith, refl}
+use Rattle.std.proofs.Common.{◌≡◌, ◌≢◌, ℕ, ◌+◌, ◌-◌, ◌*◌, ◌%◌, ◌<◌, ◌≤◌, inl, inr, true, false, List, length, map}
+use Rattle.std.proofs.Common.{slice_index, get_or-set_other, get_or-set_same, length-set, sym, ap, ◌∙◌, arith, refl}
 use Rattle.std.proofs.Math.ListN.{set}
 use Rattle.std.proofs.lemmas.Bool.{cases_lt}
 use Rattle.std.proofs.lemmas.List.FromFn.{fill_by_all}
@@ -34,20 +35,33 @@ module _ (file : RegisterFile) (q value k : ℕ) where
 module _ (file : RegisterFile) (q value : ℕ) where
   -- the entry whose byte has the place
   pub configured_at : (place : ℕ) → q % 2 ≡ 0 → place < 8 → configured file q value (4 * q + place)
-      ≡ (let entry = entry_at file.entries (4 * q + place) in record entry { configuration = stored_over file.mseccfg.mml file.mseccfg.rlb entry.configuration (slice_index (to_le_bytes w64 value) place) })
+      ≡ (let entry = entry_at file.entries (4 * q + place) in
+      record entry {
+        configuration =
+            stored_over file.mseccfg.mml file.mseccfg.rlb entry.configuration
+            (slice_index (to_le_bytes w64 value) place);
+      })
   configured_at place even near =
       let held : holds_byte_of q (4 * q + place) ≡ true = grind (arith, nat_tests) in
       let at : 4 * q + place - 4 * q ≡ place = omega arith in
       rw (held, at) refl
 
-  pub configured_next : (entries : List Entry) (place : ℕ) (configuration : Configuration) → q % 2 ≡ 0 → place < 8 → Configured file q value entries place
-      → configuration ≡ stored_over file.mseccfg.mml file.mseccfg.rlb (entry_at entries (4 * q + place)).configuration (slice_index (to_le_bytes w64 value) place)
-      → (let entry = entry_at entries (4 * q + place) in record entry { configuration = configuration }) ≡ configured file q value (4 * q + place)
+  pub configured_next : (entries : List Entry) (place : ℕ) (configuration : Configuration) → q % 2 ≡ 0 → place < 8
+      → Configured file q value entries place
+      → configuration ≡ stored_over file.mseccfg.mml file.mseccfg.rlb (entry_at entries (4 * q
+      + place)).configuration (slice_index (to_le_bytes w64 value) place)
+      → (let entry = entry_at entries (4 * q + place) in record entry { configuration = configuration })
+      ≡ configured file q value (4 * q + place)
   configured_next entries place configuration even near so_far stored =
-      let with_byte : Entry → Entry = λ e. record e { configuration = stored_over file.mseccfg.mml file.mseccfg.rlb e.configuration (slice_index (to_le_bytes w64 value) place) } in
+      let with_byte : Entry → Entry = λ e. record e {
+        configuration =
+            stored_over file.mseccfg.mml file.mseccfg.rlb e.configuration (slice_index (to_le_bytes w64 value) place);
+      } in
       rw stored (ap with_byte (so_far.rest (4 * q + place) (omega arith)) ∙ sym (configured_at place even near))
 
-  pub configured_more : (entries : List Entry) (done : ℕ) (entry : Entry) → Configured file q value entries done → 4 * q + done < length entries → entry ≡ configured file q value (4 * q + done) → Configured file q value (set entries (4 * q + done) entry) (done + 1)
+  pub configured_more : (entries : List Entry) (done : ℕ) (entry : Entry) → Configured file q value entries done
+      → 4 * q + done < length entries → entry ≡ configured file q value (4 * q + done)
+      → Configured file q value (set entries (4 * q + done) entry) (done + 1)
   configured_more entries done entry so_far inside new = record {
     len = simp length-set so_far.len;
     new = λ k low high. elim (cases_lt k (4 * q + done)) [
@@ -58,7 +72,8 @@ module _ (file : RegisterFile) (q value : ℕ) where
     rest = λ k high. let other : k ≢ 4 * q + done = omega arith in rw get_or-set_other (so_far.rest k (omega arith));
   }
 
-  pub all_configured : (entries : List Entry) → Configured file q value entries 8 → entries ≡ map (configured file q value) (range_with_len 0 (length file.entries))
+  pub all_configured : (entries : List Entry) → Configured file q value entries 8
+      → entries ≡ map (configured file q value) (range_with_len 0 (length file.entries))
   all_configured entries done = fill_by_all (configured file q value) entries (length file.entries) reset_entry done.len
       (λ k h. elim (cases_lt k (4 * q)) [
         | inl lt ↦ done.below k lt ∙ sym (kept_below file q value k lt)

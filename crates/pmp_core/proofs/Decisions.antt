@@ -1,5 +1,7 @@
 -- The decision by ranges is the manual's, and the manual's is one.
-use Rattle.std.proofs.Common.{◌≡◌, ℕ, suc, ◌+◌, ◌-◌, ◌<◌, ◌≤◌, Bool, true, false, cond, List, [], ◌∷◌, length, Option, Some, None, max, slice_index_or, refl, sym, ap, ◌∙◌, arith, add-zero, below_more, inl, inr}
+use Rattle.std.proofs.Common.{◌≡◌, ℕ, suc, ◌+◌, ◌-◌, ◌<◌, ◌≤◌, Bool, true, false, cond, List, [], ◌∷◌, length, Option}
+use Rattle.std.proofs.Common.{Some, None, max, slice_index_or, refl, sym, ap, ◌∙◌, arith, add-zero, below_more, inl}
+use Rattle.std.proofs.Common.{inr}
 use Rattle.std.proofs.lemmas.Bool.{cases_lt, ltb-true, false≢true}
 use Rattle.std.proofs.lemmas.Bool.Decides.{nat_tests}
 use Rattle.std.proofs.lemmas.List.{get_or_past}
@@ -14,27 +16,33 @@ use Rattle.pmp_core.specs.Registers.{RegisterFile, reset_entry, HasAddresses}
 use Rattle.pmp_core.specs.Matching.{Matches}
 use Rattle.pmp_core.specs.Deciding.{IsLeast, IsOwner, Touches, Covers, IsDecider, IsDecision, IsDecisionBy}
 use Rattle.pmp_core.specs.Rights.{allows, rights}
-use Rattle.pmp_core.specs.Ranges.{IsInRange, range_of, ranges_of, is_touched, is_covered, decision_in, decision_from, decision_of}
+use Rattle.pmp_core.specs.Ranges.{IsInRange, range_of, ranges_of, is_touched, is_covered, decision_in, decision_from}
+use Rattle.pmp_core.specs.Ranges.{decision_of}
 use Rattle.pmp_core.proofs.Matches.{matches_range}
 use Rattle.pmp_core.proofs.Places.{no_range, length-ranges_of}
 
 -- ---- ranges against bytes
 
-touched_byte : (access : Access) (range : ByteRange) (byte : ℕ) → access.start ≤ byte → byte < access.start + access.length → IsInRange range byte → is_touched access range ≡ true
+touched_byte : (access : Access) (range : ByteRange) (byte : ℕ) → access.start ≤ byte
+    → byte < access.start + access.length → IsInRange range byte → is_touched access range ≡ true
 touched_byte access range byte from to inside = grind (arith, nat_tests, inside.0, inside.1)
 
-touched_from : (access : Access) (range : ByteRange) → is_touched access range ≡ true → IsInRange range (max range.start access.start) × (max range.start access.start < access.start + access.length)
+touched_from : (access : Access) (range : ByteRange) → is_touched access range ≡ true
+    → IsInRange range (max range.start access.start) × (max range.start access.start < access.start + access.length)
 touched_from access range h = let below = ltb-true _ _ h in ((omega arith, omega arith), omega arith)
 
-covered_ends : (access : Access) (range : ByteRange) → range.start ≤ access.start → access.start + access.length ≤ range.end → is_covered access range ≡ true
+covered_ends : (access : Access) (range : ByteRange) → range.start ≤ access.start
+    → access.start + access.length ≤ range.end → is_covered access range ≡ true
 covered_ends access range from to = grind (arith, nat_tests)
 
-ends_covered : (access : Access) (range : ByteRange) → is_covered access range ≡ true → (range.start ≤ access.start) × (access.start + access.length ≤ range.end)
+ends_covered : (access : Access) (range : ByteRange) → is_covered access range ≡ true
+    → (range.start ≤ access.start) × (access.start + access.length ≤ range.end)
 ends_covered access range h = (grind (arith, nat_tests), grind (arith, nat_tests))
 
 module _ (entries : List Entry) (access : Access) (small : HasAddresses entries) (i : ℕ) where
   touches_range : Touches entries access i → is_touched access (range_of entries i) ≡ true
-  touches_range (byte, inside, matched) = touched_byte access (range_of entries i) byte inside.0 inside.1 ((matches_range entries i byte small).0 matched)
+  touches_range (byte, inside, matched) =
+      touched_byte access (range_of entries i) byte inside.0 inside.1 ((matches_range entries i byte small).0 matched)
 
   range_touches : is_touched access (range_of entries i) ≡ true → Touches entries access i
   range_touches h =
@@ -45,7 +53,8 @@ module _ (entries : List Entry) (access : Access) (small : HasAddresses entries)
   covers_range h =
       let full : 0 < access.length = access.not_empty in
       let first = (matches_range entries i access.start small).0 (h access.start (omega arith, omega arith)) in
-      let last = (matches_range entries i (access.start + access.length - 1) small).0 (h (access.start + access.length - 1) (omega arith, omega arith)) in
+      let last = (matches_range entries i (access.start + access.length - 1) small).0 (h (access.start
+      + access.length - 1) (omega arith, omega arith)) in
       covered_ends access (range_of entries i) first.0 (omega (arith, last.1))
 
   range_covers : is_covered access (range_of entries i) ≡ true → Covers entries access i
@@ -54,27 +63,53 @@ module _ (entries : List Entry) (access : Access) (small : HasAddresses entries)
       (matches_range entries i byte small).1 (omega (arith, ends.0, inside.0), omega (arith, ends.1, inside.1))
 
 untouched_past : (entries : List Entry) (access : Access) (i : ℕ) → length entries ≤ i → ¬ (Touches entries access i)
-untouched_past entries access i past touches = let matched = touches.2 in absurd (rw (get_or_past entries i reset_entry past) at matched)
+untouched_past entries access i past touches = let matched = touches.2 in
+    absurd (rw (get_or_past entries i reset_entry past) at matched)
 
 -- ---- one pass
 
 module _ (file : RegisterFile) (access : Access) (small : HasAddresses file.entries) where
-  decided_by_cover : (i : ℕ) → IsDecider file.entries access (Some i) → (covered : Bool) → is_covered access (range_of file.entries i) ≡ covered → IsDecision file access (decision_in file access i (range_of file.entries i))
+  decided_by_cover : (i : ℕ) → IsDecider file.entries access (Some i) → (covered : Bool)
+      → is_covered access (range_of file.entries i) ≡ covered
+      → IsDecision file access (decision_in file access i (range_of file.entries i))
   decided_by_cover i first true e = rw e (first, range_covers file.entries access small i e, refl)
-  decided_by_cover i first false e = rw e (first, (λ h. false≢true (sym e ∙ covers_range file.entries access small i h)), refl)
+  decided_by_cover i first false e = rw e (
+    first,
+    (λ h. false≢true (sym e ∙ covers_range file.entries access small i h)),
+    refl,
+  )
 
   -- ranges from entry i on, where no entry before it is touched
-  decided_from : (i : ℕ) (ranges : List ByteRange) → ((k : ℕ) → k < length ranges → slice_index_or ranges k no_range ≡ range_of file.entries (i + k))
-      → ((j : ℕ) → j < i → ¬ (Touches file.entries access j)) → ((j : ℕ) → i + length ranges ≤ j → ¬ (Touches file.entries access j)) → IsDecision file access (decision_from file access i ranges)
+  decided_from : (i : ℕ) (ranges : List ByteRange)
+      → ((k : ℕ) → k < length ranges → slice_index_or ranges k no_range ≡ range_of file.entries (i + k))
+      → ((j : ℕ) → j < i → ¬ (Touches file.entries access j))
+      → ((j : ℕ) → i + length ranges ≤ j → ¬ (Touches file.entries access j))
+      → IsDecision file access (decision_from file access i ranges)
   unfolding decision_from
-  decided_from i [] here before after = ((λ j. elim (cases_lt j i) [ inl lt ↦ before j lt | inr le ↦ after j (omega arith) ]), refl)
+  decided_from i [] here before after = (
+    (λ j. elim (cases_lt j i) [
+      | inl lt ↦ before j lt
+      | inr le ↦
+          after j (omega arith)
+    ]),
+    refl,
+  )
   decided_from i (range ∷ ranges) here before after =
-      let is_head : range_of file.entries i ≡ range = sym (here 0 (omega arith) ∙ ap (range_of file.entries) (add-zero i)) in
-      let more : is_touched access range ≡ false → (j : ℕ) → j < i + 1 → ¬ (Touches file.entries access j) = λ untouched. below_more _ _ before
-      (λ touches. false≢true (sym untouched ∙ ap (is_touched access) (sym is_head) ∙ touches_range file.entries access small i touches)) in
-      elim (is_touched access range) as (λ touched. is_touched access range ≡ touched → IsDecision file access (cond touched (decision_in file access i range) (decision_from file access (suc i) ranges))) [
+      let is_head : range_of file.entries i ≡ range =
+      sym (here 0 (omega arith) ∙ ap (range_of file.entries) (add-zero i)) in
+      let more : is_touched access range ≡ false → (j : ℕ) → j < i + 1 → ¬ (Touches file.entries access j) =
+      λ untouched. below_more _ _ before
+      (λ touches. false≢true (sym untouched ∙ ap (is_touched access) (sym is_head)
+      ∙ touches_range file.entries access small i touches)) in
+      elim (is_touched access range) as (λ touched. is_touched access range ≡ touched
+      → IsDecision file access (cond touched (decision_in file access i range)
+      (decision_from file access (suc i) ranges))) [
         | true ↦ λ touched.
-            let found = decided_by_cover i (range_touches file.entries access small i (ap (is_touched access) is_head ∙ touched), before) (is_covered access (range_of file.entries i)) refl in
+            let found = decided_by_cover i (
+              range_touches file.entries access small i (ap (is_touched access) is_head
+                  ∙ touched),
+              before,
+            ) (is_covered access (range_of file.entries i)) refl in
             rw is_head at found
         | false ↦ λ untouched. decided_from (suc i) ranges
             (λ k inside. here (suc k) (omega arith) ∙ ap (range_of file.entries) (omega arith))
@@ -82,10 +117,12 @@ module _ (file : RegisterFile) (access : Access) (small : HasAddresses file.entr
             (λ j above. after j (omega arith))
       ] refl
 
-pub decided_by_ranges : (file : RegisterFile) (access : Access) → HasAddresses file.entries → IsDecision file access (decision_of file access)
+pub decided_by_ranges : (file : RegisterFile) (access : Access) → HasAddresses file.entries
+    → IsDecision file access (decision_of file access)
 unfolding decision_of
 decided_by_ranges file access small = decided_from file access small 0 (ranges_of file.entries)
-    (λ k inside. get_or-map-range_with_len (range_of file.entries) 0 (length file.entries) k (0 + k) no_range (omega (arith, length-ranges_of file.entries)) refl)
+    (λ k inside. get_or-map-range_with_len (range_of file.entries) 0 (length file.entries) k (0
+    + k) no_range (omega (arith, length-ranges_of file.entries)) refl)
     (λ j below. absurd (omega arith))
     (λ j above touches. untouched_past file.entries access j (omega (arith, length-ranges_of file.entries)) touches)
 
@@ -104,7 +141,8 @@ module _ (file : RegisterFile) (access : Access) where
   same_entry : (i j : ℕ) → IsDecider file.entries access (Some i) → IsDecider file.entries access (Some j) → i ≡ j
   same_entry i j p q = let same = least_once (Touches file.entries access) (Some i) (Some j) p q in cc
 
-  decided_once : (one other : Bool) (why because : Cause) → IsDecisionBy file access one why → IsDecisionBy file access other because → (one ≡ other) × (why ≡ because)
+  decided_once : (one other : Bool) (why because : Cause) → IsDecisionBy file access one why
+      → IsDecisionBy file access other because → (one ≡ other) × (why ≡ because)
   decided_once one other NoMatch NoMatch p q = (p.1 ∙ sym q.1, refl)
   decided_once one other NoMatch (Split j) p q = absurd (p.0 j q.0.0)
   decided_once one other NoMatch (Rule j) p q = absurd (p.0 j q.0.0)
@@ -117,7 +155,8 @@ module _ (file : RegisterFile) (access : Access) where
       let same = same_entry i j p.0 q.0 in
       (p.2 ∙ ap (λ (k : ℕ). allows (rights file k access.mode) access.kind) same ∙ sym q.2, ap Rule same)
 
-pub one_decision : (file : RegisterFile) (access : Access) (one other : Decision) → IsDecision file access one → IsDecision file access other → one ≡ other
+pub one_decision : (file : RegisterFile) (access : Access) (one other : Decision) → IsDecision file access one
+    → IsDecision file access other → one ≡ other
 one_decision file access one other p q =
     let same = decided_once file access one.allowed other.allowed one.cause other.cause p q in
     let decision : Bool → Cause → Decision = λ allowed cause. record { allowed = allowed; cause = cause } in
@@ -127,8 +166,12 @@ one_decision file access one other p q =
 
 module _ (entries : List Entry) (access : Access) (single : access.length ≡ 1) where
   matches_single : (i : ℕ) → Touches entries access i → Matches entries i access.start
-  matches_single i (byte, inside, matched) = let here : byte ≡ access.start = omega (arith, inside.0, inside.1) in rw here at matched
+  matches_single i (byte, inside, matched) = let here : byte ≡ access.start = omega (arith, inside.0, inside.1) in
+      rw here at matched
 
   pub owner_decides : (owner : Option ℕ) → IsOwner entries access.start owner → IsDecider entries access owner
   owner_decides None unowned = λ i touches. unowned i (matches_single i touches)
-  owner_decides (Some i) owned = ((access.start, (omega arith, omega arith), owned.0), λ j below touches. owned.1 j below (matches_single j touches))
+  owner_decides (Some i) owned = (
+    (access.start, (omega arith, omega arith), owned.0),
+    λ j below touches. owned.1 j below (matches_single j touches),
+  )

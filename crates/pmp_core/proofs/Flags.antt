@@ -14,10 +14,12 @@ bit_test (suc zero) p low high = grind (arith, nat_tests)
 bit_test (suc (suc b)) p low high = absurd (omega arith)
 
 pub flag_is_bit : (n k : ℕ) → eqb (bit_and n (2 ^ k)) (2 ^ k) ≡ eqb (n / 2 ^ k % 2) 1
-flag_is_bit n k = ap (λ (m : ℕ). eqb m (2 ^ k)) (and_pow n k) ∙ bit_test (n / 2 ^ k % 2) (2 ^ k) (omega arith) (pow_pos k)
+flag_is_bit n k = ap (λ (m : ℕ). eqb m (2 ^ k)) (and_pow n k)
+    ∙ bit_test (n / 2 ^ k % 2) (2 ^ k) (omega arith) (pow_pos k)
 
 -- the right that a kind of access needs is one bit of the set
-pub right_is_bit : (n : ℕ) (kind : Kind) → eqb (bit_and n (right_of kind).0) (right_of kind).0 ≡ eqb (n / (right_of kind).0 % 2) 1
+pub right_is_bit : (n : ℕ) (kind : Kind) → eqb (bit_and n (right_of kind).0) (right_of kind).0
+    ≡ eqb (n / (right_of kind).0 % 2) 1
 right_is_bit n Load = flag_is_bit n 0
 right_is_bit n Store = flag_is_bit n 1
 right_is_bit n Fetch = flag_is_bit n 2

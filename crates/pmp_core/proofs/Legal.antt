@@ -1,5 +1,7 @@
 -- Every step keeps a register file legal, and as long as it is.
-use Rattle.std.proofs.Common.{◌≡◌, ℕ, ◌-◌, ◌*◌, ◌^◌, ◌%◌, ◌<◌, ◌≤◌, Bool, true, false, cond, not, ◌&&◌, ◌||◌, ◌==◌, List, [], ◌∷◌, fold, length, replicate, slice_index, refl, inl, inr, arith, length-set, get_or-set_other, get_or-set_same}
+use Rattle.std.proofs.Common.{◌≡◌, ℕ, ◌-◌, ◌*◌, ◌^◌, ◌%◌, ◌<◌, ◌≤◌, Bool, true, false, cond, not, ◌&&◌, ◌||◌, ◌==◌}
+use Rattle.std.proofs.Common.{List, [], ◌∷◌, fold, length, replicate, slice_index, refl, inl, inr, arith, length-set}
+use Rattle.std.proofs.Common.{get_or-set_other, get_or-set_same}
 use Rattle.std.specs.Int.{w64, to_le_bytes}
 use Rattle.std.proofs.Math.ListN.{set}
 use Rattle.std.proofs.lemmas.Bool.{cases_lt, cases_eq}
@@ -14,7 +16,8 @@ use Rattle.pmp_core.specs.declared.event.Event.TheVariants.{Write, Reset}
 use Rattle.pmp_core.specs.Bytes.{configuration_of, is_reserved}
 use Rattle.pmp_core.specs.Registers.{RegisterFile, reset_entry, reset_file, entry_at, IsLegal}
 use Rattle.pmp_core.specs.Histories.{LegalLaw}
-use Rattle.pmp_core.specs.Writing.{without_reserved, stored_over, stored, holds_byte_of, configured, is_address_frozen, written, step}
+use Rattle.pmp_core.specs.Writing.{without_reserved, stored_over, stored, holds_byte_of, configured, is_address_frozen}
+use Rattle.pmp_core.specs.Writing.{written, step}
 
 -- ---- reset
 
@@ -40,9 +43,11 @@ unreserved c = by_test (is_reserved c) refl
     by_test true e = rw e refl
     by_test false e = rw e e
 
-stored_unreserved : (rlb : Bool) (old : Configuration) (byte : ℕ) → is_reserved old ≡ false → is_reserved (stored_over false rlb old byte) ≡ false
+stored_unreserved : (rlb : Bool) (old : Configuration) (byte : ℕ) → is_reserved old ≡ false
+    → is_reserved (stored_over false rlb old byte) ≡ false
 stored_unreserved rlb old byte h =
-    elim (old.locked && not rlb) as (λ kept. is_reserved (cond kept old (without_reserved (configuration_of byte))) ≡ false) [
+    elim (old.locked && not rlb) as (λ kept. is_reserved (cond kept old (without_reserved (configuration_of byte)))
+    ≡ false) [
       | true ↦ h
       | false ↦ unreserved (configuration_of byte)
     ]
@@ -50,15 +55,21 @@ stored_unreserved rlb old byte h =
 -- ---- a write, entry by entry
 
 -- the entries that a write to a configuration register leaves
-pub configured_place : (file : RegisterFile) (q value i : ℕ) → i < length file.entries → entry_at (written file (Cfg q) value).entries i ≡ configured file q value i
-configured_place file q value i inside = get_or-map-range_with_len (configured file q value) 0 (length file.entries) i i reset_entry inside (omega arith)
+pub configured_place : (file : RegisterFile) (q value i : ℕ) → i < length file.entries
+    → entry_at (written file (Cfg q) value).entries i ≡ configured file q value i
+configured_place file q value i inside =
+    get_or-map-range_with_len (configured file q value) 0 (length file.entries) i i reset_entry inside (omega arith)
 
-pub length-written : (file : RegisterFile) (csr : Csr) (value : ℕ) → length (written file csr value).entries ≡ length file.entries
+pub length-written : (file : RegisterFile) (csr : Csr) (value : ℕ)
+    → length (written file csr value).entries ≡ length file.entries
 length-written file (Cfg q) value = length-map-range_with_len (configured file q value) 0 (length file.entries)
-length-written file (Addr i) value = elim (is_address_frozen file i) as (λ frozen. length (cond frozen file.entries (set file.entries i (record (entry_at file.entries i) { address = value % 2 ^ 54 }))) ≡ length file.entries) [
-  | true ↦ refl
-  | false ↦ simp length-set
-]
+length-written file (Addr i) value = elim (is_address_frozen file i) as
+    (λ frozen. length (cond frozen file.entries (set file.entries i (record (entry_at file.entries i) {
+      address = value % 2 ^ 54;
+    }))) ≡ length file.entries) [
+      | true ↦ refl
+      | false ↦ simp length-set
+    ]
 length-written file Mseccfg value = refl
 
 -- what a legal file has at each place
@@ -86,28 +97,36 @@ module _ (file : RegisterFile) (legal : IsLegal file) where
       let byte = slice_index (to_le_bytes w64 value) (i - 4 * q) in
       let kept : file.mseccfg.mml ≡ false → is_reserved (stored file i byte) ≡ false =
       λ off. rw off (stored_unreserved file.mseccfg.rlb entry.configuration byte (legal.unreserved off i)) in
-      either (holds_byte_of q i) file.mseccfg.mml (record entry { configuration = stored file i byte }) entry (legal.addresses i, kept) (legal_place i)
+      either (holds_byte_of q i) file.mseccfg.mml (record entry {
+        configuration = stored file i byte;
+      }) entry (legal.addresses i, kept) (legal_place i)
 
   past : (entries : List Entry) (i : ℕ) → length entries ≤ i → IsLegalEntry file.mseccfg.mml (entry_at entries i)
   past entries i over = rw (get_or_past entries i reset_entry over) (reset_entry_legal file.mseccfg.mml)
 
-  addressed_legal : (j value i : ℕ) → IsLegalEntry file.mseccfg.mml (entry_at (set file.entries j (record (entry_at file.entries j) { address = value % 2 ^ 54 })) i)
+  addressed_legal : (j value i : ℕ)
+      → IsLegalEntry file.mseccfg.mml (entry_at (set file.entries j (record (entry_at file.entries j) {
+        address = value % 2 ^ 54;
+      })) i)
   addressed_legal j value i = elim (cases_lt i (length file.entries)) [
     | inr over ↦ past _ i (simp length-set over)
     | inl inside ↦ elim (cases_eq i j) [
-      | inl same ↦ let here : j < length file.entries = omega arith in rw same (rw get_or-set_same (omega arith, λ off. legal.unreserved off j))
+      | inl same ↦ let here : j < length file.entries = omega arith in
+          rw same (rw get_or-set_same (omega arith, λ off. legal.unreserved off j))
       | inr other ↦ rw get_or-set_other (legal_place i)
     ]
   ]
 
-  written_legal : (csr : Csr) (value i : ℕ) → IsLegalEntry file.mseccfg.mml (entry_at (written file csr value).entries i)
+  written_legal : (csr : Csr) (value i : ℕ)
+      → IsLegalEntry file.mseccfg.mml (entry_at (written file csr value).entries i)
   written_legal (Cfg q) value i = elim (cases_lt i (length file.entries)) [
     | inl inside ↦ rw (configured_place file q value i inside) (configured_legal q value i)
     | inr over ↦ past (written file (Cfg q) value).entries i (omega (arith, length-written file (Cfg q) value))
   ]
   written_legal (Addr j) value i =
       let new = set file.entries j (record (entry_at file.entries j) { address = value % 2 ^ 54 }) in
-      elim (is_address_frozen file j) as (λ frozen. IsLegalEntry file.mseccfg.mml (entry_at (cond frozen file.entries new) i)) [
+      elim (is_address_frozen file j) as
+      (λ frozen. IsLegalEntry file.mseccfg.mml (entry_at (cond frozen file.entries new) i)) [
         | true ↦ legal_place i
         | false ↦ addressed_legal j value i
       ]

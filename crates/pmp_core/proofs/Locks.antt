@@ -1,5 +1,7 @@
 -- A frozen entry stays as it is, write by write.
-use Rattle.std.proofs.Common.{◌≡◌, ◌≢◌, ◌↔◌, ℕ, zero, suc, ◌<◌, Bool, true, false, cond, not, ◌&&◌, ◌||◌, List, [], ◌∷◌, length, fold, get_or, slice_index, ◌-◌, ◌*◌, ◌/◌, ◌%◌, ◌^◌, ◌==◌, refl, sym, ap, ◌∙◌, inl, inr, arith, get_or-set_other}
+use Rattle.std.proofs.Common.{◌≡◌, ◌≢◌, ◌↔◌, ℕ, zero, suc, ◌<◌, Bool, true, false, cond, not, ◌&&◌, ◌||◌, List, [], ◌∷◌}
+use Rattle.std.proofs.Common.{length, fold, get_or, slice_index, ◌-◌, ◌*◌, ◌/◌, ◌%◌, ◌^◌, ◌==◌, refl, sym, ap, ◌∙◌, inl}
+use Rattle.std.proofs.Common.{inr, arith, get_or-set_other}
 use Rattle.std.specs.List.{list_all, list_any}
 use Rattle.std.specs.Int.{w64, to_le_bytes}
 use Rattle.std.proofs.Math.ListN.{set}
@@ -14,14 +16,16 @@ use Rattle.pmp_core.specs.declared.event.Event.{Event}
 use Rattle.pmp_core.specs.declared.event.Event.TheVariants.{Write, Reset}
 use Rattle.pmp_core.specs.Registers.{RegisterFile, reset_entry, entry_at, is_frozen}
 use Rattle.pmp_core.specs.Matching.{low_address, MatchesBy, Matches}
-use Rattle.pmp_core.specs.Writing.{stored, holds_byte_of, configured, is_tor, is_address_frozen, address_written, is_any_locked, written, step}
+use Rattle.pmp_core.specs.Writing.{stored, holds_byte_of, configured, is_tor, is_address_frozen, address_written}
+use Rattle.pmp_core.specs.Writing.{is_any_locked, written, step}
 use Rattle.pmp_core.specs.Locking.{is_write, LockLaw}
 use Rattle.pmp_core.proofs.Legal.{configured_place}
 
 -- entry i is the same in both files, with the address below it where it is the top of a range; and bypass is off
 record Held (before after : RegisterFile) (i : ℕ) : Type 0 where
   pub entry : entry_at after.entries i ≡ entry_at before.entries i
-  pub low : is_tor (entry_at before.entries i).configuration.matching ≡ true → low_address after.entries i ≡ low_address before.entries i
+  pub low : is_tor (entry_at before.entries i).configuration.matching ≡ true
+      → low_address after.entries i ≡ low_address before.entries i
   pub bypass : after.mseccfg.rlb ≡ false
 
 both : (a b : Bool) → (a && b) ≡ true → (a ≡ true) × (b ≡ true)
@@ -36,21 +40,25 @@ and_false : (a b : Bool) → b ≡ false → (a && b) ≡ false
 and_false true b h = h
 and_false false b h = refl
 
-list_any_at : {X : Type 0} (p : X → Bool) → (xs : List X) (i : ℕ) (d : X) → i < length xs → p (get_or xs i d) ≡ true → list_any p xs ≡ true
+list_any_at : {X : Type 0} (p : X → Bool) → (xs : List X) (i : ℕ) (d : X) → i < length xs → p (get_or xs i d) ≡ true
+    → list_any p xs ≡ true
 list_any_at p [] i d inside h = absurd (omega arith)
 list_any_at p (x ∷ xs) zero d inside h = rw h refl
 list_any_at p (x ∷ xs) (suc i) d inside h = or_true (p x) (list_any p xs) (list_any_at p xs i d (omega arith) h)
 
 -- ---- one write
 
-configured_address : (file : RegisterFile) (q value k : ℕ) → (configured file q value k).address ≡ (entry_at file.entries k).address
+configured_address : (file : RegisterFile) (q value k : ℕ)
+    → (configured file q value k).address ≡ (entry_at file.entries k).address
 configured_address file q value k =
     let entry = entry_at file.entries k in
     let new = stored file k (slice_index (to_le_bytes w64 value) (k - 4 * q)) in
-    elim (holds_byte_of q k) as (λ held. (cond held (record entry { configuration = new }) entry).address ≡ entry.address) [ true ↦ refl | false ↦ refl ]
+    elim (holds_byte_of q k) as (λ held. (cond held (record entry { configuration = new }) entry).address
+    ≡ entry.address) [ true ↦ refl | false ↦ refl ]
 
 -- a write to another address register
-other_address : (file : RegisterFile) (j value k : ℕ) → k ≢ j → entry_at (address_written file j value) k ≡ entry_at file.entries k
+other_address : (file : RegisterFile) (j value k : ℕ) → k ≢ j
+    → entry_at (address_written file j value) k ≡ entry_at file.entries k
 other_address file j value k other =
     let new = set file.entries j (record (entry_at file.entries j) { address = value % 2 ^ 54 }) in
     elim (is_address_frozen file j) as (λ kept. entry_at (cond kept file.entries new) k ≡ entry_at file.entries k) [
@@ -58,10 +66,13 @@ other_address file j value k other =
       | false ↦ rw get_or-set_other refl
     ]
 
-frozen_address : (file : RegisterFile) (j value k : ℕ) → is_address_frozen file j ≡ true → entry_at (address_written file j value) k ≡ entry_at file.entries k
+frozen_address : (file : RegisterFile) (j value k : ℕ) → is_address_frozen file j ≡ true
+    → entry_at (address_written file j value) k ≡ entry_at file.entries k
 frozen_address file j value k kept = rw kept refl
 
-low_kept : (before after : List Entry) (i : ℕ) → ((k : ℕ) → suc k ≡ i → (entry_at after k).address ≡ (entry_at before k).address) → low_address after i ≡ low_address before i
+low_kept : (before after : List Entry) (i : ℕ)
+    → ((k : ℕ) → suc k ≡ i → (entry_at after k).address ≡ (entry_at before k).address)
+    → low_address after i ≡ low_address before i
 low_kept before after zero h = refl
 low_kept before after (suc k) h = h k refl
 
@@ -83,17 +94,23 @@ module _ (file : RegisterFile) (i : ℕ) (frozen : is_frozen file i ≡ true) wh
       let entry = entry_at file.entries i in
       let new = stored file i (slice_index (to_le_bytes w64 value) (i - 4 * q)) in
       let kept : new ≡ entry.configuration = rw frozen refl in
-      elim (holds_byte_of q i) as (λ held. cond held (record entry { configuration = new }) entry ≡ entry) [ true ↦ rw kept refl | false ↦ refl ]
+      elim (holds_byte_of q i) as (λ held. cond held (record entry { configuration = new }) entry ≡ entry) [
+        | true ↦
+            rw kept refl
+        | false ↦ refl
+      ]
 
   -- the address below, written or not
-  low_configured : (k q value : ℕ) → k < length file.entries → (entry_at (written file (Cfg q) value).entries k).address ≡ (entry_at file.entries k).address
+  low_configured : (k q value : ℕ) → k < length file.entries
+      → (entry_at (written file (Cfg q) value).entries k).address ≡ (entry_at file.entries k).address
   low_configured k q value below = rw (configured_place file q value k below) (configured_address file q value k)
 
   -- its own address register is kept, and the one before it where the entry is the top of a range
   own_address : is_address_frozen file i ≡ true
   own_address = rw frozen refl
 
-  low_kept_frozen : (k : ℕ) → suc k ≡ i → is_tor (entry_at file.entries i).configuration.matching ≡ true → is_address_frozen file k ≡ true
+  low_kept_frozen : (k : ℕ) → suc k ≡ i → is_tor (entry_at file.entries i).configuration.matching ≡ true
+      → is_address_frozen file k ≡ true
   low_kept_frozen k above tor = or_true (is_frozen file k) _ (rw above (rw (frozen, tor) refl))
 
   after_address : (j value : ℕ) → Held file (record file { entries = address_written file j value }) i
@@ -102,7 +119,8 @@ module _ (file : RegisterFile) (i : ℕ) (frozen : is_frozen file i ≡ true) wh
       | inl same ↦ frozen_address file j value i (rw same at own_address)
       | inr other ↦ other_address file j value i other
     ];
-    low = λ tor. low_kept file.entries (address_written file j value) i (λ k above. ap (λ (entry : Entry). entry.address)
+    low = λ tor. low_kept file.entries (address_written file j value) i
+        (λ k above. ap (λ (entry : Entry). entry.address)
         (elim (cases_eq k j) [
           | inl same ↦ frozen_address file j value k (rw same at (low_kept_frozen k above tor))
           | inr other ↦ other_address file j value k other
@@ -113,7 +131,8 @@ module _ (file : RegisterFile) (i : ℕ) (frozen : is_frozen file i ≡ true) wh
   after_write : (csr : Csr) (value : ℕ) → Held file (written file csr value) i
   after_write (Cfg q) value = record {
     entry = configured_place file q value i inside ∙ configured_frozen q value;
-    low = λ tor. low_kept file.entries (written file (Cfg q) value).entries i (λ k above. low_configured k q value (omega (arith, inside, above)));
+    low = λ tor. low_kept file.entries (written file (Cfg q) value).entries i
+        (λ k above. low_configured k q value (omega (arith, inside, above)));
     bypass = no_bypass;
   }
   after_write (Addr j) value = after_address j value
@@ -121,12 +140,17 @@ module _ (file : RegisterFile) (i : ℕ) (frozen : is_frozen file i ≡ true) wh
     entry = refl;
     low = λ tor. refl;
     bypass = and_false (value / 4 % 2 == 1) (file.mseccfg.rlb || not (is_any_locked file.entries))
-        (rw (no_bypass, list_any_at (λ (entry : Entry). entry.configuration.locked) file.entries i reset_entry inside locked) refl);
+        (rw (
+          no_bypass,
+          list_any_at (λ (entry : Entry). entry.configuration.locked) file.entries i reset_entry inside
+              locked,
+        ) refl);
   }
 
 -- ---- any writes
 
-still_frozen : (before after : RegisterFile) (i : ℕ) → is_frozen before i ≡ true → Held before after i → is_frozen after i ≡ true
+still_frozen : (before after : RegisterFile) (i : ℕ) → is_frozen before i ≡ true → Held before after i
+    → is_frozen after i ≡ true
 still_frozen before after i frozen held = rw (held.entry, held.bypass, locked before i frozen) refl
 
 held_then : (a b c : RegisterFile) (i : ℕ) → Held a b i → Held b c i → Held a c i
@@ -136,26 +160,33 @@ held_then a b c i first second = record {
   bypass = second.bypass;
 }
 
-held_on : (file : RegisterFile) (i : ℕ) (events : List Event) → is_frozen file i ≡ true → list_all is_write events ≡ true → Held file (fold step file events) i
+held_on : (file : RegisterFile) (i : ℕ) (events : List Event) → is_frozen file i ≡ true
+    → list_all is_write events ≡ true → Held file (fold step file events) i
 held_on file i [] frozen writes = record { entry = refl; low = λ tor. refl; bypass = no_bypass file i frozen }
 held_on file i (Reset ∷ events) frozen writes = absurd (false≢true writes)
 held_on file i (Write csr value ∷ events) frozen writes =
     let first = after_write file i frozen csr value in
     let next = written file csr value in
-    held_then file next (fold step next events) i first (held_on next i events (still_frozen file next i frozen first) writes)
+    held_then file next (fold step next events) i first
+    (held_on next i events (still_frozen file next i frozen first) writes)
 
 -- ---- the bytes
 
-same_bytes : (mode : AddressMatching) (low other address byte : ℕ) → (is_tor mode ≡ true → low ≡ other) → MatchesBy mode low address byte → MatchesBy mode other address byte
+same_bytes : (mode : AddressMatching) (low other address byte : ℕ) → (is_tor mode ≡ true → low ≡ other)
+    → MatchesBy mode low address byte → MatchesBy mode other address byte
 same_bytes Off low other address byte same h = h
 same_bytes Tor low other address byte same h = rw (← same refl) h
 same_bytes Na4 low other address byte same h = h
 same_bytes Napot low other address byte same h = h
 
-held_bytes : (before after : RegisterFile) (i byte : ℕ) → Held before after i → Matches after.entries i byte ↔ Matches before.entries i byte
+held_bytes : (before after : RegisterFile) (i byte : ℕ) → Held before after i
+    → Matches after.entries i byte ↔ Matches before.entries i byte
 held_bytes before after i byte held =
     let entry = entry_at before.entries i in
-    rw held.entry (same_bytes entry.configuration.matching _ _ entry.address byte held.low, same_bytes entry.configuration.matching _ _ entry.address byte (λ tor. sym (held.low tor)))
+    rw held.entry (
+      same_bytes entry.configuration.matching _ _ entry.address byte held.low,
+      same_bytes entry.configuration.matching _ _ entry.address byte (λ tor. sym (held.low tor)),
+    )
 
 pub lock_law : LockLaw
 lock_law file i events frozen writes =

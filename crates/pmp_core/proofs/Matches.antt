@@ -1,5 +1,6 @@
 -- An entry matches the bytes of its range.
-use Rattle.std.proofs.Common.{◌≡◌, ℕ, suc, ◌+◌, ◌*◌, ◌/◌, ◌^◌, ◌<◌, ◌≤◌, ◌↔◌, List, length, inl, inr, sym, ◌∙◌, arith, add-one}
+use Rattle.std.proofs.Common.{◌≡◌, ℕ, suc, ◌+◌, ◌*◌, ◌/◌, ◌^◌, ◌<◌, ◌≤◌, ◌↔◌, List, length, inl, inr, sym, ◌∙◌, arith}
+use Rattle.std.proofs.Common.{add-one}
 use Rattle.std.specs.Int.{trailing_ones, w64}
 use Rattle.std.proofs.lemmas.Bool.{cases_lt}
 use Rattle.std.proofs.lemmas.List.{get_or_past}
@@ -31,13 +32,15 @@ from_napot address byte small h =
       to = omega (arith, h.1);
     }
 
-matched_by : (mode : AddressMatching) (low address byte : ℕ) → address < 2 ^ 54 → MatchesBy mode low address byte ↔ IsInRange (range_by mode low address) byte
+matched_by : (mode : AddressMatching) (low address byte : ℕ) → address < 2 ^ 54
+    → MatchesBy mode low address byte ↔ IsInRange (range_by mode low address) byte
 matched_by Off low address byte small = (λ h. absurd h, λ h. omega arith)
 matched_by Tor low address byte small = (λ h. h, λ h. h)
 matched_by Na4 low address byte small = (λ h. h, λ h. h)
 matched_by Napot low address byte small = (in_napot address byte small, from_napot address byte small)
 
-pub matches_range : (entries : List Entry) (i byte : ℕ) → HasAddresses entries → Matches entries i byte ↔ IsInRange (range_of entries i) byte
+pub matches_range : (entries : List Entry) (i byte : ℕ) → HasAddresses entries
+    → Matches entries i byte ↔ IsInRange (range_of entries i) byte
 unfolding range_of
 matches_range entries i byte small = matched_by _ _ _ byte (small i)
 
@@ -48,7 +51,10 @@ are_ranges entries small = record {
   by_bytes = λ i byte. elim (cases_lt i (length entries)) [
     | inl inside ↦ rw (range_at entries i inside) (matches_range entries i byte small)
     | inr past ↦
-        let decoded_past : length (ranges_of entries) ≤ i = omega (arith, length-ranges_of entries) in
-        (λ matched. absurd (rw (get_or_past entries i reset_entry past) at matched), λ inside. let inside_none = rw (get_or_past (ranges_of entries) i no_range decoded_past) at inside in absurd (omega arith))
+        let decoded_past : length (ranges_of entries) ≤ i = omega (arith, length-ranges_of entries) in (
+          λ matched. absurd (rw (get_or_past entries i reset_entry past) at matched),
+          λ inside. let inside_none =
+              rw (get_or_past (ranges_of entries) i no_range decoded_past) at inside in absurd (omega arith),
+        )
   ];
 }

@@ -16,20 +16,49 @@ spelled_by : (k a : ℕ) → EndsInOnes a k → a + 1 ≡ a / 2 ^ suc k * 2 ^ su
 spelled_by zero a h = let even : a % 2 ≡ 0 = sym (bit_at_lowest a) ∙ h.gap in omega arith
 spelled_by (suc k) a h =
     let odd : a % 2 ≡ 1 = sym (bit_at_lowest a) ∙ h.ones 0 (omega arith) in
-    let rest : EndsInOnes (a / 2) k = record { ones = λ i lt. sym (bit_at-suc a i) ∙ h.ones (suc i) (omega arith); gap = sym (bit_at-suc a k) ∙ h.gap } in
+    let rest : EndsInOnes (a / 2) k = record {
+      ones = λ i lt. sym (bit_at-suc a i) ∙ h.ones (suc i) (omega arith);
+      gap = sym (bit_at-suc a k) ∙ h.gap;
+    } in
     let half = spelled_by k (a / 2) rest in
-    let whole : a / 2 / 2 ^ suc k ≡ a / 2 ^ suc (suc k) = div-div-eq-div-mul a 2 (2 ^ suc k) ∙ ap (λ (p : ℕ). a / p) (sym (pow-succ' 2 (suc k))) in
-    let half' : a / 2 + 1 ≡ a / 2 ^ suc (suc k) * 2 ^ suc k + 2 ^ k = half ∙ ap (λ (q : ℕ). q * 2 ^ suc k + 2 ^ k) whole in
-    omega (arith, pow-succ' 2 (suc k), pow-succ' 2 k, half', ap (λ (p : ℕ). a / 2 ^ suc (suc k) * p) (pow-succ' 2 (suc k)))
+    let whole : a / 2 / 2 ^ suc k ≡ a / 2 ^ suc (suc k) =
+    div-div-eq-div-mul a 2 (2 ^ suc k) ∙ ap (λ (p : ℕ). a / p) (sym (pow-succ' 2 (suc k))) in
+    let half' : a / 2 + 1 ≡ a / 2 ^ suc (suc k) * 2 ^ suc k + 2 ^ k =
+    half ∙ ap (λ (q : ℕ). q * 2 ^ suc k + 2 ^ k) whole in
+    omega (
+      arith,
+      pow-succ' 2 (suc k),
+      pow-succ' 2 k,
+      half',
+      ap (λ (p : ℕ). a / 2 ^ suc (suc k) * p) (pow-succ' 2 (suc k)),
+    )
 
 -- no other pair spells the same number
 pub spelled_once : (k j y z : ℕ) → y * 2 ^ suc k + 2 ^ k ≡ z * 2 ^ suc j + 2 ^ j → (k ≡ j) × (y ≡ z)
 spelled_once zero zero y z e = (refl, omega arith)
-spelled_once zero (suc j) y z e = absurd (omega (arith, pow-succ' 2 (suc j), pow-succ' 2 j, ap (λ (p : ℕ). z * p) (pow-succ' 2 (suc j))))
-spelled_once (suc k) zero y z e = absurd (omega (arith, pow-succ' 2 (suc k), pow-succ' 2 k, ap (λ (p : ℕ). y * p) (pow-succ' 2 (suc k))))
+spelled_once zero (suc j) y z e = absurd (omega (
+  arith,
+  pow-succ' 2 (suc j),
+  pow-succ' 2 j,
+  ap (λ (p : ℕ). z * p) (pow-succ' 2 (suc j)),
+))
+spelled_once (suc k) zero y z e = absurd (omega (
+  arith,
+  pow-succ' 2 (suc k),
+  pow-succ' 2 k,
+  ap (λ (p : ℕ). y * p) (pow-succ' 2 (suc k)),
+))
 spelled_once (suc k) (suc j) y z e =
     let half : y * 2 ^ suc k + 2 ^ k ≡ z * 2 ^ suc j + 2 ^ j =
-    omega (arith, pow-succ' 2 (suc k), pow-succ' 2 k, pow-succ' 2 (suc j), pow-succ' 2 j, ap (λ (p : ℕ). y * p) (pow-succ' 2 (suc k)), ap (λ (p : ℕ). z * p) (pow-succ' 2 (suc j))) in
+    omega (
+      arith,
+      pow-succ' 2 (suc k),
+      pow-succ' 2 k,
+      pow-succ' 2 (suc j),
+      pow-succ' 2 j,
+      ap (λ (p : ℕ). y * p) (pow-succ' 2 (suc k)),
+      ap (λ (p : ℕ). z * p) (pow-succ' 2 (suc j)),
+    ) in
     let rest = spelled_once k j y z half in
     (ap suc rest.0, rest.1)
 
@@ -44,7 +73,8 @@ ones_at_most a small =
       | inr le ↦ le
     ]
 
-pub spelled_by_ones : (a : ℕ) → a < 2 ^ 54 → a + 1 ≡ a / 2 ^ suc (trailing_ones w64 a) * 2 ^ suc (trailing_ones w64 a) + 2 ^ trailing_ones w64 a
+pub spelled_by_ones : (a : ℕ) → a < 2 ^ 54
+    → a + 1 ≡ a / 2 ^ suc (trailing_ones w64 a) * 2 ^ suc (trailing_ones w64 a) + 2 ^ trailing_ones w64 a
 spelled_by_ones a small = spelled_by (trailing_ones w64 a) a (ends_in_ones a small)
 
 -- what the shifts of the code compute stays within 58 bits

@@ -40,7 +40,8 @@ IsDecisionBy file access allowed NoMatch =
 IsDecisionBy file access allowed (Split i) =
     IsDecider file.entries access (Some i) × ¬ (Covers file.entries access i) × (allowed ≡ false)
 IsDecisionBy file access allowed (Rule i) =
-    IsDecider file.entries access (Some i) × Covers file.entries access i × (allowed ≡ allows (rights file i access.mode) access.kind)
+    IsDecider file.entries access (Some i) × Covers file.entries access i
+    × (allowed ≡ allows (rights file i access.mode) access.kind)
 
 -- the manual's decision (3.7.1.3)
 abbrev pub IsDecision : RegisterFile → Access → Decision → Type 0

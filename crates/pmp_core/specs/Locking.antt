@@ -19,4 +19,5 @@ pub record StaysLocked (before after : RegisterFile) (i : ℕ) : Type 0 where
 
 -- a frozen entry stays as it is through every list of writes, if no reset is among them (3.7.1.2 and Smepmp)
 abbrev pub LockLaw : Type 0
-LockLaw = (file : RegisterFile) (i : ℕ) (events : List Event) → is_frozen file i ≡ true → list_all is_write events ≡ true → StaysLocked file (fold step file events) i
+LockLaw = (file : RegisterFile) (i : ℕ) (events : List Event) → is_frozen file i ≡ true
+    → list_all is_write events ≡ true → StaysLocked file (fold step file events) i

@@ -27,4 +27,5 @@ MatchesBy Napot low address byte = InNapot address byte
 
 -- entry i matches the byte (3.7.1.1)
 abbrev pub Matches : List Entry → ℕ → ℕ → Type 0
-Matches entries i byte = MatchesBy (entry_at entries i).configuration.matching (low_address entries i) (entry_at entries i).address byte
+Matches entries i byte =
+    MatchesBy (entry_at entries i).configuration.matching (low_address entries i) (entry_at entries i).address byte

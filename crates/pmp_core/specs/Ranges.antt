@@ -1,5 +1,6 @@
 -- The same decision computed from the entries' ranges: `laws::law_decided_by_ranges` says that it is the manual's.
-use Rattle.std.specs.Prelude.{◌≡◌, ◌↔◌, ℕ, suc, ◌+◌, ◌*◌, ◌/◌, ◌^◌, ◌<◌, ◌≤◌, Bool, false, ◌&&◌, nat_le, nat_lt, min, max, if◌then◌else◌, List, [], ◌∷◌, length, map}
+use Rattle.std.specs.Prelude.{◌≡◌, ◌↔◌, ℕ, suc, ◌+◌, ◌*◌, ◌/◌, ◌^◌, ◌<◌, ◌≤◌, Bool, false, ◌&&◌, nat_le, nat_lt, min}
+use Rattle.std.specs.Prelude.{max, if◌then◌else◌, List, [], ◌∷◌, length, map}
 use Rattle.std.specs.List.{range_with_len, slice_index_or}
 use Rattle.std.specs.Int.{w64, trailing_ones}
 use Rattle.pmp_core.specs.declared.access.Access.{Access}
@@ -30,7 +31,8 @@ range_by Na4 low address = record { start = 4 * address; end = 4 * address + 4 }
 range_by Napot low address = napot_range address
 
 unfoldable pub range_of : List Entry → ℕ → ByteRange
-range_of entries i = range_by (entry_at entries i).configuration.matching (low_address entries i) (entry_at entries i).address
+range_of entries i = range_by (entry_at entries i).configuration.matching (low_address entries i)
+    (entry_at entries i).address
 
 abbrev pub ranges_of : List Entry → List ByteRange
 ranges_of entries = map (range_of entries) (range_with_len 0 (length entries))
@@ -58,7 +60,10 @@ decision_in file access i range =
 
 -- the decision by the ranges, the first of which is that of entry i
 unfoldable pub decision_from : RegisterFile → Access → ℕ → List ByteRange → Decision
-decision_from file access i [] = record { allowed = allows (default_rights file access.mode) access.kind; cause = NoMatch }
+decision_from file access i [] = record {
+  allowed = allows (default_rights file access.mode) access.kind;
+  cause = NoMatch;
+}
 decision_from file access i (range ∷ ranges) =
     if is_touched access range then decision_in file access i range
     else decision_from file access (suc i) ranges

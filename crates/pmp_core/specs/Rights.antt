@@ -113,4 +113,5 @@ LoadsWhatItStores rights = IsTrue (allows rights Store) → IsTrue (allows right
 
 -- by every rule of a legal file, and where no entry matches
 abbrev pub StoreLaw : Type 0
-StoreLaw = (file : RegisterFile) → IsLegal file → (i : ℕ) (mode : Mode) → LoadsWhatItStores (rights file i mode) × LoadsWhatItStores (default_rights file mode)
+StoreLaw = (file : RegisterFile) → IsLegal file → (i : ℕ) (mode : Mode)
+    → LoadsWhatItStores (rights file i mode) × LoadsWhatItStores (default_rights file mode)

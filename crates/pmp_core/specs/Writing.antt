@@ -1,5 +1,6 @@
 -- What a write to a register leaves (Volume II, 3.7.1, 3.7.1.2 and Smepmp).
-use Rattle.std.specs.Prelude.{ℕ, suc, ◌+◌, ◌-◌, ◌*◌, ◌%◌, ◌^◌, Bool, true, false, not, ◌&&◌, ◌||◌, ◌==◌, nat_le, nat_lt, if◌then◌else◌, List, length, map, slice_index, slice_set}
+use Rattle.std.specs.Prelude.{ℕ, suc, ◌+◌, ◌-◌, ◌*◌, ◌%◌, ◌^◌, ◌==◌, nat_le, nat_lt, Bool, true, false, not, ◌&&◌, ◌||◌}
+use Rattle.std.specs.Prelude.{if◌then◌else◌, List, length, map, slice_index, slice_set}
 use Rattle.std.specs.List.{range_with_len, list_any}
 use Rattle.std.specs.Int.{w64, to_le_bytes}
 use Rattle.pmp_core.specs.declared.configuration.AddressMatching.{AddressMatching}
@@ -41,7 +42,9 @@ holds_byte_of q i = q % 2 == 0 && nat_le (4 * q) i && nat_lt i (4 * q + 8)
 abbrev pub configured : RegisterFile → (q value i : ℕ) → Entry
 configured file q value i =
     let entry = entry_at file.entries i in
-    if holds_byte_of q i then record entry { configuration = stored file i (slice_index (to_le_bytes w64 value) (i - 4 * q)) }
+    if holds_byte_of q i then record entry {
+      configuration = stored file i (slice_index (to_le_bytes w64 value) (i - 4 * q));
+    }
     else entry
 
 abbrev pub is_tor : AddressMatching → Bool
@@ -52,7 +55,9 @@ is_tor Napot = false
 
 -- a frozen entry freezes its own address register, and as top of a range the one before it (3.7.1.2)
 abbrev pub is_address_frozen : RegisterFile → ℕ → Bool
-is_address_frozen file i = is_frozen file i || (is_frozen file (suc i) && is_tor (entry_at file.entries (suc i)).configuration.matching)
+is_address_frozen file i =
+    is_frozen file i
+    || (is_frozen file (suc i) && is_tor (entry_at file.entries (suc i)).configuration.matching)
 
 -- the entries after pmpaddr i is written (3.7.1)
 abbrev pub address_written : RegisterFile → (i value : ℕ) → List Entry

@@ -58,7 +58,8 @@ impl Access {
 
     /// The access of `length` bytes from byte address `start` on. The length is tested first.
     pub fn new(mode: Mode, kind: Kind, start: u64, length: u64) -> Result<Access, AccessFault>
-        ensures made { IfOk result (λ access. (access_fault start length ≡ None) × IsAccess access mode kind start length) }
+        ensures made { IfOk result (λ access. (access_fault start length ≡ None)
+            × IsAccess access mode kind start length) }
         ensures refused { IfErr result (λ fault. access_fault start length ≡ Some fault) }
     {
         if length == 0 || length > MAX_LENGTH {

@@ -14,7 +14,8 @@ ghost use Rattle.pmp_core.specs.Ranges.{decision_of};
 
 /// What is computed from the entries' ranges is the manual's decision.
 pub fn law_decided_by_ranges()
-    ensures { (file : RegisterFile) (access : Access) → HasAddresses file.entries → IsDecision file access (decision_of file access) }
+    ensures { (file : RegisterFile) (access : Access) → HasAddresses file.entries
+        → IsDecision file access (decision_of file access) }
 {}
 
 /// The manual decides an access in one way.

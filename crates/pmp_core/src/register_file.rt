@@ -45,11 +45,20 @@ impl Model for RegFile {
 
     ghost view = { λ f. file_of f.mseccfg f.entries };
 
-    ghost invariant = { λ f. IsLegal (file_of f.mseccfg f.entries) × (f.ranges ≡ ranges_of f.entries) × (length f.entries ≡ ENTRIES) };
+    ghost invariant = { λ f. IsLegal (file_of f.mseccfg f.entries) × (f.ranges ≡ ranges_of f.entries)
+        × (length f.entries ≡ ENTRIES) };
 
-    ghost inverse = { λ file. record { entries = file.entries; mseccfg = file.mseccfg; ranges = ranges_of file.entries } };
+    ghost inverse = { λ file. record {
+      entries = file.entries;
+      mseccfg = file.mseccfg;
+      ranges = ranges_of file.entries;
+    } };
 
-    ghost inverse_ok = { λ f h. ap (λ ranges. record { entries = f.entries; mseccfg = f.mseccfg; ranges = ranges }) (sym h.1) };
+    ghost inverse_ok = { λ f h. ap (λ ranges. record {
+      entries = f.entries;
+      mseccfg = f.mseccfg;
+      ranges = ranges;
+    }) (sym h.1) };
 }
 
 impl RegFile {

@@ -2,7 +2,8 @@
 
 ghost use Rattle.std.specs.Prelude.{◌≡◌, ◌<◌, ◌%◌, length};
 ghost use Rattle.pmp_core.specs.Registers.{file_of};
-ghost use Rattle.pmp_core.specs.Writing.{without_reserved, stored_over, configurations_written, is_address_frozen, address_written, is_any_locked, written};
+ghost use Rattle.pmp_core.specs.Writing.{without_reserved, stored_over, configurations_written, is_address_frozen};
+ghost use Rattle.pmp_core.specs.Writing.{address_written, is_any_locked, written};
 
 use crate::configuration::{AddressMatching, Configuration};
 use crate::csr::Csr;

@@ -1,7 +1,8 @@
 //! What a rule allows.
 
 ghost use Rattle.std.specs.Prelude.{◌≡◌};
-ghost use Rattle.pmp_core.specs.Rights.{allows, bits_of, perms_of, is_barred, lockdown_rights, rule_rights, default_rights_by};
+ghost use Rattle.pmp_core.specs.Rights.{allows, bits_of, perms_of, is_barred, lockdown_rights, rule_rights};
+ghost use Rattle.pmp_core.specs.Rights.{default_rights_by};
 ghost use Rattle.pmp_core.specs.Perms.{right_of};
 
 use crate::access::{Access, Mode};
@@ -26,7 +27,8 @@ fn bits(configuration: &Configuration) -> Perms
 /// W without R marks a region that the modes share, and so does everything set at once. Every other rule holds for
 /// machine mode alone where it is locked, and for the other modes alone where it isn't.
 fn lockdown_rights(configuration: &Configuration, mode: Mode) -> Perms
-    ensures { result ≡ perms_of (lockdown_rights configuration.now.locked configuration.now.read configuration.now.write configuration.now.execute mode) }
+    ensures { result ≡ perms_of (lockdown_rights configuration.now.locked configuration.now.read configuration.now.write
+        configuration.now.execute mode) }
 {
     let Configuration {
         locked,
@@ -75,7 +77,8 @@ pub fn default_rights_by(mode: Mode, mseccfg: &MseccfgFields) -> Perms
 
 /// Whether a rule is one that lockdown lets no write add: locked, and machine mode may execute by it.
 pub fn is_barred(configuration: &Configuration) -> bool
-    ensures { result ≡ is_barred configuration.now.locked configuration.now.read configuration.now.write configuration.now.execute }
+    ensures { result ≡ is_barred configuration.now.locked configuration.now.read configuration.now.write
+        configuration.now.execute }
 {
     configuration.locked && lockdown_rights(configuration, Mode::M).contains(Perms::X)
 }

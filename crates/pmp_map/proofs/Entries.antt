@@ -18,7 +18,9 @@ use Rattle.pmp_map.specs.Runs.{AreRunsTo, AreRuns, HasOwnersBelow}
 use Rattle.pmp_map.proofs.CutFacts.{least_alike}
 use Rattle.pmp_map.proofs.FewRuns.{few_runs}
 
-runs_alike : (to : ℕ) (Owns Has : ℕ → Option ℕ → Type 0) (runs : List Run) → ((byte : ℕ) (owner : Option ℕ) → Owns byte owner → Has byte owner) → AreRunsTo to Owns runs → AreRunsTo to Has runs
+runs_alike : (to : ℕ) (Owns Has : ℕ → Option ℕ → Type 0) (runs : List Run)
+    → ((byte : ℕ) (owner : Option ℕ) → Owns byte owner → Has byte owner) → AreRunsTo to Owns runs
+    → AreRunsTo to Has runs
 runs_alike to Owns Has runs alike are = record {
   begins = are.begins;
   proper = are.proper;
@@ -27,28 +29,41 @@ runs_alike to Owns Has runs alike are = record {
   apart = are.apart;
 }
 
-module _ (entries : List Entry) (ranges : List ByteRange) (decoded : AreRanges entries ranges) (to : ℕ) (runs : List Run) where
+module _ (entries : List Entry) (ranges : List ByteRange) (decoded : AreRanges entries ranges) (to : ℕ)
+    (runs : List Run) where
   pub runs_by_ranges : AreRunsTo to (IsOwner entries) runs → AreRunsTo to (IsOwnerIn ranges) runs
   runs_by_ranges = runs_alike to (IsOwner entries) (IsOwnerIn ranges) runs (λ byte owner.
-      least_alike (λ i. Matches entries i byte) (λ i. IsInRange (range_in ranges i) byte) owner (λ i. decoded.by_bytes i byte))
+      least_alike (λ i. Matches entries i byte) (λ i. IsInRange (range_in ranges i) byte) owner
+      (λ i. decoded.by_bytes i byte))
 
   pub runs_by_entries : AreRunsTo to (IsOwnerIn ranges) runs → AreRunsTo to (IsOwner entries) runs
   runs_by_entries = runs_alike to (IsOwnerIn ranges) (IsOwner entries) runs (λ byte owner.
-      least_alike (λ i. IsInRange (range_in ranges i) byte) (λ i. Matches entries i byte) owner (λ i. ((decoded.by_bytes i byte).1, (decoded.by_bytes i byte).0)))
+      least_alike (λ i. IsInRange (range_in ranges i) byte) (λ i. Matches entries i byte) owner
+      (λ i. ((decoded.by_bytes i byte).1, (decoded.by_bytes i byte).0)))
 
-pub few_runs_of_entries : (entries : List Entry) (runs : List Run) → HasAddresses entries → AreRuns entries runs → length runs ≤ 2 * length entries + 1
+pub few_runs_of_entries : (entries : List Entry) (runs : List Run) → HasAddresses entries → AreRuns entries runs
+    → length runs ≤ 2 * length entries + 1
 few_runs_of_entries entries runs small are =
     let decoded = are_ranges entries small in
-    omega (arith, decoded.count, few_runs (2 ^ 56) (ranges_of entries) runs (runs_by_ranges entries (ranges_of entries) decoded (2 ^ 56) runs are))
+    omega (
+      arith,
+      decoded.count,
+      few_runs (2 ^ 56) (ranges_of entries) runs
+          (runs_by_ranges entries (ranges_of entries) decoded (2 ^ 56) runs are),
+    )
 
 -- only a range that there is has a byte
-owner_below : (ranges : List ByteRange) (byte : ℕ) (owner : Option ℕ) → IsOwnerIn ranges byte owner → IfSome owner (λ i. i < length ranges)
+owner_below : (ranges : List ByteRange) (byte : ℕ) (owner : Option ℕ) → IsOwnerIn ranges byte owner
+    → IfSome owner (λ i. i < length ranges)
 owner_below ranges byte None owned = tt
 owner_below ranges byte (Some i) owned = elim (cases_lt i (length ranges)) [
   | inl lt ↦ lt
-  | inr past ↦ let none = rw (get_or_past ranges i (record { start = 0; end = 0 }) past) at owned.0 in absurd (omega arith)
+  | inr past ↦ let none = rw (get_or_past ranges i (record { start = 0; end = 0 }) past) at owned.0 in
+      absurd (omega arith)
 ]
 
-pub owners_below : (ranges : List ByteRange) (runs : List Run) → AreRunsTo (2 ^ 56) (IsOwnerIn ranges) runs → HasOwnersBelow (length ranges) runs
+pub owners_below : (ranges : List ByteRange) (runs : List Run) → AreRunsTo (2 ^ 56) (IsOwnerIn ranges) runs
+    → HasOwnersBelow (length ranges) runs
 owners_below ranges runs are = All-from_get_or (λ (run : Run). IfSome run.owner (λ i. i < length ranges)) runs _
-    (λ k inside. owner_below ranges (map_run runs k).first (map_run runs k).owner (are.owned k (map_run runs k).first inside (omega arith, are.proper k inside)))
+    (λ k inside. owner_below ranges (map_run runs k).first (map_run runs k).owner
+    (are.owned k (map_run runs k).first inside (omega arith, are.proper k inside)))

@@ -1,5 +1,6 @@
 -- Owners change at cuts, the ends of ranges, of which each range has two. So there are few runs.
-use Rattle.std.proofs.Common.{◌≡◌, ◌≢◌, ℕ, zero, suc, ◌+◌, ◌-◌, ◌*◌, ◌<◌, ◌≤◌, ◌⊎◌, cond, List, [], ◌∷◌, length, Option, Some, None, nat_le, refl, ap, arith, add-one, inl, inr}
+use Rattle.std.proofs.Common.{◌≡◌, ◌≢◌, ℕ, zero, suc, ◌+◌, ◌-◌, ◌*◌, ◌<◌, ◌≤◌, ◌⊎◌, cond, List, [], ◌∷◌, length, Option}
+use Rattle.std.proofs.Common.{Some, None, nat_le, refl, ap, arith, add-one, inl, inr}
 use Rattle.std.proofs.lemmas.Bool.{cases_lt, le-leb, lt-leb}
 use Rattle.pmp_core.specs.declared.range.ByteRange.{ByteRange}
 use Rattle.pmp_core.specs.Ranges.{IsInRange, range_in}
@@ -13,7 +14,8 @@ use Rattle.pmp_map.proofs.Order.{start_at}
 abbrev pub IsCut : ByteRange → ℕ → Type 0
 IsCut range at = (range.start ≡ at) ⊎ (range.end ≡ at)
 
-entered : (range : ByteRange) (byte : ℕ) → ¬ (IsInRange range byte) → IsInRange range (byte + 1) → IsCut range (byte + 1)
+entered : (range : ByteRange) (byte : ℕ) → ¬ (IsInRange range byte) → IsInRange range (byte + 1)
+    → IsCut range (byte + 1)
 entered range byte out inside = elim (cases_lt byte range.start) [
   | inl before ↦ inl (omega (arith, inside.0))
   | inr after ↦ absurd (out (after, omega (arith, inside.1)))
@@ -26,7 +28,8 @@ left range byte inside out = elim (cases_lt (byte + 1) range.end) [
 ]
 
 module _ (ranges : List ByteRange) (byte : ℕ) where
-  changed : (one other : Option ℕ) → IsOwnerIn ranges byte one → IsOwnerIn ranges (byte + 1) other → one ≢ other → (i : ℕ) × IsCut (range_in ranges i) (byte + 1)
+  changed : (one other : Option ℕ) → IsOwnerIn ranges byte one → IsOwnerIn ranges (byte + 1) other → one ≢ other
+      → (i : ℕ) × IsCut (range_in ranges i) (byte + 1)
   changed None None p q apart = absurd (apart refl)
   changed None (Some j) p q apart = (j, entered (range_in ranges j) byte (p j) q.0)
   changed (Some i) None p q apart = (i, left (range_in ranges i) byte p.0 (q i))
@@ -62,7 +65,10 @@ passed_rises byte later cut after = elim (cases_lt later cut) [
   | inl before ↦ (omega (arith, passed_none byte cut (omega arith)), omega (arith, passed_none later cut before))
   | inr reached ↦ elim (cases_lt byte cut) [
     | inl before ↦ (omega (arith, passed_none byte cut before), omega (arith, passed_one later cut reached))
-    | inr sooner ↦ (omega (arith, passed_one byte cut sooner, passed_one later cut reached), omega (arith, passed_one later cut reached))
+    | inr sooner ↦ (
+      omega (arith, passed_one byte cut sooner, passed_one later cut reached),
+      omega (arith, passed_one later cut reached),
+    )
   ]
 ]
 
@@ -70,25 +76,54 @@ cuts_at_most : (byte : ℕ) (ranges : List ByteRange) → cuts_passed byte range
 unfolding cuts_passed
 cuts_at_most byte [] = omega arith
 cuts_at_most byte (range ∷ ranges) =
-    omega (arith, cuts_at_most byte ranges, (passed_rises byte byte range.start (omega arith)).1, (passed_rises byte byte range.end (omega arith)).1)
+    omega (
+      arith,
+      cuts_at_most byte ranges,
+      (passed_rises byte byte range.start (omega arith)).1,
+      (passed_rises byte byte range.end (omega arith)).1,
+    )
 
-cuts_rise : (byte later : ℕ) (ranges : List ByteRange) → byte ≤ later → cuts_passed byte ranges ≤ cuts_passed later ranges
+cuts_rise : (byte later : ℕ) (ranges : List ByteRange) → byte ≤ later
+    → cuts_passed byte ranges ≤ cuts_passed later ranges
 unfolding cuts_passed
 cuts_rise byte later [] after = omega arith
 cuts_rise byte later (range ∷ ranges) after =
-    omega (arith, cuts_rise byte later ranges after, (passed_rises byte later range.start after).0, (passed_rises byte later range.end after).0)
+    omega (
+      arith,
+      cuts_rise byte later ranges after,
+      (passed_rises byte later range.start after).0,
+      (passed_rises byte later range.end after).0,
+    )
 
 -- one more is passed at a cut
-one_more : (byte later : ℕ) (ranges : List ByteRange) (i : ℕ) → byte < later → IsCut (range_in ranges i) later → cuts_passed byte ranges + 1 ≤ cuts_passed later ranges
+one_more : (byte later : ℕ) (ranges : List ByteRange) (i : ℕ) → byte < later → IsCut (range_in ranges i) later
+    → cuts_passed byte ranges + 1 ≤ cuts_passed later ranges
 unfolding cuts_passed
 one_more byte later [] i after (inl at) = absurd (omega arith)
 one_more byte later [] i after (inr at) = absurd (omega arith)
 one_more byte later (range ∷ ranges) zero after (inl at) =
-    omega (arith, cuts_rise byte later ranges (omega arith), passed_none byte range.start (omega arith), passed_one later range.start (omega arith), (passed_rises byte later range.end (omega arith)).0)
+    omega (
+      arith,
+      cuts_rise byte later ranges (omega arith),
+      passed_none byte range.start (omega arith),
+      passed_one later range.start (omega arith),
+      (passed_rises byte later range.end (omega arith)).0,
+    )
 one_more byte later (range ∷ ranges) zero after (inr at) =
-    omega (arith, cuts_rise byte later ranges (omega arith), passed_none byte range.end (omega arith), passed_one later range.end (omega arith), (passed_rises byte later range.start (omega arith)).0)
+    omega (
+      arith,
+      cuts_rise byte later ranges (omega arith),
+      passed_none byte range.end (omega arith),
+      passed_one later range.end (omega arith),
+      (passed_rises byte later range.start (omega arith)).0,
+    )
 one_more byte later (range ∷ ranges) (suc i) after at =
-    omega (arith, one_more byte later ranges i after at, (passed_rises byte later range.start (omega arith)).0, (passed_rises byte later range.end (omega arith)).0)
+    omega (
+      arith,
+      one_more byte later ranges i after at,
+      (passed_rises byte later range.start (omega arith)).0,
+      (passed_rises byte later range.end (omega arith)).0,
+    )
 
 -- ---- each run but the first begins at a cut
 
@@ -101,15 +136,23 @@ module _ (to : ℕ) (ranges : List ByteRange) (runs : List Run) (are : AreRunsTo
       let next = run_at to runs (k + 1) in
       let meet : run.last + 1 ≡ next.first = are.gapless k (omega arith) in
       let here = are.owned k run.last (omega arith) (are.proper k (omega arith), omega arith) in
-      let there = are.owned (k + 1) (run.last + 1) within (omega (arith, meet), omega (arith, meet, are.proper (k + 1) within)) in
+      let there = are.owned (k + 1) (run.last + 1) within (
+        omega (arith, meet),
+        omega (arith, meet, are.proper (k + 1) within),
+      ) in
       let cut = changed ranges run.last run.owner next.owner here there (are.apart k within) in
-      let more = one_more (start_at to runs k) (run.last + 1) ranges cut.0 (omega (arith, are.proper k (omega arith))) cut.1 in
+      let more = one_more (start_at to runs k) (run.last
+      + 1) ranges cut.0 (omega (arith, are.proper k (omega arith))) cut.1 in
       let bound : k + 1 ≤ cuts_passed (run.last + 1) ranges = omega (arith, ranked k (omega arith), more) in
       let next_bound : k + 1 ≤ cuts_passed next.first ranges = rw meet at bound in
       rw (← add-one) next_bound
 
   pub few_runs : length runs ≤ 2 * length ranges + 1
   few_runs = elim (cases_lt 0 (length runs)) [
-    | inl some ↦ omega (arith, ranked (length runs - 1) (omega arith), cuts_at_most (start_at to runs (length runs - 1)) ranges)
+    | inl some ↦ omega (
+      arith,
+      ranked (length runs - 1) (omega arith),
+      cuts_at_most (start_at to runs (length runs - 1)) ranges,
+    )
     | inr none ↦ omega arith
   ]

@@ -14,7 +14,8 @@ rule_alike mml c = search rules
 default_alike : (mml mmwp : Bool) → default_rights_by mml mmwp U ≡ default_rights_by mml mmwp S
 default_alike mml mmwp = search rules
 
-pub rights_kept : (file : RegisterFile) (owner : Option ℕ) (mode : Mode) → kept_rights (answers_of file owner) mode ≡ perms_of (owned_rights file owner mode)
+pub rights_kept : (file : RegisterFile) (owner : Option ℕ) (mode : Mode)
+    → kept_rights (answers_of file owner) mode ≡ perms_of (owned_rights file owner mode)
 rights_kept file owner M = refl
 rights_kept file None S = ap perms_of (default_alike file.mseccfg.mml file.mseccfg.mmwp)
 rights_kept file (Some i) S = ap perms_of (rule_alike file.mseccfg.mml (entry_at file.entries i).configuration)

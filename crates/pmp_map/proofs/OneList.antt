@@ -1,5 +1,6 @@
 -- Where each byte has one owner, there is one list of runs.
-use Rattle.std.proofs.Common.{◌≡◌, ℕ, zero, suc, ◌+◌, ◌<◌, ◌≤◌, List, length, Option, sym, ap, ◌∙◌, arith, add-one, inl, inr}
+use Rattle.std.proofs.Common.{◌≡◌, ℕ, zero, suc, ◌+◌, ◌<◌, ◌≤◌, List, length, Option, sym, ap, ◌∙◌, arith, add-one, inl}
+use Rattle.std.proofs.Common.{inr}
 use Rattle.std.proofs.lemmas.Bool.{cases_lt}
 use Rattle.std.proofs.lemmas.List.{get_or_default, same_lists}
 use Rattle.pmp_map.specs.declared.run.Run.{Run}
@@ -10,28 +11,45 @@ abbrev run_of : (first last : ℕ) → Option ℕ → Run
 run_of first last owner = record { first = first; last = last; owner = owner }
 
 -- two runs of the same fields
-same_fields : (run other : Run) → run.first ≡ other.first → run.last ≡ other.last → run.owner ≡ other.owner → run ≡ other
+same_fields : (run other : Run) → run.first ≡ other.first → run.last ≡ other.last → run.owner ≡ other.owner
+    → run ≡ other
 same_fields run other first last owner =
-    ap (λ (n : ℕ). run_of n run.last run.owner) first ∙ ap (λ (n : ℕ). run_of other.first n run.owner) last ∙ ap (run_of other.first other.last) owner
+    ap (λ (n : ℕ). run_of n run.last run.owner) first ∙ ap (λ (n : ℕ). run_of other.first n run.owner) last
+    ∙ ap (run_of other.first other.last) owner
 
-module _ (to : ℕ) (Owns : ℕ → Option ℕ → Type 0) (once : (byte : ℕ) (one other : Option ℕ) → Owns byte one → Owns byte other → one ≡ other) where
+module _ (to : ℕ) (Owns : ℕ → Option ℕ → Type 0) (once : (byte : ℕ) (one other : Option ℕ) → Owns byte one
+    → Owns byte other → one ≡ other) where
   -- a run ends no sooner than the other list's run that begins with it
-  not_sooner : (one other : List Run) → AreRunsTo to Owns one → AreRunsTo to Owns other → (k : ℕ) → k < length one → k < length other
-      → start_at to one k ≡ start_at to other k → (run_at to one k).owner ≡ (run_at to other k).owner → (run_at to other k).last ≤ (run_at to one k).last
-  not_sooner one other p q k inside within begin owner = elim (cases_lt (run_at to one k).last (run_at to other k).last) [
-    | inr le ↦ le
-    | inl sooner ↦
-        let next = start_at to one (k + 1) in
-        let end : next ≤ (run_at to other k).last = omega (arith, p.gapless k inside) in
-        let below : next < to = omega (arith, q.gapless k within, starts_rise to Owns other q (k + 1) (length other) (omega arith) (omega arith), start_past to other (length other) (omega arith)) in
-        let more : k + 1 < length one = elim (cases_lt (k + 1) (length one)) [ inl lt ↦ lt | inr past ↦ absurd (omega (arith, start_past to one (k + 1) past)) ] in
-        let here = p.owned (k + 1) next more (omega arith, p.proper (k + 1) more) in
-        let there = q.owned k next within (omega (arith, p.gapless k inside, p.proper k inside), end) in
-        absurd (p.apart k more (owner ∙ sym (once next (run_at to one (k + 1)).owner (run_at to other k).owner here there)))
-  ]
+  not_sooner : (one other : List Run) → AreRunsTo to Owns one → AreRunsTo to Owns other → (k : ℕ) → k < length one
+      → k < length other
+      → start_at to one k ≡ start_at to other k → (run_at to one k).owner ≡ (run_at to other k).owner
+      → (run_at to other k).last ≤ (run_at to one k).last
+  not_sooner one other p q k inside within begin owner =
+      elim (cases_lt (run_at to one k).last (run_at to other k).last) [
+        | inr le ↦ le
+        | inl sooner ↦
+            let next = start_at to one (k + 1) in
+            let end : next ≤ (run_at to other k).last = omega (arith, p.gapless k inside) in
+            let below : next < to = omega (
+              arith,
+              q.gapless k within,
+              starts_rise to Owns other q (k + 1) (length other) (omega arith) (omega arith),
+              start_past to other (length other) (omega arith),
+            ) in
+            let more : k + 1 < length one = elim (cases_lt (k + 1) (length one)) [
+              | inl lt ↦ lt
+              | inr past ↦
+                  absurd (omega (arith, start_past to one (k + 1) past))
+            ] in
+            let here = p.owned (k + 1) next more (omega arith, p.proper (k + 1) more) in
+            let there = q.owned k next within (omega (arith, p.gapless k inside, p.proper k inside), end) in
+            absurd (p.apart k more (owner ∙ sym (once next (run_at to one (k + 1)).owner (run_at to other k).owner here
+            there)))
+      ]
 
   module _ (one other : List Run) (p : AreRunsTo to Owns one) (q : AreRunsTo to Owns other) where
-    same_run : (k : ℕ) → k < length one → k < length other → start_at to one k ≡ start_at to other k → run_at to one k ≡ run_at to other k
+    same_run : (k : ℕ) → k < length one → k < length other → start_at to one k ≡ start_at to other k
+        → run_at to one k ≡ run_at to other k
     same_run k inside within begin =
         let first = start_at to one k in
         let here = p.owned k first inside (omega arith, p.proper k inside) in
@@ -44,13 +62,19 @@ module _ (to : ℕ) (Owns : ℕ → Option ℕ → Type 0) (once : (byte : ℕ) 
     same_starts : (k : ℕ) → k ≤ length one → k ≤ length other → start_at to one k ≡ start_at to other k
     same_starts zero inside within = p.begins ∙ sym q.begins
     same_starts (suc k) inside within =
-        let last = ap (λ (run : Run). run.last) (same_run k (omega arith) (omega arith) (same_starts k (omega arith) (omega arith))) in
+        let last = ap (λ (run : Run). run.last) (same_run k (omega arith) (omega arith)
+        (same_starts k (omega arith) (omega arith))) in
         rw (← add-one) (omega (arith, last, p.gapless k (omega arith), q.gapless k (omega arith)))
 
     not_longer : length one ≤ length other → length other ≤ length one
     not_longer short = elim (cases_lt (length one) (length other)) [
       | inr le ↦ le
-      | inl more ↦ absurd (omega (arith, start_past to one (length one) (omega arith), same_starts (length one) (omega arith) (omega arith), start_below to Owns other q (length one) more))
+      | inl more ↦ absurd (omega (
+        arith,
+        start_past to one (length one) (omega arith),
+        same_starts (length one) (omega arith) (omega arith),
+        start_below to Owns other q (length one) more,
+      ))
     ]
 
   same_length : (one other : List Run) → AreRunsTo to Owns one → AreRunsTo to Owns other → length one ≡ length other
@@ -63,4 +87,6 @@ module _ (to : ℕ) (Owns : ℕ → Option ℕ → Type 0) (once : (byte : ℕ) 
   one_list one other p q =
       let lengths = same_length one other p q in
       same_lists one other lengths (λ k d inside.
-      get_or_default one k d _ inside ∙ same_run one other p q k inside (omega arith) (same_starts one other p q k (omega arith) (omega arith)) ∙ sym (get_or_default other k d _ (omega arith)))
+      get_or_default one k d _ inside
+      ∙ same_run one other p q k inside (omega arith) (same_starts one other p q k (omega arith) (omega arith))
+      ∙ sym (get_or_default other k d _ (omega arith)))

@@ -1,5 +1,6 @@
 -- One run more.
-use Rattle.std.proofs.Common.{◌≡◌, ◌≢◌, ℕ, ◌+◌, ◌-◌, ◌<◌, ◌≤◌, List, [], ◌∷◌, ◌++◌, length, Option, refl, sym, ap, ◌∙◌, arith, length-append, inl, inr}
+use Rattle.std.proofs.Common.{◌≡◌, ◌≢◌, ℕ, ◌+◌, ◌-◌, ◌<◌, ◌≤◌, List, [], ◌∷◌, ◌++◌, length, Option, refl, sym, ap, ◌∙◌}
+use Rattle.std.proofs.Common.{arith, length-append, inl, inr}
 use Rattle.std.proofs.lemmas.Bool.{cases_lt}
 use Rattle.std.proofs.lemmas.List.{get_or_default}
 use Rattle.std.proofs.Math.ListN.{get_or-append}
@@ -36,7 +37,8 @@ pub record IsNextRun (to : ℕ) (Owns : ℕ → Option ℕ → Type 0) (runs : L
   pub owned : (byte : ℕ) → IsInRun run byte → Owns byte run.owner
   pub apart : (k : ℕ) → k + 1 ≡ length runs → (run_at to runs k).owner ≢ run.owner
 
-module _ (to : ℕ) (Owns : ℕ → Option ℕ → Type 0) (runs : List Run) (run : Run) (are : AreRunsTo to Owns runs) (next : IsNextRun to Owns runs run) where
+module _ (to : ℕ) (Owns : ℕ → Option ℕ
+    → Type 0) (runs : List Run) (run : Run) (are : AreRunsTo to Owns runs) (next : IsNextRun to Owns runs run) where
   pub pushed : (end : ℕ) → run.last + 1 ≡ end → AreRunsTo end Owns (runs ++ run ∷ [])
   pushed end ends = record {
     begins = old_start to end runs run next.begins 0 (omega arith) ∙ are.begins;
@@ -45,9 +47,11 @@ module _ (to : ℕ) (Owns : ℕ → Option ℕ → Type 0) (runs : List Run) (ru
       | inr le ↦ rw (new_run to end runs run k (omega (arith, length_pushed to end runs run))) next.proper
     ];
     gapless = λ k inside. elim (cases_lt k (length runs)) [
-      | inl lt ↦ rw (old_run to end runs run k lt) (are.gapless k lt ∙ sym (old_start to end runs run next.begins (k + 1) (omega arith)))
+      | inl lt ↦ rw (old_run to end runs run k lt) (are.gapless k lt
+          ∙ sym (old_start to end runs run next.begins (k + 1) (omega arith)))
       | inr le ↦
-          rw (new_run to end runs run k (omega (arith, length_pushed to end runs run))) (ends ∙ sym (new_start to end runs run (k + 1) (omega arith)))
+          rw (new_run to end runs run k (omega (arith, length_pushed to end runs run))) (ends
+          ∙ sym (new_start to end runs run (k + 1) (omega arith)))
     ];
     owned = λ k byte inside. elim (cases_lt k (length runs)) [
       | inl lt ↦ rw (old_run to end runs run k lt) (are.owned k byte lt)
@@ -65,8 +69,10 @@ module _ (to : ℕ) (Owns : ℕ → Option ℕ → Type 0) (runs : List Run) (ru
   last_pushed end k last = new_run to end runs run k (omega (arith, length_pushed to end runs run))
 
 -- the bytes up to the next change of owner
-pub next_run : (ranges : List ByteRange) (runs : List Run) (first end : ℕ) (owner : Option ℕ) → first < end → OwnsBytes ranges first end owner
-    → ((k : ℕ) → k + 1 ≡ length runs → (run_at first runs k).owner ≢ owner) → IsNextRun first (IsOwnerIn ranges) runs (record { first = first; last = end - 1; owner = owner })
+pub next_run : (ranges : List ByteRange) (runs : List Run) (first end : ℕ) (owner : Option ℕ) → first < end
+    → OwnsBytes ranges first end owner
+    → ((k : ℕ) → k + 1 ≡ length runs → (run_at first runs k).owner ≢ owner)
+    → IsNextRun first (IsOwnerIn ranges) runs (record { first = first; last = end - 1; owner = owner })
 next_run ranges runs first end owner some owned apart = record {
   begins = refl;
   proper = omega arith;

@@ -28,7 +28,10 @@ split_cause (Some i) = Split i
 
 -- the decision where all bytes of the access have this owner
 abbrev pub decision_by : RegisterFile → Option ℕ → Access → Decision
-decision_by file owner access = record { allowed = allows (owned_rights file owner access.mode) access.kind; cause = whole_cause owner }
+decision_by file owner access = record {
+  allowed = allows (owned_rights file owner access.mode) access.kind;
+  cause = whole_cause owner;
+}
 
 -- the decision where they have several, of which this is the least
 abbrev pub refusal_by : Option ℕ → Decision

@@ -19,7 +19,8 @@ AreStarts runs starts = (k : ℕ) → k < PLACES → slice_index starts k ≡ (m
 
 -- what each run answers
 abbrev pub AreAnswers : RegisterFile → List Run → List Answers → Type 0
-AreAnswers file runs answers = (k : ℕ) → k < length runs → slice_get answers k ≡ Some (answers_of file (map_run runs k).owner)
+AreAnswers file runs answers = (k : ℕ) → k < length runs
+    → slice_get answers k ≡ Some (answers_of file (map_run runs k).owner)
 
 -- the tables of a register file
 pub record IsMapOf (file : RegisterFile) (runs : List Run) (starts : List ℕ) (answers : List Answers) : Type 0 where

@@ -8,7 +8,8 @@ ghost use Rattle.pmp_map.specs.Runs.{AreRuns};
 
 /// Entries have one list of runs.
 pub fn law_one_list_of_runs()
-    ensures { (entries : List Entry) (one other : List Run) → AreRuns entries one → AreRuns entries other → one ≡ other }
+    ensures { (entries : List Entry) (one other : List Run) → AreRuns entries one → AreRuns entries other
+        → one ≡ other }
 {}
 
 /// Each entry adds at most two cuts, so that there is at most one run more than twice as many as entries.

@@ -9,7 +9,8 @@ use Rattle.pmp_core.proofs.decision_by_ranges.decide.Goals as goal
 
 pub loop-index-init : goal.loop-index-init
 unfolding decision_of
-loop-index-init c = ap (decision_from (file_of c.args.mseccfg.now c.args.entries.now) c.args.access.now 0) c.requires.decoded
+loop-index-init c = ap (decision_from (file_of c.args.mseccfg.now c.args.entries.now) c.args.access.now 0)
+    c.requires.decoded
 
 pub decide_in-requires-clause-index : goal.decide_in-requires-clause-index
 decide_in-requires-clause-index c =
@@ -18,18 +19,21 @@ decide_in-requires-clause-index c =
 pub returns-then-is_touched : goal.returns-then-is_touched
 returns-then-is_touched c =
     let file = file_of c.args.mseccfg.now c.args.entries.now in
-    c.decide_in.ensures ∙ sym (pass_touched file c.args.access.now c.args.ranges.now c.loop-index.index c.loop-index-test.true (sym c.is_touched.ensures ∙ c.if-is_touched.true))
+    c.decide_in.ensures ∙ sym (pass_touched file c.args.access.now c.args.ranges.now c.loop-index.index
+    c.loop-index-test.true (sym c.is_touched.ensures ∙ c.if-is_touched.true))
     ∙ c.loop-index.invariant
 
 pub loop-index-preserved : goal.loop-index-preserved
 loop-index-preserved c =
     let file = file_of c.args.mseccfg.now c.args.entries.now in
-    sym (pass_untouched file c.args.access.now c.args.ranges.now c.loop-index.index c.loop-index-test.true (sym c.is_touched.ensures ∙ c.if-is_touched.false))
+    sym (pass_untouched file c.args.access.now c.args.ranges.now c.loop-index.index c.loop-index-test.true
+    (sym c.is_touched.ensures ∙ c.if-is_touched.false))
     ∙ c.loop-index.invariant
 
 pub returns : goal.returns
 returns c =
     let file = file_of c.args.mseccfg.now c.args.entries.now in
     let unmatched : Bool → Decision = λ allowed. record { allowed = allowed; cause = NoMatch } in
-    ap unmatched (c.allows.ensures.by_rights _ c.default_rights_by.ensures) ∙ sym (pass_end file c.args.access.now c.args.ranges.now c.loop-index.index c.loop-index-test.false)
+    ap unmatched (c.allows.ensures.by_rights _ c.default_rights_by.ensures)
+    ∙ sym (pass_end file c.args.access.now c.args.ranges.now c.loop-index.index c.loop-index-test.false)
     ∙ c.loop-index.invariant

@@ -22,6 +22,8 @@ pub returns : goal.returns
 returns c =
     let k = trailing_ones w64 c.args.address in
     let s = shifts c.args.address c.requires in
-    let from : c.args.address / 2 ^ (k + 1) * 2 ^ (k + 3) % 2 ^ 64 ≡ c.args.address / 2 ^ (k + 1) * 2 ^ (k + 3) = mod-eq_of_lt (omega (arith, s.from)) in
-    let size : 1 * 2 ^ (k + 3) % 2 ^ 64 ≡ 2 ^ (k + 3) = ap (λ (p : ℕ). p % 2 ^ 64) (one-mul (2 ^ (k + 3))) ∙ mod-eq_of_lt (omega (arith, s.size)) in
+    let from : c.args.address / 2 ^ (k + 1) * 2 ^ (k + 3) % 2 ^ 64 ≡ c.args.address / 2 ^ (k + 1) * 2 ^ (k + 3) =
+    mod-eq_of_lt (omega (arith, s.from)) in
+    let size : 1 * 2 ^ (k + 3) % 2 ^ 64 ≡ 2 ^ (k + 3) =
+    ap (λ (p : ℕ). p % 2 ^ 64) (one-mul (2 ^ (k + 3))) ∙ mod-eq_of_lt (omega (arith, s.size)) in
     rw (c.trailing_ones-ones.ensures, from, size) refl

@@ -12,6 +12,8 @@ unfolding configuration_word
 returns c =
     let loop = c.loop-place in
     let value : List ℕ → ℕ = from_le_bytes w64 in
-    let filled : loop.bytes ≡ map (λ j. byte_of (entry_at c.args.entries.now (4 * c.args.register + j)).configuration) (range_with_len 0 8) =
-    fill_by_all _ loop.bytes 8 0 loop.invariant.0 (λ k h. rw c.from-first.ensures at (loop.invariant.1 k (omega arith))) in
+    let filled : loop.bytes ≡ map (λ j. byte_of (entry_at c.args.entries.now (4 * c.args.register
+    + j)).configuration) (range_with_len 0 8) =
+    fill_by_all _ loop.bytes 8 0 loop.invariant.0 (λ k h. rw c.from-first.ensures at
+    (loop.invariant.1 k (omega arith))) in
     c.from_le_bytes.ensures ∙ ap value filled

@@ -5,4 +5,5 @@ use Rattle.pmp_core.proofs.register_value.configuration_word.Given as goal
 
 abbrev pub invariant-loop-place : goal.invariant-loop-place
 invariant-loop-place l =
-    (length l.bytes ≡ 8) × ((k : ℕ) → k < l.place → get_or l.bytes k 0 ≡ byte_of (entry_at l.entries (l.first + k)).configuration)
+    (length l.bytes ≡ 8) × ((k : ℕ) → k < l.place
+    → get_or l.bytes k 0 ≡ byte_of (entry_at l.entries (l.first + k)).configuration)

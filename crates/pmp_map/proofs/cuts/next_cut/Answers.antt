@@ -16,7 +16,8 @@ loop-range-preserved c =
         | inl before ↦ loop.invariant.2 i before other from (omega (arith, low.bounded, lowest.bounded))
         | inr after ↦
             let here : i ≡ loop.range-index = omega arith in
-            rw here (alike_between (range_in ranges loop.range-index) c.args.byte other c.lower_cut-next.result lowest.reached (λ above. omega (arith, low.reached above, lowest.bounded)) from to)
+            rw here (alike_between (range_in ranges loop.range-index) c.args.byte other c.lower_cut-next.result
+            lowest.reached (λ above. omega (arith, low.reached above, lowest.bounded)) from to)
       ],
     )
 

@@ -18,14 +18,15 @@ loop-width-preserved c =
     let between : IsBetween starts byte PLACES low (half + half) = rw halved.1 at c.loop-width.invariant.1 in
     let middle : ℕ = slice_index starts (low + half) in (
       halved.0,
-      elim (leb middle byte) as (λ at_or_below. leb middle byte ≡ at_or_below → IsBetween starts byte PLACES (low + half * c.from.result) half) [
-        | true ↦ λ tested.
-            let one : c.from.result ≡ 1 = rw tested at c.from.ensures in
-            let next : low + half * c.from.result ≡ low + half = rw one (omega arith) in
-            rw next (upper_half starts byte PLACES low half between (leb-true middle byte tested))
-        | false ↦ λ tested.
-            let none : c.from.result ≡ 0 = rw tested at c.from.ensures in
-            let next : low + half * c.from.result ≡ low = rw none (omega arith) in
-            rw next (lower_half starts byte PLACES low half between (leb-false middle byte tested))
-      ] refl,
+      elim (leb middle byte) as (λ at_or_below. leb middle byte ≡ at_or_below
+          → IsBetween starts byte PLACES (low + half * c.from.result) half) [
+            | true ↦ λ tested.
+                let one : c.from.result ≡ 1 = rw tested at c.from.ensures in
+                let next : low + half * c.from.result ≡ low + half = rw one (omega arith) in
+                rw next (upper_half starts byte PLACES low half between (leb-true middle byte tested))
+            | false ↦ λ tested.
+                let none : c.from.result ≡ 0 = rw tested at c.from.ensures in
+                let next : low + half * c.from.result ≡ low = rw none (omega arith) in
+                rw next (lower_half starts byte PLACES low half between (leb-false middle byte tested))
+          ] refl,
     )

@@ -6,4 +6,5 @@ use Rattle.pmp_map.proofs.tables.answers_of.Given as goal
 
 abbrev pub invariant-loop-place : goal.invariant-loop-place
 invariant-loop-place l =
-    (length l.answers ≡ RUNS) × ((k : ℕ) → k < l.place → slice_get l.answers k ≡ Some (answers_of l.file (map_run l.runs k).owner))
+    (length l.answers ≡ RUNS) × ((k : ℕ) → k < l.place
+    → slice_get l.answers k ≡ Some (answers_of l.file (map_run l.runs k).owner))

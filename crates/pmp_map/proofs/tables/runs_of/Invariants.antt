@@ -7,7 +7,8 @@ use Rattle.pmp_map.proofs.tables.runs_of.Given as goal
 abbrev pub invariant-loop-first : goal.invariant-loop-first
 invariant-loop-first l =
     AreRunsTo l.first (IsOwnerIn l.ranges) l.runs.items × (l.first ≤ 2 ^ 56)
-    × (l.first < 2 ^ 56 → (k : ℕ) → k + 1 ≡ length l.runs.items → (other : Option ℕ) → IsOwnerIn l.ranges l.first other → (run_at l.first l.runs.items k).owner ≢ other)
+    × (l.first < 2 ^ 56 → (k : ℕ) → k + 1 ≡ length l.runs.items → (other : Option ℕ) → IsOwnerIn l.ranges l.first other
+    → (run_at l.first l.runs.items k).owner ≢ other)
 
 abbrev pub decreases-loop-first : goal.decreases-loop-first
 decreases-loop-first l = 2 ^ 56 - l.first

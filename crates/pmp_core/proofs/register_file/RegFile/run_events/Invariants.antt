@@ -3,4 +3,5 @@ use Rattle.pmp_core.specs.Writing.{step}
 use Rattle.pmp_core.proofs.register_file.RegFile.run_events.Given as goal
 
 abbrev pub invariant-loop-event : goal.invariant-loop-event
-invariant-loop-event l = (fold step l.self (drop l.event-index l.events) ≡ fold step l.fn.self l.events) × (length l.self.entries ≡ length l.fn.self.entries)
+invariant-loop-event l = (fold step l.self (drop l.event-index l.events) ≡ fold step l.fn.self l.events)
+    × (length l.self.entries ≡ length l.fn.self.entries)

@@ -18,4 +18,8 @@ returns c =
     let at = place (goal.at.returns c).After-place_of in
     let past : Run = record { first = 2 ^ 56; last = 2 ^ 56; owner = None } in
     let owned = c.self.invariant.runs_are.owned c.place_of.result c.args.byte at.inside at.here in
-    rw (← c.self.view_is, c.deref.ensures.0, get_or_default c.self.inside.runs.items c.place_of.result _ past at.inside) owned
+    rw (
+      ← c.self.view_is,
+      c.deref.ensures.0,
+      get_or_default c.self.inside.runs.items c.place_of.result _ past at.inside,
+    ) owned
