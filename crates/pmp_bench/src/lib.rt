@@ -90,6 +90,21 @@ fn mapped_answer(file: &RegFile, map: &RunMap, request: &Request) -> u16
     }
 }
 
+/// Answers requests in order, and counts the allowed ones.
+fn answer_all<F: Fn(&Request) -> u16>(requests: &[Request], answers: &mut [u16], answer: F) -> usize
+    requires places { length answers.old ≡ length requests.now }
+    requires callable { F.IsAlwaysCallable answer }
+    ensures { result ≤ length requests.now }
+{
+    let mut allowed = 0;
+    for index in 0..requests.len() {
+        let number = answer(&requests[index]);
+        answers[index] = number;
+        allowed += usize::from(number >= 1024);
+    }
+    allowed
+}
+
 /// Answers requests in order, as decided after these writes from reset, and counts the allowed ones.
 #[unsafe(no_mangle)]
 pub extern "C" fn pmp_bench_decide(
@@ -101,13 +116,7 @@ pub extern "C" fn pmp_bench_decide(
     ensures { result ≤ length requests.now }
 {
     let file = file_after(writes);
-    let mut allowed = 0;
-    for index in 0..requests.len() {
-        let answer = answer(&file, &requests[index]);
-        answers[index] = answer;
-        allowed += usize::from(answer >= 1024);
-    }
-    allowed
+    answer_all(requests, answers, |request| answer(&file, request))
 }
 
 /// The same by a map that is built once.
@@ -122,13 +131,11 @@ pub extern "C" fn pmp_bench_decide_by_map(
 {
     let file = file_after(writes);
     let map = RunMap::build(&file);
-    let mut allowed = 0;
-    for index in 0..requests.len() {
-        let answer = mapped_answer(&file, &map, &requests[index]);
-        answers[index] = answer;
-        allowed += usize::from(answer >= 1024);
-    }
-    allowed
+    answer_all(
+        requests,
+        answers,
+        |request| mapped_answer(&file, &map, request),
+    )
 }
 
 #[inline(never)]

@@ -65,8 +65,8 @@ module _ (file : RegisterFile) (access : Access) (runs part : List Run) (p q : �
         | inr same ↦ let here : p ≡ k = omega arith in
             (access.start, (omega arith, omega arith), rw here at straddles.first)
         | inl after ↦
-            let higher = starts_rise (2 ^ 56) (IsOwner file.entries) runs are (p
-            + 1) k (omega arith) (omega (arith, straddles.inside)) in
+            let higher = starts_rise (2 ^ 56) (IsOwner file.entries) runs are (p + 1) k (omega arith)
+            (omega (arith, straddles.inside)) in
             let lower = starts_rise (2 ^ 56) (IsOwner file.entries) runs are k q to (omega (arith, straddles.inside)) in
             let gap = are.gapless p (omega (arith, straddles.inside)) in (
               start_at (2 ^ 56) runs k,

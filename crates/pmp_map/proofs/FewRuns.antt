@@ -141,8 +141,8 @@ module _ (to : ℕ) (ranges : List ByteRange) (runs : List Run) (are : AreRunsTo
         omega (arith, meet, are.proper (k + 1) within),
       ) in
       let cut = changed ranges run.last run.owner next.owner here there (are.apart k within) in
-      let more = one_more (start_at to runs k) (run.last
-      + 1) ranges cut.0 (omega (arith, are.proper k (omega arith))) cut.1 in
+      let rises : start_at to runs k < run.last + 1 = omega (arith, are.proper k (omega arith)) in
+      let more = one_more (start_at to runs k) (run.last + 1) ranges cut.0 rises cut.1 in
       let bound : k + 1 ≤ cuts_passed (run.last + 1) ranges = omega (arith, ranked k (omega arith), more) in
       let next_bound : k + 1 ≤ cuts_passed next.first ranges = rw meet at bound in
       rw (← add-one) next_bound

@@ -62,15 +62,15 @@ module _ (m : Inside) (map : IsMapOf m.file.value m.runs.items m.starts m.answer
       places_rise = elim (cases_lt place last) [
         | inl lt ↦ lt
         | inr le ↦
-            let before = run_before (2 ^ 56) (IsOwner m.file.value.entries) m.runs.items map.runs_are last (access.start
-            + access.length - 1) end.inside end.here in
+            let before = run_before (2 ^ 56) (IsOwner m.file.value.entries) m.runs.items map.runs_are last
+            (access.start + access.length - 1) end.inside end.here in
             absurd (omega (
               arith,
               before,
               next_start,
               at.inside,
-              starts_rise (2 ^ 56) (IsOwner m.file.value.entries) m.runs.items map.runs_are (last + 1) (place
-                  + 1) (omega arith) (omega (arith, at.inside)),
+              starts_rise (2 ^ 56) (IsOwner m.file.value.entries) m.runs.items map.runs_are (last + 1) (place + 1)
+                  (omega arith) (omega (arith, at.inside)),
             ))
       ]
 
