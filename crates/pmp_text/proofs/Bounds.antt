@@ -18,6 +18,7 @@ use Rattle.pmp_text.specs.Statements.{statement_of}
 use Rattle.pmp_text.specs.Scripts.{Line, at_line, numbered_from, counts, significant_from, significant_lines, is_version, script_meaning}
 use Rattle.pmp_text.specs.Progress.{Progress, beginning, published, after_statement, all_published, resumed}
 use Rattle.pmp_text.specs.Sizes.{said}
+use Rattle.pmp_text.specs.Limits.{script_limit}
 use Rattle.pmp_text.proofs.Meanings.{too_long, no_version, other_version, this_version}
 
 abbrev ok : List (List Event) → Result (List (List Event)) ScriptFault
@@ -101,7 +102,7 @@ lines_and_bytes text =
 
 -- ---- the law
 
-by_version : (is : Bool) (text : List ℕ) (short : length text ≤ 1048576) (version : Line) (more : List Line) (batches : List (List Event)) → significant_lines text ≡ version ∷ more → is_version version.words ≡ is → script_meaning text ≡ Ok batches → said batches ≤ length text
+by_version : (is : Bool) (text : List ℕ) (short : length text ≤ script_limit) (version : Line) (more : List Line) (batches : List (List Event)) → significant_lines text ≡ version ∷ more → is_version version.words ≡ is → script_meaning text ≡ Ok batches → said batches ≤ length text
 by_version false text short version more batches lines is e = let refused = sym e ∙ other_version text short version more lines is in absurd cc
 by_version true text short version more batches lines is e =
     let n = bounded_by_lines more beginning batches (sym (this_version text short version more lines is) ∙ e) in
@@ -109,13 +110,13 @@ by_version true text short version more batches lines is e =
     let k = ap length lines in
     omega arith
 
-by_lines_read : (ls : List Line) (text : List ℕ) (short : length text ≤ 1048576) (batches : List (List Event)) → significant_lines text ≡ ls → script_meaning text ≡ Ok batches → said batches ≤ length text
+by_lines_read : (ls : List Line) (text : List ℕ) (short : length text ≤ script_limit) (batches : List (List Event)) → significant_lines text ≡ ls → script_meaning text ≡ Ok batches → said batches ≤ length text
 by_lines_read [] text short batches lines e = let refused = sym e ∙ no_version text short lines in absurd cc
 by_lines_read (version ∷ more) text short batches lines e = by_version (is_version version.words) text short version more batches lines refl e
 
-pub said_at_most : (text : List ℕ) (batches : List (List Event)) → script_meaning text ≡ Ok batches → (said batches ≤ length text) × (length text ≤ 1048576)
+pub said_at_most : (text : List ℕ) (batches : List (List Event)) → script_meaning text ≡ Ok batches → (said batches ≤ length text) × (length text ≤ script_limit)
 said_at_most text batches e =
-    elim (cases_lt 1048576 (length text)) [
+    elim (cases_lt script_limit (length text)) [
       | inl long ↦ let refused = sym e ∙ too_long text long in absurd cc
       | inr short ↦ (by_lines_read (significant_lines text) text short batches refl e, short)
     ]

@@ -14,6 +14,7 @@ use Rattle.pmp_text.specs.Traces.{access_kind, after_said, at_row, falls_behind,
 use Rattle.pmp_text.specs.Outcomes.{GivesRows}
 use Rattle.pmp_text.specs.Views.{row_fields}
 use Rattle.pmp_text.specs.TraceFaults.{after_before, row_fault_at, IsInOrder, afters}
+use Rattle.pmp_text.specs.Limits.{trace_limit}
 use Rattle.pmp_text.proofs.LeastFaults.{Judges, judged_here, judged_as, the_first}
 use Rattle.pmp_text.proofs.Rows.{this_header}
 
@@ -51,7 +52,7 @@ module _ (publications : ℕ) where
   first_row_is_least rows = judged_as (fault_behind None 1 rows) (row_fault_at publications rows) (first_row_fault publications None 1 rows) (counted_from_one rows) (judged_behind rows None 1)
 
   pub least_row_is_answered : (text : List ℕ) (header : List (List ℕ)) (rows : Records) (fault : TraceFault)
-      → length text ≤ 16777216 → trace_records text ≡ header ∷ rows → is_header header ≡ true → IsLeastFault (row_fault_at publications rows) fault → trace_meaning publications text ≡ Err fault
+      → length text ≤ trace_limit → trace_records text ≡ header ∷ rows → is_header header ≡ true → IsLeastFault (row_fault_at publications rows) fault → trace_meaning publications text ≡ Err fault
   least_row_is_answered text header rows fault short records named least =
       this_header publications text short header rows records named
       ∙ ap (λ (first : Option TraceFault). rows_judged first (filter_map row_said rows)) (the_first (row_fault_at publications rows) (first_row_fault publications None 1 rows) fault (first_row_is_least rows) least)
@@ -118,7 +119,7 @@ module _ (publications : ℕ) where
 
     pub trace_in_order : (text : List ℕ) → trace_meaning publications text ≡ Ok rows → IsInOrder publications 0 (afters rows)
     unfolding trace_meaning
-    trace_in_order text e = from_text (nat_lt 16777216 (length text)) text e
+    trace_in_order text e = from_text (nat_lt trace_limit (length text)) text e
 
   pub given_in_order : (text : List ℕ) (result : Result (Vec Row Global) TraceFault) → GivesRows (λ rows. map row_fields rows.items) result (trace_meaning publications text) → IfOk result (λ rows. IsInOrder publications 0 (afters (map row_fields rows.items)))
   given_in_order text (Ok rows) given = trace_in_order (map row_fields rows.items) text given

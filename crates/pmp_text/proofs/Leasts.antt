@@ -5,6 +5,7 @@ use Rattle.std.proofs.lemmas.List.{append-nil, reverse-append}
 use Rattle.pmp_text.specs.declared.script.ScriptFault.{ScriptFault}
 use Rattle.pmp_text.specs.Scripts.{Line, at_line, line_fault, first_fault, judged, first_unpublished, publications, lines_meaning, significant_lines, script_meaning}
 use Rattle.pmp_text.specs.Faults.{fault_at, IsLeastFault}
+use Rattle.pmp_text.specs.Limits.{script_limit}
 use Rattle.pmp_text.proofs.LeastFaults.{Judges, judged_here, judged_as, the_first}
 use Rattle.pmp_text.proofs.Meanings.{by_lines}
 
@@ -36,6 +37,6 @@ refused : (lines : List Line) (fault : ScriptFault) → first_fault [] lines ≡
 refused [] fault e = absurd cc
 refused (version ∷ more) fault e = ap (λ (first : Option ScriptFault). judged first (first_unpublished more) (publications more)) e
 
-pub least_is_answered : (text : List ℕ) (fault : ScriptFault) → length text ≤ 1048576 → IsLeastFault (fault_at (significant_lines text)) fault → script_meaning text ≡ Err fault
+pub least_is_answered : (text : List ℕ) (fault : ScriptFault) → length text ≤ script_limit → IsLeastFault (fault_at (significant_lines text)) fault → script_meaning text ≡ Err fault
 least_is_answered text fault short least =
     by_lines text short ∙ refused (significant_lines text) fault (the_first (fault_at (significant_lines text)) (first_fault [] (significant_lines text)) fault (first_is_least (significant_lines text)) least)

@@ -16,6 +16,7 @@ use Rattle.pmp_text.specs.declared.statement.Statement.TheVariants as statement
 use Rattle.pmp_text.specs.Statements.{statement_of}
 use Rattle.pmp_text.specs.Scripts.{Line, at_line, counted, open_events, statement_fault, first_fault, event_of, publishes, is_publish, but_last, last_piece, judged, is_version, significant_lines, lines_meaning, script_meaning, publications, first_unpublished}
 use Rattle.pmp_text.specs.Progress.{Progress, beginning, published, after_statement, all_published, resumed}
+use Rattle.pmp_text.specs.Limits.{script_limit}
 
 -- what pieces add to an open batch: the batches that they publish, and where events stay open
 abbrev events : List Line → List Event
@@ -167,14 +168,14 @@ no_statement (name ∷ version ∷ []) e = two_words name version ((bytes_eq-Dec
 no_statement (name ∷ version ∷ word ∷ more) e = absurd cc
 
 module _ (text : List ℕ) where
-  pub too_long : 1048576 < length text → script_meaning text ≡ Err (at_line 0 TooLong)
+  pub too_long : script_limit < length text → script_meaning text ≡ Err (at_line 0 TooLong)
   unfolding script_meaning
-  too_long long = cond-true _ _ _ (lt-ltb 1048576 (length text) long)
+  too_long long = cond-true _ _ _ (lt-ltb script_limit (length text) long)
 
-  module _ (short : length text ≤ 1048576) where
+  module _ (short : length text ≤ script_limit) where
     pub by_lines : script_meaning text ≡ lines_meaning (significant_lines text)
     unfolding script_meaning
-    by_lines = cond-false _ _ _ (le-ltb 1048576 (length text) short)
+    by_lines = cond-false _ _ _ (le-ltb script_limit (length text) short)
 
     pub no_version : significant_lines text ≡ [] → script_meaning text ≡ Err (at_line 1 BadVersion)
     no_version lines = by_lines ∙ ap lines_meaning lines

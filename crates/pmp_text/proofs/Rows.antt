@@ -8,6 +8,7 @@ use Rattle.pmp_text.specs.declared.trace.TraceKind.{TraceKind}
 use Rattle.pmp_text.specs.declared.trace.TraceKind.TheVariants.{BadHeader, TooLong}
 use Rattle.pmp_text.specs.declared.trace.TraceFault.{TraceFault}
 use Rattle.pmp_text.specs.Traces.{at_row, first_row_fault, is_header, records_meaning, row_fault, row_said, rows_judged, rows_meaning, trace_meaning, trace_records}
+use Rattle.pmp_text.specs.Limits.{trace_limit}
 
 -- what is meant where so many rows were read, which say this, the last one `last`, and these records are left
 abbrev pub resumed : (publications : ℕ) → (last : Option ℕ) → (count : ℕ) → List RowFields → List (List (List ℕ)) → Result (List RowFields) TraceFault
@@ -27,14 +28,14 @@ module _ (publications : ℕ) (last : Option ℕ) (count : ℕ) (rows : List Row
 -- ---- from the header on
 
 module _ (publications : ℕ) (text : List ℕ) where
-  pub too_long : 16777216 < length text → trace_meaning publications text ≡ Err (at_row 0 TooLong)
+  pub too_long : trace_limit < length text → trace_meaning publications text ≡ Err (at_row 0 TooLong)
   unfolding trace_meaning
-  too_long long = cond-true _ _ _ (lt-ltb 16777216 (length text) long)
+  too_long long = cond-true _ _ _ (lt-ltb trace_limit (length text) long)
 
-  module _ (short : length text ≤ 16777216) where
+  module _ (short : length text ≤ trace_limit) where
     by_records : trace_meaning publications text ≡ records_meaning publications (trace_records text)
     unfolding trace_meaning
-    by_records = cond-false _ _ _ (le-ltb 16777216 (length text) short)
+    by_records = cond-false _ _ _ (le-ltb trace_limit (length text) short)
 
     pub no_record : trace_records text ≡ [] → trace_meaning publications text ≡ Err (at_row 0 BadHeader)
     no_record records = by_records ∙ ap (records_meaning publications) records

@@ -1,5 +1,5 @@
 -- Lemmas on bytes that move in several calls.
-use Rattle.std.proofs.Common.{◌≡◌, ℕ, ◌+◌, ◌-◌, ◌≤◌, List, ◌++◌, length, take, drop, sym, ap, ◌∙◌, append_assoc, take-append-drop, length-append, length-take, arith, Option}
+use Rattle.std.proofs.Common.{◌≡◌, ℕ, ◌+◌, ◌-◌, ◌<◌, ◌≤◌, List, ◌++◌, length, take, drop, sym, ap, ◌∙◌, append_assoc, take-append-drop, length-append, length-take, arith, Option, Some, None, IfSome}
 use Rattle.std.proofs.lemmas.List.{take_rest}
 use Rattle.std.proofs.KnownBytes.{Consumes-trans}
 use Rattle.std.specs.Io.KnownBytes.{Consumes}
@@ -21,3 +21,9 @@ pub TakesAtMost-after : (a b c : Option (List ℕ)) (held chunk : List ℕ) (cou
     → TakesAtMost a c limit
 TakesAtMost-after a b c held chunk count limit first second sum =
     (held ++ take count chunk, Consumes-trans a b c held (take count chunk) first second, simp (length-append, length-take) (omega arith))
+
+-- a reader that loses more bytes than a limit had more
+pub Takes-more : (old new : Option (List ℕ)) (limit : ℕ) → Takes old new (limit + 1) → IfSome old (λ left. limit < length left)
+Takes-more None new limit taken = tt
+Takes-more (Some left) None limit (bytes, none, counted) = absurd none
+Takes-more (Some left) (Some rest) limit (bytes, split, counted) = omega (arith, ap length split, length-append bytes rest)

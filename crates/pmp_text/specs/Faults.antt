@@ -2,6 +2,7 @@
 use Rattle.std.specs.Prelude.{◌≡◌, ℕ, ◌<◌, ◌≤◌, List, [], length, reverse, take, Option, Some, None, Err, MatchOption, option_map, option_and_then, slice_get}
 use Rattle.pmp_text.specs.declared.script.ScriptFault.{ScriptFault}
 use Rattle.pmp_text.specs.Scripts.{Line, at_line, line_fault, first_fault, significant_lines, script_meaning}
+use Rattle.pmp_text.specs.Limits.{script_limit}
 
 -- the fault of the significant line with this index, by the lines before it
 abbrev pub fault_at : List Line → (index : ℕ) → Option ScriptFault
@@ -19,4 +20,4 @@ FirstFaultLaw = (lines : List Line) → MatchOption (first_fault [] lines) ((ind
 
 -- a text that isn't too long is refused with the fault of its least faulty line, where it has one
 abbrev pub LeastFaultLaw : Type 0
-LeastFaultLaw = (text : List ℕ) → (fault : ScriptFault) → length text ≤ 1048576 → IsLeastFault (fault_at (significant_lines text)) fault → script_meaning text ≡ Err fault
+LeastFaultLaw = (text : List ℕ) → (fault : ScriptFault) → length text ≤ script_limit → IsLeastFault (fault_at (significant_lines text)) fault → script_meaning text ≡ Err fault

@@ -3,6 +3,8 @@ pub mod Bytes
 pub mod Dumps
 pub mod Faults
 pub mod Hexadecimal
+pub mod Inputs
+pub mod Limits
 pub mod Lines
 pub mod Names
 pub mod Numbers

@@ -10,6 +10,7 @@ use Rattle.pmp_text.specs.declared.statement.Statement.{Statement}
 use Rattle.pmp_text.specs.declared.statement.Statement.TheVariants as statement
 use Rattle.pmp_text.specs.Lines.{words, lines}
 use Rattle.pmp_text.specs.Statements.{statement_of}
+use Rattle.pmp_text.specs.Limits.{script_limit}
 
 -- a line with its number in the text
 pub record Line : Type 0 where
@@ -125,6 +126,6 @@ abbrev pub lines_meaning : List Line → Result (List (List Event)) ScriptFault
 lines_meaning [] = Err (at_line 1 BadVersion)
 lines_meaning (version ∷ more) = judged (first_fault [] (version ∷ more)) (first_unpublished more) (publications more)
 
--- what a text means; one of more than 1,048,576 bytes is too long, whatever it says
+-- what a text means; one of more bytes than the limit is too long, whatever it says
 unfoldable pub script_meaning : List ℕ → Result (List (List Event)) ScriptFault
-script_meaning text = if nat_lt 1048576 (length text) then Err (at_line 0 TooLong) else lines_meaning (significant_lines text)
+script_meaning text = if nat_lt script_limit (length text) then Err (at_line 0 TooLong) else lines_meaning (significant_lines text)

@@ -2,11 +2,12 @@
 use Rattle.std.specs.Prelude.{◌≡◌, ℕ, ◌+◌, ◌≤◌, List, length, sum_by, Ok}
 use Rattle.pmp_core.specs.declared.event.Event.{Event}
 use Rattle.pmp_text.specs.Scripts.{script_meaning}
+use Rattle.pmp_text.specs.Limits.{script_limit}
 
 -- publications and events together
 abbrev pub said : List (List Event) → ℕ
 said batches = length batches + sum_by (λ batch. length batch) batches
 
--- a script has no more publications and events than bytes, of which there are at most 1,048,576
+-- a script has no more publications and events than bytes, of which there are not too many
 abbrev pub ScriptSizeLaw : Type 0
-ScriptSizeLaw = (text : List ℕ) → (batches : List (List Event)) → script_meaning text ≡ Ok batches → (said batches ≤ length text) × (length text ≤ 1048576)
+ScriptSizeLaw = (text : List ℕ) → (batches : List (List Event)) → script_meaning text ≡ Ok batches → (said batches ≤ length text) × (length text ≤ script_limit)

@@ -4,6 +4,7 @@ use Rattle.pmp_text.specs.declared.row_fields.RowFields.{RowFields}
 use Rattle.pmp_text.specs.declared.trace.TraceFault.{TraceFault}
 use Rattle.pmp_text.specs.Faults.{IsLeastFault}
 use Rattle.pmp_text.specs.Traces.{after_said, at_row, first_row_fault, is_header, row_fault, row_said, trace_meaning, trace_records}
+use Rattle.pmp_text.specs.Limits.{trace_limit}
 
 -- what the row before this one asks for; `last` stands before the first row
 abbrev pub after_before : (last : Option ℕ) → List (List (List ℕ)) → (index : ℕ) → Option ℕ
@@ -22,7 +23,7 @@ FirstRowFaultLaw = (publications : ℕ) (rows : List (List (List ℕ)))
 -- a text with a header that isn't too long is refused with the fault of its least faulty row, where it has one
 abbrev pub LeastRowFaultLaw : Type 0
 LeastRowFaultLaw = (publications : ℕ) (text : List ℕ) (header : List (List ℕ)) (rows : List (List (List ℕ))) (fault : TraceFault)
-    → length text ≤ 16777216 → trace_records text ≡ header ∷ rows → is_header header ≡ true → IsLeastFault (row_fault_at publications rows) fault → trace_meaning publications text ≡ Err fault
+    → length text ≤ trace_limit → trace_records text ≡ header ∷ rows → is_header header ≡ true → IsLeastFault (row_fault_at publications rows) fault → trace_meaning publications text ≡ Err fault
 
 -- each asks for at least as many publications as the one before, the first for `least`, and for no more than there are
 abbrev pub IsInOrder : (publications : ℕ) → (least : ℕ) → List ℕ → Type 0

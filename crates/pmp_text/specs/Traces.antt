@@ -13,6 +13,7 @@ use Rattle.pmp_text.specs.declared.trace.TraceKind.TheVariants.{BadHeader, BadRo
 use Rattle.pmp_text.specs.declared.trace.TraceFault.{TraceFault}
 use Rattle.pmp_text.specs.AccessWords.{mode_named, kind_named}
 use Rattle.pmp_text.specs.Numbers.{word_number}
+use Rattle.pmp_text.specs.Limits.{trace_limit}
 
 -- the records of a text, each a list of fields, as the crate `csv` reads them with its defaults: no byte-order mark
 -- is part of the first one
@@ -104,7 +105,7 @@ abbrev pub records_meaning : (publications : ℕ) → List (List (List ℕ)) →
 records_meaning publications [] = Err (at_row 0 BadHeader)
 records_meaning publications (header ∷ rows) = if is_header header then rows_meaning publications rows else Err (at_row 0 BadHeader)
 
--- what a text means beside a script with so many publications; one of more than 16,777,216 bytes is too long, whatever
+-- what a text means beside a script with so many publications; one of more bytes than the limit is too long, whatever
 -- it says
 unfoldable pub trace_meaning : (publications : ℕ) → List ℕ → Result (List RowFields) TraceFault
-trace_meaning publications text = if nat_lt 16777216 (length text) then Err (at_row 0 TooLong) else records_meaning publications (trace_records text)
+trace_meaning publications text = if nat_lt trace_limit (length text) then Err (at_row 0 TooLong) else records_meaning publications (trace_records text)

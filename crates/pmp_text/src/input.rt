@@ -2,9 +2,13 @@
 
 ghost use Rattle.std.specs.Prelude.{◌≡◌, ◌≢◌, ◌+◌, ◌<◌, ◌≤◌, [], length, take, Err, IfOk, IfSome, Some};
 ghost use Rattle.std.specs.Io.KnownBytes.{Consumes, IsAtEnd, Keeps};
-ghost use Rattle.pmp_text.specs.Bytes.{Takes, TakesAtMost};
+ghost use Rattle.pmp_text.specs.Bytes.{Takes};
+ghost use Rattle.pmp_text.specs.Inputs.{IsReadWhole};
+ghost use Rattle.pmp_text.specs.Limits.{script_limit, trace_limit};
 ghost use Rattle.pmp_text.specs.declared.input.InputFault.TheVariants.{Input, Memory};
 
+use crate::script_reader::MAX_SCRIPT;
+use crate::trace_reader::MAX_TRACE;
 use std::alloc::{AllocError, Global};
 use std::io;
 use std::io::Read;
@@ -49,14 +53,7 @@ const CHUNK: usize = 8 * 1024;
 pub fn read_bytes<R: Read>(alloc: Global, reader: &mut R, limit: u64) -> Result<Vec<u8>, InputFault>
     requires { limit ≤ MAX_LIMIT }
 
-    ensures within { IfOk result (λ bytes. length bytes.items ≤ limit) }
-    ensures whole { IfOk result (λ bytes. IfSome (R.remaining reader.old) (λ left.
-        (left ≡ bytes.items) × (R.remaining reader.new ≡ Some []))) }
-
-    ensures too_long { result ≡ Err InputFault.TooLong → IfSome (R.remaining reader.old) (λ left. limit < length left) }
-    ensures stopped { result ≡ Err InputFault.TooLong → Takes (R.remaining reader.old) (R.remaining reader.new) (limit + 1) }
-    ensures input { result ≡ Err InputFault.Input → TakesAtMost (R.remaining reader.old) (R.remaining reader.new) limit }
-    ensures memory { result ≡ Err InputFault.Memory → TakesAtMost (R.remaining reader.old) (R.remaining reader.new) limit }
+    ensures { IsReadWhole limit (R.remaining reader.old) (R.remaining reader.new) result }
 {
     let mut bytes = Vec::new(alloc);
     let mut chunk = [0; CHUNK];
@@ -91,49 +88,70 @@ fn read_part<R: Read>(reader: &mut R, chunk: &mut [u8], room: u64) -> Result<usi
     Ok(count)
 }
 
+/// All bytes of a script, as `read_bytes` reads them.
+pub fn read_script_bytes<R: Read>(alloc: Global, reader: &mut R) -> Result<Vec<u8>, InputFault>
+    ensures { IsReadWhole script_limit (R.remaining reader.old) (R.remaining reader.new) result }
+{
+    read_bytes(alloc, reader, MAX_SCRIPT as u64)
+}
+
+/// All bytes of a trace, as `read_bytes` reads them.
+pub fn read_trace_bytes<R: Read>(alloc: Global, reader: &mut R) -> Result<Vec<u8>, InputFault>
+    ensures { IsReadWhole trace_limit (R.remaining reader.old) (R.remaining reader.new) result }
+{
+    read_bytes(alloc, reader, MAX_TRACE as u64)
+}
+
 #[cfg(test)]
 mod tests {
     use super::*;
     use std::io::ErrorKind;
+    use std::test::Fail;
 
-    /// Gives one byte at each read, and fails in place of ending.
+    /// Gives so many bytes at a read, and fails in place of ending.
     #[derive(Drop)]
-    struct Slow {
+    struct Endless {
+        at_once: usize,
         taken: u64,
         fails_at: Option<(u64, ErrorKind)>,
     }
 
-    impl Read for Slow {
+    impl Read for Endless {
         fn read(&mut self, buf: &mut [u8]) -> io::Result<usize> {
             if let Some((taken, kind)) = self.fails_at {
                 if self.taken == taken {
                     return Err(io::Error::from(kind));
                 }
             }
-            if buf.is_empty() {
-                return Ok(0);
-            }
-            buf[0] = b'x';
-            self.taken = self.taken.saturating_add(1);
-            Ok(1)
+            let count = buf.len().min(self.at_once);
+            buf[..count].fill(b'x');
+            self.taken = self.taken.saturating_add(count as u64);
+            Ok(count)
         }
     }
 
     #[test]
     fn takes_one_byte_above_the_limit_and_no_more(rt: HostRuntime) {
-        let mut endless = Slow {
+        let endless = || Endless {
+            at_once: 1000,
             taken: 0,
             fails_at: None,
         };
-        let answer = read_bytes(rt.alloc(), &mut endless, 1_048_576);
+        let mut script = endless();
+        let answer = read_script_bytes(rt.alloc(), &mut script);
         assert_eq!(rt; answer.err(), Some(InputFault::TooLong));
-        assert_eq!(rt; endless.taken, 1_048_577);
+        assert_eq!(rt; script.taken, 1_048_577);
+        let mut trace = endless();
+        let answer = read_trace_bytes(rt.alloc(), &mut trace);
+        assert_eq!(rt; answer.err(), Some(InputFault::TooLong));
+        assert_eq!(rt; trace.taken, 16_777_217);
     }
 
     #[test]
     fn tells_of_a_failed_read(rt: HostRuntime) {
         for kind in [ErrorKind::Other, ErrorKind::Interrupted] {
-            let mut failing = Slow {
+            let mut failing = Endless {
+                at_once: 1,
                 taken: 0,
                 fails_at: Some((2, kind)),
             };
@@ -156,5 +174,14 @@ mod tests {
             );
             assert_eq!(rt; answer, want);
         }
+    }
+
+    #[test]
+    fn reads_a_script_and_a_trace(rt: HostRuntime) -> Result<(), Fail> {
+        let script = read_script_bytes(rt.alloc(), &mut "pmp 1\n".as_bytes())?;
+        assert_eq!(rt; script.as_slice(), b"pmp 1\n".as_slice());
+        let trace = read_trace_bytes(rt.alloc(), &mut "after\n".as_bytes())?;
+        assert_eq!(rt; trace.as_slice(), b"after\n".as_slice());
+        Ok(())
     }
 }

@@ -24,7 +24,7 @@ mod trace_reader;
 mod words;
 
 pub use access_words::{read_kind, read_mode};
-pub use input::{InputFault, MAX_LIMIT, read_bytes};
+pub use input::{InputFault, MAX_LIMIT, read_bytes, read_script_bytes, read_trace_bytes};
 pub use numbers::read_word_number;
 pub use output::{OutputFault, write_out};
 pub use registers::write_registers;
