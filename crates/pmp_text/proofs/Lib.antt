@@ -10,5 +10,6 @@ pub mod Lefts
 pub mod Meanings
 pub mod RecordsLeft
 pub mod Rows
+pub mod RegisterNames
 pub mod RunLines
 pub mod Transfers

@@ -1,16 +1,12 @@
 -- The text of a register file's registers.
-use Rattle.std.specs.Prelude.{ℕ, List, [], ◌∷◌, ◌++◌, map, codes, decimal}
+use Rattle.std.specs.Prelude.{ℕ, List, [], ◌∷◌, ◌++◌, map, codes}
 use Rattle.std.specs.List.{flat_map, range_with_len}
 use Rattle.pmp_core.specs.declared.csr.Csr.{Csr}
 use Rattle.pmp_core.specs.declared.csr.Csr.TheVariants.{Cfg, Addr, Mseccfg}
 use Rattle.pmp_core.specs.Registers.{RegisterFile}
 use Rattle.pmp_core.specs.Reading.{register_value}
 use Rattle.pmp_text.specs.Hexadecimal.{hex_text}
-
-abbrev pub register_name : Csr → List ℕ
-register_name (Cfg number) = codes "pmpcfg" ++ decimal number
-register_name (Addr number) = codes "pmpaddr" ++ decimal number
-register_name Mseccfg = codes "mseccfg"
+use Rattle.pmp_text.specs.Names.{register_name}
 
 -- the name, a blank, `0x` and sixteen digits
 unfoldable pub register_line : RegisterFile → Csr → List ℕ

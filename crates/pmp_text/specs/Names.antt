@@ -1,12 +1,23 @@
--- The registers that a script names.
-use Rattle.std.specs.Prelude.{ℕ, ◌+◌, List, length, take, drop, ◌&&◌, ◌==◌, Option, Some, None, Result, Ok, Err, nat_le, codes, bytes_eq, slice_index, if◌then◌else◌}
+-- The names of registers.
+use Rattle.std.specs.Prelude.{◌≡◌, ℕ, ◌+◌, List, ◌++◌, length, take, drop, ◌&&◌, ◌==◌, Option, Some, None, Result, Ok, Err, nat_le, codes, bytes_eq, decimal, slice_index, if◌then◌else◌}
 use Rattle.pmp_core.specs.declared.csr.Csr.{Csr}
+use Rattle.pmp_core.specs.declared.csr.Csr.TheVariants.{Cfg, Addr, Mseccfg}
 use Rattle.pmp_core.specs.declared.csr.CsrFault.{CsrFault}
 use Rattle.pmp_core.specs.declared.csr.CsrFault.TheVariants as csr_fault
 use Rattle.pmp_core.specs.Csrs.{numbered}
 use Rattle.pmp_text.specs.declared.script.ScriptKind.{ScriptKind}
 use Rattle.pmp_text.specs.declared.script.ScriptKind.TheVariants.{BadName, OddCfg}
 use Rattle.pmp_text.specs.Numbers.{numeral}
+
+-- ---- written
+
+-- `pmpcfg` or `pmpaddr` and the number in decimal, or `mseccfg`
+abbrev pub register_name : Csr → List ℕ
+register_name (Cfg number) = codes "pmpcfg" ++ decimal number
+register_name (Addr number) = codes "pmpaddr" ++ decimal number
+register_name Mseccfg = codes "mseccfg"
+
+-- ---- read
 
 -- a number that is at most so large
 abbrev pub up_to : (most : ℕ) → Option ℕ → Option ℕ
@@ -44,3 +55,7 @@ register_numbered (Some number) = named (numbered number)
 -- the register that a word names
 abbrev pub register_named : List ℕ → Result Csr ScriptKind
 register_named word = register_numbered (register_number word)
+
+-- the written name of a register that has a number is read as that register
+abbrev pub NamesReadBackLaw : Type 0
+NamesReadBackLaw = (number : ℕ) (csr : Csr) → numbered number ≡ Ok csr → register_named (register_name csr) ≡ Ok csr

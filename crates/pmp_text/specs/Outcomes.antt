@@ -1,5 +1,7 @@
 -- What a call answers that may run out of memory.
 use Rattle.std.specs.Prelude.{◌≡◌, ◌⊎◌, Result, Ok, Err}
+use Rattle.csv.specs.declared.error.ErrorKind.{ErrorKind}
+use Rattle.csv.specs.declared.error.ErrorKind.TheVariants as csv_error
 use Rattle.pmp_text.specs.declared.script.ScriptKind.TheVariants.{Memory}
 use Rattle.pmp_text.specs.declared.script.ScriptFault.{ScriptFault}
 use Rattle.pmp_text.specs.declared.trace.TraceFault.{TraceFault}
@@ -21,6 +23,11 @@ no_memory_for_rows = record { kind = trace.Memory; row = 0 }
 -- the crate `csv` told of a failed input
 abbrev pub no_input_for_rows : TraceFault
 no_input_for_rows = record { kind = trace.Input; row = 0 }
+
+-- the fault of a trace at an error of the crate `csv`: memory ran out, or else the input failed
+abbrev pub csv_fault : ErrorKind → TraceFault
+csv_fault csv_error.OutOfMemory = no_memory_for_rows
+csv_fault _ = no_input_for_rows
 
 -- the answer, seen by view, is what is meant, or memory ran out, or the input failed
 abbrev pub GivesRows : {X Y : Type 0} → (X → Y) → Result X TraceFault → Result Y TraceFault → Type 0

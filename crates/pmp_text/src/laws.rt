@@ -1,6 +1,7 @@
 //! Laws of the definitions that the readers' contracts cite.
 
 ghost use Rattle.pmp_text.specs.Faults.{FirstFaultLaw, LeastFaultLaw};
+ghost use Rattle.pmp_text.specs.Names.{NamesReadBackLaw};
 ghost use Rattle.pmp_text.specs.Sizes.{ScriptSizeLaw};
 ghost use Rattle.pmp_text.specs.TraceFaults.{FirstRowFaultLaw, LeastRowFaultLaw, RowOrderLaw};
 
@@ -26,4 +27,9 @@ pub fn law_least_row_fault()
 /// before.
 pub fn law_rows_in_order()
     ensures { RowOrderLaw }
+{}
+
+/// A register's name as dumps write it is read as that register.
+pub fn law_names_read_back()
+    ensures { NamesReadBackLaw }
 {}

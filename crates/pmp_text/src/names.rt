@@ -1,11 +1,12 @@
-//! The names of the unit's registers.
+//! The names of registers, read and written.
 
-ghost use Rattle.std.specs.Prelude.{◌≡◌, ◌≤◌, IfSome};
-ghost use Rattle.pmp_text.specs.Names.{plain_number, register_number, register_named};
+ghost use Rattle.std.specs.Prelude.{◌≡◌, ◌≤◌, IfSome, Some};
+ghost use Rattle.pmp_text.specs.Names.{plain_number, register_name, register_number, register_named};
 
 use crate::numbers::read_numeral;
 use crate::script::ScriptKind;
 use pmp_core::{Csr, CsrFault};
+use std::fmt;
 
 const FIRST_CFG: u64 = 0x3A0;
 
@@ -51,4 +52,20 @@ pub fn read_register(word: &[u8]) -> Result<Csr, ScriptKind>
         CsrFault::OddCfg => ScriptKind::OddCfg,
         CsrFault::NotPmp => ScriptKind::BadName,
     })
+}
+
+/// A register's name in scripts and dumps.
+#[derive(Clone, Copy)]
+pub struct RegisterName(pub Csr);
+
+impl fmt::Display for RegisterName {
+    ghost output = { λ name. Some (register_name name.0) };
+
+    fn fmt<W: fmt::Write>(&self, f: &mut fmt::Formatter<W>) -> fmt::Result {
+        match self.0 {
+            Csr::Cfg(number) => write!(f, "pmpcfg{number}"),
+            Csr::Addr(number) => write!(f, "pmpaddr{number}"),
+            Csr::Mseccfg => write!(f, "mseccfg"),
+        }
+    }
 }

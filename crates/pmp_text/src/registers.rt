@@ -1,13 +1,14 @@
 //! The registers of a register file as text.
 
-ghost use Rattle.std.specs.Prelude.{◌≡◌, ◌++◌, IfOk, OnOk, OnErr, Some, codes, string_bytes};
-ghost use Rattle.pmp_text.specs.Dumps.{register_name, register_line, dump_text};
+ghost use Rattle.std.specs.Prelude.{◌≡◌, ◌++◌, IfOk, OnOk, OnErr, codes, string_bytes};
+ghost use Rattle.pmp_text.specs.Dumps.{register_line, dump_text};
+ghost use Rattle.pmp_text.specs.Names.{register_name};
 
 use crate::hexadecimal::hex_text;
+use crate::names::RegisterName;
 use crate::report::NoMemory;
 use pmp_core::{Csr, RegFile};
 use std::alloc::{AllocError, Global};
-use std::fmt;
 
 /// The registers of a unit of sixteen entries, in the order of their lines.
 const DUMPED: [Csr; 19] = [
@@ -32,27 +33,11 @@ const DUMPED: [Csr; 19] = [
     Csr::Mseccfg,
 ];
 
-/// A register's name in scripts and dumps.
-#[derive(Clone, Copy)]
-struct Name(Csr);
-
-impl fmt::Display for Name {
-    ghost output = { λ name. Some (register_name name.0) };
-
-    fn fmt<W: fmt::Write>(&self, f: &mut fmt::Formatter<W>) -> fmt::Result {
-        match self.0 {
-            Csr::Cfg(number) => write!(f, "pmpcfg{number}"),
-            Csr::Addr(number) => write!(f, "pmpaddr{number}"),
-            Csr::Mseccfg => write!(f, "mseccfg"),
-        }
-    }
-}
-
 /// What stands before the digits.
 fn line_start(alloc: Global, csr: Csr) -> Result<String, AllocError>
     ensures { IfOk result (λ start. string_bytes start ≡ register_name csr ++ codes " 0x") }
 {
-    let name = Name(csr);
+    let name = RegisterName(csr);
     format!(in alloc; "{name} 0x")
 }
 

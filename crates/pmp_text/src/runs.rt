@@ -1,13 +1,13 @@
 //! The runs of a register file as text.
 
-ghost use Rattle.std.specs.Prelude.{◌≡◌, ◌<◌, ◌++◌, IfSome, List, ℕ, OnOk, OnErr, Some, length};
+ghost use Rattle.std.specs.Prelude.{◌≡◌, ◌<◌, ◌++◌, IfSome, List, ℕ, OnOk, OnErr, Some};
 ghost use Rattle.pmp_core.specs.Rights.{Rights, perms_of};
 ghost use Rattle.pmp_map.specs.Answers.{owned_rights};
 ghost use Rattle.pmp_text.specs.RunLines.{IsMapText, owner_text, rights_text, run_line};
 
 use crate::hexadecimal::hex_text;
 use crate::report::NoMemory;
-use pmp_core::{Kind, Mode, Perms, RegFile};
+use pmp_core::{ENTRIES, Kind, Mode, Perms, RegFile};
 use pmp_map::{Run, RunMap};
 use std::fmt;
 
@@ -40,7 +40,7 @@ fn rights_text(perms: Perms) -> [u8; 3]
 
 /// What the run's owner gives the mode, or what the mode may do where there is none.
 fn run_rights(file: &RegFile, run: &Run, mode: Mode) -> Perms
-    requires { IfSome run.now.owner (λ entry. entry < length file.now.entries) }
+    requires { IfSome run.now.owner (λ entry. entry < ENTRIES) }
     ensures { result ≡ perms_of (owned_rights file.now run.now.owner mode) }
 {
     match run.owner {
@@ -51,7 +51,7 @@ fn run_rights(file: &RegFile, run: &Run, mode: Mode) -> Perms
 
 /// Appends the line of a run.
 fn write_run(text: &mut Vec<u8>, file: &RegFile, run: &Run) -> Result<(), NoMemory>
-    requires { IfSome run.now.owner (λ entry. entry < length file.now.entries) }
+    requires { IfSome run.now.owner (λ entry. entry < ENTRIES) }
     ensures { OnOk result (text.new.items ≡ text.old.items ++ run_line file.now run.now) }
 {
     let owner = Owner(run.owner);

@@ -1,7 +1,8 @@
 //! Traces: the accesses that a text lists, and why a text lists none.
 
-ghost use Rattle.std.specs.Prelude.{◌≡◌, ◌⊎◌, Some};
-ghost use Rattle.pmp_text.specs.Outcomes.{no_memory_for_rows, no_input_for_rows};
+ghost use Rattle.std.specs.Prelude.{◌≡◌, Some};
+ghost use Rattle.csv.specs.Reading.{error_kind};
+ghost use Rattle.pmp_text.specs.Outcomes.{no_memory_for_rows, csv_fault};
 ghost use Rattle.pmp_text.specs.Traces.{access_kind, at_row};
 
 use pmp_core::{Access, AccessFault};
@@ -64,7 +65,7 @@ impl<T: Drop> From<AllocFailed<T>> for TraceFault {
 }
 
 impl From<csv::Error> for TraceFault {
-    ghost from_gives = { λ _ fault. (fault ≡ no_memory_for_rows) ⊎ (fault ≡ no_input_for_rows) };
+    ghost from_gives = { λ error fault. fault ≡ csv_fault (error_kind error) };
 
     fn from(error: csv::Error) -> TraceFault {
         match error.kind() {

@@ -1,7 +1,8 @@
 use Rattle.std.proofs.Common.{List, [], ◌∷◌, ◌++◌, ℕ, ap, ◌∙◌, codes}
 use Rattle.pmp_core.specs.Reading.{register_value}
-use Rattle.pmp_text.specs.Dumps.{register_name, register_line}
+use Rattle.pmp_text.specs.Dumps.{register_line}
 use Rattle.pmp_text.specs.Hexadecimal.{hex_text}
+use Rattle.pmp_text.specs.Names.{register_name}
 use Rattle.pmp_text.proofs.Appending.{line_grows}
 use Rattle.pmp_text.proofs.registers.write_register.Goals as goal
 

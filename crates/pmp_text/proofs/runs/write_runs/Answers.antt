@@ -4,14 +4,10 @@ use Rattle.std.proofs.Math.Seq.{take-length}
 use Rattle.std.proofs.lemmas.List.{take_more, flat_map_more}
 use Rattle.pmp_map.specs.declared.run.Run.{Run}
 use Rattle.pmp_text.specs.RunLines.{run_line}
-use Rattle.pmp_text.proofs.RunLines.{run_owner_below}
 use Rattle.pmp_text.proofs.runs.write_runs.Goals as goal
 
 abbrev none : Run
 none = record { first = 0; last = 0; owner = None }
-
-pub write_run-requires : goal.write_run-requires
-write_run-requires c = run_owner_below c.args.file.now.entries c.runs-run-items.result.now c.loop-run.run-index none (rw c.requires at c.runs-run-items.ensures.runs) c.loop-run-test.true
 
 pub loop-run-preserved : goal.loop-run-preserved
 loop-run-preserved c =

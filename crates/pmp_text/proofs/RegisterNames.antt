@@ -1,0 +1,67 @@
+-- Reading a register's written name gives the register.
+use Rattle.std.proofs.Common.{◌≡◌, ℕ, ◌+◌, ◌-◌, ◌≤◌, ◌<◌, ◌==◌, ◌⊎◌, Bool, true, false, Result, Ok, Err, refl, ap, ◌∙◌, arith, inl, inr, subst}
+use Rattle.std.proofs.lemmas.Bool.{agree_below, agree_below_at, eqb-true}
+use Rattle.std.specs.Fmt.{digits}
+use Rattle.std.proofs.lemmas.Grind.{common_steps}
+use Rattle.pmp_core.specs.declared.csr.Csr.{Csr}
+use Rattle.pmp_core.specs.declared.csr.Csr.TheVariants.{Cfg, Addr, Mseccfg}
+use Rattle.pmp_core.specs.declared.csr.CsrFault.{CsrFault}
+use Rattle.pmp_core.specs.Csrs.{numbered}
+use Rattle.pmp_text.specs.declared.script.ScriptKind.{ScriptKind}
+use Rattle.pmp_text.specs.Names.{register_name, register_named, register_number, plain_number}
+use Rattle.pmp_text.specs.Numbers.{numeral, is_numeral}
+
+-- the answer is this register
+is_answer : Csr → Result Csr ScriptKind → Bool
+is_answer csr (Err kind) = false
+is_answer (Cfg number) (Ok (Cfg other)) = other == number
+is_answer (Cfg number) (Ok (Addr other)) = false
+is_answer (Cfg number) (Ok Mseccfg) = false
+is_answer (Addr number) (Ok (Addr other)) = other == number
+is_answer (Addr number) (Ok (Cfg other)) = false
+is_answer (Addr number) (Ok Mseccfg) = false
+is_answer Mseccfg (Ok Mseccfg) = true
+is_answer Mseccfg (Ok (Cfg other)) = false
+is_answer Mseccfg (Ok (Addr other)) = false
+
+answered : (csr : Csr) (answer : Result Csr ScriptKind) → is_answer csr answer ≡ true → answer ≡ Ok csr
+unfolding is_answer
+answered csr (Err kind) e = cc
+answered (Cfg number) (Ok (Cfg other)) e = ap (λ n. Ok (Cfg n)) (eqb-true other number e)
+answered (Cfg number) (Ok (Addr other)) e = cc
+answered (Cfg number) (Ok Mseccfg) e = cc
+answered (Addr number) (Ok (Addr other)) e = ap (λ n. Ok (Addr n)) (eqb-true other number e)
+answered (Addr number) (Ok (Cfg other)) e = cc
+answered (Addr number) (Ok Mseccfg) e = cc
+answered Mseccfg (Ok Mseccfg) e = refl
+answered Mseccfg (Ok (Cfg other)) e = cc
+answered Mseccfg (Ok (Addr other)) e = cc
+
+-- the register with a number, if there is one, is read by its name
+is_read_back : Result Csr CsrFault → Bool
+is_read_back (Err fault) = true
+is_read_back (Ok csr) = is_answer csr (register_named (register_name csr))
+
+pmp_read_back : agree_below (λ place. is_read_back (numbered (0x3a0 + place))) (λ _. true) 80 ≡ true
+unfolding is_read_back is_answer register_number plain_number numeral is_numeral digits
+pmp_read_back = refl
+
+mseccfg_read_back : is_read_back (numbered 0x747) ≡ true
+unfolding is_read_back is_answer register_number
+mseccfg_read_back = refl
+
+-- where registers are
+numbers_of : (number : ℕ) (csr : Csr) → numbered number ≡ Ok csr → ((0x3a0 ≤ number) × (number < 0x3f0)) ⊎ (number ≡ 0x747)
+numbers_of number csr e = grind (arith, common_steps)
+
+each_read_back : (number : ℕ) (csr : Csr) → numbered number ≡ Ok csr → is_read_back (numbered number) ≡ true
+each_read_back number csr e = elim (numbers_of number csr e) [
+    | inl between ↦
+        let place : 0x3a0 + (number - 0x3a0) ≡ number = omega (arith, between) in
+        subst (λ n. is_read_back (numbered n) ≡ true) place (agree_below_at (λ place. is_read_back (numbered (0x3a0 + place))) (λ _. true) 80 (number - 0x3a0) pmp_read_back (omega (arith, between)))
+    | inr same ↦ rw same mseccfg_read_back
+  ]
+
+pub read_back : (number : ℕ) (csr : Csr) → numbered number ≡ Ok csr → register_named (register_name csr) ≡ Ok csr
+unfolding is_read_back
+read_back number csr e = answered csr (register_named (register_name csr)) (subst (λ answer. is_read_back answer ≡ true) e (each_read_back number csr e))
