@@ -8,6 +8,7 @@ use Rattle.std.proofs.lemmas.List.{length-append, length-map}
 use Rattle.std.proofs.lemmas.List.Sums.{sum_by_push, length-filter, count_by-le-length}
 use Rattle.std.proofs.lemmas.List.Splits.{length-slice_split}
 use Rattle.pmp_core.specs.declared.event.Event.{Event}
+use Rattle.pmp_core.specs.declared.event.TheConstants.{BATCH_EVENTS}
 use Rattle.pmp_text.specs.declared.script.ScriptKind.{ScriptKind}
 use Rattle.pmp_text.specs.declared.script.ScriptKind.TheVariants.{BatchFull}
 use Rattle.pmp_text.specs.declared.script.ScriptFault.{ScriptFault}
@@ -57,7 +58,7 @@ with_room false so_far number event more batches bounded e = absurd cc
 one_line : (says : Result Statement ScriptKind) (so_far : Progress) (number : ℕ) (more : List Line) (batches : List (List Event)) → IsBounded more → on more (after_statement so_far number says) ≡ Ok batches → said batches ≤ suc (read so_far) + length more
 one_line (Err kind) so_far number more batches bounded e = absurd cc
 one_line (Ok statement.Publish) so_far number more batches bounded e = let n = bounded (published so_far) batches e in let m = read_published so_far in omega arith
-one_line (Ok (statement.Event event)) so_far number more batches bounded e = with_room (ltb (length so_far.batch) 64) so_far number event more batches bounded e
+one_line (Ok (statement.Event event)) so_far number more batches bounded e = with_room (ltb (length so_far.batch) BATCH_EVENTS) so_far number event more batches bounded e
 
 bounded_by_lines : (lines : List Line) → IsBounded lines
 bounded_by_lines [] = λ so_far batches e. let n = ended so_far so_far.since batches e in omega arith

@@ -8,6 +8,7 @@ use Rattle.std.proofs.lemmas.Slice.Eq.{bytes_eq-Decides}
 use Rattle.std.proofs.lemmas.List.{append-nil, length-append}
 use Rattle.std.proofs.lemmas.List.Splits.{length-slice_split}
 use Rattle.pmp_core.specs.declared.event.Event.{Event}
+use Rattle.pmp_core.specs.declared.event.TheConstants.{BATCH_EVENTS}
 use Rattle.pmp_text.specs.declared.script.ScriptKind.{ScriptKind}
 use Rattle.pmp_text.specs.declared.script.ScriptKind.TheVariants.{BadVersion, BadLine, BatchFull, TooLong}
 use Rattle.pmp_text.specs.declared.script.ScriptFault.{ScriptFault}
@@ -118,14 +119,14 @@ module _ (so_far : Progress) (last : Line) (front : List Line) (count : length s
     fits true same = same refl
     fits false same = refl
 
-    event_agrees : statement_of line.words ≡ Ok (statement.Event event) → (ltb (length so_far.batch) 64 ≡ true → resumed longer more ≡ meant_from longer (line ∷ last ∷ front) more)
+    event_agrees : statement_of line.words ≡ Ok (statement.Event event) → (ltb (length so_far.batch) BATCH_EVENTS ≡ true → resumed longer more ≡ meant_from longer (line ∷ last ∷ front) more)
         → reads (after_statement so_far line.number (Ok (statement.Event event))) ≡ means (Ok (statement.Event event))
     event_agrees says same =
         let since = since_from-event line event says so_far.since (pieces_of more) (some_piece more) in
         let batches = batches_from-event line event says so_far.batch (pieces_of more) in
         let ends = ap (λ (since : Option ℕ). judged later since (so_far.published ++ batches_from longer.batch (pieces_of more))) (sym since) ∙ ap (λ (batches : List (List Event)). judged later (since_from so_far.since (cut false)) (so_far.published ++ batches)) (sym batches) in
-        fits (ltb (length so_far.batch) 64) (λ room. same room ∙ ends)
-        ∙ ap (λ (n : ℕ). judged (option_or (option_map (at_line line.number) (cond (ltb n 64) None (Some BatchFull))) later) (since_from so_far.since (cut false)) (so_far.published ++ batches_from so_far.batch (cut false))) count
+        fits (ltb (length so_far.batch) BATCH_EVENTS) (λ room. same room ∙ ends)
+        ∙ ap (λ (n : ℕ). judged (option_or (option_map (at_line line.number) (cond (ltb n BATCH_EVENTS) None (Some BatchFull))) later) (since_from so_far.since (cut false)) (so_far.published ++ batches_from so_far.batch (cut false))) count
 
 -- the open batch has as many events as were counted
 counted_event : (so_far : Progress) (front : List Line) (line : Line) (event : Event) → length so_far.batch ≡ open_events front → statement_of line.words ≡ Ok (statement.Event event) → length (so_far.batch ++ event ∷ []) ≡ open_events (line ∷ front)

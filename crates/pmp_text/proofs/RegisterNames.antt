@@ -56,11 +56,11 @@ numbers_of number csr e = grind (arith, common_steps)
 
 each_read_back : (number : ℕ) (csr : Csr) → numbered number ≡ Ok csr → is_read_back (numbered number) ≡ true
 each_read_back number csr e = elim (numbers_of number csr e) [
-    | inl between ↦
-        let place : 0x3a0 + (number - 0x3a0) ≡ number = omega (arith, between) in
-        subst (λ n. is_read_back (numbered n) ≡ true) place (agree_below_at (λ place. is_read_back (numbered (0x3a0 + place))) (λ _. true) 80 (number - 0x3a0) pmp_read_back (omega (arith, between)))
-    | inr same ↦ rw same mseccfg_read_back
-  ]
+  | inl between ↦
+      let place : 0x3a0 + (number - 0x3a0) ≡ number = omega (arith, between) in
+      subst (λ n. is_read_back (numbered n) ≡ true) place (agree_below_at (λ place. is_read_back (numbered (0x3a0 + place))) (λ _. true) 80 (number - 0x3a0) pmp_read_back (omega (arith, between)))
+  | inr same ↦ rw same mseccfg_read_back
+]
 
 pub read_back : (number : ℕ) (csr : Csr) → numbered number ≡ Ok csr → register_named (register_name csr) ≡ Ok csr
 unfolding is_read_back

@@ -1,5 +1,6 @@
 -- The text of a register file's registers.
-use Rattle.std.specs.Prelude.{ℕ, List, [], ◌∷◌, ◌++◌, map, codes}
+use Rattle.std.specs.Prelude.{ℕ, ◌*◌, List, [], ◌∷◌, ◌++◌, length, map, codes}
+use Rattle.std.specs.Int.{div_ceil}
 use Rattle.std.specs.List.{flat_map, range_with_len}
 use Rattle.pmp_core.specs.declared.csr.Csr.{Csr}
 use Rattle.pmp_core.specs.declared.csr.Csr.TheVariants.{Cfg, Addr, Mseccfg}
@@ -12,10 +13,18 @@ use Rattle.pmp_text.specs.Names.{register_name}
 unfoldable pub register_line : RegisterFile → Csr → List ℕ
 register_line file csr = register_name csr ++ (codes " 0x" ++ (hex_text 16 (register_value file csr) ++ 10 ∷ []))
 
--- the registers of a unit of sixteen entries
-abbrev pub dumped : List Csr
-dumped = Cfg 0 ∷ Cfg 2 ∷ map Addr (range_with_len 0 16) ++ Mseccfg ∷ []
+-- the configuration registers that hold the bytes of n entries: eight each, and the odd numbers are left out
+abbrev pub cfg_registers : (n : ℕ) → List Csr
+cfg_registers n = map (λ place. Cfg (2 * place)) (range_with_len 0 (div_ceil n 8))
+
+-- an address register for each entry
+abbrev pub addr_registers : (n : ℕ) → List Csr
+addr_registers n = map Addr (range_with_len 0 n)
+
+-- the registers of a unit of n entries
+abbrev pub registers_of : (n : ℕ) → List Csr
+registers_of n = cfg_registers n ++ (addr_registers n ++ Mseccfg ∷ [])
 
 -- a line for each register
 unfoldable pub dump_text : RegisterFile → List ℕ
-dump_text file = flat_map (register_line file) dumped
+dump_text file = flat_map (register_line file) (registers_of (length file.entries))

@@ -1,6 +1,7 @@
 -- Reading a script line by line, behind its first significant line.
 use Rattle.std.specs.Prelude.{ℕ, List, [], ◌∷◌, ◌++◌, length, Option, Some, None, Result, Ok, Err, nat_lt, unwrap_or, if◌then◌else◌}
 use Rattle.pmp_core.specs.declared.event.Event.{Event}
+use Rattle.pmp_core.specs.declared.event.TheConstants.{BATCH_EVENTS}
 use Rattle.pmp_text.specs.declared.script.ScriptKind.{ScriptKind}
 use Rattle.pmp_text.specs.declared.script.ScriptKind.TheVariants.{BatchFull, Unpublished}
 use Rattle.pmp_text.specs.declared.script.ScriptFault.{ScriptFault}
@@ -23,10 +24,10 @@ beginning = record { published = []; batch = []; since = None }
 abbrev pub published : Progress → Progress
 published so_far = record { published = so_far.published ++ so_far.batch ∷ []; batch = []; since = None }
 
--- an event joins the open batch, which has room for 64
+-- an event joins the open batch where that has room
 abbrev pub with_event : Progress → ℕ → Event → Result Progress ScriptFault
 with_event so_far number event =
-    if nat_lt (length so_far.batch) 64 then Ok (record { published = so_far.published; batch = so_far.batch ++ event ∷ []; since = Some (unwrap_or so_far.since number) })
+    if nat_lt (length so_far.batch) BATCH_EVENTS then Ok (record { published = so_far.published; batch = so_far.batch ++ event ∷ []; since = Some (unwrap_or so_far.since number) })
     else Err (at_line number BatchFull)
 
 -- a line with this number was read, which says this

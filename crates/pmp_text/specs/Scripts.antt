@@ -3,6 +3,7 @@ use Rattle.std.specs.Prelude.{ℕ, ◌+◌, List, [], ◌∷◌, length, map, fi
 use Rattle.std.specs.List.{slice_split}
 use Rattle.std.specs.Option.{option_or}
 use Rattle.pmp_core.specs.declared.event.Event.{Event}
+use Rattle.pmp_core.specs.declared.event.TheConstants.{BATCH_EVENTS}
 use Rattle.pmp_text.specs.declared.script.ScriptKind.{ScriptKind}
 use Rattle.pmp_text.specs.declared.script.ScriptKind.TheVariants.{BadVersion, BatchFull, Unpublished, TooLong}
 use Rattle.pmp_text.specs.declared.script.ScriptFault.{ScriptFault}
@@ -53,11 +54,11 @@ abbrev pub open_events : List Line → ℕ
 open_events [] = 0
 open_events (line ∷ before) = counted (statement_of line.words) (open_events before)
 
--- a line that is no statement is at fault by itself, an event where 64 are open before it
+-- a line that is no statement is at fault by itself, an event where as many are open before it as a batch holds
 abbrev pub statement_fault : (count : ℕ) → Result Statement ScriptKind → Option ScriptKind
 statement_fault count (Err kind) = Some kind
 statement_fault count (Ok statement.Publish) = None
-statement_fault count (Ok (statement.Event event)) = if nat_lt count 64 then None else Some BatchFull
+statement_fault count (Ok (statement.Event event)) = if nat_lt count BATCH_EVENTS then None else Some BatchFull
 
 -- the fault of a significant line, by its words and the significant lines before it, the nearest first
 abbrev pub line_fault : (before : List Line) → Line → Option ScriptKind

@@ -1,6 +1,7 @@
 //! What was read of a script so far.
 
 ghost use Rattle.std.specs.Prelude.{◌≡◌, ◌≤◌, All, length, map};
+ghost use Rattle.pmp_core.specs.declared.event.TheConstants.{BATCH_EVENTS};
 ghost use Rattle.pmp_text.specs.Outcomes.{Gives};
 ghost use Rattle.pmp_text.specs.Progress.{Progress, beginning, published, with_event, after_line, finished};
 ghost use Rattle.pmp_text.specs.Views.{seen_line};
@@ -8,13 +9,10 @@ ghost use Rattle.pmp_text.specs.Views.{seen_line};
 use crate::script::{Script, ScriptFault, ScriptKind};
 use crate::significant::NumberedLine;
 use crate::statement::{Statement, read_statement};
-use pmp_core::Event;
+use pmp_core::{BATCH_EVENTS, Event};
 use std::alloc::Global;
 use std::marker::Model;
 use std::mem;
-
-/// The most events of one batch.
-const MAX_EVENTS: usize = 64;
 
 /// The publications so far, and the open batch.
 #[derive(Drop)]
@@ -31,7 +29,7 @@ impl Model for ScriptBuilder {
 
     ghost view = { λ builder. record { published = map (λ batch. batch.items) builder.published.items; batch = builder.batch.items; since = builder.since } };
 
-    ghost invariant = { λ builder. All (λ batch. length batch.items ≤ 64) builder.published.items × (length builder.batch.items ≤ 64) };
+    ghost invariant = { λ builder. All (λ batch. length batch.items ≤ BATCH_EVENTS) builder.published.items × (length builder.batch.items ≤ BATCH_EVENTS) };
 }
 
 impl ScriptBuilder {
@@ -58,7 +56,7 @@ impl ScriptBuilder {
     fn add(&mut self, line: u64, event: Event) -> Result<(), ScriptFault>
         ensures { Gives (λ _. self.new) result (with_event self.old line event) }
     {
-        if self.batch.len() >= MAX_EVENTS {
+        if self.batch.len() >= BATCH_EVENTS {
             return Err(ScriptKind::BatchFull.at(line));
         }
         self.batch.push(event)?;

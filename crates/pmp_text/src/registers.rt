@@ -1,7 +1,7 @@
 //! The registers of a register file as text.
 
-ghost use Rattle.std.specs.Prelude.{◌≡◌, ◌++◌, IfOk, OnOk, OnErr, codes, string_bytes};
-ghost use Rattle.pmp_text.specs.Dumps.{register_line, dump_text};
+ghost use Rattle.std.specs.Prelude.{◌≡◌, ◌++◌, IfOk, OnOk, OnErr, codes, flat_map, length, string_bytes};
+ghost use Rattle.pmp_text.specs.Dumps.{register_line, cfg_registers, addr_registers, dump_text};
 ghost use Rattle.pmp_text.specs.Names.{register_name};
 
 use crate::hexadecimal::hex_text;
@@ -9,29 +9,6 @@ use crate::names::RegisterName;
 use crate::report::NoMemory;
 use pmp_core::{Csr, RegFile};
 use std::alloc::{AllocError, Global};
-
-/// The registers of a unit of sixteen entries, in the order of their lines.
-const DUMPED: [Csr; 19] = [
-    Csr::Cfg(0),
-    Csr::Cfg(2),
-    Csr::Addr(0),
-    Csr::Addr(1),
-    Csr::Addr(2),
-    Csr::Addr(3),
-    Csr::Addr(4),
-    Csr::Addr(5),
-    Csr::Addr(6),
-    Csr::Addr(7),
-    Csr::Addr(8),
-    Csr::Addr(9),
-    Csr::Addr(10),
-    Csr::Addr(11),
-    Csr::Addr(12),
-    Csr::Addr(13),
-    Csr::Addr(14),
-    Csr::Addr(15),
-    Csr::Mseccfg,
-];
 
 /// What stands before the digits.
 fn line_start(alloc: Global, csr: Csr) -> Result<String, AllocError>
@@ -52,16 +29,35 @@ fn write_register(text: &mut Vec<u8>, file: &RegFile, csr: Csr) -> Result<(), No
     Ok(())
 }
 
-/// Appends a line for each register of a unit of sixteen entries: its name, a blank, `0x` and sixteen hexadecimal
-/// digits.
+/// Appends the lines of the configuration registers that hold an entry's byte. A register holds eight.
+fn write_cfg_registers(text: &mut Vec<u8>, file: &RegFile) -> Result<(), NoMemory>
+    ensures { OnOk result (text.new.items ≡ text.old.items ++ flat_map (register_line file.now) (cfg_registers (length file.now.entries))) }
+{
+    for place in 0..file.entries().div_ceil(8) {
+        write_register(text, file, Csr::Cfg(2 * place))?;
+    }
+    Ok(())
+}
+
+/// Appends the lines of the entries' address registers.
+fn write_addr_registers(text: &mut Vec<u8>, file: &RegFile) -> Result<(), NoMemory>
+    ensures { OnOk result (text.new.items ≡ text.old.items ++ flat_map (register_line file.now) (addr_registers (length file.now.entries))) }
+{
+    for entry in 0..file.entries() {
+        write_register(text, file, Csr::Addr(entry))?;
+    }
+    Ok(())
+}
+
+/// Appends a line for each register: its name, a blank, `0x` and sixteen hexadecimal digits.
 pub fn write_registers(out: &mut Vec<u8>, file: &RegFile) -> Result<(), NoMemory>
     ensures ok { OnOk result (out.new.items ≡ out.old.items ++ dump_text file.now) }
     ensures err { OnErr result (out.new.items ≡ out.old.items) }
 {
     let mut text = Vec::new(*out.allocator());
-    for csr in DUMPED {
-        write_register(&mut text, file, csr)?;
-    }
+    write_cfg_registers(&mut text, file)?;
+    write_addr_registers(&mut text, file)?;
+    write_register(&mut text, file, Csr::Mseccfg)?;
     out.extend_from_slice(&text)?;
     Ok(())
 }

@@ -1,10 +1,11 @@
 //! Scripts: the publications that a text describes, and why a text describes none.
 
 ghost use Rattle.std.specs.Prelude.{◌≡◌, ◌<◌, ◌≤◌, All, List, [], map, length, slice_index_or};
+ghost use Rattle.pmp_core.specs.declared.event.TheConstants.{BATCH_EVENTS};
 ghost use Rattle.pmp_core.specs.declared.event.Event.{Event};
 ghost use Rattle.pmp_text.specs.declared.script.ScriptKind.TheVariants.{Memory};
 
-use pmp_core::Event;
+use pmp_core::{BATCH_EVENTS, Event};
 use std::alloc::AllocFailed;
 use std::marker::Model;
 
@@ -21,7 +22,7 @@ pub enum ScriptKind {
     OddCfg,
     /// A value that is no number below `2^64`.
     BadNumber,
-    /// The open batch holds 64 events already.
+    /// The open batch is full.
     BatchFull,
     /// Events stand after the last `publish`.
     Unpublished,
@@ -56,7 +57,7 @@ impl<T: Drop> From<AllocFailed<T>> for ScriptFault {
     }
 }
 
-/// The publications of a script, in their order. Each is a batch of at most 64 events, perhaps empty.
+/// The publications of a script, in their order. Each is a batch of at most [`BATCH_EVENTS`] events, perhaps empty.
 #[derive(Debug, Drop)]
 pub struct Script {
     batches: Vec<Vec<Event>>,
@@ -67,12 +68,12 @@ impl Model for Script {
 
     ghost view = { λ script. map (λ batch. batch.items) script.batches.items };
 
-    ghost invariant = { λ script. All (λ batch. length batch.items ≤ 64) script.batches.items };
+    ghost invariant = { λ script. All (λ batch. length batch.items ≤ BATCH_EVENTS) script.batches.items };
 }
 
 impl Script {
     pub(crate) fn from_batches(batches: Vec<Vec<Event>>) -> Script
-        requires { All (λ batch. length batch.items ≤ 64) batches.items }
+        requires { All (λ batch. length batch.items ≤ BATCH_EVENTS) batches.items }
         ensures { result ≡ map (λ batch. batch.items) batches.items }
     {
         Script { batches }
@@ -89,7 +90,7 @@ impl Script {
     pub fn batch(&self, index: u64) -> &[Event]
         requires { index < length self.now }
         ensures events { result.now ≡ slice_index_or self.now index [] }
-        ensures limit { length result.now ≤ 64 }
+        ensures limit { length result.now ≤ BATCH_EVENTS }
     {
         &self.batches[index as usize]
     }
