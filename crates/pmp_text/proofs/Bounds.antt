@@ -17,8 +17,8 @@ use Rattle.pmp_text.specs.declared.statement.Statement.TheVariants as statement
 use Rattle.pmp_text.specs.Lines.{is_line_feed, has_bytes, without_empty_end, lines}
 use Rattle.pmp_text.specs.Statements.{statement_of}
 use Rattle.pmp_text.specs.Scripts.{Line, at_line, numbered_from, counts, significant_from, significant_lines, is_version, script_meaning}
-use Rattle.pmp_text.specs.Progress.{Progress, beginning, published, after_statement, all_published, resumed}
-use Rattle.pmp_text.specs.Sizes.{said}
+use Rattle.pmp_text.specs.Steps.Progress.{Progress, nothing_read, published, after_statement, all_published, resumed}
+use Rattle.pmp_text.specs.Sizes.{script_size}
 use Rattle.pmp_text.specs.Limits.{script_limit}
 use Rattle.pmp_text.proofs.Meanings.{too_long, no_version, other_version, this_version}
 
@@ -27,7 +27,7 @@ ok batches = Ok batches
 
 -- what was read so far, with the open batch
 abbrev read : Progress → ℕ
-read so_far = said so_far.published + length so_far.batch
+read so_far = script_size so_far.published + length so_far.batch
 
 read_published : (so_far : Progress) → read (published so_far) ≡ suc (read so_far)
 read_published so_far =
@@ -42,20 +42,20 @@ read_event : (so_far : Progress) (number : ℕ) (event : Event) → read (longer
 read_event so_far number event = let events = length-append so_far.batch (event ∷ []) in omega arith
 
 abbrev IsBounded : List Line → Type 0
-IsBounded lines = (so_far : Progress) (batches : List (List Event)) → resumed so_far lines ≡ Ok batches → said batches ≤ read so_far + length lines
+IsBounded lines = (so_far : Progress) (batches : List (List Event)) → resumed so_far lines ≡ Ok batches → script_size batches ≤ read so_far + length lines
 
 abbrev on : List Line → Result Progress ScriptFault → Result (List (List Event)) ScriptFault
 on more step = elim step [ Ok next ↦ resumed next more | Err fault ↦ Err fault ]
 
-ended : (so_far : Progress) (since : Option ℕ) (batches : List (List Event)) → all_published since so_far.published ≡ Ok batches → said batches ≤ read so_far
-ended so_far None batches e = let same : so_far.published ≡ batches = cc in let n = ap said same in omega arith
+ended : (so_far : Progress) (since : Option ℕ) (batches : List (List Event)) → all_published since so_far.published ≡ Ok batches → script_size batches ≤ read so_far
+ended so_far None batches e = let same : so_far.published ≡ batches = cc in let n = ap script_size same in omega arith
 ended so_far (Some number) batches e = absurd cc
 
-with_room : (room : Bool) (so_far : Progress) (number : ℕ) (event : Event) (more : List Line) (batches : List (List Event)) → IsBounded more → on more (cond room (Ok (longer so_far number event)) (Err (at_line number BatchFull))) ≡ Ok batches → said batches ≤ suc (read so_far) + length more
+with_room : (room : Bool) (so_far : Progress) (number : ℕ) (event : Event) (more : List Line) (batches : List (List Event)) → IsBounded more → on more (cond room (Ok (longer so_far number event)) (Err (at_line number BatchFull))) ≡ Ok batches → script_size batches ≤ suc (read so_far) + length more
 with_room true so_far number event more batches bounded e = let n = bounded (longer so_far number event) batches e in let m = read_event so_far number event in omega arith
 with_room false so_far number event more batches bounded e = absurd cc
 
-one_line : (says : Result Statement ScriptKind) (so_far : Progress) (number : ℕ) (more : List Line) (batches : List (List Event)) → IsBounded more → on more (after_statement so_far number says) ≡ Ok batches → said batches ≤ suc (read so_far) + length more
+one_line : (says : Result Statement ScriptKind) (so_far : Progress) (number : ℕ) (more : List Line) (batches : List (List Event)) → IsBounded more → on more (after_statement so_far number says) ≡ Ok batches → script_size batches ≤ suc (read so_far) + length more
 one_line (Err kind) so_far number more batches bounded e = absurd cc
 one_line (Ok statement.Publish) so_far number more batches bounded e = let n = bounded (published so_far) batches e in let m = read_published so_far in omega arith
 one_line (Ok (statement.Event event)) so_far number more batches bounded e = with_room (ltb (length so_far.batch) BATCH_EVENTS) so_far number event more batches bounded e
@@ -103,20 +103,20 @@ lines_and_bytes text =
 
 -- ---- the law
 
-by_version : (is : Bool) (text : List ℕ) (short : length text ≤ script_limit) (version : Line) (more : List Line) (batches : List (List Event)) → significant_lines text ≡ version ∷ more → is_version version.words ≡ is → script_meaning text ≡ Ok batches → said batches ≤ length text
+by_version : (is : Bool) (text : List ℕ) (short : length text ≤ script_limit) (version : Line) (more : List Line) (batches : List (List Event)) → significant_lines text ≡ version ∷ more → is_version version.words ≡ is → script_meaning text ≡ Ok batches → script_size batches ≤ length text
 by_version false text short version more batches lines is e = let refused = sym e ∙ other_version text short version more lines is in absurd cc
 by_version true text short version more batches lines is e =
-    let n = bounded_by_lines more beginning batches (sym (this_version text short version more lines is) ∙ e) in
+    let n = bounded_by_lines more nothing_read batches (sym (this_version text short version more lines is) ∙ e) in
     let m = lines_and_bytes text in
     let k = ap length lines in
     omega arith
 
-by_lines_read : (ls : List Line) (text : List ℕ) (short : length text ≤ script_limit) (batches : List (List Event)) → significant_lines text ≡ ls → script_meaning text ≡ Ok batches → said batches ≤ length text
+by_lines_read : (ls : List Line) (text : List ℕ) (short : length text ≤ script_limit) (batches : List (List Event)) → significant_lines text ≡ ls → script_meaning text ≡ Ok batches → script_size batches ≤ length text
 by_lines_read [] text short batches lines e = let refused = sym e ∙ no_version text short lines in absurd cc
 by_lines_read (version ∷ more) text short batches lines e = by_version (is_version version.words) text short version more batches lines refl e
 
-pub said_at_most : (text : List ℕ) (batches : List (List Event)) → script_meaning text ≡ Ok batches → (said batches ≤ length text) × (length text ≤ script_limit)
-said_at_most text batches e =
+pub size_at_most : (text : List ℕ) (batches : List (List Event)) → script_meaning text ≡ Ok batches → (script_size batches ≤ length text) × (length text ≤ script_limit)
+size_at_most text batches e =
     elim (cases_lt script_limit (length text)) [
       | inl long ↦ let refused = sym e ∙ too_long text long in absurd cc
       | inr short ↦ (by_lines_read (significant_lines text) text short batches refl e, short)

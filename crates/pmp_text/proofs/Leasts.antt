@@ -3,7 +3,7 @@ use Rattle.std.proofs.Common.{◌≡◌, ℕ, suc, ◌≤◌, List, [], ◌∷�
 use Rattle.std.specs.Prelude.{option_map, option_and_then, slice_get}
 use Rattle.std.proofs.lemmas.List.{append-nil, reverse-append}
 use Rattle.pmp_text.specs.declared.script.ScriptFault.{ScriptFault}
-use Rattle.pmp_text.specs.Scripts.{Line, at_line, line_fault, first_fault, judged, first_unpublished, publications, lines_meaning, significant_lines, script_meaning}
+use Rattle.pmp_text.specs.Scripts.{Line, at_line, line_fault, first_fault, fault_or_batches, first_unpublished, publications, lines_meaning, significant_lines, script_meaning}
 use Rattle.pmp_text.specs.Faults.{fault_at, IsLeastFault}
 use Rattle.pmp_text.specs.Limits.{script_limit}
 use Rattle.pmp_text.proofs.LeastFaults.{Judges, judged_here, judged_as, the_first}
@@ -35,7 +35,7 @@ first_is_least lines = judged_as (fault_behind [] lines) (fault_at lines) (first
 
 refused : (lines : List Line) (fault : ScriptFault) → first_fault [] lines ≡ Some fault → lines_meaning lines ≡ Err fault
 refused [] fault e = absurd cc
-refused (version ∷ more) fault e = ap (λ (first : Option ScriptFault). judged first (first_unpublished more) (publications more)) e
+refused (version ∷ more) fault e = ap (λ (first : Option ScriptFault). fault_or_batches first (first_unpublished more) (publications more)) e
 
 pub least_is_answered : (text : List ℕ) (fault : ScriptFault) → length text ≤ script_limit → IsLeastFault (fault_at (significant_lines text)) fault → script_meaning text ≡ Err fault
 least_is_answered text fault short least =

@@ -15,8 +15,8 @@ use Rattle.pmp_text.specs.declared.script.ScriptFault.{ScriptFault}
 use Rattle.pmp_text.specs.declared.statement.Statement.{Statement}
 use Rattle.pmp_text.specs.declared.statement.Statement.TheVariants as statement
 use Rattle.pmp_text.specs.Statements.{statement_of}
-use Rattle.pmp_text.specs.Scripts.{Line, at_line, counted, open_events, statement_fault, first_fault, event_of, publishes, is_publish, but_last, last_piece, judged, is_version, significant_lines, lines_meaning, script_meaning, publications, first_unpublished}
-use Rattle.pmp_text.specs.Progress.{Progress, beginning, published, after_statement, all_published, resumed}
+use Rattle.pmp_text.specs.Scripts.{Line, at_line, counted, open_events, statement_fault, first_fault, event_of, publishes, is_publish, but_last, last_piece, fault_or_batches, is_version, significant_lines, lines_meaning, script_meaning, publications, first_unpublished}
+use Rattle.pmp_text.specs.Steps.Progress.{Progress, nothing_read, published, after_statement, all_published, resumed}
 use Rattle.pmp_text.specs.Limits.{script_limit}
 
 -- what pieces add to an open batch: the batches that they publish, and where events stay open
@@ -85,7 +85,7 @@ some_piece lines = omega (arith, length-slice_split is_publish lines)
 
 -- what is meant by lines behind others, with what was read so far
 abbrev meant_from : Progress → (before lines : List Line) → Result (List (List Event)) ScriptFault
-meant_from so_far before lines = judged (first_fault before lines) (since_from so_far.since (pieces_of lines)) (so_far.published ++ batches_from so_far.batch (pieces_of lines))
+meant_from so_far before lines = fault_or_batches (first_fault before lines) (since_from so_far.since (pieces_of lines)) (so_far.published ++ batches_from so_far.batch (pieces_of lines))
 
 -- one line more, by what it says
 module _ (so_far : Progress) (last : Line) (front : List Line) (count : length so_far.batch ≡ open_events (last ∷ front)) (line : Line) (more : List Line) where
@@ -99,7 +99,7 @@ module _ (so_far : Progress) (last : Line) (front : List Line) (count : length s
   cut publish = cond publish ([] ∷ pieces_of more) (onto_first line (pieces_of more))
 
   abbrev means : Result Statement ScriptKind → Result (List (List Event)) ScriptFault
-  means says = judged (option_or (option_map (at_line line.number) (statement_fault (open_events (last ∷ front)) says)) later) (since_from so_far.since (cut (publishes says))) (so_far.published ++ batches_from so_far.batch (cut (publishes says)))
+  means says = fault_or_batches (option_or (option_map (at_line line.number) (statement_fault (open_events (last ∷ front)) says)) later) (since_from so_far.since (cut (publishes says))) (so_far.published ++ batches_from so_far.batch (cut (publishes says)))
 
   agree : (says : Result Statement ScriptKind) → statement_of line.words ≡ says → reads (after_statement so_far line.number says) ≡ means says → resumed so_far (line ∷ more) ≡ meant_from so_far (last ∷ front) (line ∷ more)
   agree says e same = ap (λ (r : Result Statement ScriptKind). reads (after_statement so_far line.number r)) e ∙ same ∙ sym (ap means e)
@@ -108,14 +108,14 @@ module _ (so_far : Progress) (last : Line) (front : List Line) (count : length s
   publish_agrees same =
       let since = since_from-published so_far.since (pieces_of more) (some_piece more) in
       let batches = append_assoc so_far.published (so_far.batch ∷ []) (batches_from [] (pieces_of more)) ∙ ap (λ (front : List (List Event)). so_far.published ++ front) (sym (batches_from-published so_far.batch (pieces_of more) (some_piece more))) in
-      same ∙ ap (λ (batches : List (List Event)). judged later (since_from None (pieces_of more)) batches) batches ∙ ap (λ (since : Option ℕ). judged later since (so_far.published ++ batches_from so_far.batch ([] ∷ pieces_of more))) (sym since)
+      same ∙ ap (λ (batches : List (List Event)). fault_or_batches later (since_from None (pieces_of more)) batches) batches ∙ ap (λ (since : Option ℕ). fault_or_batches later since (so_far.published ++ batches_from so_far.batch ([] ∷ pieces_of more))) (sym since)
 
   module _ (event : Event) where
     abbrev longer : Progress
     longer = record { published = so_far.published; batch = so_far.batch ++ event ∷ []; since = Some (unwrap_or so_far.since line.number) }
 
-    fits : (room : Bool) → (room ≡ true → resumed longer more ≡ judged later (since_from so_far.since (cut false)) (so_far.published ++ batches_from so_far.batch (cut false)))
-        → reads (cond room (Ok longer) (Err (at_line line.number BatchFull))) ≡ judged (option_or (option_map (at_line line.number) (cond room None (Some BatchFull))) later) (since_from so_far.since (cut false)) (so_far.published ++ batches_from so_far.batch (cut false))
+    fits : (room : Bool) → (room ≡ true → resumed longer more ≡ fault_or_batches later (since_from so_far.since (cut false)) (so_far.published ++ batches_from so_far.batch (cut false)))
+        → reads (cond room (Ok longer) (Err (at_line line.number BatchFull))) ≡ fault_or_batches (option_or (option_map (at_line line.number) (cond room None (Some BatchFull))) later) (since_from so_far.since (cut false)) (so_far.published ++ batches_from so_far.batch (cut false))
     fits true same = same refl
     fits false same = refl
 
@@ -124,9 +124,9 @@ module _ (so_far : Progress) (last : Line) (front : List Line) (count : length s
     event_agrees says same =
         let since = since_from-event line event says so_far.since (pieces_of more) (some_piece more) in
         let batches = batches_from-event line event says so_far.batch (pieces_of more) in
-        let ends = ap (λ (since : Option ℕ). judged later since (so_far.published ++ batches_from longer.batch (pieces_of more))) (sym since) ∙ ap (λ (batches : List (List Event)). judged later (since_from so_far.since (cut false)) (so_far.published ++ batches)) (sym batches) in
+        let ends = ap (λ (since : Option ℕ). fault_or_batches later since (so_far.published ++ batches_from longer.batch (pieces_of more))) (sym since) ∙ ap (λ (batches : List (List Event)). fault_or_batches later (since_from so_far.since (cut false)) (so_far.published ++ batches)) (sym batches) in
         fits (ltb (length so_far.batch) BATCH_EVENTS) (λ room. same room ∙ ends)
-        ∙ ap (λ (n : ℕ). judged (option_or (option_map (at_line line.number) (cond (ltb n BATCH_EVENTS) None (Some BatchFull))) later) (since_from so_far.since (cut false)) (so_far.published ++ batches_from so_far.batch (cut false))) count
+        ∙ ap (λ (n : ℕ). fault_or_batches (option_or (option_map (at_line line.number) (cond (ltb n BATCH_EVENTS) None (Some BatchFull))) later) (since_from so_far.since (cut false)) (so_far.published ++ batches_from so_far.batch (cut false))) count
 
 -- the open batch has as many events as were counted
 counted_event : (so_far : Progress) (front : List Line) (line : Line) (event : Event) → length so_far.batch ≡ open_events front → statement_of line.words ≡ Ok (statement.Event event) → length (so_far.batch ++ event ∷ []) ≡ open_events (line ∷ front)
@@ -146,7 +146,7 @@ by_saying (Ok (statement.Event event)) line more says same so_far last front cou
     agree so_far last front count line more (Ok (statement.Event event)) says
     (event_agrees so_far last front count line more event says (λ room. same (longer so_far last front count line more event) line (last ∷ front) (counted_event so_far (last ∷ front) line event count says)))
 
-nothing_left : (so_far : Progress) (since : Option ℕ) → all_published since so_far.published ≡ judged None (option_or since None) (so_far.published ++ [])
+nothing_left : (so_far : Progress) (since : Option ℕ) → all_published since so_far.published ≡ fault_or_batches None (option_or since None) (so_far.published ++ [])
 nothing_left so_far None = ap (λ (batches : List (List Event)). Ok batches) (sym (append-nil so_far.published))
 nothing_left so_far (Some number) = refl
 
@@ -183,15 +183,15 @@ module _ (text : List ℕ) where
 
     module _ (version : Line) (more : List Line) (lines : significant_lines text ≡ version ∷ more) where
       abbrev with_version : Bool → Result (List (List Event)) ScriptFault
-      with_version is = judged (option_or (option_map (at_line version.number) (cond is None (Some BadVersion))) (first_fault (version ∷ []) more)) (first_unpublished more) (publications more)
+      with_version is = fault_or_batches (option_or (option_map (at_line version.number) (cond is None (Some BadVersion))) (first_fault (version ∷ []) more)) (first_unpublished more) (publications more)
 
       pub other_version : is_version version.words ≡ false → script_meaning text ≡ Err (at_line version.number BadVersion)
       other_version e = by_lines ∙ ap lines_meaning lines ∙ ap with_version e
 
-      pub this_version : is_version version.words ≡ true → script_meaning text ≡ resumed beginning more
+      pub this_version : is_version version.words ≡ true → script_meaning text ≡ resumed nothing_read more
       this_version e =
           let count = sym (ap (λ (r : Result Statement ScriptKind). counted r 0) (no_statement version.words e)) in
           by_lines ∙ ap lines_meaning lines ∙ ap with_version e
-          ∙ ap (λ (since : Option ℕ). judged (first_fault (version ∷ []) more) since (publications more)) (sym (since_from-nothing (pieces_of more)))
-          ∙ ap (judged (first_fault (version ∷ []) more) (since_from None (pieces_of more))) (sym (batches_from-nothing (pieces_of more)))
-          ∙ sym (reading_means more beginning version [] count)
+          ∙ ap (λ (since : Option ℕ). fault_or_batches (first_fault (version ∷ []) more) since (publications more)) (sym (since_from-nothing (pieces_of more)))
+          ∙ ap (fault_or_batches (first_fault (version ∷ []) more) (since_from None (pieces_of more))) (sym (batches_from-nothing (pieces_of more)))
+          ∙ sym (reading_means more nothing_read version [] count)

@@ -8,7 +8,7 @@ use Rattle.csv.specs.declared.reader.Reader.{Reader}
 use Rattle.csv.specs.Machine.{Read, step, is_end, ends_at_end, fields_after, field_after, next_record}
 use Rattle.csv.specs.Reading.{Reached, ReadRecord, default_config, records_from, records_next}
 use Rattle.csv.proofs.ReadFacts.{rows-end, rows-more}
-use Rattle.pmp_text.specs.Records.{IsReading, bytes_left, records_behind, records_known, records_left}
+use Rattle.pmp_text.specs.Steps.Records.{IsReading, bytes_left, records_behind, records_known, records_left}
 
 -- a record takes a byte, or all that is left
 abbrev TakesSome : List ℕ → Read → Type 0

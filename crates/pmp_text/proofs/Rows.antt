@@ -7,23 +7,23 @@ use Rattle.pmp_text.specs.declared.row_fields.RowFields.{RowFields}
 use Rattle.pmp_text.specs.declared.trace.TraceKind.{TraceKind}
 use Rattle.pmp_text.specs.declared.trace.TraceKind.TheVariants.{BadHeader, TooLong}
 use Rattle.pmp_text.specs.declared.trace.TraceFault.{TraceFault}
-use Rattle.pmp_text.specs.Traces.{at_row, first_row_fault, is_header, records_meaning, row_fault, row_said, rows_judged, rows_meaning, trace_meaning, trace_records}
+use Rattle.pmp_text.specs.Traces.{at_row, first_row_fault, is_header, records_meaning, row_fault, row_of_record, fault_or_rows, rows_meaning, trace_meaning, trace_records}
 use Rattle.pmp_text.specs.Limits.{trace_limit}
 
 -- what is meant where so many rows were read, which say this, the last one `last`, and these records are left
 abbrev pub resumed : (publications : ℕ) → (last : Option ℕ) → (count : ℕ) → List RowFields → List (List (List ℕ)) → Result (List RowFields) TraceFault
-resumed publications last count rows left = rows_judged (first_row_fault publications last (count + 1) left) (rows ++ filter_map row_said left)
+resumed publications last count rows left = fault_or_rows (first_row_fault publications last (count + 1) left) (rows ++ filter_map row_of_record left)
 
 module _ (publications : ℕ) (last : Option ℕ) (count : ℕ) (rows : List RowFields) where
   pub no_row_left : resumed publications last count rows [] ≡ Ok rows
   no_row_left = ap (λ (r : List RowFields). Ok r) (append-nil rows)
 
   module _ (next : List (List ℕ)) (more : List (List (List ℕ))) where
-    pub faulty_row : (kind : TraceKind) → row_fault publications last (row_said next) ≡ Some kind → resumed publications last count rows (next ∷ more) ≡ Err (at_row (count + 1) kind)
+    pub faulty_row : (kind : TraceKind) → row_fault publications last (row_of_record next) ≡ Some kind → resumed publications last count rows (next ∷ more) ≡ Err (at_row (count + 1) kind)
     faulty_row kind e = rw e refl
 
-    pub one_row_more : (row : RowFields) → row_said next ≡ Some row → row_fault publications last (row_said next) ≡ None → resumed publications last count rows (next ∷ more) ≡ resumed publications (Some row.after) (count + 1) (rows ++ row ∷ []) more
-    one_row_more row says fine = rw (fine, says) (ap (rows_judged (first_row_fault publications (Some row.after) (count + 1 + 1) more)) (sym (append_assoc rows (row ∷ []) (filter_map row_said more))))
+    pub one_row_more : (row : RowFields) → row_of_record next ≡ Some row → row_fault publications last (row_of_record next) ≡ None → resumed publications last count rows (next ∷ more) ≡ resumed publications (Some row.after) (count + 1) (rows ++ row ∷ []) more
+    one_row_more row says fine = rw (fine, says) (ap (fault_or_rows (first_row_fault publications (Some row.after) (count + 1 + 1) more)) (sym (append_assoc rows (row ∷ []) (filter_map row_of_record more))))
 
 -- ---- from the header on
 

@@ -4,11 +4,11 @@ use Rattle.std.specs.Io.KnownBytes.{Consumes, Appends}
 
 -- known bytes lose their first `count`
 abbrev pub Takes : (old new : Option (List ℕ)) → (count : ℕ) → Type 0
-Takes old new count = (taken : List ℕ) × Consumes old new taken × (length taken ≡ count)
+Takes old new count = (bytes : List ℕ) × Consumes old new bytes × (length bytes ≡ count)
 
 -- known bytes lose their first ones, at most `limit` of them
 abbrev pub TakesAtMost : (old new : Option (List ℕ)) → (limit : ℕ) → Type 0
-TakesAtMost old new limit = (taken : List ℕ) × Consumes old new taken × (length taken ≤ limit)
+TakesAtMost old new limit = (bytes : List ℕ) × Consumes old new bytes × (length bytes ≤ limit)
 
 -- known bytes grow by a beginning of `bytes`, perhaps empty or whole
 abbrev pub AppendsBeginning : (old new : Option (List ℕ)) → (bytes : List ℕ) → Type 0

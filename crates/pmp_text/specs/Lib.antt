@@ -1,7 +1,7 @@
+-- What a reader has to believe: what each text means, and what each call answers.
 pub mod AccessWords
 pub mod Bytes
 pub mod Dumps
-pub mod Faults
 pub mod Hexadecimal
 pub mod Inputs
 pub mod Limits
@@ -9,13 +9,13 @@ pub mod Lines
 pub mod Names
 pub mod Numbers
 pub mod Outcomes
-pub mod Progress
-pub mod Records
 pub mod Reports
 pub mod RunLines
 pub mod Scripts
-pub mod Sizes
 pub mod Statements
-pub mod TraceFaults
 pub mod Traces
-pub mod Views
+-- The rest: laws of these definitions, and the readers' steps, which only private contracts cite.
+pub mod Faults
+pub mod Sizes
+pub mod Steps
+pub mod TraceFaults

@@ -117,15 +117,15 @@ first_unpublished lines = option_map (λ line. line.number) (find (λ line. is_s
 -- ---- the meaning
 
 -- the fault of a line comes first, then events that are never published
-abbrev pub judged : Option ScriptFault → Option ℕ → List (List Event) → Result (List (List Event)) ScriptFault
-judged (Some fault) unpublished batches = Err fault
-judged None (Some number) batches = Err (at_line number Unpublished)
-judged None None batches = Ok batches
+abbrev pub fault_or_batches : Option ScriptFault → Option ℕ → List (List Event) → Result (List (List Event)) ScriptFault
+fault_or_batches (Some fault) unpublished batches = Err fault
+fault_or_batches None (Some number) batches = Err (at_line number Unpublished)
+fault_or_batches None None batches = Ok batches
 
 -- the first line is the version; publications stand behind it
 abbrev pub lines_meaning : List Line → Result (List (List Event)) ScriptFault
 lines_meaning [] = Err (at_line 1 BadVersion)
-lines_meaning (version ∷ more) = judged (first_fault [] (version ∷ more)) (first_unpublished more) (publications more)
+lines_meaning (version ∷ more) = fault_or_batches (first_fault [] (version ∷ more)) (first_unpublished more) (publications more)
 
 -- what a text means; one of more bytes than the limit is too long, whatever it says
 unfoldable pub script_meaning : List ℕ → Result (List (List Event)) ScriptFault

@@ -5,9 +5,9 @@ use Rattle.pmp_text.specs.Scripts.{script_meaning}
 use Rattle.pmp_text.specs.Limits.{script_limit}
 
 -- publications and events together
-abbrev pub said : List (List Event) → ℕ
-said batches = length batches + sum_by (λ batch. length batch) batches
+abbrev pub script_size : List (List Event) → ℕ
+script_size batches = length batches + sum_by (λ batch. length batch) batches
 
 -- a script has no more publications and events than bytes, of which there are not too many
 abbrev pub ScriptSizeLaw : Type 0
-ScriptSizeLaw = (text : List ℕ) → (batches : List (List Event)) → script_meaning text ≡ Ok batches → (said batches ≤ length text) × (length text ≤ script_limit)
+ScriptSizeLaw = (text : List ℕ) → (batches : List (List Event)) → script_meaning text ≡ Ok batches → (script_size batches ≤ length text) × (length text ≤ script_limit)

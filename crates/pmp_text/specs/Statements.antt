@@ -21,14 +21,14 @@ write_statement (name ∷ value ∷ []) = write_of (register_named name) (word_n
 write_statement _ = Err BadLine
 
 -- a statement of one word has no operands
-abbrev pub alone : Statement → List (List ℕ) → Result Statement ScriptKind
-alone statement [] = Ok statement
-alone statement (word ∷ more) = Err BadLine
+abbrev pub without_operands : Statement → List (List ℕ) → Result Statement ScriptKind
+without_operands statement [] = Ok statement
+without_operands statement (word ∷ more) = Err BadLine
 
 -- the statement of a line, by its words: `write` with a register and a value, `reset`, or `publish`
 unfoldable pub statement_of : List (List ℕ) → Result Statement ScriptKind
 statement_of [] = Err BadLine
 statement_of (word ∷ operands) =
     if bytes_eq word (codes "write") then write_statement operands
-    else (if bytes_eq word (codes "reset") then alone (statement.Event Reset) operands
-    else (if bytes_eq word (codes "publish") then alone statement.Publish operands else Err BadLine))
+    else (if bytes_eq word (codes "reset") then without_operands (statement.Event Reset) operands
+    else (if bytes_eq word (codes "publish") then without_operands statement.Publish operands else Err BadLine))

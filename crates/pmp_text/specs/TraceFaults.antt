@@ -3,17 +3,17 @@ use Rattle.std.specs.Prelude.{◌≡◌, ℕ, zero, suc, ◌+◌, ◌≤◌, Lis
 use Rattle.pmp_text.specs.declared.row_fields.RowFields.{RowFields}
 use Rattle.pmp_text.specs.declared.trace.TraceFault.{TraceFault}
 use Rattle.pmp_text.specs.Faults.{IsLeastFault}
-use Rattle.pmp_text.specs.Traces.{after_said, at_row, first_row_fault, is_header, row_fault, row_said, trace_meaning, trace_records}
+use Rattle.pmp_text.specs.Traces.{after_of, at_row, first_row_fault, is_header, row_fault, row_of_record, trace_meaning, trace_records}
 use Rattle.pmp_text.specs.Limits.{trace_limit}
 
 -- what the row before this one asks for; `last` stands before the first row
 abbrev pub after_before : (last : Option ℕ) → List (List (List ℕ)) → (index : ℕ) → Option ℕ
 after_before last rows zero = last
-after_before last rows (suc index) = option_and_then (λ row. after_said (row_said row)) (slice_get rows index)
+after_before last rows (suc index) = option_and_then (λ row. after_of (row_of_record row)) (slice_get rows index)
 
 -- the fault of the row with this index, by itself and the row before
 abbrev pub row_fault_at : (publications : ℕ) → List (List (List ℕ)) → (index : ℕ) → Option TraceFault
-row_fault_at publications rows index = option_and_then (λ row. option_map (at_row (index + 1)) (row_fault publications (after_before None rows index) (row_said row))) (slice_get rows index)
+row_fault_at publications rows index = option_and_then (λ row. option_map (at_row (index + 1)) (row_fault publications (after_before None rows index) (row_of_record row))) (slice_get rows index)
 
 -- the first fault is that of the least faulty row, and where there is none, no row is faulty
 abbrev pub FirstRowFaultLaw : Type 0

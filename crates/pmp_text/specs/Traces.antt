@@ -8,6 +8,7 @@ use Rattle.pmp_core.specs.declared.access.AccessFault.{AccessFault}
 use Rattle.pmp_core.specs.declared.access.AccessFault.TheVariants as access
 use Rattle.pmp_core.specs.Accesses.{access_fault}
 use Rattle.pmp_text.specs.declared.row_fields.RowFields.{RowFields}
+use Rattle.pmp_text.specs.declared.trace.Row.{Row}
 use Rattle.pmp_text.specs.declared.trace.TraceKind.{TraceKind}
 use Rattle.pmp_text.specs.declared.trace.TraceKind.TheVariants.{BadHeader, BadRow, BadAfter, Order, BadLength, PastEnd, TooLong}
 use Rattle.pmp_text.specs.declared.trace.TraceFault.{TraceFault}
@@ -41,21 +42,25 @@ is_header fields = elim (five_fields fields) [ Some words ↦ names_fields words
 
 -- ---- one row
 
+-- the fields of a row
+abbrev pub row_fields : Row → RowFields
+row_fields row = record { after = row.after; mode = row.access.mode; kind = row.access.kind; start = row.access.start; length = row.access.length }
+
 -- what five words say, where each is what its place asks for
-abbrev pub words_said : Option ℕ → Option Mode → Option Kind → Option ℕ → Option ℕ → Option RowFields
-words_said (Some after) (Some mode) (Some kind) (Some start) (Some length) = Some (record { after = after; mode = mode; kind = kind; start = start; length = length })
-words_said _ _ _ _ _ = None
+abbrev pub row_of_values : Option ℕ → Option Mode → Option Kind → Option ℕ → Option ℕ → Option RowFields
+row_of_values (Some after) (Some mode) (Some kind) (Some start) (Some length) = Some (record { after = after; mode = mode; kind = kind; start = start; length = length })
+row_of_values _ _ _ _ _ = None
 
 -- what a record says as a row: three numbers, a mode and a kind
-abbrev pub fields_said : FiveFields → Option RowFields
-fields_said words = words_said (word_number words.after) (mode_named words.mode) (kind_named words.kind) (word_number words.start) (word_number words.length)
+abbrev pub row_of_fields : FiveFields → Option RowFields
+row_of_fields words = row_of_values (word_number words.after) (mode_named words.mode) (kind_named words.kind) (word_number words.start) (word_number words.length)
 
-abbrev pub row_said : List (List ℕ) → Option RowFields
-row_said fields = option_and_then fields_said (five_fields fields)
+abbrev pub row_of_record : List (List ℕ) → Option RowFields
+row_of_record fields = option_and_then row_of_fields (five_fields fields)
 
 -- how many publications a row asks for
-abbrev pub after_said : Option RowFields → Option ℕ
-after_said said = option_map (λ row. row.after) said
+abbrev pub after_of : Option RowFields → Option ℕ
+after_of said = option_map (λ row. row.after) said
 
 -- fewer publications than the row before
 abbrev pub falls_behind : (last : Option ℕ) → (after : ℕ) → Bool
@@ -89,16 +94,16 @@ at_row number kind = record { kind = kind; row = number }
 abbrev pub first_row_fault : (publications : ℕ) → (last : Option ℕ) → (number : ℕ) → List (List (List ℕ)) → Option TraceFault
 first_row_fault publications last number [] = None
 first_row_fault publications last number (row ∷ more) =
-    option_or (option_map (at_row number) (row_fault publications last (row_said row))) (first_row_fault publications (after_said (row_said row)) (number + 1) more)
+    option_or (option_map (at_row number) (row_fault publications last (row_of_record row))) (first_row_fault publications (after_of (row_of_record row)) (number + 1) more)
 
 -- a fault of a row, else what the rows say
-abbrev pub rows_judged : Option TraceFault → List RowFields → Result (List RowFields) TraceFault
-rows_judged (Some fault) rows = Err fault
-rows_judged None rows = Ok rows
+abbrev pub fault_or_rows : Option TraceFault → List RowFields → Result (List RowFields) TraceFault
+fault_or_rows (Some fault) rows = Err fault
+fault_or_rows None rows = Ok rows
 
 -- the rows are numbered from 1, and no row stands before the first one
 abbrev pub rows_meaning : (publications : ℕ) → List (List (List ℕ)) → Result (List RowFields) TraceFault
-rows_meaning publications rows = rows_judged (first_row_fault publications None 1 rows) (filter_map row_said rows)
+rows_meaning publications rows = fault_or_rows (first_row_fault publications None 1 rows) (filter_map row_of_record rows)
 
 -- the rows stand behind the header
 abbrev pub records_meaning : (publications : ℕ) → List (List (List ℕ)) → Result (List RowFields) TraceFault

@@ -3,8 +3,8 @@
 ghost use Rattle.std.specs.Prelude.{◌≡◌, ◌≤◌, All, length, map};
 ghost use Rattle.pmp_core.specs.declared.event.TheConstants.{BATCH_EVENTS};
 ghost use Rattle.pmp_text.specs.Outcomes.{Gives};
-ghost use Rattle.pmp_text.specs.Progress.{Progress, beginning, published, with_event, after_line, finished};
-ghost use Rattle.pmp_text.specs.Views.{seen_line};
+ghost use Rattle.pmp_text.specs.Steps.Progress.{Progress, nothing_read, published, with_event, after_line, finished};
+ghost use Rattle.pmp_text.specs.Steps.Views.{seen_line};
 
 use crate::script::{Script, ScriptFault, ScriptKind};
 use crate::significant::NumberedLine;
@@ -34,7 +34,7 @@ impl Model for ScriptBuilder {
 
 impl ScriptBuilder {
     pub fn new(alloc: Global) -> Self
-        ensures { result ≡ beginning }
+        ensures { result ≡ nothing_read }
     {
         ScriptBuilder {
             alloc,

@@ -3,7 +3,7 @@
 ghost use Rattle.std.specs.Prelude.{◌≡◌, ◌⊎◌, ◌∷◌, [], true, false, Ok, IfErr};
 ghost use Rattle.csv.specs.Records.{fields_of};
 ghost use Rattle.pmp_text.specs.Outcomes.{no_memory_for_rows, no_input_for_rows};
-ghost use Rattle.pmp_text.specs.Records.{IsReading, records_left};
+ghost use Rattle.pmp_text.specs.Steps.Records.{IsReading, records_left};
 ghost use Rattle.pmp_text.specs.Traces.{trace_records};
 
 use crate::trace::TraceFault;

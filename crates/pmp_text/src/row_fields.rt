@@ -2,8 +2,8 @@
 
 ghost use Rattle.std.specs.Prelude.{◌≡◌, IfOk, IfErr, None, Some, option_map};
 ghost use Rattle.csv.specs.Records.{fields_of};
-ghost use Rattle.pmp_text.specs.Traces.{fields_fault, five_fields, is_header, row_fault, row_said};
-ghost use Rattle.pmp_text.specs.Views.{row_fields, seen_five};
+ghost use Rattle.pmp_text.specs.Traces.{fields_fault, five_fields, is_header, row_fault, row_fields, row_of_record};
+ghost use Rattle.pmp_text.specs.Steps.Views.{seen_five};
 
 use crate::access_words::{read_kind, read_mode};
 use crate::numbers::read_word_number;
@@ -57,7 +57,7 @@ pub fn is_header(fields: &ByteRecord) -> bool
 impl RowFields {
     /// What a record says as a row, if it says one.
     pub fn read(fields: &ByteRecord) -> Option<RowFields>
-        ensures { result ≡ row_said (fields_of fields.now) }
+        ensures { result ≡ row_of_record (fields_of fields.now) }
     {
         let (after, mode, kind, start, length) = five_fields(fields)?;
         Some(RowFields {
@@ -90,8 +90,8 @@ impl RowFields {
 
 /// The row that a record says, beside a script with so many publications and behind a row that asks for `last`.
 pub fn read_row(fields: &ByteRecord, publications: u64, last: Option<u64>) -> Result<Row, TraceKind>
-    ensures ok { IfOk result (λ row. (row_said (fields_of fields.now) ≡ Some (row_fields row)) × (row_fault publications last (row_said (fields_of fields.now)) ≡ None)) }
-    ensures err { IfErr result (λ kind. row_fault publications last (row_said (fields_of fields.now)) ≡ Some kind) }
+    ensures ok { IfOk result (λ row. (row_of_record (fields_of fields.now) ≡ Some (row_fields row)) × (row_fault publications last (row_of_record (fields_of fields.now)) ≡ None)) }
+    ensures err { IfErr result (λ kind. row_fault publications last (row_of_record (fields_of fields.now)) ≡ Some kind) }
 {
     let said = RowFields::read(fields).ok_or(TraceKind::BadRow)?;
     said.check(publications, last)

@@ -2,9 +2,9 @@
 
 ghost use Rattle.pmp_text.specs.Lines.{words};
 ghost use Rattle.pmp_text.specs.Outcomes.{Gives};
-ghost use Rattle.pmp_text.specs.Progress.{beginning, resumed};
+ghost use Rattle.pmp_text.specs.Steps.Progress.{nothing_read, resumed};
 ghost use Rattle.pmp_text.specs.Scripts.{is_version, script_meaning};
-ghost use Rattle.pmp_text.specs.Views.{lines_left};
+ghost use Rattle.pmp_text.specs.Steps.Views.{lines_left};
 ghost use Rattle.std.specs.Prelude.{◌≡◌};
 
 use crate::progress::ScriptBuilder;
@@ -29,7 +29,7 @@ fn is_version_line(line: &[u8]) -> bool
 
 /// Reads the lines behind a script's first one.
 fn read_statements(alloc: Global, lines: SignificantLines) -> Result<Script, ScriptFault>
-    ensures { Gives (λ script. script) result (resumed beginning (lines_left lines.entry)) }
+    ensures { Gives (λ script. script) result (resumed nothing_read (lines_left lines.entry)) }
 {
     let mut builder = ScriptBuilder::new(alloc);
     for line in lines {

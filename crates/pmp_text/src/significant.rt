@@ -36,7 +36,7 @@ pub struct SignificantLines<'a> {
 
 impl<'a> SignificantLines<'a> {
     ghost use Rattle.pmp_text.specs.Scripts.{significant_lines};
-    ghost use Rattle.pmp_text.specs.Views.{lines_left};
+    ghost use Rattle.pmp_text.specs.Steps.Views.{lines_left};
 
     pub fn new(text: &'a [u8]) -> Self
         requires { length text.now < 2 ^ 63 }
@@ -50,7 +50,7 @@ impl<'a> SignificantLines<'a> {
 }
 
 impl<'a> Iterator for SignificantLines<'a> {
-    ghost use Rattle.pmp_text.specs.Views.{seen_line, lines_left};
+    ghost use Rattle.pmp_text.specs.Steps.Views.{seen_line, lines_left};
 
     type Item = NumberedLine<'a>;
 

@@ -2,10 +2,9 @@
 
 ghost use Rattle.std.specs.Prelude.{IfOk, map};
 ghost use Rattle.pmp_text.specs.Outcomes.{GivesRows};
-ghost use Rattle.pmp_text.specs.Records.{IsReading, records_left};
+ghost use Rattle.pmp_text.specs.Steps.Records.{IsReading, records_left};
 ghost use Rattle.pmp_text.specs.TraceFaults.{IsInOrder, afters};
-ghost use Rattle.pmp_text.specs.Traces.{rows_meaning, trace_meaning};
-ghost use Rattle.pmp_text.specs.Views.{row_fields};
+ghost use Rattle.pmp_text.specs.Traces.{row_fields, rows_meaning, trace_meaning};
 
 use crate::records::{open_records, read_record};
 use crate::row_fields::{is_header, read_row};

@@ -1,5 +1,5 @@
 use Rattle.std.proofs.Common.{inl, sym, ◌∙◌, arith}
-use Rattle.pmp_text.specs.Views.{seen_line, lines_left}
+use Rattle.pmp_text.specs.Steps.Views.{seen_line, lines_left}
 use Rattle.pmp_text.proofs.Meanings.{too_long, no_version, other_version, this_version}
 use Rattle.pmp_text.proofs.script_reader.read_script.Goals as goal
 

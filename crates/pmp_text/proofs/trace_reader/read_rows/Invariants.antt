@@ -1,7 +1,6 @@
 use Rattle.std.proofs.Common.{◌≡◌, map, length}
-use Rattle.pmp_text.specs.Records.{IsReading, records_left}
-use Rattle.pmp_text.specs.Traces.{rows_meaning}
-use Rattle.pmp_text.specs.Views.{row_fields}
+use Rattle.pmp_text.specs.Steps.Records.{IsReading, records_left}
+use Rattle.pmp_text.specs.Traces.{row_fields, rows_meaning}
 use Rattle.pmp_text.proofs.Rows.{resumed}
 use Rattle.pmp_text.proofs.trace_reader.read_rows.Given as goal
 

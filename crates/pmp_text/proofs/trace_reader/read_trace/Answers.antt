@@ -1,9 +1,8 @@
 use Rattle.std.proofs.Common.{◌≡◌, map, true, false, inl, ap, sym, ◌∙◌, arith, Ok}
 use Rattle.csv.specs.Records.{fields_of}
 use Rattle.pmp_text.specs.Outcomes.{GivesRows}
-use Rattle.pmp_text.specs.Records.{records_left}
-use Rattle.pmp_text.specs.Traces.{trace_meaning}
-use Rattle.pmp_text.specs.Views.{row_fields}
+use Rattle.pmp_text.specs.Steps.Records.{records_left}
+use Rattle.pmp_text.specs.Traces.{row_fields, trace_meaning}
 use Rattle.pmp_text.proofs.LeastRows.{given_in_order}
 use Rattle.pmp_text.proofs.Rows.{too_long, no_record, other_header, this_header}
 use Rattle.pmp_text.proofs.trace_reader.read_trace.Goals as goal

@@ -1,5 +1,5 @@
 use Rattle.std.proofs.Common.{◌≡◌, length}
-use Rattle.pmp_text.specs.Views.{lines_left}
+use Rattle.pmp_text.specs.Steps.Views.{lines_left}
 use Rattle.pmp_text.proofs.significant.SignificantLinesIterator.next.Given as goal
 
 abbrev pub invariant-loop-bytes : goal.invariant-loop-bytes

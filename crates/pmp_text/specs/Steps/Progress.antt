@@ -17,8 +17,8 @@ pub record Progress : Type 0 where
   pub since : Option ℕ
 
 -- nothing read
-abbrev pub beginning : Progress
-beginning = record { published = []; batch = []; since = None }
+abbrev pub nothing_read : Progress
+nothing_read = record { published = []; batch = []; since = None }
 
 -- the open batch is published
 abbrev pub published : Progress → Progress

@@ -3,8 +3,6 @@ use Rattle.std.specs.Borrow.{Bor}
 use Rattle.std.specs.Prelude.{ℕ, List}
 use Rattle.pmp_text.specs.declared.significant.NumberedLine.{NumberedLine}
 use Rattle.pmp_text.specs.declared.significant.SignificantLines.{SignificantLines}
-use Rattle.pmp_text.specs.declared.row_fields.RowFields.{RowFields}
-use Rattle.pmp_text.specs.declared.trace.Row.{Row}
 use Rattle.pmp_text.specs.Lines.{words}
 use Rattle.pmp_text.specs.Scripts.{Line, significant_from}
 use Rattle.pmp_text.specs.Traces.{FiveFields}
@@ -20,7 +18,3 @@ lines_left left = significant_from left.number left.rest.now
 -- five fields as the definitions see them
 abbrev pub seen_five : (Bor (List ℕ) × Bor (List ℕ) × Bor (List ℕ) × Bor (List ℕ) × Bor (List ℕ)) → FiveFields
 seen_five (after, mode, kind, start, length) = record { after = after.now; mode = mode.now; kind = kind.now; start = start.now; length = length.now }
-
--- what a trace says of a row
-abbrev pub row_fields : Row → RowFields
-row_fields row = record { after = row.after; mode = row.access.mode; kind = row.access.kind; start = row.access.start; length = row.access.length }

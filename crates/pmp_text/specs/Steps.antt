@@ -1,0 +1,4 @@
+-- How the readers go through a text, step by step.
+pub mod Progress
+pub mod Records
+pub mod Views
