@@ -148,7 +148,7 @@ mod tests {
     }
 
     #[test]
-    fn tells_of_a_failed_read(rt: HostRuntime) {
+    fn does_not_try_again_after_a_failed_read(rt: HostRuntime) {
         for kind in [ErrorKind::Other, ErrorKind::Interrupted] {
             let mut failing = Endless {
                 at_once: 1,

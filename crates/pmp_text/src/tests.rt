@@ -24,7 +24,7 @@ const SCRIPT: &[u8; 114] =
     b"pmp 1\nwrite pmpaddr0 0x200001ff\nwrite pmpcfg0 0x19\npublish\nwrite pmpcfg0 0x1900\nwrite pmpaddr1 0x200001ff\npublish\n";
 
 #[test]
-fn cut_scripts(rt: HostRuntime) {
+fn each_beginning_of_a_script(rt: HostRuntime) -> Result<(), Fail> {
     let alloc = rt.alloc();
     let cuts = [
         (0, 4, refused(ScriptKind::BadVersion, 1)),
@@ -52,17 +52,18 @@ fn cut_scripts(rt: HostRuntime) {
     ];
     for (first, last, expected) in cuts {
         for length in first..=last {
-            let text = SCRIPT.get(..length).unwrap_or(b"");
+            let Some(text) = SCRIPT.get(..length) else {
+                return Err(Fail::new("there are fewer bytes"));
+            };
             assert_eq!(rt; outcome(alloc, text), expected, "at {length} bytes");
         }
     }
+    Ok(())
 }
 
 #[test]
-fn publications(rt: HostRuntime) {
-    let Ok(script) = read_script(rt.alloc(), SCRIPT) else {
-        panic!(rt; "the script has no fault");
-    };
+fn events_of_two_publications(rt: HostRuntime) -> Result<(), Fail> {
+    let script = read_script(rt.alloc(), SCRIPT)?;
     assert!(rt; script.batches() == 2);
     assert_eq!(rt;
         script.batch(0),
@@ -80,10 +81,11 @@ fn publications(rt: HostRuntime) {
         ]
         .as_slice()
     );
+    Ok(())
 }
 
 #[test]
-fn lines_of_scripts(rt: HostRuntime) {
+fn lines_and_words(rt: HostRuntime) {
     let alloc = rt.alloc();
     let texts = [
         (b"".as_slice(), refused(ScriptKind::BadVersion, 1)),
@@ -145,7 +147,7 @@ fn lines_of_scripts(rt: HostRuntime) {
 }
 
 #[test]
-fn names(rt: HostRuntime) {
+fn register_names(rt: HostRuntime) {
     let names = [
         (b"pmpcfg0".as_slice(), Ok(Csr::Cfg(0))),
         (b"0x3A0".as_slice(), Ok(Csr::Cfg(0))),
@@ -175,7 +177,7 @@ fn names(rt: HostRuntime) {
 }
 
 #[test]
-fn values(rt: HostRuntime) {
+fn numbers(rt: HostRuntime) {
     let words = [
         (b"0".as_slice(), Some(0)),
         (b"0xfF".as_slice(), Some(255)),
@@ -205,7 +207,7 @@ fn many_writes(alloc: Global, count: usize) -> Result<Vec<u8>, AllocError> {
 }
 
 #[test]
-fn full_batches(rt: HostRuntime) -> Result<(), Fail> {
+fn refuses_the_65th_event_of_a_batch(rt: HostRuntime) -> Result<(), Fail> {
     let alloc = rt.alloc();
     let mut text = many_writes(alloc, 64)?;
     text.extend_from_slice(b"publish")?;
@@ -216,7 +218,7 @@ fn full_batches(rt: HostRuntime) -> Result<(), Fail> {
 }
 
 #[test]
-fn long_texts(rt: HostRuntime) -> Result<(), Fail> {
+fn refuses_one_byte_above_the_limit(rt: HostRuntime) -> Result<(), Fail> {
     let alloc = rt.alloc();
     let mut text = vec![in alloc; b'\n'; 1_048_576]?;
     assert_eq!(rt; outcome(alloc, &text), refused(ScriptKind::BadVersion, 1));

@@ -1,7 +1,10 @@
 use crate::trace::{Row, TraceFault, TraceKind};
 use crate::trace_reader::read_trace;
+use csv::{ByteRecord, Error, ReaderBuilder};
 use pmp_core::{Access, Kind, Mode};
 use std::alloc::{AllocError, Global};
+use std::io;
+use std::io::{ErrorKind, Read};
 use std::test::*;
 
 type Outcome = Result<u64, TraceFault>;
@@ -30,7 +33,7 @@ fn behind_header(alloc: Global, rows: &[u8]) -> Result<Outcome, AllocError> {
 }
 
 #[test]
-fn cut_traces(rt: HostRuntime) {
+fn each_beginning_of_a_trace(rt: HostRuntime) -> Result<(), Fail> {
     let alloc = rt.alloc();
     let cuts = [
         (0, 27, refused(TraceKind::BadHeader, 0)),
@@ -40,14 +43,17 @@ fn cut_traces(rt: HostRuntime) {
     ];
     for (first, last, expected) in cuts {
         for length in first..=last {
-            let text = TRACE.get(..length).unwrap_or(b"");
+            let Some(text) = TRACE.get(..length) else {
+                return Err(Fail::new("there are fewer bytes"));
+            };
             assert_eq!(rt; outcome(alloc, text), expected, "at {length} bytes");
         }
     }
+    Ok(())
 }
 
 #[test]
-fn rows(rt: HostRuntime) -> Result<(), Fail> {
+fn four_rows_in_any_layout(rt: HostRuntime) -> Result<(), Fail> {
     let four_rows = [
         (0, Kind::Load),
         (1, Kind::Load),
@@ -61,9 +67,7 @@ fn rows(rt: HostRuntime) -> Result<(), Fail> {
         b"\"after\",\"mode\",\"kind\",\"start\",\"length\"\n\"0\",\"U\",\"load\",\"0x80000000\",\"4\"\n\"1\",\"U\",\"load\",\"0x80000000\",\"4\"\n\"1\",\"U\",\"store\",\"0x80000000\",\"4\"\n\"2\",\"U\",\"load\",\"0x80000000\",\"4\"\n",
     ];
     for text in texts {
-        let Ok(read) = read_trace(rt.alloc(), text, 2) else {
-            panic!(rt; "the trace has no fault");
-        };
+        let read = read_trace(rt.alloc(), text, 2)?;
         assert_eq!(rt; read.len(), 4);
         for (row, (after, kind)) in read.iter().zip(four_rows) {
             let access = Access::new(Mode::U, kind, 0x8000_0000, 4)?;
@@ -74,7 +78,7 @@ fn rows(rt: HostRuntime) -> Result<(), Fail> {
 }
 
 #[test]
-fn faults_and_their_order(rt: HostRuntime) -> Result<(), Fail> {
+fn first_fault_of_a_row_and_of_a_trace(rt: HostRuntime) -> Result<(), Fail> {
     let alloc = rt.alloc();
     let cases: [(&[u8], Outcome); 31] = [
         (
@@ -155,7 +159,7 @@ fn faults_and_their_order(rt: HostRuntime) -> Result<(), Fail> {
 }
 
 #[test]
-fn headers(rt: HostRuntime) {
+fn refuses_other_headers(rt: HostRuntime) {
     let alloc = rt.alloc();
     let cases: [(&[u8], Outcome); 8] = [
         (b"after,mode,kind,start,length", Ok(0)),
@@ -186,7 +190,7 @@ fn headers(rt: HostRuntime) {
 
 /// What the defaults of the crate `csv` mean for whoever writes a trace.
 #[test]
-fn records(rt: HostRuntime) {
+fn records_as_csv_reads_them(rt: HostRuntime) {
     let alloc = rt.alloc();
     let cases: [(&[u8], Outcome); 12] = [
         // A byte-order mark before the header is dropped, and only there.
@@ -247,7 +251,7 @@ fn records(rt: HostRuntime) {
 }
 
 #[test]
-fn longest_traces(rt: HostRuntime) -> Result<(), Fail> {
+fn refuses_one_byte_above_the_limit(rt: HostRuntime) -> Result<(), Fail> {
     let mut text = Vec::new(rt.alloc());
     text.resize(16_777_216, b'\n')?;
     assert_eq!(rt;
@@ -257,4 +261,38 @@ fn longest_traces(rt: HostRuntime) -> Result<(), Fail> {
     text.push(b'\n')?;
     assert_eq!(rt; outcome(rt.alloc(), &text), refused(TraceKind::TooLong, 0));
     Ok(())
+}
+
+/// Fails at each read.
+#[derive(Drop)]
+struct Broken;
+
+impl Read for Broken {
+    fn read(&mut self, _: &mut [u8]) -> io::Result<usize> {
+        Err(io::Error::from(ErrorKind::Other))
+    }
+}
+
+#[test]
+fn a_failed_input_is_no_lack_of_memory(rt: HostRuntime) {
+    let mut reader = ReaderBuilder::new().from_reader(rt.alloc(), Broken);
+    let mut fields = ByteRecord::new(rt.alloc());
+    let failed = reader
+        .read_byte_record(&mut fields)
+        .map_err(TraceFault::from);
+    assert_eq!(rt;
+        failed,
+        Err(TraceFault {
+            kind: TraceKind::Input,
+            row: 0
+        })
+    );
+    let no_memory = TraceFault::from(Error::out_of_memory());
+    assert_eq!(rt;
+        no_memory,
+        TraceFault {
+            kind: TraceKind::Memory,
+            row: 0
+        }
+    );
 }
