@@ -1,5 +1,5 @@
 -- Reading a register's written name gives the register.
-use Rattle.std.proofs.Common.{◌≡◌, ℕ, ◌+◌, ◌-◌, ◌≤◌, ◌<◌, ◌==◌, ◌⊎◌, Bool, true, false, Result, Ok, Err, refl, ap, ◌∙◌, arith, inl, inr, subst}
+use Rattle.std.proofs.Common.{◌≡◌, ℕ, ◌+◌, ◌-◌, ◌≤◌, ◌<◌, ◌==◌, ◌⊎◌, Bool, true, false, Result, Ok, Err, refl, ap, arith, inl, inr, subst}
 use Rattle.std.proofs.lemmas.Bool.{agree_below, agree_below_at, eqb-true}
 use Rattle.std.specs.Fmt.{digits}
 use Rattle.std.proofs.lemmas.Grind.{common_steps}

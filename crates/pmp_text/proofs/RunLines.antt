@@ -1,8 +1,19 @@
--- The lines of a register file's runs, one after another.
-use Rattle.std.proofs.Common.{◌≡◌, ℕ, List, [], ◌∷◌, ◌++◌, codes, append_assoc}
+-- The rights of a run's line.
+use Rattle.std.proofs.Common.{◌≡◌, Bool, true, false, refl}
+use Rattle.pmp_core.specs.Rights.{Rights, perms_of}
+use Rattle.pmp_text.specs.RunLines.{rights_text}
+use Rattle.pmp_text.specs.Steps.Marks.{perms_text}
 
--- a line of a first field, and more fields behind commas
-pub line_grows : (t a b c d e f g h : List ℕ) (owner machine others last first : List ℕ)
-    → a ≡ t ++ first → b ≡ a ++ codes "," → c ≡ b ++ last → d ≡ c ++ (codes "," ++ (owner ++ codes ",")) → e ≡ d ++ machine → f ≡ e ++ codes "," → g ≡ f ++ others → h ≡ g ++ (10 ∷ [])
-    → h ≡ t ++ (first ++ (codes "," ++ (last ++ (codes "," ++ (owner ++ (codes "," ++ (machine ++ (codes "," ++ (others ++ (10 ∷ []))))))))))
-line_grows t a b c d e f g h owner machine others last first pa pb pc pd pe pf pg ph = rw (ph, pg, pf, pe, pd, pc, pb, pa) (simp append_assoc)
+by_bits : (read write execute : Bool) → let rights : Rights = record { read = read; write = write; execute = execute } in perms_text (perms_of rights) ≡ rights_text rights
+by_bits true true true = refl
+by_bits true true false = refl
+by_bits true false true = refl
+by_bits true false false = refl
+by_bits false true true = refl
+by_bits false true false = refl
+by_bits false false true = refl
+by_bits false false false = refl
+
+-- a set of rights is written as its rights are
+pub text_of_perms : (rights : Rights) → perms_text (perms_of rights) ≡ rights_text rights
+text_of_perms rights = by_bits rights.read rights.write rights.execute

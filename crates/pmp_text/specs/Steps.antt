@@ -1,4 +1,5 @@
 -- How the readers go through a text, step by step.
+pub mod Marks
 pub mod Progress
 pub mod Records
 pub mod Views

@@ -1,27 +1,45 @@
 //! Numbers in hexadecimal digits.
 
-ghost use Rattle.std.specs.Prelude.{◌≡◌, ◌<◌, ◌≤◌};
+ghost use Rattle.std.specs.Prelude.{◌≡◌, ◌<◌, ◌≤◌, Some};
 ghost use Rattle.pmp_text.specs.Hexadecimal.{hex_digit, hex_text};
 
-fn hex_digit(digit: u8) -> u8
+use std::fmt;
+
+fn hex_digit(digit: u8) -> char
     requires { digit < 16 }
     ensures { result ≡ hex_digit digit }
 {
-    if digit < 10 {
+    char::from(if digit < 10 {
         b'0' + digit
     } else {
         b'a' + (digit - 10)
+    })
+}
+
+/// The lowest so many hexadecimal digits of a number, the highest of them first.
+#[derive(Clone, Copy)]
+pub struct Hex<const DIGITS: usize> {
+    value: u64,
+    ghost few: { DIGITS ≤ 16 },
+}
+
+impl<const DIGITS: usize> Hex<DIGITS> {
+    pub fn new(value: u64) -> Self
+        requires { DIGITS ≤ 16 }
+        ensures { result.value ≡ value }
+    {
+        Hex { value }
     }
 }
 
-/// The lowest so many digits of a value, the highest of them first.
-pub fn hex_text<const DIGITS: usize>(value: u64) -> [u8; DIGITS]
-    requires { DIGITS ≤ 16 }
-    ensures { result ≡ hex_text DIGITS value }
-{
-    let mut digits = [b'0'; DIGITS];
-    for place in 0..DIGITS {
-        digits[place] = hex_digit((value >> (4 * (DIGITS - 1 - place)) & 15) as u8);
+impl<const DIGITS: usize> fmt::Display for Hex<DIGITS> {
+    ghost output = { λ hex. Some (hex_text DIGITS hex.value) };
+
+    fn fmt<W: fmt::Write>(&self, f: &mut fmt::Formatter<W>) -> fmt::Result {
+        for place in 0..DIGITS {
+            let digit = hex_digit(((self.value >> (4 * (DIGITS - 1 - place))) % 16) as u8);
+            write!(f, "{digit}")?;
+        }
+        Ok(())
     }
-    digits
 }

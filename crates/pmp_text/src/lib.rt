@@ -2,6 +2,7 @@
 #![tactic(auto)]
 
 mod access_words;
+mod append;
 mod hexadecimal;
 mod input;
 pub mod laws;
@@ -24,11 +25,12 @@ mod trace_reader;
 mod words;
 
 pub use access_words::{read_kind, read_mode};
+pub use append::NoMemory;
 pub use input::{InputFault, MAX_LIMIT, read_bytes, read_script_bytes, read_trace_bytes};
 pub use numbers::read_word_number;
 pub use output::{OutputFault, write_out};
 pub use registers::write_registers;
-pub use report::{NoMemory, write_row};
+pub use report::write_row;
 pub use runs::write_runs;
 pub use script::{Script, ScriptFault, ScriptKind};
 pub use script_reader::{MAX_SCRIPT, read_script};

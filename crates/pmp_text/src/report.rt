@@ -3,19 +3,9 @@
 ghost use Rattle.std.specs.Prelude.{◌≡◌, ◌++◌, OnOk, OnErr, Some};
 ghost use Rattle.pmp_text.specs.Reports.{answer_text, cause_text, entry_of, optional_text, report_row};
 
+use crate::append::{NoMemory, append_line};
 use pmp_core::{Access, Cause, Decision, fault_code};
-use std::alloc::AllocError;
 use std::fmt;
-
-/// No memory for a text.
-#[derive(Clone, Copy, Debug, PartialEq, Eq)]
-pub struct NoMemory;
-
-impl From<AllocError> for NoMemory {
-    fn from(_: AllocError) -> NoMemory {
-        NoMemory
-    }
-}
 
 /// A field that is empty where there is no number.
 #[derive(Clone, Copy)]
@@ -48,9 +38,7 @@ pub fn write_row(
     let fault = Field(fault_code(access, decision));
     let cause = cause_word(decision.cause);
     let entry = Field(deciding_entry(decision.cause));
-    let row = format!(in *out.allocator(); "{n},{answer},{fault},{cause},{entry}\n")?;
-    out.extend_from_slice(row.as_bytes())?;
-    Ok(())
+    append_line(out, format_args!("{n},{answer},{fault},{cause},{entry}\n"))
 }
 
 fn answer_word(allowed: bool) -> &'static str
@@ -101,10 +89,10 @@ mod tests {
             ),
             (
                 u64::MAX,
-                Kind::Fetch,
-                true,
-                Cause::NoMatch,
-                "18446744073709551615,allow,,none,\n",
+                Kind::Store,
+                false,
+                Cause::Split(15),
+                "18446744073709551615,fault,7,split,15\n",
             ),
         ];
         let mut out = Vec::new(rt.alloc());

@@ -1,12 +1,14 @@
 //! The runs of a register file as text.
 
-ghost use Rattle.std.specs.Prelude.{◌≡◌, ◌<◌, ◌++◌, IfSome, List, ℕ, OnOk, OnErr, Some};
-ghost use Rattle.pmp_core.specs.Rights.{Rights, perms_of};
+ghost use Rattle.std.specs.Prelude.{◌≡◌, ◌<◌, ◌++◌, IfSome, List, ℕ, OnOk, OnErr, Some, codes, if◌then◌else◌};
+ghost use Rattle.std.specs.Io.{StartsWith};
+ghost use Rattle.pmp_core.specs.Rights.{perms_of};
 ghost use Rattle.pmp_map.specs.Answers.{owned_rights};
-ghost use Rattle.pmp_text.specs.RunLines.{IsMapText, owner_text, rights_text, run_line};
+ghost use Rattle.pmp_text.specs.RunLines.{IsMapText, owner_text, run_line};
+ghost use Rattle.pmp_text.specs.Steps.Marks.{perms_text};
 
-use crate::hexadecimal::hex_text;
-use crate::report::NoMemory;
+use crate::append::{NoMemory, append_line};
+use crate::hexadecimal::Hex;
 use pmp_core::{ENTRIES, Kind, Mode, Perms, RegFile};
 use pmp_map::{Run, RunMap};
 use std::fmt;
@@ -26,16 +28,26 @@ impl fmt::Display for Owner {
     }
 }
 
-/// `r`, `w` and `x`, each where the right is there, and else a dash.
-fn rights_text(perms: Perms) -> [u8; 3]
-    ensures { (rights : Rights) → perms ≡ perms_of rights → result ≡ rights_text rights }
+/// A letter where a right is given, and else a dash.
+fn mark(given: bool, letter: &'static str) -> &'static str
+    ensures { result.now ≡ (if given then letter.now else codes "-") }
 {
-    let mark = |kind, letter| if perms.allows(kind) { letter } else { b'-' };
-    [
-        mark(Kind::Load, b'r'),
-        mark(Kind::Store, b'w'),
-        mark(Kind::Fetch, b'x'),
-    ]
+    if given { letter } else { "-" }
+}
+
+/// `r`, `w` and `x`, each where the right is there.
+#[derive(Clone, Copy)]
+struct Marks(Perms);
+
+impl fmt::Display for Marks {
+    ghost output = { λ marks. Some (perms_text marks.0) };
+
+    fn fmt<W: fmt::Write>(&self, f: &mut fmt::Formatter<W>) -> fmt::Result {
+        let read = mark(self.0.allows(Kind::Load), "r");
+        let write = mark(self.0.allows(Kind::Store), "w");
+        let execute = mark(self.0.allows(Kind::Fetch), "x");
+        write!(f, "{read}{write}{execute}")
+    }
 }
 
 /// What the run's owner gives the mode, or what the mode may do where there is none.
@@ -50,20 +62,31 @@ fn run_rights(file: &RegFile, run: &Run, mode: Mode) -> Perms
 }
 
 /// Appends the line of a run.
-fn write_run(text: &mut Vec<u8>, file: &RegFile, run: &Run) -> Result<(), NoMemory>
+#[tactic(auto, unfolding(crate::specs::RunLines::run_line), using(crate::proofs::RunLines::text_of_perms))]
+fn write_run(out: &mut Vec<u8>, file: &RegFile, run: &Run) -> Result<(), NoMemory>
     requires { IfSome run.now.owner (λ entry. entry < ENTRIES) }
-    ensures { OnOk result (text.new.items ≡ text.old.items ++ run_line file.now run.now) }
+    ensures ok { OnOk result (out.new.items ≡ out.old.items ++ run_line file.now run.now) }
+    ensures err { OnErr result (out.new.items ≡ out.old.items) }
 {
+    let first = Hex::<14>::new(run.first);
+    let last = Hex::<14>::new(run.last);
     let owner = Owner(run.owner);
-    let owner = format!(in *text.allocator(); ",{owner},")?;
-    text.extend_from_slice(&hex_text::<14>(run.first))?;
-    text.extend_from_slice(b",")?;
-    text.extend_from_slice(&hex_text::<14>(run.last))?;
-    text.extend_from_slice(owner.as_bytes())?;
-    text.extend_from_slice(&rights_text(run_rights(file, run, Mode::M)))?;
-    text.extend_from_slice(b",")?;
-    text.extend_from_slice(&rights_text(run_rights(file, run, Mode::U)))?;
-    text.extend_from_slice(b"\n")?;
+    let machine = Marks(run_rights(file, run, Mode::M));
+    let others = Marks(run_rights(file, run, Mode::U));
+    append_line(
+        out,
+        format_args!("{first},{last},{owner},{machine},{others}\n"),
+    )
+}
+
+fn write_all(out: &mut Vec<u8>, file: &RegFile, map: &RunMap) -> Result<(), NoMemory>
+    requires { map.now ≡ file.now }
+    ensures ok { OnOk result ((text : List ℕ) × IsMapText file.now text × (out.new.items ≡ out.old.items ++ text)) }
+    ensures err { OnErr result (StartsWith out.new.items out.old.items) }
+{
+    for run in map.runs() {
+        write_run(out, file, run)?;
+    }
     Ok(())
 }
 
@@ -75,10 +98,10 @@ pub fn write_runs(out: &mut Vec<u8>, file: &RegFile, map: &RunMap) -> Result<(),
     ensures ok { OnOk result ((text : List ℕ) × IsMapText file.now text × (out.new.items ≡ out.old.items ++ text)) }
     ensures err { OnErr result (out.new.items ≡ out.old.items) }
 {
-    let mut text = Vec::new(*out.allocator());
-    for run in map.runs() {
-        write_run(&mut text, file, run)?;
+    let before = out.len();
+    let written = write_all(out, file, map);
+    if written.is_err() {
+        out.truncate(before);
     }
-    out.extend_from_slice(&text)?;
-    Ok(())
+    written
 }

@@ -6,4 +6,4 @@ use Rattle.pmp_text.proofs.registers.write_addr_registers.Given as goal
 
 -- the lines so far
 abbrev pub invariant-loop-entry : goal.invariant-loop-entry
-invariant-loop-entry l = l.text.items ≡ l.initial.text.items ++ flat_map (register_line l.file) (map Addr (range_with_len 0 l.entry))
+invariant-loop-entry l = l.out.items ≡ l.initial.out.items ++ flat_map (register_line l.file) (map Addr (range_with_len 0 l.entry))

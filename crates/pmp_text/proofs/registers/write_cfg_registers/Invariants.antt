@@ -6,4 +6,4 @@ use Rattle.pmp_text.proofs.registers.write_cfg_registers.Given as goal
 
 -- the lines so far
 abbrev pub invariant-loop-place : goal.invariant-loop-place
-invariant-loop-place l = l.text.items ≡ l.initial.text.items ++ flat_map (register_line l.file) (map (λ place. Cfg (2 * place)) (range_with_len 0 l.place))
+invariant-loop-place l = l.out.items ≡ l.initial.out.items ++ flat_map (register_line l.file) (map (λ place. Cfg (2 * place)) (range_with_len 0 l.place))
