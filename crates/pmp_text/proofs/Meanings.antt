@@ -12,8 +12,8 @@ use Rattle.pmp_core.specs.declared.event.TheConstants.{BATCH_EVENTS}
 use Rattle.pmp_text.specs.declared.script.ScriptKind.{ScriptKind}
 use Rattle.pmp_text.specs.declared.script.ScriptKind.TheVariants.{BadVersion, BadLine, BatchFull, TooLong}
 use Rattle.pmp_text.specs.declared.script.ScriptFault.{ScriptFault}
-use Rattle.pmp_text.specs.declared.statement.Statement.{Statement}
-use Rattle.pmp_text.specs.declared.statement.Statement.TheVariants as statement
+use Rattle.pmp_text.specs.declared.script.statement.Statement.{Statement}
+use Rattle.pmp_text.specs.declared.script.statement.Statement.TheVariants as statement
 use Rattle.pmp_text.specs.Statements.{statement_of}
 use Rattle.pmp_text.specs.Scripts.{Line, at_line, counted, open_events, statement_fault, first_fault, event_of, publishes, is_publish, but_last, last_piece, fault_or_batches, is_version, significant_lines, lines_meaning, script_meaning, publications, first_unpublished}
 use Rattle.pmp_text.specs.Steps.Progress.{Progress, nothing_read, published, after_statement, all_published, resumed}

@@ -7,8 +7,8 @@ use Rattle.pmp_core.specs.declared.event.TheConstants.{BATCH_EVENTS}
 use Rattle.pmp_text.specs.declared.script.ScriptKind.{ScriptKind}
 use Rattle.pmp_text.specs.declared.script.ScriptKind.TheVariants.{BadVersion, BatchFull, Unpublished, TooLong}
 use Rattle.pmp_text.specs.declared.script.ScriptFault.{ScriptFault}
-use Rattle.pmp_text.specs.declared.statement.Statement.{Statement}
-use Rattle.pmp_text.specs.declared.statement.Statement.TheVariants as statement
+use Rattle.pmp_text.specs.declared.script.statement.Statement.{Statement}
+use Rattle.pmp_text.specs.declared.script.statement.Statement.TheVariants as statement
 use Rattle.pmp_text.specs.Lines.{words, lines}
 use Rattle.pmp_text.specs.Statements.{statement_of}
 use Rattle.pmp_text.specs.Limits.{script_limit}

@@ -4,8 +4,8 @@ use Rattle.pmp_core.specs.declared.csr.Csr.{Csr}
 use Rattle.pmp_core.specs.declared.event.Event.TheVariants.{Write, Reset}
 use Rattle.pmp_text.specs.declared.script.ScriptKind.{ScriptKind}
 use Rattle.pmp_text.specs.declared.script.ScriptKind.TheVariants.{BadLine, BadNumber}
-use Rattle.pmp_text.specs.declared.statement.Statement.{Statement}
-use Rattle.pmp_text.specs.declared.statement.Statement.TheVariants as statement
+use Rattle.pmp_text.specs.declared.script.statement.Statement.{Statement}
+use Rattle.pmp_text.specs.declared.script.statement.Statement.TheVariants as statement
 use Rattle.pmp_text.specs.Numbers.{word_number}
 use Rattle.pmp_text.specs.Names.{register_named}
 

@@ -1,6 +1,6 @@
 -- Which row of a trace is at fault, and in what order rows stand that are not.
 use Rattle.std.specs.Prelude.{◌≡◌, ℕ, zero, suc, ◌+◌, ◌≤◌, List, [], ◌∷◌, length, map, true, Option, None, Ok, Err, ⊤, MatchOption, option_map, option_and_then, slice_get}
-use Rattle.pmp_text.specs.declared.row_fields.RowFields.{RowFields}
+use Rattle.pmp_text.specs.declared.trace.row_fields.RowFields.{RowFields}
 use Rattle.pmp_text.specs.declared.trace.TraceFault.{TraceFault}
 use Rattle.pmp_text.specs.Faults.{IsLeastFault}
 use Rattle.pmp_text.specs.Traces.{after_of, at_row, first_row_fault, is_header, row_fault, row_of_record, trace_meaning, trace_records}

@@ -7,8 +7,8 @@ ghost use Rattle.pmp_text.specs.Inputs.{IsReadWhole};
 ghost use Rattle.pmp_text.specs.Limits.{script_limit, trace_limit};
 ghost use Rattle.pmp_text.specs.declared.input.InputFault.TheVariants.{Input, Memory};
 
-use crate::script_reader::MAX_SCRIPT;
-use crate::trace_reader::MAX_TRACE;
+use crate::script::MAX_SCRIPT;
+use crate::trace::MAX_TRACE;
 use std::alloc::{AllocError, Global};
 use std::io;
 use std::io::Read;

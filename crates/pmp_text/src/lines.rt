@@ -1,44 +1,46 @@
-//! The lines of a text, one after the other.
+//! Lines that join an output.
 
-ghost use Rattle.std.specs.Prelude.{◌≡◌, ◌<◌, [], ◌∷◌, length, MatchOption, IfSome, position};
-ghost use Rattle.std.specs.List.{before_first, after_first};
-ghost use Rattle.std.specs.Str.Lines.{strip_carriage_return};
-ghost use Rattle.pmp_text.specs.Lines.{lines, is_line_feed};
+ghost use Rattle.std.specs.Prelude.{◌≡◌, ◌++◌, IfSome, OnErr, OnOk};
 
-fn first_line_feed(text: &[u8]) -> Option<usize>
-    ensures { result ≡ position is_line_feed text.now }
-{
-    text.iter().position(|byte| *byte == b'\n')
-}
+mod hexadecimal;
+mod registers;
+mod report;
+mod runs;
 
-/// What stands before the first line feed, and what stands after it.
-fn split_at_line_feed(text: &[u8]) -> (&[u8], &[u8])
-    ensures line { result.0.now ≡ before_first is_line_feed text.now }
-    ensures rest { result.1.now ≡ after_first is_line_feed text.now }
-{
-    match first_line_feed(text) {
-        Some(end) => (&text[..end], &text[end + 1..]),
-        None => (text, &[]),
+use arrayvec::ArrayString;
+pub use registers::write_registers;
+pub use report::write_row;
+pub use runs::write_runs;
+use std::alloc::AllocError;
+use std::fmt;
+use std::fmt::{Display, Write};
+
+/// Room for a line. A run's has 41 bytes, and no other has more.
+const LINE: usize = 64;
+
+/// No memory for a text.
+#[derive(Clone, Copy, Debug, PartialEq, Eq)]
+pub struct NoMemory;
+
+impl From<AllocError> for NoMemory {
+    fn from(_: AllocError) -> NoMemory {
+        NoMemory
     }
 }
 
-fn without_carriage_return(line: &[u8]) -> &[u8]
-    ensures { result.now ≡ strip_carriage_return line.now }
-{
-    match line {
-        [line @ .., b'\r'] => line,
-        _ => line,
+impl From<fmt::Error> for NoMemory {
+    fn from(_: fmt::Error) -> NoMemory {
+        NoMemory
     }
 }
 
-/// The first line of a text and what stands after it, or nothing where the text is empty.
-pub fn split_first_line(text: &[u8]) -> Option<(&[u8], &[u8])>
-    ensures lines { MatchOption result (lines text.now ≡ []) (λ parts. lines text.now ≡ parts.0.now ∷ lines parts.1.now) }
-    ensures shorter { IfSome result (λ parts. length parts.1.now < length text.now) }
+/// Appends a line, or nothing.
+pub fn append_line<L: Display + Drop>(out: &mut Vec<u8>, line: L) -> Result<(), NoMemory>
+    ensures ok { OnOk result (IfSome (L.output line) (λ text. out.new.items ≡ out.old.items ++ text)) }
+    ensures err { OnErr result (out.new.items ≡ out.old.items) }
 {
-    if text.is_empty() {
-        return None;
-    }
-    let (line, rest) = split_at_line_feed(text);
-    Some((without_carriage_return(line), rest))
+    let mut text = ArrayString::<LINE>::new();
+    write!(text, "{line}")?;
+    out.extend_from_slice(text.as_bytes())?;
+    Ok(())
 }

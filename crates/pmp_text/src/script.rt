@@ -5,7 +5,15 @@ ghost use Rattle.pmp_core.specs.declared.event.TheConstants.{BATCH_EVENTS};
 ghost use Rattle.pmp_core.specs.declared.event.Event.{Event};
 ghost use Rattle.pmp_text.specs.declared.script.ScriptKind.TheVariants.{Memory};
 
+mod lines;
+mod progress;
+mod reader;
+mod significant;
+mod statement;
+mod words;
+
 use pmp_core::{BATCH_EVENTS, Event};
+pub use reader::{MAX_SCRIPT, read_script};
 use std::alloc::AllocFailed;
 use std::marker::Model;
 

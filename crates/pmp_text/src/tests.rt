@@ -1,7 +1,6 @@
 use crate::names::read_register;
 use crate::numbers::read_word_number;
-use crate::script::{ScriptFault, ScriptKind};
-use crate::script_reader::read_script;
+use crate::script::{ScriptFault, ScriptKind, read_script};
 use pmp_core::{Csr, Event};
 use std::alloc::{AllocError, Global};
 use std::test::*;

@@ -5,7 +5,12 @@ ghost use Rattle.csv.specs.Reading.{error_kind};
 ghost use Rattle.pmp_text.specs.Outcomes.{no_memory_for_rows, csv_fault};
 ghost use Rattle.pmp_text.specs.Traces.{access_kind, at_row};
 
+mod reader;
+mod records;
+mod row_fields;
+
 use pmp_core::{Access, AccessFault};
+pub use reader::{MAX_TRACE, read_trace};
 use std::alloc::AllocFailed;
 
 /// An access, and how many publications of the script are done before it.

@@ -1,8 +1,8 @@
 -- What the reader's iterators stand for.
 use Rattle.std.specs.Borrow.{Bor}
 use Rattle.std.specs.Prelude.{ℕ, List}
-use Rattle.pmp_text.specs.declared.significant.NumberedLine.{NumberedLine}
-use Rattle.pmp_text.specs.declared.significant.SignificantLines.{SignificantLines}
+use Rattle.pmp_text.specs.declared.script.significant.NumberedLine.{NumberedLine}
+use Rattle.pmp_text.specs.declared.script.significant.SignificantLines.{SignificantLines}
 use Rattle.pmp_text.specs.Lines.{words}
 use Rattle.pmp_text.specs.Scripts.{Line, significant_from}
 use Rattle.pmp_text.specs.Traces.{FiveFields}

@@ -1,5 +1,4 @@
-use crate::trace::{Row, TraceFault, TraceKind};
-use crate::trace_reader::read_trace;
+use crate::trace::{Row, TraceFault, TraceKind, read_trace};
 use csv::{ByteRecord, Error, ReaderBuilder};
 use pmp_core::{Access, Kind, Mode};
 use std::alloc::{AllocError, Global};

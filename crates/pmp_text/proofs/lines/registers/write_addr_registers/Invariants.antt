@@ -1,0 +1,9 @@
+use Rattle.std.proofs.Common.{◌≡◌, ◌++◌, map}
+use Rattle.std.specs.List.{flat_map, range_with_len}
+use Rattle.pmp_core.specs.declared.csr.Csr.TheVariants.{Addr}
+use Rattle.pmp_text.specs.Dumps.{register_line}
+use Rattle.pmp_text.proofs.lines.registers.write_addr_registers.Given as goal
+
+-- the lines so far
+abbrev pub invariant-loop-entry : goal.invariant-loop-entry
+invariant-loop-entry l = l.out.items ≡ l.initial.out.items ++ flat_map (register_line l.file) (map Addr (range_with_len 0 l.entry))

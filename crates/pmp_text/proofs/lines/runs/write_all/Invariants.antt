@@ -1,0 +1,7 @@
+use Rattle.std.proofs.Common.{◌≡◌, ◌++◌, take}
+use Rattle.std.specs.List.{flat_map}
+use Rattle.pmp_text.specs.RunLines.{run_line}
+use Rattle.pmp_text.proofs.lines.runs.write_all.Given as goal
+
+abbrev pub invariant-loop-run : goal.invariant-loop-run
+invariant-loop-run l = l.out.items ≡ l.initial.out.items ++ flat_map (run_line l.file) (take l.run-index l.run-items)

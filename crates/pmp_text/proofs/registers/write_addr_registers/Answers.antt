@@ -1,8 +1,0 @@
-use Rattle.pmp_core.specs.declared.csr.Csr.TheVariants.{Addr}
-use Rattle.pmp_text.specs.Dumps.{register_line}
-use Rattle.pmp_text.proofs.Appending.{lines_grow}
-use Rattle.pmp_text.proofs.registers.write_addr_registers.Goals as goal
-
-pub loop-entry-preserved : goal.loop-entry-preserved
-loop-entry-preserved c =
-    lines_grow (register_line c.args.file.now) Addr c.args.out.now.items _ _ c.loop-entry.entry c.in_ok-write_register.ensures.ok c.loop-entry.invariant

@@ -1,7 +1,0 @@
-use Rattle.std.proofs.Common.{◌≡◌}
-use Rattle.pmp_text.specs.Steps.Progress.{nothing_read, resumed}
-use Rattle.pmp_text.specs.Steps.Views.{lines_left}
-use Rattle.pmp_text.proofs.script_reader.read_statements.Given as goal
-
-abbrev pub invariant-loop-line : goal.invariant-loop-line
-invariant-loop-line l = resumed l.builder (lines_left l.line-iterator) ≡ resumed nothing_read (lines_left l.fn.lines)

@@ -1,0 +1,107 @@
+//! The runs of a register file as text.
+
+ghost use Rattle.std.specs.Prelude.{◌≡◌, ◌<◌, ◌++◌, IfSome, List, ℕ, OnOk, OnErr, Some, codes, if◌then◌else◌};
+ghost use Rattle.std.specs.Io.{StartsWith};
+ghost use Rattle.pmp_core.specs.Rights.{perms_of};
+ghost use Rattle.pmp_map.specs.Answers.{owned_rights};
+ghost use Rattle.pmp_text.specs.RunLines.{IsMapText, owner_text, run_line};
+ghost use Rattle.pmp_text.specs.Steps.Marks.{perms_text};
+
+use crate::lines::hexadecimal::Hex;
+use crate::lines::{NoMemory, append_line};
+use pmp_core::{ENTRIES, Kind, Mode, Perms, RegFile};
+use pmp_map::{Run, RunMap};
+use std::fmt;
+
+/// The number of a run's owner, or a dash where it has none.
+#[derive(Clone, Copy)]
+struct Owner(Option<u8>);
+
+impl fmt::Display for Owner {
+    ghost output = { λ owner. Some (owner_text owner.0) };
+
+    fn fmt<W: fmt::Write>(&self, f: &mut fmt::Formatter<W>) -> fmt::Result {
+        match self.0 {
+            Some(entry) => write!(f, "{entry}"),
+            None => write!(f, "-"),
+        }
+    }
+}
+
+/// A letter where a right is given, and else a dash.
+fn mark(given: bool, letter: &'static str) -> &'static str
+    ensures { result.now ≡ (if given then letter.now else codes "-") }
+{
+    if given { letter } else { "-" }
+}
+
+/// `r`, `w` and `x`, each where the right is there.
+#[derive(Clone, Copy)]
+struct Marks(Perms);
+
+impl fmt::Display for Marks {
+    ghost output = { λ marks. Some (perms_text marks.0) };
+
+    fn fmt<W: fmt::Write>(&self, f: &mut fmt::Formatter<W>) -> fmt::Result {
+        let read = mark(self.0.allows(Kind::Load), "r");
+        let write = mark(self.0.allows(Kind::Store), "w");
+        let execute = mark(self.0.allows(Kind::Fetch), "x");
+        write!(f, "{read}{write}{execute}")
+    }
+}
+
+/// What the run's owner gives the mode, or what the mode may do where there is none.
+fn run_rights(file: &RegFile, run: &Run, mode: Mode) -> Perms
+    requires { IfSome run.now.owner (λ entry. entry < ENTRIES) }
+    ensures { result ≡ perms_of (owned_rights file.now run.now.owner mode) }
+{
+    match run.owner {
+        Some(entry) => file.rights(entry, mode),
+        None => file.default_rights(mode),
+    }
+}
+
+/// Appends the line of a run.
+#[tactic(auto, unfolding(crate::specs::RunLines::run_line), using(crate::proofs::RunLines::text_of_perms))]
+fn write_run(out: &mut Vec<u8>, file: &RegFile, run: &Run) -> Result<(), NoMemory>
+    requires { IfSome run.now.owner (λ entry. entry < ENTRIES) }
+    ensures ok { OnOk result (out.new.items ≡ out.old.items ++ run_line file.now run.now) }
+    ensures err { OnErr result (out.new.items ≡ out.old.items) }
+{
+    let first = Hex::<14>::new(run.first);
+    let last = Hex::<14>::new(run.last);
+    let owner = Owner(run.owner);
+    let machine = Marks(run_rights(file, run, Mode::M));
+    let others = Marks(run_rights(file, run, Mode::U));
+    append_line(
+        out,
+        format_args!("{first},{last},{owner},{machine},{others}\n"),
+    )
+}
+
+fn write_all(out: &mut Vec<u8>, file: &RegFile, map: &RunMap) -> Result<(), NoMemory>
+    requires { map.now ≡ file.now }
+    ensures ok { OnOk result ((text : List ℕ) × IsMapText file.now text × (out.new.items ≡ out.old.items ++ text)) }
+    ensures err { OnErr result (StartsWith out.new.items out.old.items) }
+{
+    for run in map.runs() {
+        write_run(out, file, run)?;
+    }
+    Ok(())
+}
+
+/// Appends a line for each run of the register file, `FIRST,LAST,OWNER,MRIGHTS,SURIGHTS` and LF: the first and the last
+/// byte in fourteen hexadecimal digits, the lowest-numbered entry that matches them or a dash, and what that gives
+/// machine mode and the other two. The map is the one that was built from this file.
+pub fn write_runs(out: &mut Vec<u8>, file: &RegFile, map: &RunMap) -> Result<(), NoMemory>
+    requires { map.now ≡ file.now }
+    ensures ok { OnOk result ((text : List ℕ) × IsMapText file.now text × (out.new.items ≡ out.old.items ++ text)) }
+    ensures err { OnErr result (out.new.items ≡ out.old.items) }
+{
+    let before = out.len();
+    let written = write_all(out, file, map);
+    if written.is_err() {
+        out.truncate(before);
+    }
+    written
+}

@@ -1,0 +1,87 @@
+//! What was read of a script so far.
+
+ghost use Rattle.std.specs.Prelude.{◌≡◌, ◌≤◌, All, length, map};
+ghost use Rattle.pmp_core.specs.declared.event.TheConstants.{BATCH_EVENTS};
+ghost use Rattle.pmp_text.specs.Outcomes.{Gives};
+ghost use Rattle.pmp_text.specs.Steps.Progress.{Progress, nothing_read, published, with_event, after_line, finished};
+ghost use Rattle.pmp_text.specs.Steps.Views.{seen_line};
+
+use crate::script::significant::NumberedLine;
+use crate::script::statement::{Statement, read_statement};
+use crate::script::{Script, ScriptFault, ScriptKind};
+use pmp_core::{BATCH_EVENTS, Event};
+use std::alloc::Global;
+use std::marker::Model;
+use std::mem;
+
+/// The publications so far, and the open batch.
+#[derive(Drop)]
+pub struct ScriptBuilder {
+    alloc: Global,
+    published: Vec<Vec<Event>>,
+    batch: Vec<Event>,
+    /// The line of the open batch's first event.
+    since: Option<u64>,
+}
+
+impl Model for ScriptBuilder {
+    ghost Value = { Progress };
+
+    ghost view = { λ builder. record { published = map (λ batch. batch.items) builder.published.items; batch = builder.batch.items; since = builder.since } };
+
+    ghost invariant = { λ builder. All (λ batch. length batch.items ≤ BATCH_EVENTS) builder.published.items × (length builder.batch.items ≤ BATCH_EVENTS) };
+}
+
+impl ScriptBuilder {
+    pub fn new(alloc: Global) -> Self
+        ensures { result ≡ nothing_read }
+    {
+        ScriptBuilder {
+            alloc,
+            published: Vec::new(alloc),
+            batch: Vec::new(alloc),
+            since: None,
+        }
+    }
+
+    fn publish(&mut self) -> Result<(), ScriptFault>
+        ensures { Gives (λ _. self.new) result (Ok (published self.old)) }
+    {
+        let batch = mem::replace(&mut self.batch, Vec::new(self.alloc));
+        self.published.push(batch)?;
+        self.since = None;
+        Ok(())
+    }
+
+    fn add(&mut self, line: u64, event: Event) -> Result<(), ScriptFault>
+        ensures { Gives (λ _. self.new) result (with_event self.old line event) }
+    {
+        if self.batch.len() >= BATCH_EVENTS {
+            return Err(ScriptKind::BatchFull.at(line));
+        }
+        self.batch.push(event)?;
+        self.since = Some(self.since.unwrap_or(line));
+        Ok(())
+    }
+
+    /// Takes a significant line that isn't the script's first one. After an error the builder is of no use.
+    pub fn take_line(&mut self, line: NumberedLine) -> Result<(), ScriptFault>
+        ensures { Gives (λ _. self.new) result (after_line self.old (seen_line line.entry)) }
+    {
+        match read_statement(line.bytes) {
+            Ok(Statement::Event(event)) => self.add(line.number, event),
+            Ok(Statement::Publish) => self.publish(),
+            Err(kind) => Err(kind.at(line.number)),
+        }
+    }
+
+    /// The script, if no events are left unpublished.
+    pub fn finish(self) -> Result<Script, ScriptFault>
+        ensures { result ≡ finished self }
+    {
+        match self.since {
+            None => Ok(Script::from_batches(self.published)),
+            Some(line) => Err(ScriptKind::Unpublished.at(line)),
+        }
+    }
+}

@@ -1,0 +1,57 @@
+//! The reader of scripts.
+
+ghost use Rattle.pmp_text.specs.Lines.{words};
+ghost use Rattle.pmp_text.specs.Outcomes.{Gives};
+ghost use Rattle.pmp_text.specs.Steps.Progress.{nothing_read, resumed};
+ghost use Rattle.pmp_text.specs.Scripts.{is_version, script_meaning};
+ghost use Rattle.pmp_text.specs.Steps.Views.{lines_left};
+ghost use Rattle.std.specs.Prelude.{◌≡◌};
+
+use crate::script::progress::ScriptBuilder;
+use crate::script::significant::SignificantLines;
+use crate::script::words::Words;
+use crate::script::{Script, ScriptFault, ScriptKind};
+use std::alloc::Global;
+
+/// The most bytes of a script.
+pub const MAX_SCRIPT: usize = 1 << 20;
+
+#[tactic(auto, unfolding(crate::specs::Scripts::is_version))]
+fn is_version_line(line: &[u8]) -> bool
+    ensures { result ≡ is_version (words line.now) }
+{
+    let mut words = Words::new(line);
+    matches!(
+        (words.next(), words.next(), words.next()),
+        (Some(b"pmp"), Some(b"1"), None)
+    )
+}
+
+/// Reads the lines behind a script's first one.
+fn read_statements(alloc: Global, lines: SignificantLines) -> Result<Script, ScriptFault>
+    ensures { Gives (λ script. script) result (resumed nothing_read (lines_left lines.entry)) }
+{
+    let mut builder = ScriptBuilder::new(alloc);
+    for line in lines {
+        builder.take_line(line)?;
+    }
+    builder.finish()
+}
+
+/// The script that a text describes, else its first fault. The time is linear in the text, and only the
+/// publications take memory: where they can't grow, `Memory` is answered in place of any fault further on.
+pub fn read_script(alloc: Global, text: &[u8]) -> Result<Script, ScriptFault>
+    ensures { Gives (λ script. script) result (script_meaning text.now) }
+{
+    if text.len() > MAX_SCRIPT {
+        return Err(ScriptKind::TooLong.at(0));
+    }
+    let mut lines = SignificantLines::new(text);
+    let Some(version) = lines.next() else {
+        return Err(ScriptKind::BadVersion.at(1));
+    };
+    if !is_version_line(version.bytes) {
+        return Err(ScriptKind::BadVersion.at(version.number));
+    }
+    read_statements(alloc, lines)
+}
