@@ -1,3 +1,2 @@
-pub mod Replaying
-pub mod Reporting
-pub mod Texts
+pub mod OneReport
+pub mod Reports

@@ -1,24 +1,27 @@
--- How a fault of a layer below is answered.
-use Rattle.pmp_text.specs.declared.script.ScriptFault.{ScriptFault}
-use Rattle.pmp_text.specs.declared.script.ScriptKind.{ScriptKind}
-use Rattle.pmp_text.specs.declared.script.ScriptKind.TheVariants as kind
-use Rattle.pmp_text.specs.declared.trace.TraceFault.{TraceFault}
-use Rattle.pmp_text.specs.declared.trace.TraceKind.{TraceKind}
-use Rattle.pmp_text.specs.declared.trace.TraceKind.TheVariants as trace
+-- What a call answers that makes a text of its inputs and writes it.
+use Rattle.std.specs.Prelude.{ℕ, List, Option}
+use Rattle.std.specs.Io.KnownBytes.{Appends, Keeps}
+use Rattle.pmp_text.specs.Bytes.{AppendsBeginning}
 use Rattle.pmp_audit.specs.declared.fault.AuditFault.{AuditFault}
-use Rattle.pmp_audit.specs.declared.fault.AuditFault.TheVariants.{Script, Trace, Memory}
+use Rattle.pmp_audit.specs.declared.fault.AuditFault.TheVariants.{Memory, Output}
 
--- want of memory is the same in every layer
-abbrev pub answered_as : ScriptKind → ScriptFault → AuditFault
-answered_as kind.Memory fault = Memory
-answered_as _ fault = Script fault
+-- Says tells which text goes with which answer
+module _ {A : Type 0} (Says : A → List ℕ → Type 0) (before after : Option (List ℕ)) where
+  -- a text that goes with the answer was written
+  pub record IsWritten (answer : A) : Type 0 where
+    pub text : List ℕ
+    pub says : Says answer text
+    pub written : Appends before after text
 
-abbrev pub fault_answered : ScriptFault → AuditFault
-fault_answered fault = answered_as fault.kind fault
+  -- a beginning of a text was written that goes with some answer
+  pub record IsCutShort : Type 0 where
+    pub answer : A
+    pub text : List ℕ
+    pub says : Says answer text
+    pub front : AppendsBeginning before after text
 
-abbrev pub trace_answered_as : TraceKind → TraceFault → AuditFault
-trace_answered_as trace.Memory fault = Memory
-trace_answered_as _ fault = Trace fault
-
-abbrev pub trace_fault_answered : TraceFault → AuditFault
-trace_fault_answered fault = trace_answered_as fault.kind fault
+  -- memory ran out, or the output failed; or the call refuses so by itself. Only a failed output gets a byte
+  abbrev pub IsRefused : (Refuses : AuditFault → Type 0) → AuditFault → Type 0
+  IsRefused Refuses Memory = Keeps before after
+  IsRefused Refuses Output = IsCutShort
+  IsRefused Refuses fault = Refuses fault × Keeps before after

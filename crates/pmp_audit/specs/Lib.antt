@@ -1,5 +1,12 @@
+-- what a reader has to believe
 pub mod Answers
-pub mod Audits
-pub mod Checks
-pub mod Replays
-pub mod Showing
+pub mod AccessCheck
+pub mod TraceAudit
+pub mod AskedFile
+pub mod RegisterDump
+pub mod Map
+
+-- what stands behind the calls
+pub mod Fault
+pub mod Replay
+pub mod Histories

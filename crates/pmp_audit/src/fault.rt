@@ -1,7 +1,7 @@
 //! Why a script, or a script and a trace, get no answer.
 
 ghost use Rattle.std.specs.Prelude.{◌≡◌};
-ghost use Rattle.pmp_audit.specs.Answers.{fault_answered, trace_fault_answered};
+ghost use Rattle.pmp_audit.specs.Fault.{fault_of_script, fault_of_trace};
 ghost use Rattle.pmp_audit.specs.declared.fault.AuditFault.TheVariants.{Memory, Output};
 
 use pmp_text::{NoMemory, OutputFault, ScriptFault, ScriptKind, TraceFault, TraceKind};
@@ -28,7 +28,7 @@ pub enum AuditFault {
 }
 
 impl From<ScriptFault> for AuditFault {
-    ghost from_gives = { λ fault answer. answer ≡ fault_answered fault };
+    ghost from_gives = { λ fault answer. answer ≡ fault_of_script fault };
 
     fn from(fault: ScriptFault) -> AuditFault {
         match fault.kind {
@@ -39,7 +39,7 @@ impl From<ScriptFault> for AuditFault {
 }
 
 impl From<TraceFault> for AuditFault {
-    ghost from_gives = { λ fault answer. answer ≡ trace_fault_answered fault };
+    ghost from_gives = { λ fault answer. answer ≡ fault_of_trace fault };
 
     fn from(fault: TraceFault) -> AuditFault {
         match fault.kind {

@@ -1,19 +1,19 @@
 //! What a script's publications come to: accesses decided after them, and the registers and runs that they leave.
 #![tactic(auto)]
 
-mod auditing;
-mod checking;
-mod dumping;
+mod access_check;
 mod fault;
-mod mapping;
+pub mod laws;
+mod map;
+mod register_dump;
 mod replay;
-mod stage;
+mod trace_audit;
 
-pub use auditing::{Summary, audit};
-pub use checking::check;
-pub use dumping::dump;
+pub use access_check::check;
 pub use fault::AuditFault;
-pub use mapping::map_of;
+pub use map::map_of;
+pub use register_dump::dump;
+pub use trace_audit::{Summary, audit};
 
 #[cfg(test)]
 mod tests;

@@ -1,46 +1,104 @@
-//! The register file that publications give.
+//! The register file as a script's publications are done.
 
-ghost use Rattle.std.specs.Prelude.{◌≡◌, ◌<◌, ◌≤◌, IfOk, IfErr, length, take};
-ghost use Rattle.pmp_audit.specs.Replays.{file_after};
-ghost use Rattle.pmp_audit.specs.Showing.{file_taken, taken};
+ghost use Rattle.std.specs.Prelude.{◌≡◌, ◌<◌, ◌≤◌, IfOk, IfErr, length};
+ghost use Rattle.pmp_core.specs.Deciding.{IsDecision};
+ghost use Rattle.pmp_audit.specs.AskedFile.{asked_count};
+ghost use Rattle.pmp_audit.specs.Replay.{file_at};
 ghost use Rattle.pmp_audit.specs.declared.fault.AuditFault.TheVariants.{BadAfter};
 
 use crate::fault::AuditFault;
-use pmp_core::RegFile;
+use pmp_core::{Access, Decision, RegFile};
+use pmp_map::RunMap;
 use pmp_text::Script;
+use std::marker::Model;
 
-/// Brings a register file from the first `done` publications to the first `count`.
-pub fn advance(file: &mut RegFile, script: &Script, done: u64, count: u64)
-    requires forward { done ≤ count }
-    requires within { count ≤ length script.now }
-    requires file { file.old ≡ file_after (take done script.now) }
-    ensures { file.new ≡ file_after (take count script.now) }
-{
-    for index in done..count {
-        file.run_events(script.batch(index));
-    }
+/// A script whose first publications are done. A contract sees the publications, and how many of them are done.
+#[derive(Drop)]
+pub struct Replay<'a> {
+    script: &'a Script,
+    done: u64,
+    /// The register file that these give.
+    file: RegFile,
+    /// Its map, once something was decided in it.
+    map: Option<RunMap>,
 }
 
-/// The register file that the first `count` publications give.
-pub fn file_after(script: &Script, count: u64) -> RegFile
-    requires { count ≤ length script.now }
-    ensures { result ≡ file_after (take count script.now) }
-{
-    let mut file = RegFile::reset();
-    advance(&mut file, script, 0, count);
-    file
+impl<'a> Model for Replay<'a> {
+    ghost use Rattle.pmp_audit.specs.Replay.{Position};
+
+    ghost Value = { Position };
+
+    ghost use Rattle.std.specs.Prelude.{◌≡◌, ◌≤◌, IfSome, length};
+    ghost use Rattle.pmp_audit.specs.Replay.{file_at};
+
+    ghost view = { λ r. record { batches = r.script.now; done = r.done } };
+
+    ghost invariant = { λ r. (r.done ≤ length r.script.now) × (r.file ≡ file_at (record { batches = r.script.now; done = r.done })) × IfSome r.map (λ map. map ≡ r.file) };
 }
 
-/// The register file that the first `after` publications give, or all of them where that is none; `BadAfter` where
-/// there are fewer.
-pub fn file_taken(script: &Script, after: Option<u64>) -> Result<RegFile, AuditFault>
-    ensures file { IfOk result (λ file. file ≡ file_taken after script.now) }
-    ensures within { IfOk result (λ _. taken after script.now ≤ length script.now) }
-    ensures beyond { IfErr result (λ fault. (fault ≡ BadAfter) × (length script.now < taken after script.now)) }
-{
-    let count = after.unwrap_or(script.batches());
-    if count > script.batches() {
-        return Err(AuditFault::BadAfter);
+impl<'a> Replay<'a> {
+    /// Before the first publication.
+    pub fn new(script: &'a Script) -> Replay<'a>
+        ensures { result ≡ record { batches = script.now; done = 0 } }
+    {
+        Replay {
+            script,
+            done: 0,
+            file: RegFile::reset(),
+            map: None,
+        }
     }
-    Ok(file_after(script, count))
+
+    /// After the first `after` publications, or after all of them where that is none; `BadAfter` where there are fewer.
+    pub fn after(script: &'a Script, after: Option<u64>) -> Result<Replay<'a>, AuditFault>
+        ensures within { IfOk result (λ _. asked_count after script.now ≤ length script.now) }
+        ensures done { IfOk result (λ replay. replay ≡ record { batches = script.now; done = asked_count after script.now }) }
+        ensures beyond { IfErr result (λ fault. (fault ≡ BadAfter) × (length script.now < asked_count after script.now)) }
+    {
+        let count = after.unwrap_or(script.batches());
+        if count > script.batches() {
+            return Err(AuditFault::BadAfter);
+        }
+        let mut replay = Replay::new(script);
+        replay.advance(count);
+        Ok(replay)
+    }
+
+    /// Does publications until the first `count` are done.
+    pub fn advance(&mut self, count: u64)
+        requires forward { self.old.done ≤ count }
+        requires within { count ≤ length self.old.batches }
+        ensures { self.new ≡ record self.old { done = count } }
+    {
+        if self.done < count {
+            for index in self.done..count {
+                self.file.run_events(self.script.batch(index));
+            }
+            self.done = count;
+            self.map = None;
+        }
+    }
+
+    /// The register file after the publications that are done.
+    pub fn file(&self) -> &RegFile
+        ensures { result.now ≡ file_at self.now }
+    {
+        &self.file
+    }
+
+    /// Decides an access in that file. Its map is built for the first.
+    pub fn decide(&mut self, access: &Access) -> Decision
+        ensures by_bytes { IsDecision (file_at self.old) access.now result }
+        ensures position { self.new ≡ self.old }
+    {
+        match &self.map {
+            Some(map) => map.decide(&self.file, access),
+            None => {
+                let map = RunMap::build(&self.file);
+                let decision = map.decide(&self.file, access);
+                self.map = Some(map);
+                decision
+            }
+        }
+    }
 }

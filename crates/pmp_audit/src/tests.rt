@@ -3,7 +3,7 @@
 mod firmware;
 mod maps;
 
-use crate::auditing::{Summary, audit};
+use crate::trace_audit::{Summary, audit};
 use crate::fault::AuditFault;
 use pmp_text::{TraceFault, TraceKind};
 use std::alloc::{AllocError, Global};

@@ -253,7 +253,7 @@ fn assert_owned<R: std::process::Abort + AllocGlobal>(
     let line = format!(in alloc; "{next:014x},ffffffffffffff,{others}\n")?;
     expected.push_str(line.as_str())?;
     let mut map = Vec::new(alloc);
-    let answer = crate::mapping::map_of(alloc, script.as_bytes(), Some(after), &mut map);
+    let answer = crate::map::map_of(alloc, script.as_bytes(), Some(after), &mut map);
     assert_eq!(rt; map.as_slice(), expected.as_bytes(), "after {after}");
     assert_eq!(rt; answer, Ok(()));
     Ok(())

@@ -1,7 +1,7 @@
 //! Maps of worked examples and of firmware.
 
 use super::*;
-use crate::mapping::map_of;
+use crate::map::map_of;
 use std::process::Abort;
 
 /// Asserts the map after so many publications, or after all where there is no number.

@@ -1,10 +1,12 @@
 //! The runs of a register file after publications of a script.
 
-ghost use Rattle.std.specs.Prelude.{OnOk, IfErr};
-ghost use Rattle.pmp_audit.specs.Showing.{IsMapped, IsUnmapped};
+ghost use Rattle.std.specs.Prelude.{IfOk, IfErr};
+ghost use Rattle.pmp_audit.specs.Answers.{IsWritten, IsRefused};
+ghost use Rattle.pmp_audit.specs.AskedFile.{FileRefuses};
+ghost use Rattle.pmp_audit.specs.Map.{MapSays};
 
 use crate::fault::AuditFault;
-use crate::replay::file_taken;
+use crate::replay::Replay;
 use pmp_map::RunMap;
 use pmp_text::{read_script, write_out, write_runs};
 use std::alloc::Global;
@@ -20,13 +22,15 @@ pub fn map_of<W: Write>(
     after: Option<u64>,
     writer: &mut W,
 ) -> Result<(), AuditFault>
-    ensures ok { OnOk result (IsMapped script.now after (W.contents writer.old) (W.contents writer.new)) }
-    ensures err { IfErr result (IsUnmapped script.now after (W.contents writer.old) (W.contents writer.new)) }
+    ensures ok { IfOk result
+        (IsWritten (MapSays script.now after) (W.contents writer.old) (W.contents writer.new)) }
+    ensures err { IfErr result
+        (IsRefused (MapSays script.now after) (W.contents writer.old) (W.contents writer.new) (FileRefuses script.now after)) }
 {
     let script = read_script(alloc, script)?;
-    let file = file_taken(&script, after)?;
+    let replay = Replay::after(&script, after)?;
     let mut text = Vec::new(alloc);
-    write_runs(&mut text, &file, &RunMap::build(&file))?;
+    write_runs(&mut text, replay.file(), &RunMap::build(replay.file()))?;
     write_out(writer, &text)?;
     Ok(())
 }

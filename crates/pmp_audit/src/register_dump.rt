@@ -1,10 +1,12 @@
 //! The registers after publications of a script.
 
-ghost use Rattle.std.specs.Prelude.{OnOk, IfErr};
-ghost use Rattle.pmp_audit.specs.Showing.{IsDumped, IsUndumped};
+ghost use Rattle.std.specs.Prelude.{IfOk, IfErr};
+ghost use Rattle.pmp_audit.specs.Answers.{IsWritten, IsRefused};
+ghost use Rattle.pmp_audit.specs.AskedFile.{FileRefuses};
+ghost use Rattle.pmp_audit.specs.RegisterDump.{DumpSays};
 
 use crate::fault::AuditFault;
-use crate::replay::file_taken;
+use crate::replay::Replay;
 use pmp_text::{read_script, write_out, write_registers};
 use std::alloc::Global;
 use std::io::Write;
@@ -18,13 +20,15 @@ pub fn dump<W: Write>(
     after: Option<u64>,
     writer: &mut W,
 ) -> Result<(), AuditFault>
-    ensures ok { OnOk result (IsDumped script.now after (W.contents writer.old) (W.contents writer.new)) }
-    ensures err { IfErr result (IsUndumped script.now after (W.contents writer.old) (W.contents writer.new)) }
+    ensures ok { IfOk result
+        (IsWritten (DumpSays script.now after) (W.contents writer.old) (W.contents writer.new)) }
+    ensures err { IfErr result
+        (IsRefused (DumpSays script.now after) (W.contents writer.old) (W.contents writer.new) (FileRefuses script.now after)) }
 {
     let script = read_script(alloc, script)?;
-    let file = file_taken(&script, after)?;
+    let replay = Replay::after(&script, after)?;
     let mut text = Vec::new(alloc);
-    write_registers(&mut text, &file)?;
+    write_registers(&mut text, replay.file())?;
     write_out(writer, &text)?;
     Ok(())
 }

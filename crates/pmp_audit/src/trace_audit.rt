@@ -1,13 +1,13 @@
 //! The accesses of a trace, each decided after the publications that it asks for.
 
-ghost use Rattle.std.specs.Prelude.{◌≡◌, ◌+◌, ◌++◌, ◌^◌, ◌<◌, ◌≤◌, All, OnOk, IfOk, IfErr, length, map, if◌then◌else◌};
-ghost use Rattle.pmp_core.specs.Deciding.{IsDecision};
+ghost use Rattle.std.specs.Prelude.{◌≡◌, ◌+◌, ◌^◌, ◌<◌, ◌≤◌, IfOk, IfErr, length, map, if◌then◌else◌};
 ghost use Rattle.pmp_text.specs.TraceFaults.{IsInOrder, afters};
 ghost use Rattle.pmp_text.specs.Views.{row_fields};
-ghost use Rattle.pmp_audit.specs.Audits.{IsAudited, IsUnaudited, file_of_row, report_text, row_decision, summary_of};
+ghost use Rattle.pmp_audit.specs.Answers.{IsWritten, IsRefused};
+ghost use Rattle.pmp_audit.specs.TraceAudit.{AuditSays, AuditRefuses, IsReported};
 
 use crate::fault::AuditFault;
-use crate::stage::Stage;
+use crate::replay::Replay;
 use pmp_core::Decision;
 use pmp_text::{NoMemory, Row, Script, read_script, read_trace, write_out, write_row};
 use std::alloc::Global;
@@ -32,8 +32,10 @@ pub fn audit<W: Write>(
     trace: &[u8],
     writer: &mut W,
 ) -> Result<Summary, AuditFault>
-    ensures ok { IfOk result (IsAudited script.now trace.now (W.contents writer.old) (W.contents writer.new)) }
-    ensures err { IfErr result (IsUnaudited script.now trace.now (W.contents writer.old) (W.contents writer.new)) }
+    ensures ok { IfOk result
+        (IsWritten (AuditSays script.now trace.now) (W.contents writer.old) (W.contents writer.new)) }
+    ensures err { IfErr result
+        (IsRefused (AuditSays script.now trace.now) (W.contents writer.old) (W.contents writer.new) (AuditRefuses script.now trace.now)) }
 {
     let script = read_script(alloc, script)?;
     let rows = read_trace(alloc, trace, script.batches())?;
@@ -46,15 +48,13 @@ pub fn audit<W: Write>(
 /// Appends the report of the rows, which ask for the script's publications in order.
 fn write_report(report: &mut Vec<u8>, script: &Script, rows: &[Row]) -> Result<Summary, NoMemory>
     requires { IsInOrder (length script.now) 0 (afters (map row_fields rows.now)) }
-    ensures report { OnOk result (report.new.items ≡ report.old.items ++ report_text script.now rows.now) }
-    ensures by_bytes { OnOk result (All (λ row. IsDecision (file_of_row script.now row) row.access (row_decision script.now row)) rows.now) }
-    ensures summary { IfOk result (λ summary. summary ≡ summary_of script.now rows.now) }
+    ensures { IfOk result (IsReported script.now rows.now report.old.items report.new.items) }
 {
-    let mut stage = Stage::reset();
+    let mut replay = Replay::new(script);
     let mut summary = Summary::default();
     for row in rows {
-        stage.advance(script, row.after);
-        let decision = stage.decide(&row.access);
+        replay.advance(row.after);
+        let decision = replay.decide(&row.access);
         summary.count(decision);
         write_row(report, summary.rows, &row.access, &decision)?;
     }

@@ -1,5 +1,5 @@
--- The register file that publications give.
-use Rattle.std.specs.Prelude.{List}
+-- Histories: publications, and the register file that they give.
+use Rattle.std.specs.Prelude.{ℕ, List}
 use Rattle.std.specs.List.{flat_map}
 use Rattle.pmp_core.specs.declared.event.Event.{Event}
 use Rattle.pmp_core.specs.Registers.{RegisterFile}
@@ -9,6 +9,6 @@ use Rattle.pmp_core.specs.Writing.{replay}
 abbrev pub joined : List (List Event) → List Event
 joined batches = flat_map (λ batch. batch) batches
 
--- the register file that reset and these publications give, in a unit of 16 entries
-abbrev pub file_after : List (List Event) → RegisterFile
-file_after batches = replay 16 (joined batches)
+-- the register file that reset and these publications give, in a unit of so many entries
+abbrev pub file_after : ℕ → List (List Event) → RegisterFile
+file_after n batches = replay n (joined batches)

@@ -1,12 +1,12 @@
 //! One access, decided after all publications of a script.
 
 ghost use Rattle.std.specs.Prelude.{IfOk, IfErr};
-ghost use Rattle.pmp_audit.specs.Checks.{IsChecked, IsUnchecked};
+ghost use Rattle.pmp_audit.specs.AccessCheck.{CheckSays, CheckRefuses};
+ghost use Rattle.pmp_audit.specs.Answers.{IsWritten, IsRefused};
 
 use crate::fault::AuditFault;
-use crate::replay::file_after;
+use crate::replay::Replay;
 use pmp_core::{Access, Decision};
-use pmp_map::RunMap;
 use pmp_text::{read_script, write_out, write_row};
 use std::alloc::Global;
 use std::io::Write;
@@ -20,12 +20,15 @@ pub fn check<W: Write>(
     access: &Access,
     writer: &mut W,
 ) -> Result<Decision, AuditFault>
-    ensures ok { IfOk result (IsChecked script.now access.now (W.contents writer.old) (W.contents writer.new)) }
-    ensures err { IfErr result (IsUnchecked script.now access.now (W.contents writer.old) (W.contents writer.new)) }
+    ensures ok { IfOk result
+        (IsWritten (CheckSays script.now access.now) (W.contents writer.old) (W.contents writer.new)) }
+    ensures err { IfErr result
+        (IsRefused (CheckSays script.now access.now) (W.contents writer.old) (W.contents writer.new) (CheckRefuses script.now)) }
 {
     let script = read_script(alloc, script)?;
-    let file = file_after(&script, script.batches());
-    let decision = RunMap::build(&file).decide(&file, access);
+    let mut replay = Replay::new(&script);
+    replay.advance(script.batches());
+    let decision = replay.decide(access);
     let mut row = Vec::new(alloc);
     write_row(&mut row, 1, access, &decision)?;
     write_out(writer, &row)?;

@@ -1,0 +1,24 @@
+-- How a fault of a layer below is answered.
+use Rattle.pmp_text.specs.declared.script.ScriptFault.{ScriptFault}
+use Rattle.pmp_text.specs.declared.script.ScriptKind.{ScriptKind}
+use Rattle.pmp_text.specs.declared.script.ScriptKind.TheVariants as kind
+use Rattle.pmp_text.specs.declared.trace.TraceFault.{TraceFault}
+use Rattle.pmp_text.specs.declared.trace.TraceKind.{TraceKind}
+use Rattle.pmp_text.specs.declared.trace.TraceKind.TheVariants as trace
+use Rattle.pmp_audit.specs.declared.fault.AuditFault.{AuditFault}
+use Rattle.pmp_audit.specs.declared.fault.AuditFault.TheVariants.{Script, Trace, Memory}
+
+-- want of memory is the same in every layer
+abbrev pub script_fault_as : ScriptKind → ScriptFault → AuditFault
+script_fault_as kind.Memory fault = Memory
+script_fault_as _ fault = Script fault
+
+abbrev pub fault_of_script : ScriptFault → AuditFault
+fault_of_script fault = script_fault_as fault.kind fault
+
+abbrev pub trace_fault_as : TraceKind → TraceFault → AuditFault
+trace_fault_as trace.Memory fault = Memory
+trace_fault_as _ fault = Trace fault
+
+abbrev pub fault_of_trace : TraceFault → AuditFault
+fault_of_trace fault = trace_fault_as fault.kind fault

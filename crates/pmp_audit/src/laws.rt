@@ -1,0 +1,19 @@
+//! Laws of the definitions, each the contract of a function that changes nothing.
+
+ghost use Rattle.pmp_audit.specs.TraceAudit.{OneListOfDecisionsLaw, OneReportLaw};
+
+use pmp_core::laws::law_one_decision;
+
+/// Rows have one list of decisions that are each the manual's, however they are come by.
+pub fn law_one_list_of_decisions()
+    ensures { OneListOfDecisionsLaw }
+{
+    law_one_decision();
+}
+
+/// A script and a trace have one report, and one summary.
+pub fn law_one_report()
+    ensures { OneReportLaw }
+{
+    law_one_list_of_decisions();
+}
