@@ -1,0 +1,12 @@
+use Rattle.std.proofs.Common.{◌≡◌, drop, length, map, take}
+use Rattle.pmp_text.specs.TraceFaults.{IsInOrder, afters}
+use Rattle.pmp_text.specs.Views.{row_fields}
+use Rattle.pmp_audit.specs.TraceAudit.{IsReported}
+use Rattle.pmp_audit.proofs.trace_audit.write_report.Given as goal
+
+-- the rows so far are reported, and those that follow ask for no fewer publications than are done
+abbrev pub invariant-loop-row : goal.invariant-loop-row
+invariant-loop-row l =
+    (l.replay.batches ≡ l.script)
+    × IsInOrder (length l.script) l.replay.done (afters (map row_fields (drop l.row-index l.rows)))
+    × IsReported l.script (take l.row-index l.rows) l.fn.report.items l.report.items l.summary
