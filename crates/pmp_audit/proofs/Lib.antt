@@ -1,2 +1,4 @@
+pub mod DecidedAccess
 pub mod OneReport
 pub mod Reports
+pub mod WrittenAnswers

@@ -1,5 +1,5 @@
 -- A report, one row after another.
-use Rattle.std.proofs.Common.{◌≡◌, ℕ, ◌+◌, ◌<◌, ◌≤◌, Bool, true, false, cond, not, List, [], ◌∷◌, ◌++◌, length, get_or, map, take, drop, refl, sym, ap, ◌∙◌, append_assoc, arith}
+use Rattle.std.proofs.Common.{◌≡◌, ℕ, ◌+◌, ◌<◌, ◌≤◌, Bool, true, false, cond, not, List, [], ◌∷◌, ◌++◌, length, get_or, map, take, drop, refl, sym, ap, ◌∙◌, append_assoc, arith, Ok}
 use Rattle.std.specs.Prelude.{count_by}
 use Rattle.std.specs.List.{AllZip, zip, enumerate_from, flat_map}
 use Rattle.std.proofs.lemmas.List.{append-nil, drop_more, flat_map_more, length-append, length-take, take_more}
@@ -9,10 +9,12 @@ use Rattle.pmp_core.specs.declared.event.Event.{Event}
 use Rattle.pmp_core.specs.Deciding.{IsDecision}
 use Rattle.pmp_text.specs.declared.trace.Row.{Row}
 use Rattle.pmp_text.specs.Reports.{report_row}
+use Rattle.pmp_text.specs.Scripts.{script_meaning}
+use Rattle.pmp_text.specs.Traces.{trace_meaning}
 use Rattle.pmp_text.specs.TraceFaults.{IsInOrder, afters}
 use Rattle.pmp_text.specs.Views.{row_fields}
 use Rattle.pmp_audit.specs.declared.trace_audit.Summary.{Summary}
-use Rattle.pmp_audit.specs.TraceAudit.{AreDecided, IsReported, file_of_row, report_text, summary_of}
+use Rattle.pmp_audit.specs.TraceAudit.{AreDecided, AuditSays, IsReported, file_of_row, report_text, summary_of}
 
 -- ---- lists side by side
 
@@ -109,3 +111,18 @@ module _ (batches : List (List Event)) where
               ∙ append_assoc before (report_text rows decisions) (report_row (length rows + 1) row.access decision) ∙ ap (λ l. before ++ l) (sym text);
           counted = same_summary more (summary_of (decisions ++ decision ∷ [])) all faults;
         }
+
+-- ---- a whole report
+
+pub audit_says : (script trace : List ℕ) (batches : List (List Event)) (rows : List Row) (before after text : List ℕ) (summary : Summary) → script_meaning script ≡ Ok batches → trace_meaning (length batches) trace ≡ Ok (map row_fields rows)
+    → IsReported batches rows before after summary → before ≡ [] → text ≡ after → AuditSays script trace summary text
+audit_says script trace batches rows before after text summary script_means trace_means reported empty same = record {
+  batches = batches;
+  rows = rows;
+  decisions = reported.decisions;
+  script_means = script_means;
+  trace_means = trace_means;
+  decided = reported.decided;
+  report = same ∙ reported.report ∙ ap (λ front. front ++ report_text rows reported.decisions) empty;
+  counted = reported.counted;
+}

@@ -4,10 +4,11 @@ ghost use Rattle.std.specs.Prelude.{IfOk, IfErr};
 ghost use Rattle.pmp_audit.specs.AccessCheck.{CheckSays, CheckRefuses};
 ghost use Rattle.pmp_audit.specs.Answers.{IsWritten, IsRefused};
 
+use crate::answer::write_answer;
 use crate::fault::AuditFault;
 use crate::replay::Replay;
 use pmp_core::{Access, Decision};
-use pmp_text::{read_script, write_out, write_row};
+use pmp_text::{read_script, write_row};
 use std::alloc::Global;
 use std::io::Write;
 
@@ -31,6 +32,5 @@ pub fn check<W: Write>(
     let decision = replay.decide(access);
     let mut row = Vec::new(alloc);
     write_row(&mut row, 1, access, &decision)?;
-    write_out(writer, &row)?;
-    Ok(decision)
+    write_answer(writer, &row, decision)
 }

@@ -2,6 +2,7 @@
 #![tactic(auto)]
 
 mod access_check;
+mod answer;
 mod fault;
 pub mod laws;
 mod map;

@@ -5,10 +5,11 @@ ghost use Rattle.pmp_audit.specs.Answers.{IsWritten, IsRefused};
 ghost use Rattle.pmp_audit.specs.AskedFile.{FileRefuses};
 ghost use Rattle.pmp_audit.specs.Map.{MapSays};
 
+use crate::answer::write_answer;
 use crate::fault::AuditFault;
 use crate::replay::Replay;
 use pmp_map::RunMap;
-use pmp_text::{read_script, write_out, write_runs};
+use pmp_text::{read_script, write_runs};
 use std::alloc::Global;
 use std::io::Write;
 
@@ -31,6 +32,5 @@ pub fn map_of<W: Write>(
     let replay = Replay::after(&script, after)?;
     let mut text = Vec::new(alloc);
     write_runs(&mut text, replay.file(), &RunMap::build(replay.file()))?;
-    write_out(writer, &text)?;
-    Ok(())
+    write_answer(writer, &text, ())
 }

@@ -5,9 +5,10 @@ ghost use Rattle.pmp_audit.specs.Answers.{IsWritten, IsRefused};
 ghost use Rattle.pmp_audit.specs.AskedFile.{FileRefuses};
 ghost use Rattle.pmp_audit.specs.RegisterDump.{DumpSays};
 
+use crate::answer::write_answer;
 use crate::fault::AuditFault;
 use crate::replay::Replay;
-use pmp_text::{read_script, write_out, write_registers};
+use pmp_text::{read_script, write_registers};
 use std::alloc::Global;
 use std::io::Write;
 
@@ -29,6 +30,5 @@ pub fn dump<W: Write>(
     let replay = Replay::after(&script, after)?;
     let mut text = Vec::new(alloc);
     write_registers(&mut text, replay.file())?;
-    write_out(writer, &text)?;
-    Ok(())
+    write_answer(writer, &text, ())
 }

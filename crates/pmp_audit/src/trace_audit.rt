@@ -6,10 +6,11 @@ ghost use Rattle.pmp_text.specs.Views.{row_fields};
 ghost use Rattle.pmp_audit.specs.Answers.{IsWritten, IsRefused};
 ghost use Rattle.pmp_audit.specs.TraceAudit.{AuditSays, AuditRefuses, IsReported};
 
+use crate::answer::write_answer;
 use crate::fault::AuditFault;
 use crate::replay::Replay;
 use pmp_core::Decision;
-use pmp_text::{NoMemory, Row, Script, read_script, read_trace, write_out, write_row};
+use pmp_text::{NoMemory, Row, Script, read_script, read_trace, write_row};
 use std::alloc::Global;
 use std::io::Write;
 
@@ -41,8 +42,7 @@ pub fn audit<W: Write>(
     let rows = read_trace(alloc, trace, script.batches())?;
     let mut report = Vec::new(alloc);
     let summary = write_report(&mut report, &script, &rows)?;
-    write_out(writer, &report)?;
-    Ok(summary)
+    write_answer(writer, &report, summary)
 }
 
 /// Appends the report of the rows, which ask for the script's publications in order.
