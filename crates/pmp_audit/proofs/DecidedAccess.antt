@@ -10,7 +10,7 @@ use Rattle.pmp_core.specs.Registers.{RegisterFile}
 use Rattle.pmp_text.specs.Reports.{report_row}
 use Rattle.pmp_text.specs.Scripts.{script_meaning}
 use Rattle.pmp_audit.specs.AccessCheck.{CheckSays}
-use Rattle.pmp_audit.specs.Histories.{file_after}
+use Rattle.pmp_core.specs.Histories.{file_after}
 use Rattle.pmp_audit.specs.Replay.{Position, file_at}
 
 at_end : (batches : List (List Event)) (count : ℕ) (position : Position) → count ≡ length batches → position ≡ record { batches = batches; done = count } → file_at position ≡ file_after ENTRIES batches

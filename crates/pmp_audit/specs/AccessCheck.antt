@@ -9,7 +9,7 @@ use Rattle.pmp_text.specs.Reports.{report_row}
 use Rattle.pmp_text.specs.Scripts.{script_meaning}
 use Rattle.pmp_audit.specs.declared.fault.AuditFault.{AuditFault}
 use Rattle.pmp_audit.specs.declared.fault.AuditFault.TheVariants.{Script}
-use Rattle.pmp_audit.specs.Histories.{file_after}
+use Rattle.pmp_core.specs.Histories.{file_after}
 
 -- the script has these publications, the decision is the manual's after them (3.7.1.3), and its row has the number 1
 pub record CheckSays (script : List ℕ) (access : Access) (decision : Decision) (text : List ℕ) : Type 0 where

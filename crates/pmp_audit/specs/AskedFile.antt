@@ -6,7 +6,7 @@ use Rattle.pmp_core.specs.Registers.{RegisterFile}
 use Rattle.pmp_text.specs.Scripts.{script_meaning}
 use Rattle.pmp_audit.specs.declared.fault.AuditFault.{AuditFault}
 use Rattle.pmp_audit.specs.declared.fault.AuditFault.TheVariants.{Script, BadAfter}
-use Rattle.pmp_audit.specs.Histories.{file_after}
+use Rattle.pmp_core.specs.Histories.{file_after}
 
 -- how many publications are asked for: all of them where no number is given
 abbrev pub asked_count : Option ℕ → List (List Event) → ℕ

@@ -9,4 +9,3 @@ pub mod Map
 -- what stands behind the calls
 pub mod Fault
 pub mod Replay
-pub mod Histories

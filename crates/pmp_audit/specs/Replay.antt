@@ -3,7 +3,7 @@ use Rattle.std.specs.Prelude.{ℕ, List, take}
 use Rattle.pmp_core.specs.declared.event.Event.{Event}
 use Rattle.pmp_core.specs.declared.register_file.TheConstants.{ENTRIES}
 use Rattle.pmp_core.specs.Registers.{RegisterFile}
-use Rattle.pmp_audit.specs.Histories.{file_after}
+use Rattle.pmp_core.specs.Histories.{file_after}
 
 -- a script's publications, and how many of them are done
 pub record Position : Type 0 where

@@ -16,7 +16,7 @@ use Rattle.pmp_text.specs.Views.{row_fields}
 use Rattle.pmp_audit.specs.declared.fault.AuditFault.{AuditFault}
 use Rattle.pmp_audit.specs.declared.fault.AuditFault.TheVariants.{Script, Trace}
 use Rattle.pmp_audit.specs.declared.trace_audit.Summary.{Summary}
-use Rattle.pmp_audit.specs.Histories.{file_after}
+use Rattle.pmp_core.specs.Histories.{file_after}
 
 -- the register file that a row asks for: the one that its publications give
 abbrev pub file_of_row : List (List Event) → Row → RegisterFile

@@ -1,6 +1,6 @@
 use Rattle.std.proofs.Common.{◌≡◌, take}
 use Rattle.pmp_core.specs.declared.register_file.TheConstants.{ENTRIES}
-use Rattle.pmp_audit.specs.Histories.{file_after}
+use Rattle.pmp_core.specs.Histories.{file_after}
 use Rattle.pmp_audit.proofs.replay.Replay.advance.Given as goal
 
 -- the file is the one after the publications so far
