@@ -1,4 +1,5 @@
 pub mod DecidedAccess
+pub mod Lists
 pub mod OneReport
 pub mod Reports
 pub mod WrittenAnswers

@@ -1,5 +1,5 @@
--- What a call answers that wrote a text.
-use Rattle.std.proofs.Common.{◌≡◌, ℕ, ◌++◌, List, [], Option, Result, Ok, Err, ap, ◌∙◌}
+-- What a call answers that made a text.
+use Rattle.std.proofs.Common.{◌≡◌, ◌⊎◌, ℕ, ◌++◌, List, [], Option, Result, Ok, Err, ap, refl, inl, inr, ◌∙◌}
 use Rattle.std.specs.Prelude.{IfOk, IfErr}
 use Rattle.std.specs.Io.KnownBytes.{Appends, Keeps}
 use Rattle.pmp_text.specs.Bytes.{AppendsBeginning}
@@ -12,11 +12,30 @@ pub only_text : (held items old text : List ℕ) → held ≡ items → items �
 only_text held items old text is_items appended empty = is_items ∙ appended ∙ ap (λ front. front ++ text) empty
 
 module _ {A : Type 0} (Says : A → List ℕ → Type 0) (before after : Option (List ℕ)) where
-  module _ (answer : A) (text : List ℕ) (says : Says answer text) where
-    pub answered : (result : Result A AuditFault) → IfOk result (λ given. (given ≡ answer) × Appends before after text) → IfOk result (IsWritten Says before after)
-    answered (Ok given) (same, written) = record { text = text; says = rw same says; written = written }
-    answered (Err fault) none = tt
+  module _ (answer : A) (text : List ℕ) (says : Says answer text) (result : Result A AuditFault) where
+    pub answered : IfOk result (λ given. (given ≡ answer) × Appends before after text)
+        → IfOk result (IsWritten Says before after)
+    answered ok = elim result as (λ r. IfOk r (λ given. (given ≡ answer) × Appends before after text)
+        → IfOk r (IsWritten Says before after)) [
+          | Ok given ↦ λ (same, written). record { text = text; says = rw same says; written = written }
+          | Err fault ↦ λ none. tt
+        ] ok
 
-    pub cut_short : (Refuses : AuditFault → Type 0) (result : Result A AuditFault) → IfErr result (λ fault. (fault ≡ Output) × AppendsBeginning before after text) → IfErr result (IsRefused Says before after Refuses)
-    cut_short Refuses (Ok given) none = tt
-    cut_short Refuses (Err fault) (output, front) = rw output (record { answer = answer; text = text; says = says; front = front })
+    pub cut_short : (Refuses : AuditFault → Type 0)
+        → IfErr result (λ fault. (fault ≡ Output) × AppendsBeginning before after text)
+        → IfErr result (IsRefused Says before after Refuses)
+    cut_short Refuses err = elim result as (λ r.
+        IfErr r (λ fault. (fault ≡ Output) × AppendsBeginning before after text)
+        → IfErr r (IsRefused Says before after Refuses)) [
+          | Ok given ↦ λ none. tt
+          | Err fault ↦ λ (output, front). rw output (record { answer = answer; text = text; says = says; front = front })
+        ] err
+
+  -- a refusal is the call's own, or memory ran out, and nothing was written; or the output failed in the middle
+  pub refused_by : (Refuses : AuditFault → Type 0) (fault : AuditFault) → IsRefused Says before after Refuses fault
+      → ((Refuses fault ⊎ (fault ≡ Memory)) × Keeps before after) ⊎ ((fault ≡ Output) × IsCutShort Says before after)
+  refused_by Refuses (Script fault) (why, kept) = inl (inl why, kept)
+  refused_by Refuses (Trace fault) (why, kept) = inl (inl why, kept)
+  refused_by Refuses BadAfter (why, kept) = inl (inl why, kept)
+  refused_by Refuses Memory kept = inl (inr refl, kept)
+  refused_by Refuses Output cut = inr (refl, cut)

@@ -13,7 +13,8 @@ abbrev pub asked_count : Option ℕ → List (List Event) → ℕ
 asked_count after batches = unwrap_or after (length batches)
 
 -- the script has these publications, no more are asked for, and the text is one of the file that those give
-pub record SaysOfFile (IsTextOf : RegisterFile → List ℕ → Type 0) (script : List ℕ) (after : Option ℕ) (text : List ℕ) : Type 0 where
+pub record SaysOfFile (IsTextOf : RegisterFile → List ℕ → Type 0) (script : List ℕ) (after : Option ℕ) (text : List ℕ)
+    : Type 0 where
   pub batches : List (List Event)
   pub script_means : script_meaning script ≡ Ok batches
   pub within : asked_count after batches ≤ length batches

@@ -5,7 +5,7 @@ pub mod TraceAudit
 pub mod AskedFile
 pub mod RegisterDump
 pub mod Map
-
 -- what stands behind the calls
 pub mod Fault
 pub mod Replay
+pub mod Report

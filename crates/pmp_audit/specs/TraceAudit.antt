@@ -1,5 +1,5 @@
 -- What an audit says of a trace, and when it refuses.
-use Rattle.std.specs.Prelude.{◌≡◌, ◌⊎◌, ℕ, List, ◌++◌, length, map, take, count_by, not, Ok, Err}
+use Rattle.std.specs.Prelude.{◌≡◌, ◌⊎◌, ℕ, List, length, map, take, count_by, not, Ok, Err}
 use Rattle.std.specs.List.{AllZip, zip, enumerate_from, flat_map}
 use Rattle.pmp_core.specs.declared.decision.Decision.{Decision}
 use Rattle.pmp_core.specs.declared.event.Event.{Event}
@@ -24,22 +24,21 @@ file_of_row batches row = file_after ENTRIES (take row.after batches)
 
 -- a decision for each row, each the manual's in the file that the row asks for (3.7.1.3)
 abbrev pub AreDecided : List (List Event) → List Row → List Decision → Type 0
-AreDecided batches rows decisions = AllZip (λ row decision. IsDecision (file_of_row batches row) row.access decision) rows decisions
+AreDecided batches rows decisions =
+    AllZip (λ row decision. IsDecision (file_of_row batches row) row.access decision) rows decisions
 
 -- a report row for each decision, numbered from 1
 unfoldable pub report_text : List Row → List Decision → List ℕ
-report_text rows decisions = flat_map (λ (number, (row, decision)). report_row number row.access decision) (enumerate_from 1 (zip rows decisions))
+report_text rows decisions =
+    let numbered = enumerate_from 1 (zip rows decisions) in
+    flat_map (λ (number, (row, decision)). report_row number row.access decision) numbered
 
 -- how many rows were decided, and how many of them were refused
 abbrev pub summary_of : List Decision → Summary
-summary_of decisions = record { rows = length decisions; faults = count_by (λ decision. not decision.allowed) decisions }
-
--- the rows' decisions were reported behind what stood there, and counted
-pub record IsReported (batches : List (List Event)) (rows : List Row) (before after : List ℕ) (summary : Summary) : Type 0 where
-  pub decisions : List Decision
-  pub decided : AreDecided batches rows decisions
-  pub report : after ≡ before ++ report_text rows decisions
-  pub counted : summary ≡ summary_of decisions
+summary_of decisions = record {
+  rows = length decisions;
+  faults = count_by (λ decision. not decision.allowed) decisions;
+}
 
 -- the script has these publications, the trace has these rows beside them, and their decisions are reported and counted
 pub record AuditSays (script trace : List ℕ) (summary : Summary) (text : List ℕ) : Type 0 where
@@ -66,8 +65,10 @@ AuditRefuses script trace _ = ⊥
 
 -- rows have one list of decisions
 abbrev pub OneListOfDecisionsLaw : Type 0
-OneListOfDecisionsLaw = (batches : List (List Event)) (rows : List Row) (one other : List Decision) → AreDecided batches rows one → AreDecided batches rows other → one ≡ other
+OneListOfDecisionsLaw = (batches : List (List Event)) (rows : List Row) (one other : List Decision)
+    → AreDecided batches rows one → AreDecided batches rows other → one ≡ other
 
 -- a script and a trace have one report and one summary
 abbrev pub OneReportLaw : Type 0
-OneReportLaw = (script trace : List ℕ) (one other : Summary) (text another : List ℕ) → AuditSays script trace one text → AuditSays script trace other another → (one ≡ other) × (text ≡ another)
+OneReportLaw = (script trace : List ℕ) (one other : Summary) (text another : List ℕ)
+    → AuditSays script trace one text → AuditSays script trace other another → (one ≡ other) × (text ≡ another)

@@ -24,7 +24,8 @@ pub fn check<W: Write>(
     ensures ok { IfOk result
         (IsWritten (CheckSays script.now access.now) (W.contents writer.old) (W.contents writer.new)) }
     ensures err { IfErr result
-        (IsRefused (CheckSays script.now access.now) (W.contents writer.old) (W.contents writer.new) (CheckRefuses script.now)) }
+        (IsRefused (CheckSays script.now access.now) (W.contents writer.old) (W.contents writer.new)
+        (CheckRefuses script.now)) }
 {
     let script = read_script(alloc, script)?;
     let mut replay = Replay::new(&script);

@@ -15,8 +15,10 @@ pub fn write_answer<W: Write, A: Copy>(
     text: &[u8],
     answer: A,
 ) -> Result<A, AuditFault>
-    ensures ok { IfOk result (λ given. (given ≡ answer) × Appends (W.contents writer.old) (W.contents writer.new) text.now) }
-    ensures err { IfErr result (λ fault. (fault ≡ Output) × AppendsBeginning (W.contents writer.old) (W.contents writer.new) text.now) }
+    ensures ok { IfOk result
+        (λ given. (given ≡ answer) × Appends (W.contents writer.old) (W.contents writer.new) text.now) }
+    ensures err { IfErr result
+        (λ fault. (fault ≡ Output) × AppendsBeginning (W.contents writer.old) (W.contents writer.new) text.now) }
 {
     write_out(writer, text)?;
     Ok(answer)

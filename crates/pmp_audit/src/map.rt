@@ -26,7 +26,8 @@ pub fn map_of<W: Write>(
     ensures ok { IfOk result
         (IsWritten (MapSays script.now after) (W.contents writer.old) (W.contents writer.new)) }
     ensures err { IfErr result
-        (IsRefused (MapSays script.now after) (W.contents writer.old) (W.contents writer.new) (FileRefuses script.now after)) }
+        (IsRefused (MapSays script.now after) (W.contents writer.old) (W.contents writer.new)
+        (FileRefuses script.now after)) }
 {
     let script = read_script(alloc, script)?;
     let replay = Replay::after(&script, after)?;

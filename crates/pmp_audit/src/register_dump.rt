@@ -24,7 +24,8 @@ pub fn dump<W: Write>(
     ensures ok { IfOk result
         (IsWritten (DumpSays script.now after) (W.contents writer.old) (W.contents writer.new)) }
     ensures err { IfErr result
-        (IsRefused (DumpSays script.now after) (W.contents writer.old) (W.contents writer.new) (FileRefuses script.now after)) }
+        (IsRefused (DumpSays script.now after) (W.contents writer.old) (W.contents writer.new)
+        (FileRefuses script.now after)) }
 {
     let script = read_script(alloc, script)?;
     let replay = Replay::after(&script, after)?;

@@ -33,7 +33,8 @@ impl<'a> Model for Replay<'a> {
 
     ghost view = { λ r. record { batches = r.script.now; done = r.done } };
 
-    ghost invariant = { λ r. (r.done ≤ length r.script.now) × (r.file ≡ file_at (record { batches = r.script.now; done = r.done })) × IfSome r.map (λ map. map ≡ r.file) };
+    ghost invariant = { λ r. (r.done ≤ length r.script.now)
+        × (r.file ≡ file_at (record { batches = r.script.now; done = r.done })) × IfSome r.map (λ map. map ≡ r.file) };
 }
 
 impl<'a> Replay<'a> {
@@ -52,8 +53,10 @@ impl<'a> Replay<'a> {
     /// After the first `after` publications, or after all of them where that is none; `BadAfter` where there are fewer.
     pub fn after(script: &'a Script, after: Option<u64>) -> Result<Replay<'a>, AuditFault>
         ensures within { IfOk result (λ _. asked_count after script.now ≤ length script.now) }
-        ensures done { IfOk result (λ replay. replay ≡ record { batches = script.now; done = asked_count after script.now }) }
-        ensures beyond { IfErr result (λ fault. (fault ≡ BadAfter) × (length script.now < asked_count after script.now)) }
+        ensures done { IfOk result
+            (λ replay. replay ≡ record { batches = script.now; done = asked_count after script.now }) }
+        ensures beyond { IfErr result
+            (λ fault. (fault ≡ BadAfter) × (length script.now < asked_count after script.now)) }
     {
         let count = after.unwrap_or(script.batches());
         if count > script.batches() {

@@ -4,7 +4,8 @@ ghost use Rattle.std.specs.Prelude.{◌≡◌, ◌+◌, ◌^◌, ◌<◌, ◌≤
 ghost use Rattle.pmp_text.specs.TraceFaults.{IsInOrder, afters};
 ghost use Rattle.pmp_text.specs.Views.{row_fields};
 ghost use Rattle.pmp_audit.specs.Answers.{IsWritten, IsRefused};
-ghost use Rattle.pmp_audit.specs.TraceAudit.{AuditSays, AuditRefuses, IsReported};
+ghost use Rattle.pmp_audit.specs.Report.{IsReported};
+ghost use Rattle.pmp_audit.specs.TraceAudit.{AuditSays, AuditRefuses};
 
 use crate::answer::write_answer;
 use crate::fault::AuditFault;
@@ -36,7 +37,8 @@ pub fn audit<W: Write>(
     ensures ok { IfOk result
         (IsWritten (AuditSays script.now trace.now) (W.contents writer.old) (W.contents writer.new)) }
     ensures err { IfErr result
-        (IsRefused (AuditSays script.now trace.now) (W.contents writer.old) (W.contents writer.new) (AuditRefuses script.now trace.now)) }
+        (IsRefused (AuditSays script.now trace.now) (W.contents writer.old) (W.contents writer.new)
+        (AuditRefuses script.now trace.now)) }
 {
     let script = read_script(alloc, script)?;
     let rows = read_trace(alloc, trace, script.batches())?;

@@ -2,6 +2,7 @@
 
 use super::maps::assert_map;
 use super::*;
+use std::process::Abort;
 
 /// How many address registers firmware probes.
 const PROBED: usize = 16;
@@ -32,9 +33,10 @@ const OWN_DOMAIN: [(&str, &str); 8] = [
 /// The first publication: firmware probes each register.
 fn probe(script: &mut String) -> Result<(), AllocError> {
     let alloc = *script.allocator();
-    script.push_str(
-        "pmp 1\nwrite pmpcfg0 0x0\nwrite pmpaddr0 0x3fffffffffffff\nwrite pmpaddr0 0x3fffffffffffff\nwrite pmpaddr0 0x3fffffffffffff\n",
-    )?;
+    script.push_str("pmp 1\nwrite pmpcfg0 0x0\n")?;
+    for _ in 0..3 {
+        script.push_str("write pmpaddr0 0x3fffffffffffff\n")?;
+    }
     for register in 1..PROBED {
         let writes = format!(in alloc;
             "write pmpaddr{register} 0x3fffffffffffff\nwrite pmpaddr{register} 0x0\n"
@@ -58,20 +60,13 @@ fn boot(alloc: Global, publications: &[(&str, &str)]) -> Result<String, AllocErr
 }
 
 /// Asserts the rest of the row that follows each access, audited behind the probing and these publications.
-fn assert_accesses<R: std::process::Abort + AllocGlobal>(
+fn assert_accesses<R: Abort + AllocGlobal>(
     rt: &R,
     publications: &[(&str, &str)],
     accesses: &[(&str, &str)],
 ) -> Result<(), Fail> {
     let alloc = rt.alloc();
-    let mut script = String::new(alloc);
-    probe(&mut script)?;
-    for (address, configuration) in publications {
-        let writes = format!(in alloc;
-            "write {address}\nwrite pmpcfg0 {configuration}\npublish\n"
-        )?;
-        script.push_str(writes.as_str())?;
-    }
+    let script = boot(alloc, publications)?;
     let mut trace = String::new(alloc);
     trace.push_str("after,mode,kind,start,length\n")?;
     let mut expected = String::new(alloc);
@@ -93,7 +88,7 @@ fn assert_accesses<R: std::process::Abort + AllocGlobal>(
 }
 
 #[test]
-fn the_default_domain(rt: HostRuntime) -> Result<(), Fail> {
+fn accesses_in_the_default_domain(rt: HostRuntime) -> Result<(), Fail> {
     assert_accesses(
         &rt,
         &DEFAULT_DOMAIN,
@@ -136,7 +131,7 @@ fn the_default_domain(rt: HostRuntime) -> Result<(), Fail> {
 }
 
 #[test]
-fn a_domain_of_its_own(rt: HostRuntime) -> Result<(), Fail> {
+fn accesses_in_a_domain_of_its_own(rt: HostRuntime) -> Result<(), Fail> {
     assert_accesses(
         &rt,
         &OWN_DOMAIN,
@@ -232,7 +227,7 @@ fn maps_of_the_default_domain(rt: HostRuntime) -> Result<(), Fail> {
 }
 
 /// The map of the domain of its own after the first publications, as far as they go: what isn't listed has no owner.
-fn assert_owned<R: std::process::Abort + AllocGlobal>(
+fn assert_owned<R: Abort + AllocGlobal>(
     rt: &R,
     after: u64,
     owned: &[(u64, u64, &str)],

@@ -28,7 +28,7 @@ pub fn assert_map<R: Abort + AllocGlobal>(
 }
 
 #[test]
-fn one_region(rt: HostRuntime) -> Result<(), Fail> {
+fn one_entry_owns_its_page_or_all_of_memory(rt: HostRuntime) -> Result<(), Fail> {
     let page = "pmp 1\nwrite pmpaddr0 0x200001ff\nwrite pmpcfg0 0x19\npublish\n";
     assert_map(
         &rt,
@@ -66,7 +66,7 @@ fn neighbours_of_equal_rights_stay_apart(rt: HostRuntime) -> Result<(), Fail> {
 }
 
 #[test]
-fn a_hole_parts_a_page(rt: HostRuntime) -> Result<(), Fail> {
+fn a_lower_entry_parts_a_page(rt: HostRuntime) -> Result<(), Fail> {
     assert_map(
         &rt,
         "pmp 1\nwrite pmpaddr0 0x20000004\nwrite pmpaddr1 0x200001ff\nwrite pmpcfg0 0x1910\npublish\n",
@@ -82,7 +82,7 @@ fn a_hole_parts_a_page(rt: HostRuntime) -> Result<(), Fail> {
 }
 
 #[test]
-fn a_shared_page_under_lockdown(rt: HostRuntime) -> Result<(), Fail> {
+fn nobody_executes_a_shared_page_under_lockdown(rt: HostRuntime) -> Result<(), Fail> {
     assert_map(
         &rt,
         "pmp 1\nwrite mseccfg 5\nwrite pmpaddr0 0x200001ff\nwrite pmpcfg0 0x9f\npublish\n",
@@ -97,7 +97,7 @@ fn a_shared_page_under_lockdown(rt: HostRuntime) -> Result<(), Fail> {
 
 /// Sixteen words with a word between each, the most runs that there are.
 #[test]
-fn a_comb_of_thirty_three_runs(rt: HostRuntime) -> Result<(), Fail> {
+fn a_comb_has_thirty_three_runs(rt: HostRuntime) -> Result<(), Fail> {
     let alloc = rt.alloc();
     let mut script = String::new(alloc);
     script.push_str("pmp 1\n")?;
@@ -120,12 +120,4 @@ fn a_comb_of_thirty_three_runs(rt: HostRuntime) -> Result<(), Fail> {
         b"0000000000007c,0000000000007f,15,rwx,r--\n00000000000080,ffffffffffffff,-,rwx,---\n";
     assert!(rt; map.ends_with(ends.as_slice()));
     Ok(())
-}
-
-#[test]
-fn more_publications_than_there_are(rt: HostRuntime) {
-    let mut map = Vec::new(rt.alloc());
-    let answer = map_of(rt.alloc(), SCRIPT, Some(3), &mut map);
-    assert_eq!(rt; answer, Err(AuditFault::BadAfter));
-    assert!(rt; map.is_empty());
 }

@@ -1,6 +1,3 @@
-use Rattle.std.proofs.Common.{◌≡◌, ap, ◌∙◌}
-use Rattle.pmp_core.specs.Deciding.{IsDecision}
-use Rattle.pmp_audit.specs.Replay.{file_at}
 use Rattle.pmp_audit.proofs.replay.Replay.decide.Goals as goal
 
 pub returns-in-Some-clause-by_bytes : goal.returns-in-Some-clause-by_bytes

@@ -1,0 +1,52 @@
+-- Lists side by side, numbered, and one element more.
+use Rattle.std.proofs.Common.{◌≡◌, ℕ, ◌+◌, List, [], ◌∷◌, ◌++◌, length, refl, ap, ◌∙◌, arith}
+use Rattle.std.specs.List.{AllZip, zip, enumerate_from}
+
+module _ {A B : Type 0} (R : A → B → Type 0) where
+  pub AllZip-push : (xs : List A) (ys : List B) (x : A) (y : B)
+      → AllZip R xs ys → R x y → AllZip R (xs ++ x ∷ []) (ys ++ y ∷ [])
+  AllZip-push [] [] x y all one = (one, tt)
+  AllZip-push [] (b ∷ ys) x y all one = absurd all
+  AllZip-push (a ∷ xs) [] x y all one = absurd all
+  AllZip-push (a ∷ xs) (b ∷ ys) x y all one = (all.0, AllZip-push xs ys x y all.1 one)
+
+  pub length-all_zip : (xs : List A) (ys : List B) → AllZip R xs ys → length ys ≡ length xs
+  length-all_zip [] [] all = refl
+  length-all_zip [] (b ∷ ys) all = absurd all
+  length-all_zip (a ∷ xs) [] all = absurd all
+  length-all_zip (a ∷ xs) (b ∷ ys) all = let rest = length-all_zip xs ys all.1 in omega arith
+
+  -- where R has one answer, there is one list of answers
+  pub one_list : ((x : A) (y z : B) → R x y → R x z → y ≡ z) → (xs : List A) (ys zs : List B)
+      → AllZip R xs ys → AllZip R xs zs → ys ≡ zs
+  one_list one [] [] [] p q = refl
+  one_list one [] [] (z ∷ zs) p q = absurd q
+  one_list one [] (y ∷ ys) zs p q = absurd p
+  one_list one (x ∷ xs) [] zs p q = absurd p
+  one_list one (x ∷ xs) (y ∷ ys) [] p q = absurd q
+  one_list one (x ∷ xs) (y ∷ ys) (z ∷ zs) p q =
+      let first = one x y z p.0 q.0 in
+      let rest = one_list one xs ys zs p.1 q.1 in
+      cc
+
+module _ {A B : Type 0} where
+  pub zip-push : (xs : List A) (ys : List B) (x : A) (y : B)
+      → length ys ≡ length xs → zip (xs ++ x ∷ []) (ys ++ y ∷ []) ≡ zip xs ys ++ (x, y) ∷ []
+  zip-push [] [] x y same = refl
+  zip-push [] (b ∷ ys) x y same = absurd (omega arith)
+  zip-push (a ∷ xs) [] x y same = absurd (omega arith)
+  zip-push (a ∷ xs) (b ∷ ys) x y same = ap (λ more. (a, b) ∷ more) (zip-push xs ys x y (omega arith))
+
+  pub length-zip : (xs : List A) (ys : List B) → length ys ≡ length xs → length (zip xs ys) ≡ length xs
+  length-zip [] ys same = refl
+  length-zip (a ∷ xs) [] same = absurd (omega arith)
+  length-zip (a ∷ xs) (b ∷ ys) same = let rest = length-zip xs ys (omega arith) in omega arith
+
+pub enumerate_from-push : {A : Type 0} (n : ℕ) (xs : List A) (x : A)
+    → enumerate_from n (xs ++ x ∷ []) ≡ enumerate_from n xs ++ (n + length xs, x) ∷ []
+enumerate_from-push n [] x = let same : n ≡ n + 0 = omega arith in ap (λ (m : ℕ). (m, x) ∷ []) same
+enumerate_from-push n (a ∷ xs) x =
+    let same : n + 1 + length xs ≡ n + length (a ∷ xs) = omega arith in
+    let rest = enumerate_from-push (n + 1) xs x
+    ∙ ap (λ (m : ℕ). enumerate_from (n + 1) xs ++ (m, x) ∷ []) same in
+    ap (λ more. (n, a) ∷ more) rest
