@@ -28,7 +28,8 @@ module _ {A : Type 0} (Says : A → List ℕ → Type 0) (before after : Option 
         IfErr r (λ fault. (fault ≡ Output) × AppendsBeginning before after text)
         → IfErr r (IsRefused Says before after Refuses)) [
           | Ok given ↦ λ none. tt
-          | Err fault ↦ λ (output, front). rw output (record { answer = answer; text = text; says = says; front = front })
+          | Err fault ↦ λ (output, front).
+              rw output (record { answer = answer; text = text; says = says; front = front })
         ] err
 
   -- a refusal is the call's own, or memory ran out, and nothing was written; or the output failed in the middle

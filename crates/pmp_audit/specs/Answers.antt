@@ -5,7 +5,7 @@ use Rattle.pmp_text.specs.Bytes.{AppendsBeginning}
 use Rattle.pmp_audit.specs.declared.fault.AuditFault.{AuditFault}
 use Rattle.pmp_audit.specs.declared.fault.AuditFault.TheVariants.{Memory, Output}
 
--- Says tells which text goes with which answer
+-- Says answer text: this text goes with this answer
 module _ {A : Type 0} (Says : A → List ℕ → Type 0) (before after : Option (List ℕ)) where
   -- a text that goes with the answer was written
   pub record IsWritten (answer : A) : Type 0 where
@@ -20,7 +20,7 @@ module _ {A : Type 0} (Says : A → List ℕ → Type 0) (before after : Option 
     pub says : Says answer text
     pub front : AppendsBeginning before after text
 
-  -- memory ran out, or the output failed; or the call refuses so by itself. Only a failed output gets a byte
+  -- memory ran out, the output failed, or the call refuses by itself; a byte was written only where the output failed
   abbrev pub IsRefused : (Refuses : AuditFault → Type 0) → AuditFault → Type 0
   IsRefused Refuses Memory = Keeps before after
   IsRefused Refuses Output = IsCutShort

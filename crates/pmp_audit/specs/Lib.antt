@@ -1,11 +1,11 @@
--- what a reader has to believe
+-- What a reader has to believe: what each call answers.
 pub mod Answers
 pub mod AccessCheck
 pub mod TraceAudit
 pub mod AskedFile
 pub mod RegisterDump
 pub mod Map
--- what stands behind the calls
+-- The rest, which only private contracts cite.
 pub mod Fault
 pub mod Replay
 pub mod Report

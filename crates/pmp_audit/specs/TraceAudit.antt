@@ -40,7 +40,7 @@ summary_of decisions = record {
   faults = count_by (λ decision. not decision.allowed) decisions;
 }
 
--- the script has these publications, the trace has these rows beside them, and their decisions are reported and counted
+-- the script has these publications, the trace these rows, and the rows' decisions are reported and counted
 pub record AuditSays (script trace : List ℕ) (summary : Summary) (text : List ℕ) : Type 0 where
   pub batches : List (List Event)
   pub rows : List Row
@@ -51,7 +51,7 @@ pub record AuditSays (script trace : List ℕ) (summary : Summary) (text : List 
   pub report : text ≡ report_text rows decisions
   pub counted : summary ≡ summary_of decisions
 
--- the script has no fault, and the trace has this one beside it, or its input failed
+-- the script has no fault, and the trace has this one, or its input failed
 pub record IsFaultyTrace (script trace : List ℕ) (fault : TraceFault) : Type 0 where
   pub batches : List (List Event)
   pub script_means : script_meaning script ≡ Ok batches
