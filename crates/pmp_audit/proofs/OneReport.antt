@@ -8,7 +8,7 @@ use Rattle.pmp_core.specs.declared.decision.Decision.{Decision}
 use Rattle.pmp_core.specs.Deciding.{IsDecision}
 use Rattle.pmp_core.specs.Registers.{RegisterFile}
 use Rattle.pmp_text.specs.declared.trace.Row.{Row}
-use Rattle.pmp_text.specs.Views.{row_fields}
+use Rattle.pmp_text.specs.Traces.{row_fields}
 use Rattle.pmp_audit.specs.TraceAudit.{OneListOfDecisionsLaw, OneReportLaw, file_of_row, report_text, summary_of}
 use Rattle.pmp_audit.proofs.Lists.{one_list}
 

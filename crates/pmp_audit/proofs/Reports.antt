@@ -13,7 +13,7 @@ use Rattle.pmp_text.specs.Reports.{report_row}
 use Rattle.pmp_text.specs.Scripts.{script_meaning}
 use Rattle.pmp_text.specs.TraceFaults.{IsInOrder, afters}
 use Rattle.pmp_text.specs.Traces.{trace_meaning}
-use Rattle.pmp_text.specs.Views.{row_fields}
+use Rattle.pmp_text.specs.Traces.{row_fields}
 use Rattle.pmp_audit.specs.declared.trace_audit.Summary.{Summary}
 use Rattle.pmp_audit.specs.Report.{IsReported}
 use Rattle.pmp_audit.specs.TraceAudit.{AuditSays, file_of_row, report_text, summary_of}

@@ -12,7 +12,7 @@ use Rattle.pmp_text.specs.Outcomes.{no_input_for_rows}
 use Rattle.pmp_text.specs.Reports.{report_row}
 use Rattle.pmp_text.specs.Scripts.{script_meaning}
 use Rattle.pmp_text.specs.Traces.{trace_meaning}
-use Rattle.pmp_text.specs.Views.{row_fields}
+use Rattle.pmp_text.specs.Traces.{row_fields}
 use Rattle.pmp_audit.specs.declared.fault.AuditFault.{AuditFault}
 use Rattle.pmp_audit.specs.declared.fault.AuditFault.TheVariants.{Script, Trace}
 use Rattle.pmp_audit.specs.declared.trace_audit.Summary.{Summary}

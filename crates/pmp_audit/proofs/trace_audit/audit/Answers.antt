@@ -1,6 +1,6 @@
 use Rattle.std.proofs.Common.{◌≡◌, length, map, Ok}
 use Rattle.pmp_text.specs.Traces.{trace_meaning}
-use Rattle.pmp_text.specs.Views.{row_fields}
+use Rattle.pmp_text.specs.Traces.{row_fields}
 use Rattle.pmp_audit.specs.TraceAudit.{AuditSays, AuditRefuses}
 use Rattle.pmp_audit.proofs.Reports.{audit_says}
 use Rattle.pmp_audit.proofs.WrittenAnswers.{cut_short}

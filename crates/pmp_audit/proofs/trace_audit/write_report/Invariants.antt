@@ -1,6 +1,6 @@
 use Rattle.std.proofs.Common.{◌≡◌, drop, length, map, take}
 use Rattle.pmp_text.specs.TraceFaults.{IsInOrder, afters}
-use Rattle.pmp_text.specs.Views.{row_fields}
+use Rattle.pmp_text.specs.Traces.{row_fields}
 use Rattle.pmp_audit.specs.Report.{IsReported}
 use Rattle.pmp_audit.proofs.trace_audit.write_report.Given as goal
 
