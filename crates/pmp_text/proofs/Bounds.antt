@@ -1,5 +1,6 @@
 -- A script has no more publications and events than lines, and no more lines than bytes.
-use Rattle.std.proofs.Common.{◌≡◌, ℕ, suc, ◌+◌, ◌<◌, ◌≤◌, Bool, true, false, cond, ltb, List, [], ◌∷◌, ◌++◌, length, Option, Some, None, Result, Ok, Err, refl, sym, ap, ◌∙◌, arith, inl, inr}
+use Rattle.std.proofs.Common.{◌≡◌, ℕ, suc, ◌+◌, ◌<◌, ◌≤◌, Bool, true, false, cond, ltb, List, [], ◌∷◌, ◌++◌, length}
+use Rattle.std.proofs.Common.{Option, Some, None, Result, Ok, Err, refl, sym, ap, ◌∙◌, arith, inl, inr}
 use Rattle.std.specs.Prelude.{unwrap_or}
 use Rattle.std.specs.List.{slice_split, onto_first}
 use Rattle.std.specs.Str.Lines.{strip_carriage_return}
@@ -16,11 +17,12 @@ use Rattle.pmp_text.specs.declared.script.statement.Statement.{Statement}
 use Rattle.pmp_text.specs.declared.script.statement.Statement.TheVariants as statement
 use Rattle.pmp_text.specs.Lines.{is_line_feed, has_bytes, without_empty_end, lines}
 use Rattle.pmp_text.specs.Statements.{statement_of}
-use Rattle.pmp_text.specs.Scripts.{Line, at_line, numbered_from, counts, significant_from, significant_lines, is_version, script_meaning}
+use Rattle.pmp_text.specs.Scripts.{Line, at_line, numbered_from, counts, significant_from, significant_lines}
+use Rattle.pmp_text.specs.Scripts.{is_version, script_meaning}
 use Rattle.pmp_text.specs.Steps.Progress.{Progress, nothing_read, published, after_statement, all_published, resumed}
 use Rattle.pmp_text.specs.Sizes.{script_size}
 use Rattle.pmp_text.specs.Limits.{script_limit}
-use Rattle.pmp_text.proofs.Meanings.{too_long, no_version, other_version, this_version}
+use Rattle.pmp_text.proofs.Meanings.{long_script, no_version, other_version, this_version}
 
 abbrev ok : List (List Event) → Result (List (List Event)) ScriptFault
 ok batches = Ok batches
@@ -36,33 +38,48 @@ read_published so_far =
     omega arith
 
 abbrev longer : Progress → ℕ → Event → Progress
-longer so_far number event = record { published = so_far.published; batch = so_far.batch ++ event ∷ []; since = Some (unwrap_or so_far.since number) }
+longer so_far number event = record {
+  published = so_far.published;
+  batch = so_far.batch ++ event ∷ [];
+  since = Some (unwrap_or so_far.since number);
+}
 
 read_event : (so_far : Progress) (number : ℕ) (event : Event) → read (longer so_far number event) ≡ suc (read so_far)
 read_event so_far number event = let events = length-append so_far.batch (event ∷ []) in omega arith
 
 abbrev IsBounded : List Line → Type 0
-IsBounded lines = (so_far : Progress) (batches : List (List Event)) → resumed so_far lines ≡ Ok batches → script_size batches ≤ read so_far + length lines
+IsBounded lines = (so_far : Progress) (batches : List (List Event)) → resumed so_far lines ≡ Ok batches
+    → script_size batches ≤ read so_far + length lines
 
 abbrev on : List Line → Result Progress ScriptFault → Result (List (List Event)) ScriptFault
 on more step = elim step [ Ok next ↦ resumed next more | Err fault ↦ Err fault ]
 
-ended : (so_far : Progress) (since : Option ℕ) (batches : List (List Event)) → all_published since so_far.published ≡ Ok batches → script_size batches ≤ read so_far
+ended : (so_far : Progress) (since : Option ℕ) (batches : List (List Event))
+    → all_published since so_far.published ≡ Ok batches → script_size batches ≤ read so_far
 ended so_far None batches e = let same : so_far.published ≡ batches = cc in let n = ap script_size same in omega arith
 ended so_far (Some number) batches e = absurd cc
 
-with_room : (room : Bool) (so_far : Progress) (number : ℕ) (event : Event) (more : List Line) (batches : List (List Event)) → IsBounded more → on more (cond room (Ok (longer so_far number event)) (Err (at_line number BatchFull))) ≡ Ok batches → script_size batches ≤ suc (read so_far) + length more
-with_room true so_far number event more batches bounded e = let n = bounded (longer so_far number event) batches e in let m = read_event so_far number event in omega arith
+with_room : (room : Bool) (so_far : Progress) (number : ℕ) (event : Event) (more : List Line)
+    (batches : List (List Event)) → IsBounded more
+    → on more (cond room (Ok (longer so_far number event)) (Err (at_line number BatchFull))) ≡ Ok batches
+    → script_size batches ≤ suc (read so_far) + length more
+with_room true so_far number event more batches bounded e = let n = bounded (longer so_far number event) batches e in
+    let m = read_event so_far number event in omega arith
 with_room false so_far number event more batches bounded e = absurd cc
 
-one_line : (says : Result Statement ScriptKind) (so_far : Progress) (number : ℕ) (more : List Line) (batches : List (List Event)) → IsBounded more → on more (after_statement so_far number says) ≡ Ok batches → script_size batches ≤ suc (read so_far) + length more
+one_line : (says : Result Statement ScriptKind) (so_far : Progress) (number : ℕ) (more : List Line)
+    (batches : List (List Event)) → IsBounded more → on more (after_statement so_far number says) ≡ Ok batches
+    → script_size batches ≤ suc (read so_far) + length more
 one_line (Err kind) so_far number more batches bounded e = absurd cc
-one_line (Ok statement.Publish) so_far number more batches bounded e = let n = bounded (published so_far) batches e in let m = read_published so_far in omega arith
-one_line (Ok (statement.Event event)) so_far number more batches bounded e = with_room (ltb (length so_far.batch) BATCH_EVENTS) so_far number event more batches bounded e
+one_line (Ok statement.Publish) so_far number more batches bounded e = let n = bounded (published so_far) batches e in
+    let m = read_published so_far in omega arith
+one_line (Ok (statement.Event event)) so_far number more batches bounded e =
+    with_room (ltb (length so_far.batch) BATCH_EVENTS) so_far number event more batches bounded e
 
 bounded_by_lines : (lines : List Line) → IsBounded lines
 bounded_by_lines [] = λ so_far batches e. let n = ended so_far so_far.since batches e in omega arith
-bounded_by_lines (line ∷ more) = λ so_far batches e. let n = one_line (statement_of line.words) so_far line.number more batches (bounded_by_lines more) e in omega arith
+bounded_by_lines (line ∷ more) = λ so_far batches e. let n =
+    one_line (statement_of line.words) so_far line.number more batches (bounded_by_lines more) e in omega arith
 
 -- ---- lines and bytes
 
@@ -70,22 +87,27 @@ at_most_one : (b : Bool) (piece : List ℕ) → length (cond b (piece ∷ []) []
 at_most_one true piece = omega arith
 at_most_one false piece = omega arith
 
-cut_here : (pieces : List (List ℕ)) (n : ℕ) → 0 < length pieces → length (without_empty_end pieces) ≤ n → length (without_empty_end ([] ∷ pieces)) ≤ suc n
+cut_here : (pieces : List (List ℕ)) (n : ℕ) → 0 < length pieces → length (without_empty_end pieces) ≤ n
+    → length (without_empty_end ([] ∷ pieces)) ≤ suc n
 cut_here [] n some e = absurd (omega arith)
 cut_here (next ∷ more) n some e = omega arith
 
-not_here : (x : ℕ) (pieces : List (List ℕ)) (n : ℕ) → length (without_empty_end pieces) ≤ n → length (without_empty_end (onto_first x pieces)) ≤ suc n
+not_here : (x : ℕ) (pieces : List (List ℕ)) (n : ℕ) → length (without_empty_end pieces) ≤ n
+    → length (without_empty_end (onto_first x pieces)) ≤ suc n
 not_here x [] n e = let one = at_most_one (has_bytes (x ∷ [])) (x ∷ []) in omega arith
 not_here x (piece ∷ []) n e = let one = at_most_one (has_bytes (x ∷ piece)) (x ∷ piece) in omega arith
 not_here x (piece ∷ next ∷ more) n e = omega arith
 
-one_byte : (b : Bool) (x : ℕ) (pieces : List (List ℕ)) (n : ℕ) → 0 < length pieces → length (without_empty_end pieces) ≤ n → length (without_empty_end (cond b ([] ∷ pieces) (onto_first x pieces))) ≤ suc n
+one_byte : (b : Bool) (x : ℕ) (pieces : List (List ℕ)) (n : ℕ) → 0 < length pieces
+    → length (without_empty_end pieces) ≤ n
+    → length (without_empty_end (cond b ([] ∷ pieces) (onto_first x pieces))) ≤ suc n
 one_byte true x pieces n some e = cut_here pieces n some e
 one_byte false x pieces n some e = not_here x pieces n e
 
 pieces_and_bytes : (text : List ℕ) → length (without_empty_end (slice_split is_line_feed text)) ≤ length text
 pieces_and_bytes [] = omega arith
-pieces_and_bytes (x ∷ text) = one_byte (is_line_feed x) x (slice_split is_line_feed text) (length text) (omega (arith, length-slice_split is_line_feed text)) (pieces_and_bytes text)
+pieces_and_bytes (x ∷ text) = one_byte (is_line_feed x) x (slice_split is_line_feed text) (length text)
+    (omega (arith, length-slice_split is_line_feed text)) (pieces_and_bytes text)
 
 length-numbered : (number : ℕ) (ls : List (List ℕ)) → length (numbered_from number ls) ≡ length ls
 length-numbered number [] = refl
@@ -103,21 +125,27 @@ lines_and_bytes text =
 
 -- ---- the law
 
-by_version : (is : Bool) (text : List ℕ) (short : length text ≤ script_limit) (version : Line) (more : List Line) (batches : List (List Event)) → significant_lines text ≡ version ∷ more → is_version version.words ≡ is → script_meaning text ≡ Ok batches → script_size batches ≤ length text
-by_version false text short version more batches lines is e = let refused = sym e ∙ other_version text short version more lines is in absurd cc
+by_version : (is : Bool) (text : List ℕ) (short : length text ≤ script_limit) (version : Line) (more : List Line)
+    (batches : List (List Event)) → significant_lines text ≡ version ∷ more → is_version version.words ≡ is
+    → script_meaning text ≡ Ok batches → script_size batches ≤ length text
+by_version false text short version more batches lines is e = let refused = sym e
+    ∙ other_version text short version more lines is in absurd cc
 by_version true text short version more batches lines is e =
     let n = bounded_by_lines more nothing_read batches (sym (this_version text short version more lines is) ∙ e) in
     let m = lines_and_bytes text in
     let k = ap length lines in
     omega arith
 
-by_lines_read : (ls : List Line) (text : List ℕ) (short : length text ≤ script_limit) (batches : List (List Event)) → significant_lines text ≡ ls → script_meaning text ≡ Ok batches → script_size batches ≤ length text
+by_lines_read : (ls : List Line) (text : List ℕ) (short : length text ≤ script_limit) (batches : List (List Event))
+    → significant_lines text ≡ ls → script_meaning text ≡ Ok batches → script_size batches ≤ length text
 by_lines_read [] text short batches lines e = let refused = sym e ∙ no_version text short lines in absurd cc
-by_lines_read (version ∷ more) text short batches lines e = by_version (is_version version.words) text short version more batches lines refl e
+by_lines_read (version ∷ more) text short batches lines e =
+    by_version (is_version version.words) text short version more batches lines refl e
 
-pub size_at_most : (text : List ℕ) (batches : List (List Event)) → script_meaning text ≡ Ok batches → (script_size batches ≤ length text) × (length text ≤ script_limit)
+pub size_at_most : (text : List ℕ) (batches : List (List Event)) → script_meaning text ≡ Ok batches
+    → (script_size batches ≤ length text) × (length text ≤ script_limit)
 size_at_most text batches e =
     elim (cases_lt script_limit (length text)) [
-      | inl long ↦ let refused = sym e ∙ too_long text long in absurd cc
+      | inl long ↦ let refused = sym e ∙ long_script text long in absurd cc
       | inr short ↦ (by_lines_read (significant_lines text) text short batches refl e, short)
     ]

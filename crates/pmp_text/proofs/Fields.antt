@@ -3,11 +3,15 @@ use Rattle.std.proofs.Common.{◌≡◌, ℕ, List, [], ◌∷◌, Option, Some,
 use Rattle.csv.specs.Records.{field_at}
 use Rattle.pmp_text.specs.Traces.{FiveFields, five_fields}
 
-abbrev five_at : Option (List ℕ) → Option (List ℕ) → Option (List ℕ) → Option (List ℕ) → Option (List ℕ) → Option (List ℕ) → Option FiveFields
-five_at (Some after) (Some mode) (Some kind) (Some start) (Some length) None = Some (record { after = after; mode = mode; kind = kind; start = start; length = length })
+abbrev five_at : Option (List ℕ) → Option (List ℕ) → Option (List ℕ) → Option (List ℕ) → Option (List ℕ)
+    → Option (List ℕ) → Option FiveFields
+five_at (Some after) (Some mode) (Some kind) (Some start) (Some length) None =
+    Some (record { after = after; mode = mode; kind = kind; start = start; length = length })
 five_at _ _ _ _ _ _ = None
 
-pub by_places : (fields : List (List ℕ)) → five_fields fields ≡ five_at (field_at fields 0) (field_at fields 1) (field_at fields 2) (field_at fields 3) (field_at fields 4) (field_at fields 5)
+pub by_places : (fields : List (List ℕ)) → five_fields fields
+    ≡ five_at (field_at fields 0) (field_at fields 1) (field_at fields 2) (field_at fields 3) (field_at fields 4)
+    (field_at fields 5)
 unfolding five_fields field_at
 by_places [] = refl
 by_places (a ∷ []) = refl

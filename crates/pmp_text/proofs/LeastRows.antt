@@ -1,5 +1,6 @@
 -- The first fault of a trace's rows is that of the least faulty row, and rows without a fault are in order.
-use Rattle.std.proofs.Common.{◌≡◌, ℕ, zero, suc, ◌+◌, ◌≤◌, Bool, true, false, cond, List, [], ◌∷◌, length, map, Global, Vec, Option, Some, None, IfOk, Result, Ok, Err, refl, ap, ◌∙◌, arith}
+use Rattle.std.proofs.Common.{◌≡◌, ℕ, zero, suc, ◌+◌, ◌≤◌, Bool, true, false, cond, List, [], ◌∷◌, length, map, Global}
+use Rattle.std.proofs.Common.{Vec, Option, Some, None, IfOk, Result, Ok, Err, refl, ap, ◌∙◌, arith}
 use Rattle.std.specs.Prelude.{filter_map, nat_lt, option_map, option_and_then, slice_get, unwrap_or}
 use Rattle.std.specs.Option.{option_or}
 use Rattle.std.proofs.lemmas.Bool.{ltb-false}
@@ -10,7 +11,9 @@ use Rattle.pmp_text.specs.declared.trace.TraceKind.TheVariants.{BadAfter, BadHea
 use Rattle.pmp_text.specs.declared.trace.TraceFault.{TraceFault}
 use Rattle.pmp_text.specs.declared.trace.Row.{Row}
 use Rattle.pmp_text.specs.Faults.{IsLeastFault}
-use Rattle.pmp_text.specs.Traces.{row_fields, access_kind, after_of, at_row, falls_behind, fields_fault, first_row_fault, is_header, records_meaning, row_fault, row_of_record, fault_or_rows, rows_meaning, trace_meaning, trace_records}
+use Rattle.pmp_text.specs.Traces.{row_fields, access_kind, after_of, at_row, falls_behind, fields_fault}
+use Rattle.pmp_text.specs.Traces.{first_row_fault, is_header, records_meaning, row_fault, row_of_record, fault_or_rows}
+use Rattle.pmp_text.specs.Traces.{rows_meaning, trace_meaning, trace_records}
 use Rattle.pmp_text.specs.Outcomes.{GivesRows}
 use Rattle.pmp_text.specs.TraceFaults.{after_before, row_fault_at, IsInOrder, afters}
 use Rattle.pmp_text.specs.Limits.{trace_limit}
@@ -23,38 +26,61 @@ Records = List (List (List ℕ))
 module _ (publications : ℕ) where
   -- the fault of a row behind one that asks for `last`, the first with this number
   abbrev fault_behind : (last : Option ℕ) (number : ℕ) → Records → ℕ → Option TraceFault
-  fault_behind last number rows index = option_and_then {T = List (List ℕ)} {U = TraceFault} (λ row. option_map (at_row (number + index)) (row_fault publications (after_before last rows index) (row_of_record row))) (slice_get rows index)
+  fault_behind last number rows index = option_and_then {T = List (List ℕ)} {U = TraceFault}
+      (λ row. option_map (at_row (number + index)) (row_fault publications (after_before last rows index)
+      (row_of_record row))) (slice_get rows index)
 
-  one_behind : (last : Option ℕ) (number : ℕ) (row : List (List ℕ)) (more : Records) (index : ℕ) → fault_behind last number (row ∷ more) (suc index) ≡ fault_behind (after_of (row_of_record row)) (number + 1) more index
+  one_behind : (last : Option ℕ) (number : ℕ) (row : List (List ℕ)) (more : Records) (index : ℕ)
+      → fault_behind last number (row ∷ more) (suc index)
+      ≡ fault_behind (after_of (row_of_record row)) (number + 1) more index
   one_behind last number row more zero =
       let same : number + 1 ≡ number + 1 + 0 = omega arith in
-      ap (λ (n : ℕ). option_and_then {T = List (List ℕ)} {U = TraceFault} (λ next. option_map (at_row n) (row_fault publications (after_of (row_of_record row)) (row_of_record next))) (slice_get more 0)) same
+      ap (λ (n : ℕ). option_and_then {T = List (List ℕ)} {U = TraceFault}
+      (λ next. option_map (at_row n) (row_fault publications (after_of (row_of_record row)) (row_of_record next)))
+      (slice_get more 0)) same
   one_behind last number row more (suc index) =
       let same : number + suc (suc index) ≡ number + 1 + suc index = omega arith in
-      ap (λ (n : ℕ). option_and_then {T = List (List ℕ)} {U = TraceFault} (λ next. option_map (at_row n) (row_fault publications (after_before last (row ∷ more) (suc (suc index))) (row_of_record next))) (slice_get more (suc index))) same
+      ap (λ (n : ℕ). option_and_then {T = List (List ℕ)} {U = TraceFault}
+      (λ next. option_map (at_row n) (row_fault publications (after_before last (row ∷ more) (suc (suc index)))
+      (row_of_record next))) (slice_get more (suc index))) same
 
-  here : (last : Option ℕ) (number : ℕ) (row : List (List ℕ)) (more : Records) → fault_behind last number (row ∷ more) 0 ≡ option_map (at_row number) (row_fault publications last (row_of_record row))
-  here last number row more = let same : number + 0 ≡ number = omega arith in ap (λ (n : ℕ). option_map (at_row n) (row_fault publications last (row_of_record row))) same
+  here : (last : Option ℕ) (number : ℕ) (row : List (List ℕ)) (more : Records)
+      → fault_behind last number (row ∷ more) 0 ≡ option_map (at_row number)
+      (row_fault publications last (row_of_record row))
+  here last number row more = let same : number + 0 ≡ number = omega arith in
+      ap (λ (n : ℕ). option_map (at_row n) (row_fault publications last (row_of_record row))) same
 
-  judged_behind : (rows : Records) (last : Option ℕ) (number : ℕ) → Judges (fault_behind last number rows) (first_row_fault publications last number rows)
+  judged_behind : (rows : Records) (last : Option ℕ) (number : ℕ)
+      → Judges (fault_behind last number rows) (first_row_fault publications last number rows)
   judged_behind [] = λ last number index. refl
   judged_behind (row ∷ more) = λ last number.
-      judged_here (fault_behind last number (row ∷ more)) (fault_behind (after_of (row_of_record row)) (number + 1) more) (one_behind last number row more)
-      (option_map (at_row number) (row_fault publications last (row_of_record row))) (first_row_fault publications (after_of (row_of_record row)) (number + 1) more) (here last number row more) (judged_behind more (after_of (row_of_record row)) (number + 1))
+      judged_here (fault_behind last number (row ∷ more))
+      (fault_behind (after_of (row_of_record row)) (number + 1) more) (one_behind last number row more)
+      (option_map (at_row number) (row_fault publications last (row_of_record row)))
+      (first_row_fault publications (after_of (row_of_record row)) (number + 1) more) (here last number row more)
+      (judged_behind more (after_of (row_of_record row)) (number + 1))
 
-  counted_from_one : (rows : Records) (index : ℕ) → row_fault_at publications rows index ≡ fault_behind None 1 rows index
+  counted_from_one : (rows : Records) (index : ℕ)
+      → row_fault_at publications rows index ≡ fault_behind None 1 rows index
   counted_from_one rows index =
       let same : index + 1 ≡ 1 + index = omega arith in
-      ap (λ (n : ℕ). option_and_then {T = List (List ℕ)} {U = TraceFault} (λ row. option_map (at_row n) (row_fault publications (after_before None rows index) (row_of_record row))) (slice_get rows index)) same
+      ap (λ (n : ℕ). option_and_then {T = List (List ℕ)} {U = TraceFault}
+      (λ row. option_map (at_row n) (row_fault publications (after_before None rows index) (row_of_record row)))
+      (slice_get rows index)) same
 
-  pub first_row_is_least : (rows : Records) → Judges (row_fault_at publications rows) (first_row_fault publications None 1 rows)
-  first_row_is_least rows = judged_as (fault_behind None 1 rows) (row_fault_at publications rows) (first_row_fault publications None 1 rows) (counted_from_one rows) (judged_behind rows None 1)
+  pub first_row_is_least : (rows : Records)
+      → Judges (row_fault_at publications rows) (first_row_fault publications None 1 rows)
+  first_row_is_least rows = judged_as (fault_behind None 1 rows) (row_fault_at publications rows)
+      (first_row_fault publications None 1 rows) (counted_from_one rows) (judged_behind rows None 1)
 
   pub least_row_is_answered : (text : List ℕ) (header : List (List ℕ)) (rows : Records) (fault : TraceFault)
-      → length text ≤ trace_limit → trace_records text ≡ header ∷ rows → is_header header ≡ true → IsLeastFault (row_fault_at publications rows) fault → trace_meaning publications text ≡ Err fault
+      → length text ≤ trace_limit → trace_records text ≡ header ∷ rows → is_header header ≡ true
+      → IsLeastFault (row_fault_at publications rows) fault → trace_meaning publications text ≡ Err fault
   least_row_is_answered text header rows fault short records named least =
       this_header publications text short header rows records named
-      ∙ ap (λ (first : Option TraceFault). fault_or_rows first (filter_map row_of_record rows)) (the_first (row_fault_at publications rows) (first_row_fault publications None 1 rows) fault (first_row_is_least rows) least)
+      ∙ ap (λ (first : Option TraceFault). fault_or_rows first (filter_map row_of_record rows))
+      (the_first (row_fault_at publications rows) (first_row_fault publications None 1 rows) fault
+      (first_row_is_least rows) least)
 
   -- ---- order
 
@@ -74,52 +100,72 @@ module _ (publications : ℕ) where
   no_kind number (Some kind) e = absurd cc
 
   module _ (last : Option ℕ) (row : RowFields) where
-    in_time : (beyond behind : Bool) → nat_lt publications row.after ≡ beyond → falls_behind last row.after ≡ behind → cond beyond (Some BadAfter) (cond behind (Some Order) (access_kind (access_fault row.start row.length))) ≡ None → (least_of last ≤ row.after) × (row.after ≤ publications)
+    in_time : (beyond behind : Bool) → nat_lt publications row.after ≡ beyond → falls_behind last row.after ≡ behind
+        → cond beyond (Some BadAfter) (cond behind (Some Order) (access_kind (access_fault row.start row.length)))
+        ≡ None → (least_of last ≤ row.after) × (row.after ≤ publications)
     in_time true behind e f fine = absurd cc
     in_time false true e f fine = absurd cc
     in_time false false e f fine = (not_behind last row.after f, ltb-false publications row.after e)
 
-  rows_in_order : (rows : Records) (last : Option ℕ) (number : ℕ) → first_row_fault publications last number rows ≡ None → IsInOrder publications (least_of last) (afters (filter_map row_of_record rows))
+  rows_in_order : (rows : Records) (last : Option ℕ) (number : ℕ) → first_row_fault publications last number rows ≡ None
+      → IsInOrder publications (least_of last) (afters (filter_map row_of_record rows))
   rows_in_order [] = λ last number e. tt
   rows_in_order (row ∷ more) = λ last number e. by (row_of_record row) refl last number e (rows_in_order more)
     where
-      by : (said : Option RowFields) → row_of_record row ≡ said → (last : Option ℕ) (number : ℕ) → first_row_fault publications last number (row ∷ more) ≡ None
-          → ((last : Option ℕ) (number : ℕ) → first_row_fault publications last number more ≡ None → IsInOrder publications (least_of last) (afters (filter_map row_of_record more)))
+      by : (said : Option RowFields) → row_of_record row ≡ said → (last : Option ℕ) (number : ℕ)
+          → first_row_fault publications last number (row ∷ more) ≡ None
+          → ((last : Option ℕ) (number : ℕ) → first_row_fault publications last number more ≡ None
+          → IsInOrder publications (least_of last) (afters (filter_map row_of_record more)))
           → IsInOrder publications (least_of last) (afters (filter_map row_of_record (row ∷ more)))
       by None says last number e later =
-          let own : Some BadRow ≡ None = no_kind number (Some BadRow) (no_fault (Some (at_row number BadRow)) (first_row_fault publications None (number + 1) more) (rw says at e)).0 in
+          let own : Some BadRow ≡ None = no_kind number (Some BadRow)
+          (no_fault (Some (at_row number BadRow)) (first_row_fault publications None (number + 1) more)
+          (rw says at e)).0 in
           absurd cc
       by (Some fields) says last number e later =
-          let (own, rest) = no_fault (option_map (at_row number) (fields_fault publications last fields)) (first_row_fault publications (Some fields.after) (number + 1) more) (rw says at e) in
-          let time = in_time last fields (nat_lt publications fields.after) (falls_behind last fields.after) refl refl (no_kind number (fields_fault publications last fields) own) in
+          let (own, rest) = no_fault (option_map (at_row number) (fields_fault publications last fields))
+          (first_row_fault publications (Some fields.after) (number + 1) more) (rw says at e) in
+          let time = in_time last fields (nat_lt publications fields.after) (falls_behind last fields.after) refl refl
+          (no_kind number (fields_fault publications last fields) own) in
           rw says (time.0, time.1, later (Some fields.after) (number + 1) rest)
 
-  judged_ok : (first : Option TraceFault) (said rows : List RowFields) → fault_or_rows first said ≡ Ok rows → (first ≡ None) × (said ≡ rows)
+  judged_ok : (first : Option TraceFault) (said rows : List RowFields) → fault_or_rows first said ≡ Ok rows
+      → (first ≡ None) × (said ≡ rows)
   judged_ok None said rows e = let same : said ≡ rows = cc in (refl, same)
   judged_ok (Some fault) said rows e = absurd cc
 
   module _ (rows : List RowFields) where
-    from_rows : (records : Records) → rows_meaning publications records ≡ Ok rows → IsInOrder publications 0 (afters rows)
+    from_rows : (records : Records) → rows_meaning publications records ≡ Ok rows
+        → IsInOrder publications 0 (afters rows)
     from_rows records e =
-        let (first, same) = judged_ok (first_row_fault publications None 1 records) (filter_map row_of_record records) rows e in
+        let (first, same) = judged_ok (first_row_fault publications None 1 records) (filter_map row_of_record records)
+        rows e in
         rw (← same) (rows_in_order records None 1 first)
 
-    from_header : (named : Bool) (records : Records) → cond named (rows_meaning publications records) (Err (at_row 0 BadHeader)) ≡ Ok rows → IsInOrder publications 0 (afters rows)
+    from_header : (named : Bool) (records : Records)
+        → cond named (rows_meaning publications records) (Err (at_row 0 BadHeader)) ≡ Ok rows
+        → IsInOrder publications 0 (afters rows)
     from_header true records e = from_rows records e
     from_header false records e = absurd cc
 
-    from_records : (records : Records) → records_meaning publications records ≡ Ok rows → IsInOrder publications 0 (afters rows)
+    from_records : (records : Records) → records_meaning publications records ≡ Ok rows
+        → IsInOrder publications 0 (afters rows)
     from_records [] e = absurd cc
     from_records (header ∷ records) e = from_header (is_header header) records e
 
-    from_text : (long : Bool) (text : List ℕ) → cond long (Err (at_row 0 TooLong)) (records_meaning publications (trace_records text)) ≡ Ok rows → IsInOrder publications 0 (afters rows)
+    from_text : (long : Bool) (text : List ℕ)
+        → cond long (Err (at_row 0 TooLong)) (records_meaning publications (trace_records text)) ≡ Ok rows
+        → IsInOrder publications 0 (afters rows)
     from_text true text e = absurd cc
     from_text false text e = from_records (trace_records text) e
 
-    pub trace_in_order : (text : List ℕ) → trace_meaning publications text ≡ Ok rows → IsInOrder publications 0 (afters rows)
+    pub trace_in_order : (text : List ℕ) → trace_meaning publications text ≡ Ok rows
+        → IsInOrder publications 0 (afters rows)
     unfolding trace_meaning
     trace_in_order text e = from_text (nat_lt trace_limit (length text)) text e
 
-  pub given_in_order : (text : List ℕ) (result : Result (Vec Row Global) TraceFault) → GivesRows (λ rows. map row_fields rows.items) result (trace_meaning publications text) → IfOk result (λ rows. IsInOrder publications 0 (afters (map row_fields rows.items)))
+  pub given_in_order : (text : List ℕ) (result : Result (Vec Row Global) TraceFault)
+      → GivesRows (λ rows. map row_fields rows.items) result (trace_meaning publications text)
+      → IfOk result (λ rows. IsInOrder publications 0 (afters (map row_fields rows.items)))
   given_in_order text (Ok rows) given = trace_in_order (map row_fields rows.items) text given
   given_in_order text (Err fault) given = tt

@@ -1,9 +1,11 @@
 -- The first fault is that of the least faulty line.
-use Rattle.std.proofs.Common.{◌≡◌, ℕ, suc, ◌≤◌, List, [], ◌∷◌, ◌++◌, length, reverse, take, Option, Some, Err, refl, sym, ap, ◌∙◌, append_assoc}
+use Rattle.std.proofs.Common.{◌≡◌, ℕ, suc, ◌≤◌, List, [], ◌∷◌, ◌++◌, length, reverse, take, Option, Some, Err, refl}
+use Rattle.std.proofs.Common.{sym, ap, ◌∙◌, append_assoc}
 use Rattle.std.specs.Prelude.{option_map, option_and_then, slice_get}
 use Rattle.std.proofs.lemmas.List.{append-nil, reverse-append}
 use Rattle.pmp_text.specs.declared.script.ScriptFault.{ScriptFault}
-use Rattle.pmp_text.specs.Scripts.{Line, at_line, line_fault, first_fault, fault_or_batches, first_unpublished, publications, lines_meaning, significant_lines, script_meaning}
+use Rattle.pmp_text.specs.Scripts.{Line, at_line, line_fault, first_fault, fault_or_batches, first_unpublished}
+use Rattle.pmp_text.specs.Scripts.{publications, lines_meaning, significant_lines, script_meaning}
 use Rattle.pmp_text.specs.Faults.{fault_at, IsLeastFault}
 use Rattle.pmp_text.specs.Limits.{script_limit}
 use Rattle.pmp_text.proofs.LeastFaults.{Judges, judged_here, judged_as, the_first}
@@ -14,29 +16,44 @@ own_fault before line = option_map (at_line line.number) (line_fault before line
 
 -- the fault of a line behind lines that stand behind others
 abbrev fault_behind : (before lines : List Line) → ℕ → Option ScriptFault
-fault_behind before lines index = option_and_then {T = Line} {U = ScriptFault} (own_fault (reverse (take index lines) ++ before)) (slice_get lines index)
+fault_behind before lines index = option_and_then {T = Line} {U = ScriptFault}
+    (own_fault (reverse (take index lines) ++ before)) (slice_get lines index)
 
 turned : (line : Line) (lines before : List Line) → reverse (line ∷ lines) ++ before ≡ reverse lines ++ line ∷ before
-turned line lines before = ap (λ (front : List Line). front ++ before) (reverse-append (line ∷ []) lines) ∙ append_assoc (reverse lines) (line ∷ []) before
+turned line lines before = ap (λ (front : List Line). front ++ before) (reverse-append (line ∷ []) lines)
+    ∙ append_assoc (reverse lines) (line ∷ []) before
 
-one_behind : (before : List Line) (line : Line) (more : List Line) (index : ℕ) → fault_behind before (line ∷ more) (suc index) ≡ fault_behind (line ∷ before) more index
-one_behind before line more index = ap (λ (front : List Line). option_and_then {T = Line} {U = ScriptFault} (own_fault front) (slice_get more index)) (turned line (take index more) before)
+one_behind : (before : List Line) (line : Line) (more : List Line) (index : ℕ)
+    → fault_behind before (line ∷ more) (suc index) ≡ fault_behind (line ∷ before) more index
+one_behind before line more index =
+    ap (λ (front : List Line). option_and_then {T = Line} {U = ScriptFault} (own_fault front) (slice_get more index))
+    (turned line (take index more) before)
 
 judged_behind : (lines before : List Line) → Judges (fault_behind before lines) (first_fault before lines)
 judged_behind [] = λ before index. refl
-judged_behind (line ∷ more) = λ before. judged_here (fault_behind before (line ∷ more)) (fault_behind (line ∷ before) more) (one_behind before line more) (own_fault before line) (first_fault (line ∷ before) more) refl (judged_behind more (line ∷ before))
+judged_behind (line ∷ more) = λ before. judged_here (fault_behind before (line ∷ more))
+    (fault_behind (line ∷ before) more) (one_behind before line more) (own_fault before line)
+    (first_fault (line ∷ before) more) refl (judged_behind more (line ∷ before))
 
 -- with no lines before
 nothing_before : (lines : List Line) (index : ℕ) → fault_at lines index ≡ fault_behind [] lines index
-nothing_before lines index = ap (λ (front : List Line). option_and_then {T = Line} {U = ScriptFault} (own_fault front) (slice_get lines index)) (sym (append-nil (reverse (take index lines))))
+nothing_before lines index =
+    ap (λ (front : List Line). option_and_then {T = Line} {U = ScriptFault} (own_fault front) (slice_get lines index))
+    (sym (append-nil (reverse (take index lines))))
 
 pub first_is_least : (lines : List Line) → Judges (fault_at lines) (first_fault [] lines)
-first_is_least lines = judged_as (fault_behind [] lines) (fault_at lines) (first_fault [] lines) (nothing_before lines) (judged_behind lines [])
+first_is_least lines = judged_as (fault_behind [] lines) (fault_at lines) (first_fault [] lines) (nothing_before lines)
+    (judged_behind lines [])
 
-refused : (lines : List Line) (fault : ScriptFault) → first_fault [] lines ≡ Some fault → lines_meaning lines ≡ Err fault
+refused : (lines : List Line) (fault : ScriptFault) → first_fault [] lines ≡ Some fault
+    → lines_meaning lines ≡ Err fault
 refused [] fault e = absurd cc
-refused (version ∷ more) fault e = ap (λ (first : Option ScriptFault). fault_or_batches first (first_unpublished more) (publications more)) e
+refused (version ∷ more) fault e =
+    ap (λ (first : Option ScriptFault). fault_or_batches first (first_unpublished more) (publications more)) e
 
-pub least_is_answered : (text : List ℕ) (fault : ScriptFault) → length text ≤ script_limit → IsLeastFault (fault_at (significant_lines text)) fault → script_meaning text ≡ Err fault
+pub least_is_answered : (text : List ℕ) (fault : ScriptFault) → length text ≤ script_limit
+    → IsLeastFault (fault_at (significant_lines text)) fault → script_meaning text ≡ Err fault
 least_is_answered text fault short least =
-    by_lines text short ∙ refused (significant_lines text) fault (the_first (fault_at (significant_lines text)) (first_fault [] (significant_lines text)) fault (first_is_least (significant_lines text)) least)
+    by_lines text short ∙ refused (significant_lines text) fault
+    (the_first (fault_at (significant_lines text)) (first_fault [] (significant_lines text)) fault
+    (first_is_least (significant_lines text)) least)

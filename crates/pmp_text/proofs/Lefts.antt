@@ -10,12 +10,22 @@ module _ (number : ℕ) (text : List ℕ) where
   none_left e = ap (λ (ls : List (List ℕ)). filter (λ line. counts line.words) (numbered_from number ls)) e
 
   module _ (line rest : List ℕ) (first : lines text ≡ line ∷ lines rest) where
-    one_left : significant_from number text ≡ cond (counts (words line)) (record { number = number; words = words line } ∷ significant_from (number + 1) rest) (significant_from (number + 1) rest)
+    one_left : significant_from number text ≡ cond (counts (words line))
+        (record { number = number; words = words line } ∷ significant_from (number + 1) rest)
+        (significant_from (number + 1) rest)
     unfolding significant_from
     one_left = ap (λ (ls : List (List ℕ)). filter (λ line. counts line.words) (numbered_from number ls)) first
 
-    pub counting_left : counts (words line) ≡ true → significant_from number text ≡ record { number = number; words = words line } ∷ significant_from (number + 1) rest
-    counting_left e = one_left ∙ ap (λ (b : Bool). cond b (record { number = number; words = words line } ∷ significant_from (number + 1) rest) (significant_from (number + 1) rest)) e
+    pub counting_left : counts (words line) ≡ true
+        → significant_from number text ≡ record {
+          number = number;
+          words = words line;
+        } ∷ significant_from (number + 1) rest
+    counting_left e = one_left
+        ∙ ap (λ (b : Bool). cond b (record { number = number; words = words line } ∷ significant_from (number + 1) rest)
+        (significant_from (number + 1) rest)) e
 
     pub skipping_left : counts (words line) ≡ false → significant_from number text ≡ significant_from (number + 1) rest
-    skipping_left e = one_left ∙ ap (λ (b : Bool). cond b (record { number = number; words = words line } ∷ significant_from (number + 1) rest) (significant_from (number + 1) rest)) e
+    skipping_left e = one_left
+        ∙ ap (λ (b : Bool). cond b (record { number = number; words = words line } ∷ significant_from (number + 1) rest)
+        (significant_from (number + 1) rest)) e

@@ -1,5 +1,6 @@
 -- Reading line by line gives what the whole script means.
-use Rattle.std.proofs.Common.{◌≡◌, ℕ, ◌+◌, ◌<◌, ◌≤◌, Bool, true, false, cond, ltb, List, [], ◌∷◌, ◌++◌, length, map, Option, Some, None, Result, Ok, Err, refl, sym, ap, ◌∙◌, append_assoc, arith}
+use Rattle.std.proofs.Common.{◌≡◌, ℕ, ◌+◌, ◌<◌, ◌≤◌, Bool, true, false, cond, ltb, List, [], ◌∷◌, ◌++◌, length, map}
+use Rattle.std.proofs.Common.{Option, Some, None, Result, Ok, Err, refl, sym, ap, ◌∙◌, append_assoc, arith}
 use Rattle.std.specs.Prelude.{filter_map, find, option_map, unwrap_or, is_some, codes, bytes_eq}
 use Rattle.std.specs.Option.{option_or}
 use Rattle.std.specs.List.{slice_split, onto_first}
@@ -15,7 +16,9 @@ use Rattle.pmp_text.specs.declared.script.ScriptFault.{ScriptFault}
 use Rattle.pmp_text.specs.declared.script.statement.Statement.{Statement}
 use Rattle.pmp_text.specs.declared.script.statement.Statement.TheVariants as statement
 use Rattle.pmp_text.specs.Statements.{statement_of}
-use Rattle.pmp_text.specs.Scripts.{Line, at_line, counted, open_events, statement_fault, first_fault, event_of, publishes, is_publish, but_last, last_piece, fault_or_batches, is_version, significant_lines, lines_meaning, script_meaning, publications, first_unpublished}
+use Rattle.pmp_text.specs.Scripts.{Line, at_line, counted, open_events, statement_fault, first_fault, event_of}
+use Rattle.pmp_text.specs.Scripts.{publishes, is_publish, but_last, last_piece, fault_or_batches, is_version}
+use Rattle.pmp_text.specs.Scripts.{significant_lines, lines_meaning, script_meaning, publications, first_unpublished}
 use Rattle.pmp_text.specs.Steps.Progress.{Progress, nothing_read, published, after_statement, all_published, resumed}
 use Rattle.pmp_text.specs.Limits.{script_limit}
 
@@ -39,7 +42,8 @@ since_from since (piece ∷ next ∷ more) = since_from None (next ∷ more)
 batches_from-nothing : (pieces : List (List Line)) → batches_from [] pieces ≡ map events (but_last pieces)
 batches_from-nothing [] = refl
 batches_from-nothing (piece ∷ []) = refl
-batches_from-nothing (piece ∷ next ∷ more) = ap (λ (batches : List (List Event)). events piece ∷ batches) (batches_from-nothing (next ∷ more))
+batches_from-nothing (piece ∷ next ∷ more) = ap (λ (batches : List (List Event)). events piece ∷ batches)
+    (batches_from-nothing (next ∷ more))
 
 since_from-nothing : (pieces : List (List Line)) → since_from None pieces ≡ first_event (last_piece pieces)
 since_from-nothing [] = refl
@@ -47,11 +51,14 @@ since_from-nothing (piece ∷ []) = refl
 since_from-nothing (piece ∷ next ∷ more) = since_from-nothing (next ∷ more)
 
 -- behind a `publish`
-batches_from-published : (batch : List Event) (pieces : List (List Line)) → 0 < length pieces → batches_from batch ([] ∷ pieces) ≡ batch ∷ batches_from [] pieces
+batches_from-published : (batch : List Event) (pieces : List (List Line)) → 0 < length pieces
+    → batches_from batch ([] ∷ pieces) ≡ batch ∷ batches_from [] pieces
 batches_from-published batch [] some = absurd (omega arith)
-batches_from-published batch (next ∷ more) some = ap (λ (front : List Event). front ∷ batches_from [] (next ∷ more)) (append-nil batch)
+batches_from-published batch (next ∷ more) some =
+    ap (λ (front : List Event). front ∷ batches_from [] (next ∷ more)) (append-nil batch)
 
-since_from-published : (since : Option ℕ) (pieces : List (List Line)) → 0 < length pieces → since_from since ([] ∷ pieces) ≡ since_from None pieces
+since_from-published : (since : Option ℕ) (pieces : List (List Line)) → 0 < length pieces
+    → since_from since ([] ∷ pieces) ≡ since_from None pieces
 since_from-published since [] some = absurd (omega arith)
 since_from-published since (next ∷ more) some = refl
 
@@ -63,16 +70,21 @@ module _ (line : Line) (event : Event) (says : statement_of line.words ≡ Ok (s
   first_event-event : (piece : List Line) → first_event (line ∷ piece) ≡ Some line.number
   first_event-event piece = rw says refl
 
-  batches_from-event : (batch : List Event) (pieces : List (List Line)) → batches_from batch (onto_first line pieces) ≡ batches_from (batch ++ event ∷ []) pieces
+  batches_from-event : (batch : List Event) (pieces : List (List Line))
+      → batches_from batch (onto_first line pieces) ≡ batches_from (batch ++ event ∷ []) pieces
   batches_from-event batch [] = refl
   batches_from-event batch (piece ∷ []) = refl
-  batches_from-event batch (piece ∷ next ∷ more) = ap (λ (front : List Event). front ∷ batches_from [] (next ∷ more)) (ap (λ (more : List Event). batch ++ more) (events-event piece) ∙ sym (append_assoc batch (event ∷ []) (events piece)))
+  batches_from-event batch (piece ∷ next ∷ more) =
+      ap (λ (front : List Event). front ∷ batches_from [] (next ∷ more))
+      (ap (λ (more : List Event). batch ++ more) (events-event piece)
+      ∙ sym (append_assoc batch (event ∷ []) (events piece)))
 
   or_here : (since : Option ℕ) → option_or since (Some line.number) ≡ Some (unwrap_or since line.number)
   or_here None = refl
   or_here (Some number) = refl
 
-  since_from-event : (since : Option ℕ) (pieces : List (List Line)) → 0 < length pieces → since_from since (onto_first line pieces) ≡ since_from (Some (unwrap_or since line.number)) pieces
+  since_from-event : (since : Option ℕ) (pieces : List (List Line)) → 0 < length pieces
+      → since_from since (onto_first line pieces) ≡ since_from (Some (unwrap_or since line.number)) pieces
   since_from-event since [] some = absurd (omega arith)
   since_from-event since (piece ∷ []) some = ap (option_or since) (first_event-event piece) ∙ or_here since
   since_from-event since (piece ∷ next ∷ more) some = refl
@@ -85,10 +97,12 @@ some_piece lines = omega (arith, length-slice_split is_publish lines)
 
 -- what is meant by lines behind others, with what was read so far
 abbrev meant_from : Progress → (before lines : List Line) → Result (List (List Event)) ScriptFault
-meant_from so_far before lines = fault_or_batches (first_fault before lines) (since_from so_far.since (pieces_of lines)) (so_far.published ++ batches_from so_far.batch (pieces_of lines))
+meant_from so_far before lines = fault_or_batches (first_fault before lines) (since_from so_far.since (pieces_of lines))
+    (so_far.published ++ batches_from so_far.batch (pieces_of lines))
 
 -- one line more, by what it says
-module _ (so_far : Progress) (last : Line) (front : List Line) (count : length so_far.batch ≡ open_events (last ∷ front)) (line : Line) (more : List Line) where
+module _ (so_far : Progress) (last : Line) (front : List Line)
+    (count : length so_far.batch ≡ open_events (last ∷ front)) (line : Line) (more : List Line) where
   abbrev reads : Result Progress ScriptFault → Result (List (List Event)) ScriptFault
   reads step = elim step [ Ok next ↦ resumed next more | Err fault ↦ Err fault ]
 
@@ -99,54 +113,92 @@ module _ (so_far : Progress) (last : Line) (front : List Line) (count : length s
   cut publish = cond publish ([] ∷ pieces_of more) (onto_first line (pieces_of more))
 
   abbrev means : Result Statement ScriptKind → Result (List (List Event)) ScriptFault
-  means says = fault_or_batches (option_or (option_map (at_line line.number) (statement_fault (open_events (last ∷ front)) says)) later) (since_from so_far.since (cut (publishes says))) (so_far.published ++ batches_from so_far.batch (cut (publishes says)))
+  means says = fault_or_batches
+      (option_or (option_map (at_line line.number) (statement_fault (open_events (last ∷ front)) says)) later)
+      (since_from so_far.since (cut (publishes says)))
+      (so_far.published ++ batches_from so_far.batch (cut (publishes says)))
 
-  agree : (says : Result Statement ScriptKind) → statement_of line.words ≡ says → reads (after_statement so_far line.number says) ≡ means says → resumed so_far (line ∷ more) ≡ meant_from so_far (last ∷ front) (line ∷ more)
-  agree says e same = ap (λ (r : Result Statement ScriptKind). reads (after_statement so_far line.number r)) e ∙ same ∙ sym (ap means e)
+  agree : (says : Result Statement ScriptKind) → statement_of line.words ≡ says
+      → reads (after_statement so_far line.number says) ≡ means says
+      → resumed so_far (line ∷ more) ≡ meant_from so_far (last ∷ front) (line ∷ more)
+  agree says e same = ap (λ (r : Result Statement ScriptKind). reads (after_statement so_far line.number r)) e ∙ same
+      ∙ sym (ap means e)
 
-  publish_agrees : resumed (published so_far) more ≡ meant_from (published so_far) (line ∷ last ∷ front) more → resumed (published so_far) more ≡ means (Ok statement.Publish)
+  publish_agrees : resumed (published so_far) more ≡ meant_from (published so_far) (line ∷ last ∷ front) more
+      → resumed (published so_far) more ≡ means (Ok statement.Publish)
   publish_agrees same =
       let since = since_from-published so_far.since (pieces_of more) (some_piece more) in
-      let batches = append_assoc so_far.published (so_far.batch ∷ []) (batches_from [] (pieces_of more)) ∙ ap (λ (front : List (List Event)). so_far.published ++ front) (sym (batches_from-published so_far.batch (pieces_of more) (some_piece more))) in
-      same ∙ ap (λ (batches : List (List Event)). fault_or_batches later (since_from None (pieces_of more)) batches) batches ∙ ap (λ (since : Option ℕ). fault_or_batches later since (so_far.published ++ batches_from so_far.batch ([] ∷ pieces_of more))) (sym since)
+      let batches = append_assoc so_far.published (so_far.batch ∷ []) (batches_from [] (pieces_of more))
+      ∙ ap (λ (front : List (List Event)). so_far.published ++ front)
+      (sym (batches_from-published so_far.batch (pieces_of more) (some_piece more))) in
+      same ∙ ap (λ (batches : List (List Event)). fault_or_batches later (since_from None (pieces_of more)) batches)
+      batches ∙ ap (λ (since : Option ℕ). fault_or_batches later since
+      (so_far.published ++ batches_from so_far.batch ([] ∷ pieces_of more))) (sym since)
 
   module _ (event : Event) where
     abbrev longer : Progress
-    longer = record { published = so_far.published; batch = so_far.batch ++ event ∷ []; since = Some (unwrap_or so_far.since line.number) }
+    longer = record {
+      published = so_far.published;
+      batch = so_far.batch ++ event ∷ [];
+      since = Some (unwrap_or so_far.since line.number);
+    }
 
-    fits : (room : Bool) → (room ≡ true → resumed longer more ≡ fault_or_batches later (since_from so_far.since (cut false)) (so_far.published ++ batches_from so_far.batch (cut false)))
-        → reads (cond room (Ok longer) (Err (at_line line.number BatchFull))) ≡ fault_or_batches (option_or (option_map (at_line line.number) (cond room None (Some BatchFull))) later) (since_from so_far.since (cut false)) (so_far.published ++ batches_from so_far.batch (cut false))
+    fits : (room : Bool) → (room ≡ true → resumed longer more
+        ≡ fault_or_batches later (since_from so_far.since (cut false))
+        (so_far.published ++ batches_from so_far.batch (cut false)))
+        → reads (cond room (Ok longer) (Err (at_line line.number BatchFull)))
+        ≡ fault_or_batches (option_or (option_map (at_line line.number) (cond room None (Some BatchFull))) later)
+        (since_from so_far.since (cut false)) (so_far.published ++ batches_from so_far.batch (cut false))
     fits true same = same refl
     fits false same = refl
 
-    event_agrees : statement_of line.words ≡ Ok (statement.Event event) → (ltb (length so_far.batch) BATCH_EVENTS ≡ true → resumed longer more ≡ meant_from longer (line ∷ last ∷ front) more)
+    event_agrees : statement_of line.words ≡ Ok (statement.Event event)
+        → (ltb (length so_far.batch) BATCH_EVENTS ≡ true
+        → resumed longer more ≡ meant_from longer (line ∷ last ∷ front) more)
         → reads (after_statement so_far line.number (Ok (statement.Event event))) ≡ means (Ok (statement.Event event))
     event_agrees says same =
         let since = since_from-event line event says so_far.since (pieces_of more) (some_piece more) in
         let batches = batches_from-event line event says so_far.batch (pieces_of more) in
-        let ends = ap (λ (since : Option ℕ). fault_or_batches later since (so_far.published ++ batches_from longer.batch (pieces_of more))) (sym since) ∙ ap (λ (batches : List (List Event)). fault_or_batches later (since_from so_far.since (cut false)) (so_far.published ++ batches)) (sym batches) in
+        let ends = ap (λ (since : Option ℕ). fault_or_batches later since
+        (so_far.published ++ batches_from longer.batch (pieces_of more))) (sym since)
+        ∙ ap (λ (batches : List (List Event)). fault_or_batches later (since_from so_far.since (cut false))
+        (so_far.published ++ batches)) (sym batches) in
         fits (ltb (length so_far.batch) BATCH_EVENTS) (λ room. same room ∙ ends)
-        ∙ ap (λ (n : ℕ). fault_or_batches (option_or (option_map (at_line line.number) (cond (ltb n BATCH_EVENTS) None (Some BatchFull))) later) (since_from so_far.since (cut false)) (so_far.published ++ batches_from so_far.batch (cut false))) count
+        ∙ ap (λ (n : ℕ). fault_or_batches
+        (option_or (option_map (at_line line.number) (cond (ltb n BATCH_EVENTS) None (Some BatchFull))) later)
+        (since_from so_far.since (cut false)) (so_far.published ++ batches_from so_far.batch (cut false))) count
 
 -- the open batch has as many events as were counted
-counted_event : (so_far : Progress) (front : List Line) (line : Line) (event : Event) → length so_far.batch ≡ open_events front → statement_of line.words ≡ Ok (statement.Event event) → length (so_far.batch ++ event ∷ []) ≡ open_events (line ∷ front)
-counted_event so_far front line event count says = length-append so_far.batch (event ∷ []) ∙ ap (λ (n : ℕ). n + 1) count ∙ sym (ap (λ (r : Result Statement ScriptKind). counted r (open_events front)) says)
+counted_event : (so_far : Progress) (front : List Line) (line : Line) (event : Event)
+    → length so_far.batch ≡ open_events front → statement_of line.words ≡ Ok (statement.Event event)
+    → length (so_far.batch ++ event ∷ []) ≡ open_events (line ∷ front)
+counted_event so_far front line event count says = length-append so_far.batch (event ∷ []) ∙ ap (λ (n : ℕ). n + 1) count
+    ∙ sym (ap (λ (r : Result Statement ScriptKind). counted r (open_events front)) says)
 
-counted_publish : (front : List Line) (line : Line) → statement_of line.words ≡ Ok statement.Publish → 0 ≡ open_events (line ∷ front)
+counted_publish : (front : List Line) (line : Line) → statement_of line.words ≡ Ok statement.Publish
+    → 0 ≡ open_events (line ∷ front)
 counted_publish front line says = sym (ap (λ (r : Result Statement ScriptKind). counted r (open_events front)) says)
 
 abbrev HoldsOf : List Line → Type 0
-HoldsOf lines = (so_far : Progress) (last : Line) (front : List Line) → length so_far.batch ≡ open_events (last ∷ front) → resumed so_far lines ≡ meant_from so_far (last ∷ front) lines
+HoldsOf lines = (so_far : Progress) (last : Line) (front : List Line) → length so_far.batch ≡ open_events (last ∷ front)
+    → resumed so_far lines ≡ meant_from so_far (last ∷ front) lines
 
-by_saying : (says : Result Statement ScriptKind) (line : Line) (more : List Line) → statement_of line.words ≡ says → HoldsOf more → HoldsOf (line ∷ more)
-by_saying (Err kind) line more says same so_far last front count = agree so_far last front count line more (Err kind) says refl
+by_saying : (says : Result Statement ScriptKind) (line : Line) (more : List Line) → statement_of line.words ≡ says
+    → HoldsOf more → HoldsOf (line ∷ more)
+by_saying (Err kind) line more says same so_far last front count =
+    agree so_far last front count line more (Err kind) says refl
 by_saying (Ok statement.Publish) line more says same so_far last front count =
-    agree so_far last front count line more (Ok statement.Publish) says (publish_agrees so_far last front count line more (same (published so_far) line (last ∷ front) (counted_publish (last ∷ front) line says)))
+    agree so_far last front count line more (Ok statement.Publish) says
+    (publish_agrees so_far last front count line more
+    (same (published so_far) line (last ∷ front) (counted_publish (last ∷ front) line says)))
 by_saying (Ok (statement.Event event)) line more says same so_far last front count =
     agree so_far last front count line more (Ok (statement.Event event)) says
-    (event_agrees so_far last front count line more event says (λ room. same (longer so_far last front count line more event) line (last ∷ front) (counted_event so_far (last ∷ front) line event count says)))
+    (event_agrees so_far last front count line more event says
+    (λ room. same (longer so_far last front count line more event) line (last ∷ front)
+    (counted_event so_far (last ∷ front) line event count says)))
 
-nothing_left : (so_far : Progress) (since : Option ℕ) → all_published since so_far.published ≡ fault_or_batches None (option_or since None) (so_far.published ++ [])
+nothing_left : (so_far : Progress) (since : Option ℕ)
+    → all_published since so_far.published ≡ fault_or_batches None (option_or since None) (so_far.published ++ [])
 nothing_left so_far None = ap (λ (batches : List (List Event)). Ok batches) (sym (append-nil so_far.published))
 nothing_left so_far (Some number) = refl
 
@@ -165,13 +217,15 @@ no_statement : (words : List (List ℕ)) → is_version words ≡ true → state
 unfolding is_version
 no_statement [] e = absurd cc
 no_statement (name ∷ []) e = absurd cc
-no_statement (name ∷ version ∷ []) e = two_words name version ((bytes_eq-Decides name (codes "pmp")).0 (and_parts (bytes_eq name (codes "pmp")) (bytes_eq version (codes "1")) e).0)
+no_statement (name ∷ version ∷ []) e = two_words name version
+    ((bytes_eq-Decides name (codes "pmp")).0 (and_parts (bytes_eq name (codes "pmp")) (bytes_eq version (codes "1"))
+    e).0)
 no_statement (name ∷ version ∷ word ∷ more) e = absurd cc
 
 module _ (text : List ℕ) where
-  pub too_long : script_limit < length text → script_meaning text ≡ Err (at_line 0 TooLong)
+  pub long_script : script_limit < length text → script_meaning text ≡ Err (at_line 0 TooLong)
   unfolding script_meaning
-  too_long long = cond-true _ _ _ (lt-ltb script_limit (length text) long)
+  long_script long = cond-true _ _ _ (lt-ltb script_limit (length text) long)
 
   module _ (short : length text ≤ script_limit) where
     pub by_lines : script_meaning text ≡ lines_meaning (significant_lines text)
@@ -183,15 +237,20 @@ module _ (text : List ℕ) where
 
     module _ (version : Line) (more : List Line) (lines : significant_lines text ≡ version ∷ more) where
       abbrev with_version : Bool → Result (List (List Event)) ScriptFault
-      with_version is = fault_or_batches (option_or (option_map (at_line version.number) (cond is None (Some BadVersion))) (first_fault (version ∷ []) more)) (first_unpublished more) (publications more)
+      with_version is = fault_or_batches (option_or
+          (option_map (at_line version.number) (cond is None (Some BadVersion))) (first_fault (version ∷ []) more))
+          (first_unpublished more) (publications more)
 
-      pub other_version : is_version version.words ≡ false → script_meaning text ≡ Err (at_line version.number BadVersion)
+      pub other_version : is_version version.words ≡ false
+          → script_meaning text ≡ Err (at_line version.number BadVersion)
       other_version e = by_lines ∙ ap lines_meaning lines ∙ ap with_version e
 
       pub this_version : is_version version.words ≡ true → script_meaning text ≡ resumed nothing_read more
       this_version e =
           let count = sym (ap (λ (r : Result Statement ScriptKind). counted r 0) (no_statement version.words e)) in
           by_lines ∙ ap lines_meaning lines ∙ ap with_version e
-          ∙ ap (λ (since : Option ℕ). fault_or_batches (first_fault (version ∷ []) more) since (publications more)) (sym (since_from-nothing (pieces_of more)))
-          ∙ ap (fault_or_batches (first_fault (version ∷ []) more) (since_from None (pieces_of more))) (sym (batches_from-nothing (pieces_of more)))
+          ∙ ap (λ (since : Option ℕ). fault_or_batches (first_fault (version ∷ []) more) since (publications more))
+          (sym (since_from-nothing (pieces_of more)))
+          ∙ ap (fault_or_batches (first_fault (version ∷ []) more) (since_from None (pieces_of more)))
+          (sym (batches_from-nothing (pieces_of more)))
           ∙ sym (reading_means more nothing_read version [] count)

@@ -1,5 +1,6 @@
 -- Reading a register's written name gives the register.
-use Rattle.std.proofs.Common.{◌≡◌, ℕ, ◌+◌, ◌-◌, ◌≤◌, ◌<◌, ◌==◌, ◌⊎◌, Bool, true, false, Result, Ok, Err, refl, ap, arith, inl, inr, subst}
+use Rattle.std.proofs.Common.{◌≡◌, ℕ, ◌+◌, ◌-◌, ◌≤◌, ◌<◌, ◌==◌, ◌⊎◌, Bool, true, false, Result, Ok, Err, refl, ap}
+use Rattle.std.proofs.Common.{arith, inl, inr, subst}
 use Rattle.std.proofs.lemmas.Bool.{agree_below, agree_below_at, eqb-true}
 use Rattle.std.specs.Fmt.{digits}
 use Rattle.std.proofs.lemmas.Grind.{common_steps}
@@ -51,17 +52,21 @@ unfolding is_read_back is_answer register_number
 mseccfg_read_back = refl
 
 -- where registers are
-numbers_of : (number : ℕ) (csr : Csr) → numbered number ≡ Ok csr → ((0x3a0 ≤ number) × (number < 0x3f0)) ⊎ (number ≡ 0x747)
+numbers_of : (number : ℕ) (csr : Csr) → numbered number ≡ Ok csr
+    → ((0x3a0 ≤ number) × (number < 0x3f0)) ⊎ (number ≡ 0x747)
 numbers_of number csr e = grind (arith, common_steps)
 
 each_read_back : (number : ℕ) (csr : Csr) → numbered number ≡ Ok csr → is_read_back (numbered number) ≡ true
 each_read_back number csr e = elim (numbers_of number csr e) [
   | inl between ↦
       let place : 0x3a0 + (number - 0x3a0) ≡ number = omega (arith, between) in
-      subst (λ n. is_read_back (numbered n) ≡ true) place (agree_below_at (λ place. is_read_back (numbered (0x3a0 + place))) (λ _. true) 80 (number - 0x3a0) pmp_read_back (omega (arith, between)))
+      subst (λ n. is_read_back (numbered n) ≡ true) place
+      (agree_below_at (λ place. is_read_back (numbered (0x3a0 + place))) (λ _. true) 80 (number - 0x3a0)
+      pmp_read_back (omega (arith, between)))
   | inr same ↦ rw same mseccfg_read_back
 ]
 
 pub read_back : (number : ℕ) (csr : Csr) → numbered number ≡ Ok csr → register_named (register_name csr) ≡ Ok csr
 unfolding is_read_back
-read_back number csr e = answered csr (register_named (register_name csr)) (subst (λ answer. is_read_back answer ≡ true) e (each_read_back number csr e))
+read_back number csr e = answered csr (register_named (register_name csr))
+    (subst (λ answer. is_read_back answer ≡ true) e (each_read_back number csr e))

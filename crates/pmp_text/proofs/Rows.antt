@@ -1,36 +1,27 @@
 -- Reading row by row gives what all rows mean.
-use Rattle.std.proofs.Common.{◌≡◌, ℕ, ◌+◌, ◌<◌, ◌≤◌, Bool, true, false, cond, List, [], ◌∷◌, ◌++◌, length, Option, Some, None, Result, Ok, Err, refl, sym, ap, ◌∙◌, append_assoc}
+use Rattle.std.proofs.Common.{◌≡◌, ℕ, ◌+◌, ◌<◌, ◌≤◌, Bool, true, false, cond, List, [], ◌∷◌, ◌++◌, length, Option}
+use Rattle.std.proofs.Common.{Result, Err, ap, ◌∙◌}
 use Rattle.std.specs.Prelude.{filter_map}
 use Rattle.std.proofs.lemmas.Bool.{cond-true, cond-false, lt-ltb, le-ltb}
-use Rattle.std.proofs.lemmas.List.{append-nil}
 use Rattle.pmp_text.specs.declared.trace.row_fields.RowFields.{RowFields}
-use Rattle.pmp_text.specs.declared.trace.TraceKind.{TraceKind}
 use Rattle.pmp_text.specs.declared.trace.TraceKind.TheVariants.{BadHeader, TooLong}
 use Rattle.pmp_text.specs.declared.trace.TraceFault.{TraceFault}
-use Rattle.pmp_text.specs.Traces.{at_row, first_row_fault, is_header, records_meaning, row_fault, row_of_record, fault_or_rows, rows_meaning, trace_meaning, trace_records}
+use Rattle.pmp_text.specs.Traces.{at_row, first_row_fault, is_header, records_meaning, row_of_record}
+use Rattle.pmp_text.specs.Traces.{fault_or_rows, rows_meaning, trace_meaning, trace_records}
 use Rattle.pmp_text.specs.Limits.{trace_limit}
 
 -- what is meant where so many rows were read, which say this, the last one `last`, and these records are left
-abbrev pub resumed : (publications : ℕ) → (last : Option ℕ) → (count : ℕ) → List RowFields → List (List (List ℕ)) → Result (List RowFields) TraceFault
-resumed publications last count rows left = fault_or_rows (first_row_fault publications last (count + 1) left) (rows ++ filter_map row_of_record left)
-
-module _ (publications : ℕ) (last : Option ℕ) (count : ℕ) (rows : List RowFields) where
-  pub no_row_left : resumed publications last count rows [] ≡ Ok rows
-  no_row_left = ap (λ (r : List RowFields). Ok r) (append-nil rows)
-
-  module _ (next : List (List ℕ)) (more : List (List (List ℕ))) where
-    pub faulty_row : (kind : TraceKind) → row_fault publications last (row_of_record next) ≡ Some kind → resumed publications last count rows (next ∷ more) ≡ Err (at_row (count + 1) kind)
-    faulty_row kind e = rw e refl
-
-    pub one_row_more : (row : RowFields) → row_of_record next ≡ Some row → row_fault publications last (row_of_record next) ≡ None → resumed publications last count rows (next ∷ more) ≡ resumed publications (Some row.after) (count + 1) (rows ++ row ∷ []) more
-    one_row_more row says fine = rw (fine, says) (ap (fault_or_rows (first_row_fault publications (Some row.after) (count + 1 + 1) more)) (sym (append_assoc rows (row ∷ []) (filter_map row_of_record more))))
+abbrev pub with_rows_read : (publications : ℕ) → (last : Option ℕ) → (count : ℕ) → List RowFields → List (List (List ℕ))
+    → Result (List RowFields) TraceFault
+with_rows_read publications last count rows left =
+    fault_or_rows (first_row_fault publications last (count + 1) left) (rows ++ filter_map row_of_record left)
 
 -- ---- from the header on
 
 module _ (publications : ℕ) (text : List ℕ) where
-  pub too_long : trace_limit < length text → trace_meaning publications text ≡ Err (at_row 0 TooLong)
+  pub long_trace : trace_limit < length text → trace_meaning publications text ≡ Err (at_row 0 TooLong)
   unfolding trace_meaning
-  too_long long = cond-true _ _ _ (lt-ltb trace_limit (length text) long)
+  long_trace long = cond-true _ _ _ (lt-ltb trace_limit (length text) long)
 
   module _ (short : length text ≤ trace_limit) where
     by_records : trace_meaning publications text ≡ records_meaning publications (trace_records text)

@@ -4,7 +4,8 @@ use Rattle.pmp_core.specs.Rights.{Rights, perms_of}
 use Rattle.pmp_text.specs.RunLines.{rights_text}
 use Rattle.pmp_text.specs.Steps.Marks.{perms_text}
 
-by_bits : (read write execute : Bool) → let rights : Rights = record { read = read; write = write; execute = execute } in perms_text (perms_of rights) ≡ rights_text rights
+by_bits : (read write execute : Bool) → let rights : Rights =
+    record { read = read; write = write; execute = execute } in perms_text (perms_of rights) ≡ rights_text rights
 by_bits true true true = refl
 by_bits true true false = refl
 by_bits true false true = refl

@@ -1,12 +1,14 @@
 -- Which line of a script is at fault.
-use Rattle.std.specs.Prelude.{◌≡◌, ℕ, ◌<◌, ◌≤◌, List, [], length, reverse, take, Option, Some, None, Err, MatchOption, option_map, option_and_then, slice_get}
+use Rattle.std.specs.Prelude.{◌≡◌, ℕ, ◌<◌, ◌≤◌, List, [], length, reverse, take, Option, Some, None, Err, MatchOption}
+use Rattle.std.specs.Prelude.{option_map, option_and_then, slice_get}
 use Rattle.pmp_text.specs.declared.script.ScriptFault.{ScriptFault}
 use Rattle.pmp_text.specs.Scripts.{Line, at_line, line_fault, first_fault, significant_lines, script_meaning}
 use Rattle.pmp_text.specs.Limits.{script_limit}
 
 -- the fault of the significant line with this index, by the lines before it
 abbrev pub fault_at : List Line → (index : ℕ) → Option ScriptFault
-fault_at lines index = option_and_then {T = Line} {U = ScriptFault} (λ line. option_map (at_line line.number) (line_fault (reverse (take index lines)) line)) (slice_get lines index)
+fault_at lines index = option_and_then {T = Line} {U = ScriptFault}
+    (λ line. option_map (at_line line.number) (line_fault (reverse (take index lines)) line)) (slice_get lines index)
 
 -- the line, or row, with this index has the fault, and none before it has any
 pub record IsLeastFault {F : Type 0} (faults : ℕ → Option F) (fault : F) : Type 0 where
@@ -16,8 +18,11 @@ pub record IsLeastFault {F : Type 0} (faults : ℕ → Option F) (fault : F) : T
 
 -- the first fault is that of the least faulty line, and where there is none, no line is faulty
 abbrev pub FirstFaultLaw : Type 0
-FirstFaultLaw = (lines : List Line) → MatchOption (first_fault [] lines) ((index : ℕ) → fault_at lines index ≡ None) (λ fault. IsLeastFault (fault_at lines) fault)
+FirstFaultLaw = (lines : List Line)
+    → MatchOption (first_fault [] lines) ((index : ℕ) → fault_at lines index ≡ None)
+    (λ fault. IsLeastFault (fault_at lines) fault)
 
 -- a text that isn't too long is refused with the fault of its least faulty line, where it has one
 abbrev pub LeastFaultLaw : Type 0
-LeastFaultLaw = (text : List ℕ) → (fault : ScriptFault) → length text ≤ script_limit → IsLeastFault (fault_at (significant_lines text)) fault → script_meaning text ≡ Err fault
+LeastFaultLaw = (text : List ℕ) → (fault : ScriptFault) → length text ≤ script_limit
+    → IsLeastFault (fault_at (significant_lines text)) fault → script_meaning text ≡ Err fault

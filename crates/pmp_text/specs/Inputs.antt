@@ -6,7 +6,8 @@ use Rattle.pmp_text.specs.declared.input.InputFault.{InputFault}
 use Rattle.pmp_text.specs.declared.input.InputFault.TheVariants.{TooLong, Input, Memory}
 
 -- the reader had the `old` bytes left and has the `new` ones: it gave all, or there were more than the limit, or it failed
-pub record IsReadWhole (limit : ℕ) (old new : Option (List ℕ)) (result : Result (Vec ℕ Global) InputFault) : Type 0 where
+pub record IsReadWhole (limit : ℕ) (old new : Option (List ℕ))
+    (result : Result (Vec ℕ Global) InputFault) : Type 0 where
   pub within : IfOk result (λ bytes. length bytes.items ≤ limit)
   pub whole : IfOk result (λ bytes. IfSome old (λ left. (left ≡ bytes.items) × (new ≡ Some [])))
   pub too_long : result ≡ Err TooLong → IfSome old (λ left. limit < length left)

@@ -1,5 +1,6 @@
 -- The names of registers.
-use Rattle.std.specs.Prelude.{◌≡◌, ℕ, ◌+◌, List, ◌++◌, length, take, drop, ◌&&◌, ◌==◌, Option, Some, None, Result, Ok, Err, nat_le, codes, bytes_eq, decimal, slice_index, if◌then◌else◌}
+use Rattle.std.specs.Prelude.{◌≡◌, ℕ, ◌+◌, List, ◌++◌, length, take, drop, ◌&&◌, ◌==◌, Option, Some, None, Result, Ok}
+use Rattle.std.specs.Prelude.{Err, nat_le, codes, bytes_eq, decimal, slice_index, if◌then◌else◌}
 use Rattle.pmp_core.specs.declared.csr.Csr.{Csr}
 use Rattle.pmp_core.specs.declared.csr.Csr.TheVariants.{Cfg, Addr, Mseccfg}
 use Rattle.pmp_core.specs.declared.csr.CsrFault.{CsrFault}
@@ -26,7 +27,8 @@ up_to most (Some number) = if nat_le number most then Some number else None
 
 -- a number up to a limit below 100, in decimal without leading zeros
 unfoldable pub plain_number : (most : ℕ) → List ℕ → Option ℕ
-plain_number most digits = if length digits == 2 && slice_index digits 0 == 48 then None else up_to most (numeral 10 2 digits)
+plain_number most digits =
+    if length digits == 2 && slice_index digits 0 == 48 then None else up_to most (numeral 10 2 digits)
 
 -- the number of the register that stands so far behind the first of its kind
 abbrev pub counted_from : (base : ℕ) → Option ℕ → Option ℕ

@@ -20,7 +20,7 @@ Gives view (Err fault) meant = (meant ≡ Err fault) ⊎ (fault ≡ out_of_memor
 abbrev pub no_memory_for_rows : TraceFault
 no_memory_for_rows = record { kind = trace.Memory; row = 0 }
 
--- the crate `csv` told of a failed input
+-- the crate `csv` reports a failed input
 abbrev pub no_input_for_rows : TraceFault
 no_input_for_rows = record { kind = trace.Input; row = 0 }
 

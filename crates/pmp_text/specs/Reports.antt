@@ -34,4 +34,5 @@ fields_after (field ∷ rest) = codes "," ++ (field ++ fields_after rest)
 unfoldable pub report_row : ℕ → Access → Decision → List ℕ
 report_row number access decision =
     decimal number
-    ++ fields_after (answer_text decision.allowed ∷ optional_text (fault_of access decision) ∷ cause_text decision.cause ∷ optional_text (entry_of decision.cause) ∷ [])
+    ++ fields_after (answer_text decision.allowed ∷ optional_text (fault_of access decision)
+    ∷ cause_text decision.cause ∷ optional_text (entry_of decision.cause) ∷ [])

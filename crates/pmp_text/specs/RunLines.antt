@@ -27,7 +27,8 @@ owner_text (Some entry) = decimal entry
 unfoldable pub run_line : RegisterFile → Run → List ℕ
 run_line file run =
     hex_text 14 run.first
-    ++ fields_after (hex_text 14 run.last ∷ owner_text run.owner ∷ rights_text (owned_rights file run.owner M) ∷ rights_text (owned_rights file run.owner U) ∷ [])
+    ++ fields_after (hex_text 14 run.last ∷ owner_text run.owner ∷ rights_text (owned_rights file run.owner M)
+    ∷ rights_text (owned_rights file run.owner U) ∷ [])
 
 -- a line for each of the file's runs, of which there is one list
 pub record IsMapText (file : RegisterFile) (text : List ℕ) : Type 0 where

@@ -1,5 +1,7 @@
 -- What a script means: its publications, or its fault.
-use Rattle.std.specs.Prelude.{ℕ, ◌+◌, List, [], ◌∷◌, length, map, filter, filter_map, find, Bool, true, false, not, ◌&&◌, ◌==◌, Option, Some, None, Result, Ok, Err, is_some, option_map, nat_lt, codes, bytes_eq, slice_index, if◌then◌else◌}
+use Rattle.std.specs.Prelude.{ℕ, ◌+◌, List, [], ◌∷◌, length, map, filter, filter_map, find, Bool, true, false, not}
+use Rattle.std.specs.Prelude.{◌&&◌, ◌==◌, Option, Some, None, Result, Ok, Err, is_some, option_map, nat_lt, codes}
+use Rattle.std.specs.Prelude.{bytes_eq, slice_index, if◌then◌else◌}
 use Rattle.std.specs.List.{slice_split}
 use Rattle.std.specs.Option.{option_or}
 use Rattle.pmp_core.specs.declared.event.Event.{Event}
@@ -72,7 +74,8 @@ at_line number kind = record { kind = kind; line = number }
 -- the fault of the first line that has one
 abbrev pub first_fault : (before : List Line) → List Line → Option ScriptFault
 first_fault before [] = None
-first_fault before (line ∷ more) = option_or (option_map (at_line line.number) (line_fault before line)) (first_fault (line ∷ before) more)
+first_fault before (line ∷ more) =
+    option_or (option_map (at_line line.number) (line_fault before line)) (first_fault (line ∷ before) more)
 
 -- ---- publications
 
@@ -112,7 +115,8 @@ publications lines = map (filter_map event_of) (but_last (slice_split is_publish
 
 -- the number of the first event line behind the last `publish`
 abbrev pub first_unpublished : List Line → Option ℕ
-first_unpublished lines = option_map (λ line. line.number) (find (λ line. is_some (event_of line)) (last_piece (slice_split is_publish lines)))
+first_unpublished lines =
+    option_map (λ line. line.number) (find (λ line. is_some (event_of line)) (last_piece (slice_split is_publish lines)))
 
 -- ---- the meaning
 
@@ -125,8 +129,10 @@ fault_or_batches None None batches = Ok batches
 -- the first line is the version; publications stand behind it
 abbrev pub lines_meaning : List Line → Result (List (List Event)) ScriptFault
 lines_meaning [] = Err (at_line 1 BadVersion)
-lines_meaning (version ∷ more) = fault_or_batches (first_fault [] (version ∷ more)) (first_unpublished more) (publications more)
+lines_meaning (version ∷ more) =
+    fault_or_batches (first_fault [] (version ∷ more)) (first_unpublished more) (publications more)
 
 -- what a text means; one of more bytes than the limit is too long, whatever it says
 unfoldable pub script_meaning : List ℕ → Result (List (List Event)) ScriptFault
-script_meaning text = if nat_lt script_limit (length text) then Err (at_line 0 TooLong) else lines_meaning (significant_lines text)
+script_meaning text =
+    if nat_lt script_limit (length text) then Err (at_line 0 TooLong) else lines_meaning (significant_lines text)

@@ -10,4 +10,5 @@ script_size batches = length batches + sum_by (λ batch. length batch) batches
 
 -- a script has no more publications and events than bytes, of which there are not too many
 abbrev pub ScriptSizeLaw : Type 0
-ScriptSizeLaw = (text : List ℕ) → (batches : List (List Event)) → script_meaning text ≡ Ok batches → (script_size batches ≤ length text) × (length text ≤ script_limit)
+ScriptSizeLaw = (text : List ℕ) → (batches : List (List Event)) → script_meaning text ≡ Ok batches
+    → (script_size batches ≤ length text) × (length text ≤ script_limit)

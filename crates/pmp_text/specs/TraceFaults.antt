@@ -1,9 +1,11 @@
 -- Which row of a trace is at fault, and in what order rows stand that are not.
-use Rattle.std.specs.Prelude.{◌≡◌, ℕ, zero, suc, ◌+◌, ◌≤◌, List, [], ◌∷◌, length, map, true, Option, None, Ok, Err, ⊤, MatchOption, option_map, option_and_then, slice_get}
+use Rattle.std.specs.Prelude.{◌≡◌, ℕ, zero, suc, ◌+◌, ◌≤◌, List, [], ◌∷◌, length, map, true, Option, None, Ok, Err, ⊤}
+use Rattle.std.specs.Prelude.{MatchOption, option_map, option_and_then, slice_get}
 use Rattle.pmp_text.specs.declared.trace.row_fields.RowFields.{RowFields}
 use Rattle.pmp_text.specs.declared.trace.TraceFault.{TraceFault}
 use Rattle.pmp_text.specs.Faults.{IsLeastFault}
-use Rattle.pmp_text.specs.Traces.{after_of, at_row, first_row_fault, is_header, row_fault, row_of_record, trace_meaning, trace_records}
+use Rattle.pmp_text.specs.Traces.{after_of, at_row, first_row_fault, is_header, row_fault, row_of_record, trace_meaning}
+use Rattle.pmp_text.specs.Traces.{trace_records}
 use Rattle.pmp_text.specs.Limits.{trace_limit}
 
 -- what the row before this one asks for; `last` stands before the first row
@@ -13,22 +15,29 @@ after_before last rows (suc index) = option_and_then (λ row. after_of (row_of_r
 
 -- the fault of the row with this index, by itself and the row before
 abbrev pub row_fault_at : (publications : ℕ) → List (List (List ℕ)) → (index : ℕ) → Option TraceFault
-row_fault_at publications rows index = option_and_then (λ row. option_map (at_row (index + 1)) (row_fault publications (after_before None rows index) (row_of_record row))) (slice_get rows index)
+row_fault_at publications rows index = option_and_then
+    (λ row. option_map (at_row (index + 1)) (row_fault publications (after_before None rows index) (row_of_record row)))
+    (slice_get rows index)
 
 -- the first fault is that of the least faulty row, and where there is none, no row is faulty
 abbrev pub FirstRowFaultLaw : Type 0
 FirstRowFaultLaw = (publications : ℕ) (rows : List (List (List ℕ)))
-    → MatchOption (first_row_fault publications None 1 rows) ((index : ℕ) → row_fault_at publications rows index ≡ None) (λ fault. IsLeastFault (row_fault_at publications rows) fault)
+    → MatchOption (first_row_fault publications None 1 rows)
+    ((index : ℕ) → row_fault_at publications rows index ≡ None)
+    (λ fault. IsLeastFault (row_fault_at publications rows) fault)
 
 -- a text with a header that isn't too long is refused with the fault of its least faulty row, where it has one
 abbrev pub LeastRowFaultLaw : Type 0
-LeastRowFaultLaw = (publications : ℕ) (text : List ℕ) (header : List (List ℕ)) (rows : List (List (List ℕ))) (fault : TraceFault)
-    → length text ≤ trace_limit → trace_records text ≡ header ∷ rows → is_header header ≡ true → IsLeastFault (row_fault_at publications rows) fault → trace_meaning publications text ≡ Err fault
+LeastRowFaultLaw = (publications : ℕ) (text : List ℕ) (header : List (List ℕ)) (rows : List (List (List ℕ)))
+    (fault : TraceFault)
+    → length text ≤ trace_limit → trace_records text ≡ header ∷ rows → is_header header ≡ true
+    → IsLeastFault (row_fault_at publications rows) fault → trace_meaning publications text ≡ Err fault
 
 -- each asks for at least as many publications as the one before, the first for `least`, and for no more than there are
 abbrev pub IsInOrder : (publications : ℕ) → (least : ℕ) → List ℕ → Type 0
 IsInOrder publications least [] = ⊤
-IsInOrder publications least (after ∷ more) = (least ≤ after) × (after ≤ publications) × IsInOrder publications after more
+IsInOrder publications least (after ∷ more) =
+    (least ≤ after) × (after ≤ publications) × IsInOrder publications after more
 
 -- what the rows ask for
 abbrev pub afters : List RowFields → List ℕ
@@ -36,4 +45,5 @@ afters rows = map (λ row. row.after) rows
 
 -- the rows of a trace without a fault are in order
 abbrev pub RowOrderLaw : Type 0
-RowOrderLaw = (publications : ℕ) (text : List ℕ) (rows : List RowFields) → trace_meaning publications text ≡ Ok rows → IsInOrder publications 0 (afters rows)
+RowOrderLaw = (publications : ℕ) (text : List ℕ) (rows : List RowFields) → trace_meaning publications text ≡ Ok rows
+    → IsInOrder publications 0 (afters rows)

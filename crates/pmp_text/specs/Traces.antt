@@ -1,5 +1,6 @@
 -- What a trace means: its rows, or its fault.
-use Rattle.std.specs.Prelude.{ℕ, ◌+◌, List, [], ◌∷◌, length, filter_map, Bool, false, ◌&&◌, Option, Some, None, Result, Ok, Err, option_map, option_and_then, nat_lt, codes, bytes_eq, if◌then◌else◌}
+use Rattle.std.specs.Prelude.{ℕ, ◌+◌, List, [], ◌∷◌, length, filter_map, Bool, false, ◌&&◌, Option, Some, None, Result}
+use Rattle.std.specs.Prelude.{Ok, Err, option_map, option_and_then, nat_lt, codes, bytes_eq, if◌then◌else◌}
 use Rattle.std.specs.Option.{option_or}
 use Rattle.csv.specs.Reading.{default_config, records, strip_bom}
 use Rattle.pmp_core.specs.declared.access.Mode.{Mode}
@@ -10,7 +11,8 @@ use Rattle.pmp_core.specs.Accesses.{access_fault}
 use Rattle.pmp_text.specs.declared.trace.row_fields.RowFields.{RowFields}
 use Rattle.pmp_text.specs.declared.trace.Row.{Row}
 use Rattle.pmp_text.specs.declared.trace.TraceKind.{TraceKind}
-use Rattle.pmp_text.specs.declared.trace.TraceKind.TheVariants.{BadHeader, BadRow, BadAfter, Order, BadLength, PastEnd, TooLong}
+use Rattle.pmp_text.specs.declared.trace.TraceKind.TheVariants.{BadHeader, BadRow, BadAfter, Order, BadLength, PastEnd}
+use Rattle.pmp_text.specs.declared.trace.TraceKind.TheVariants.{TooLong}
 use Rattle.pmp_text.specs.declared.trace.TraceFault.{TraceFault}
 use Rattle.pmp_text.specs.AccessWords.{mode_named, kind_named}
 use Rattle.pmp_text.specs.Numbers.{word_number}
@@ -30,12 +32,15 @@ pub record FiveFields : Type 0 where
   pub length : List ℕ
 
 unfoldable pub five_fields : List (List ℕ) → Option FiveFields
-five_fields (after ∷ mode ∷ kind ∷ start ∷ length ∷ []) = Some (record { after = after; mode = mode; kind = kind; start = start; length = length })
+five_fields (after ∷ mode ∷ kind ∷ start ∷ length ∷ []) =
+    Some (record { after = after; mode = mode; kind = kind; start = start; length = length })
 five_fields _ = None
 
 -- the first record names the fields
 abbrev pub names_fields : FiveFields → Bool
-names_fields words = bytes_eq words.after (codes "after") && (bytes_eq words.mode (codes "mode") && (bytes_eq words.kind (codes "kind") && (bytes_eq words.start (codes "start") && bytes_eq words.length (codes "length"))))
+names_fields words = bytes_eq words.after (codes "after")
+    && (bytes_eq words.mode (codes "mode") && (bytes_eq words.kind (codes "kind")
+    && (bytes_eq words.start (codes "start") && bytes_eq words.length (codes "length"))))
 
 abbrev pub is_header : List (List ℕ) → Bool
 is_header fields = elim (five_fields fields) [ Some words ↦ names_fields words | None ↦ false ]
@@ -44,16 +49,24 @@ is_header fields = elim (five_fields fields) [ Some words ↦ names_fields words
 
 -- the fields of a row
 abbrev pub row_fields : Row → RowFields
-row_fields row = record { after = row.after; mode = row.access.mode; kind = row.access.kind; start = row.access.start; length = row.access.length }
+row_fields row = record {
+  after = row.after;
+  mode = row.access.mode;
+  kind = row.access.kind;
+  start = row.access.start;
+  length = row.access.length;
+}
 
 -- what five words say, where each is what its place asks for
 abbrev pub row_of_values : Option ℕ → Option Mode → Option Kind → Option ℕ → Option ℕ → Option RowFields
-row_of_values (Some after) (Some mode) (Some kind) (Some start) (Some length) = Some (record { after = after; mode = mode; kind = kind; start = start; length = length })
+row_of_values (Some after) (Some mode) (Some kind) (Some start) (Some length) =
+    Some (record { after = after; mode = mode; kind = kind; start = start; length = length })
 row_of_values _ _ _ _ _ = None
 
 -- what a record says as a row: three numbers, a mode and a kind
 abbrev pub row_of_fields : FiveFields → Option RowFields
-row_of_fields words = row_of_values (word_number words.after) (mode_named words.mode) (kind_named words.kind) (word_number words.start) (word_number words.length)
+row_of_fields words = row_of_values (word_number words.after) (mode_named words.mode) (kind_named words.kind)
+    (word_number words.start) (word_number words.length)
 
 abbrev pub row_of_record : List (List ℕ) → Option RowFields
 row_of_record fields = option_and_then row_of_fields (five_fields fields)
@@ -91,10 +104,12 @@ abbrev pub at_row : ℕ → TraceKind → TraceFault
 at_row number kind = record { kind = kind; row = number }
 
 -- the fault of the first row that has one; the first row has this number, and the row before asks for `last`
-abbrev pub first_row_fault : (publications : ℕ) → (last : Option ℕ) → (number : ℕ) → List (List (List ℕ)) → Option TraceFault
+abbrev pub first_row_fault : (publications : ℕ) → (last : Option ℕ) → (number : ℕ) → List (List (List ℕ))
+    → Option TraceFault
 first_row_fault publications last number [] = None
 first_row_fault publications last number (row ∷ more) =
-    option_or (option_map (at_row number) (row_fault publications last (row_of_record row))) (first_row_fault publications (after_of (row_of_record row)) (number + 1) more)
+    option_or (option_map (at_row number) (row_fault publications last (row_of_record row)))
+    (first_row_fault publications (after_of (row_of_record row)) (number + 1) more)
 
 -- a fault of a row, else what the rows say
 abbrev pub fault_or_rows : Option TraceFault → List RowFields → Result (List RowFields) TraceFault
@@ -103,14 +118,18 @@ fault_or_rows None rows = Ok rows
 
 -- the rows are numbered from 1, and no row stands before the first one
 abbrev pub rows_meaning : (publications : ℕ) → List (List (List ℕ)) → Result (List RowFields) TraceFault
-rows_meaning publications rows = fault_or_rows (first_row_fault publications None 1 rows) (filter_map row_of_record rows)
+rows_meaning publications rows =
+    fault_or_rows (first_row_fault publications None 1 rows) (filter_map row_of_record rows)
 
 -- the rows stand behind the header
 abbrev pub records_meaning : (publications : ℕ) → List (List (List ℕ)) → Result (List RowFields) TraceFault
 records_meaning publications [] = Err (at_row 0 BadHeader)
-records_meaning publications (header ∷ rows) = if is_header header then rows_meaning publications rows else Err (at_row 0 BadHeader)
+records_meaning publications (header ∷ rows) =
+    if is_header header then rows_meaning publications rows else Err (at_row 0 BadHeader)
 
 -- what a text means beside a script with so many publications; one of more bytes than the limit is too long, whatever
 -- it says
 unfoldable pub trace_meaning : (publications : ℕ) → List ℕ → Result (List RowFields) TraceFault
-trace_meaning publications text = if nat_lt trace_limit (length text) then Err (at_row 0 TooLong) else records_meaning publications (trace_records text)
+trace_meaning publications text =
+    if nat_lt trace_limit (length text) then Err (at_row 0 TooLong)
+    else records_meaning publications (trace_records text)

@@ -73,10 +73,12 @@ fn read_part<R: Read>(reader: &mut R, chunk: &mut [u8], room: u64) -> Result<usi
     requires small { room ≤ MAX_LIMIT }
 
     ensures within { IfOk result (λ count. (count ≤ room) × (count ≤ length chunk.new)) }
-    ensures bytes { IfOk result (λ count. Consumes (R.remaining reader.old) (R.remaining reader.new) (take count chunk.new)) }
+    ensures bytes { IfOk result (λ count. Consumes (R.remaining reader.old) (R.remaining reader.new)
+        (take count chunk.new)) }
     ensures end { IfOk result (λ count. count ≡ 0 → IsAtEnd (R.remaining reader.new)) }
 
-    ensures too_long { result ≡ Err InputFault.TooLong → Takes (R.remaining reader.old) (R.remaining reader.new) (room + 1) }
+    ensures too_long { result ≡ Err InputFault.TooLong
+        → Takes (R.remaining reader.old) (R.remaining reader.new) (room + 1) }
     ensures input { result ≡ Err InputFault.Input → Keeps (R.remaining reader.old) (R.remaining reader.new) }
     ensures no_memory { result ≢ Err InputFault.Memory }
 {

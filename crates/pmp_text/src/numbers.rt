@@ -5,7 +5,8 @@ ghost use Rattle.pmp_text.specs.Numbers.{word_number, numeral};
 
 /// The number with one more digit at its end, if it is below `2^64`.
 fn with_digit(number: u64, radix: u32, digit: u32) -> Option<u64>
-    ensures { MatchOption result (2 ^ 64 ≤ number * radix + digit) (λ longer. (longer ≡ number * radix + digit) × (longer < 2 ^ 64)) }
+    ensures { MatchOption result (2 ^ 64 ≤ number * radix + digit)
+        (λ longer. (longer ≡ number * radix + digit) × (longer < 2 ^ 64)) }
 {
     number
         .checked_mul(u64::from(radix))?

@@ -39,7 +39,7 @@ pub enum TraceKind {
     TooLong,
     /// A vector couldn't grow.
     Memory,
-    /// The crate `csv` told of a failed input.
+    /// The crate `csv` reports a failed input.
     Input,
 }
 

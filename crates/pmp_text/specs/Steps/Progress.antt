@@ -1,5 +1,6 @@
 -- Reading a script line by line, behind its first significant line.
-use Rattle.std.specs.Prelude.{ℕ, List, [], ◌∷◌, ◌++◌, length, Option, Some, None, Result, Ok, Err, nat_lt, unwrap_or, if◌then◌else◌}
+use Rattle.std.specs.Prelude.{ℕ, List, [], ◌∷◌, ◌++◌, length, Option, Some, None, Result, Ok, Err, nat_lt, unwrap_or}
+use Rattle.std.specs.Prelude.{if◌then◌else◌}
 use Rattle.pmp_core.specs.declared.event.Event.{Event}
 use Rattle.pmp_core.specs.declared.event.TheConstants.{BATCH_EVENTS}
 use Rattle.pmp_text.specs.declared.script.ScriptKind.{ScriptKind}
@@ -24,10 +25,18 @@ nothing_read = record { published = []; batch = []; since = None }
 abbrev pub published : Progress → Progress
 published so_far = record { published = so_far.published ++ so_far.batch ∷ []; batch = []; since = None }
 
+-- an event joins the open batch
+abbrev pub with_room : Progress → ℕ → Event → Progress
+with_room so_far number event = record {
+  published = so_far.published;
+  batch = so_far.batch ++ event ∷ [];
+  since = Some (unwrap_or so_far.since number);
+}
+
 -- an event joins the open batch where that has room
 abbrev pub with_event : Progress → ℕ → Event → Result Progress ScriptFault
 with_event so_far number event =
-    if nat_lt (length so_far.batch) BATCH_EVENTS then Ok (record { published = so_far.published; batch = so_far.batch ++ event ∷ []; since = Some (unwrap_or so_far.since number) })
+    if nat_lt (length so_far.batch) BATCH_EVENTS then Ok (with_room so_far number event)
     else Err (at_line number BatchFull)
 
 -- a line with this number was read, which says this

@@ -17,4 +17,5 @@ lines_left left = significant_from left.number left.rest.now
 
 -- five fields as the definitions see them
 abbrev pub seen_five : (Bor (List ℕ) × Bor (List ℕ) × Bor (List ℕ) × Bor (List ℕ) × Bor (List ℕ)) → FiveFields
-seen_five (after, mode, kind, start, length) = record { after = after.now; mode = mode.now; kind = kind.now; start = start.now; length = length.now }
+seen_five (after, mode, kind, start, length) =
+    record { after = after.now; mode = mode.now; kind = kind.now; start = start.now; length = length.now }

@@ -22,7 +22,8 @@ fn write_register(out: &mut Vec<u8>, file: &RegFile, csr: Csr) -> Result<(), NoM
 
 /// Appends the lines of the configuration registers that hold an entry's byte. A register holds eight.
 fn write_cfg_registers(out: &mut Vec<u8>, file: &RegFile) -> Result<(), NoMemory>
-    ensures ok { OnOk result (out.new.items ≡ out.old.items ++ flat_map (register_line file.now) (cfg_registers (length file.now.entries))) }
+    ensures ok { OnOk result (out.new.items ≡ out.old.items
+        ++ flat_map (register_line file.now) (cfg_registers (length file.now.entries))) }
     ensures err { OnErr result (StartsWith out.new.items out.old.items) }
 {
     for place in 0..file.entries().div_ceil(8) {
@@ -33,7 +34,8 @@ fn write_cfg_registers(out: &mut Vec<u8>, file: &RegFile) -> Result<(), NoMemory
 
 /// Appends the lines of the entries' address registers.
 fn write_addr_registers(out: &mut Vec<u8>, file: &RegFile) -> Result<(), NoMemory>
-    ensures ok { OnOk result (out.new.items ≡ out.old.items ++ flat_map (register_line file.now) (addr_registers (length file.now.entries))) }
+    ensures ok { OnOk result (out.new.items ≡ out.old.items
+        ++ flat_map (register_line file.now) (addr_registers (length file.now.entries))) }
     ensures err { OnErr result (StartsWith out.new.items out.old.items) }
 {
     for entry in 0..file.entries() {

@@ -27,9 +27,14 @@ pub struct ScriptBuilder {
 impl Model for ScriptBuilder {
     ghost Value = { Progress };
 
-    ghost view = { λ builder. record { published = map (λ batch. batch.items) builder.published.items; batch = builder.batch.items; since = builder.since } };
+    ghost view = { λ builder. record {
+      published = map (λ batch. batch.items) builder.published.items;
+      batch = builder.batch.items;
+      since = builder.since;
+    } };
 
-    ghost invariant = { λ builder. All (λ batch. length batch.items ≤ BATCH_EVENTS) builder.published.items × (length builder.batch.items ≤ BATCH_EVENTS) };
+    ghost invariant = { λ builder. All (λ batch. length batch.items ≤ BATCH_EVENTS) builder.published.items
+        × (length builder.batch.items ≤ BATCH_EVENTS) };
 }
 
 impl ScriptBuilder {

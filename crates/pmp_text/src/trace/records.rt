@@ -21,7 +21,7 @@ pub fn open_records(alloc: Global, text: &[u8]) -> Reader<&[u8]>
         .from_reader(alloc, text)
 }
 
-/// Reads the next record, and tells whether there was one. After an error the reader is of no use.
+/// Reads the next record, if there is one, and answers whether there was. After an error the reader is of no use.
 pub fn read_record(reader: &mut Reader<&[u8]>, fields: &mut ByteRecord) -> Result<bool, TraceFault>
     requires { IsReading reader.old }
     ensures reads { result ≡ Ok true → IsReading reader.new }

@@ -90,9 +90,10 @@ impl RowFields {
 
 /// The row that a record says, beside a script with so many publications and behind a row that asks for `last`.
 pub fn read_row(fields: &ByteRecord, publications: u64, last: Option<u64>) -> Result<Row, TraceKind>
-    ensures ok { IfOk result (λ row. (row_of_record (fields_of fields.now) ≡ Some (row_fields row)) × (row_fault publications last (row_of_record (fields_of fields.now)) ≡ None)) }
+    ensures ok { IfOk result (λ row. (row_of_record (fields_of fields.now) ≡ Some (row_fields row))
+        × (row_fault publications last (row_of_record (fields_of fields.now)) ≡ None)) }
     ensures err { IfErr result (λ kind. row_fault publications last (row_of_record (fields_of fields.now)) ≡ Some kind) }
 {
-    let said = RowFields::read(fields).ok_or(TraceKind::BadRow)?;
-    said.check(publications, last)
+    let row = RowFields::read(fields).ok_or(TraceKind::BadRow)?;
+    row.check(publications, last)
 }

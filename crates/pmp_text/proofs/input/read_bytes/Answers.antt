@@ -9,7 +9,8 @@ returns-in_err-count g c =
     let old = g.R.Read.remaining c.args.reader.now in
     let new = g.R.Read.remaining c.read_part.new.reader in
     let stopped : c.from_residual.result ≡ Err TooLong → Takes old new (c.args.limit + 1) =
-    λ e. Takes-after _ _ _ _ _ _ c.loop-bytes.invariant.held (c.in_err-count.ensures.too_long (search rules)) (omega arith) in
+    λ e. Takes-after _ _ _ _ _ _ c.loop-bytes.invariant.held (c.in_err-count.ensures.too_long (search rules))
+    (omega arith) in
     record {
       within = search rules;
       whole = search rules;
@@ -26,5 +27,6 @@ returns-in_err-extend_from_slice g c = record {
   too_long = search rules;
   stopped = search rules;
   input = search rules;
-  memory = λ _. TakesAtMost-after _ _ _ _ _ _ _ c.loop-bytes.invariant.held c.in_ok-count.ensures.bytes (omega (arith, c.in_ok-count.ensures.within));
+  memory = λ _. TakesAtMost-after _ _ _ _ _ _ _ c.loop-bytes.invariant.held c.in_ok-count.ensures.bytes
+      (omega (arith, c.in_ok-count.ensures.within));
 }

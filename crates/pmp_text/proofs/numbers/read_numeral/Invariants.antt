@@ -6,4 +6,8 @@ use Rattle.std.proofs.Common.{true}
 use Rattle.pmp_text.proofs.numbers.read_numeral.Given as goal
 
 abbrev pub invariant-loop-byte : goal.invariant-loop-byte
-invariant-loop-byte l = record { value : l.value ≡ digits_value l.radix (take l.byte-index l.digits); digits : list_all (λ byte. is_digit byte l.radix) (take l.byte-index l.digits) ≡ true; small : l.value < 2 ^ 64 }
+invariant-loop-byte l = record {
+  value : l.value ≡ digits_value l.radix (take l.byte-index l.digits);
+  digits : list_all (λ byte. is_digit byte l.radix) (take l.byte-index l.digits) ≡ true;
+  small : l.value < 2 ^ 64;
+}

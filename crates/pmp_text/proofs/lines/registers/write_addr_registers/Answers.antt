@@ -5,4 +5,5 @@ use Rattle.pmp_text.proofs.lines.registers.write_addr_registers.Goals as goal
 
 pub loop-entry-preserved : goal.loop-entry-preserved
 loop-entry-preserved c =
-    lines_grow (register_line c.args.file.now) Addr c.args.out.now.items _ _ c.loop-entry.entry c.in_ok-write_register.ensures.ok c.loop-entry.invariant
+    lines_grow (register_line c.args.file.now) Addr c.args.out.now.items _ _ c.loop-entry.entry
+    c.in_ok-write_register.ensures.ok c.loop-entry.invariant

@@ -15,7 +15,8 @@ loop-run-preserved c =
     let before = c.args.out.now.items in
     let i = c.loop-run.run-index in
     let runs = c.runs-run-items.result.now in
-    c.in_ok-write_run.ensures.ok ∙ ap (λ (l : List ℕ). l ++ line (get_or runs i none)) c.loop-run.invariant ∙ flat_map_more line before (take i runs) (get_or runs i none)
+    c.in_ok-write_run.ensures.ok ∙ ap (λ (l : List ℕ). l ++ line (get_or runs i none)) c.loop-run.invariant
+    ∙ flat_map_more line before (take i runs) (get_or runs i none)
     ∙ ap (λ written. before ++ flat_map line written) (sym (take_more runs i none c.loop-run-test.true))
 
 pub returns-clause-ok : goal.returns-clause-ok

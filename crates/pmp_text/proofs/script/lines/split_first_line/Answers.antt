@@ -8,7 +8,9 @@ returns-then-is_empty-clause-lines c = no_lines c.args.text.now (grind (arith, c
 
 pub returns-clause-lines : goal.returns-clause-lines
 returns-clause-lines c =
-    rw (c.without_carriage_return.ensures, c.split_at_line_feed.ensures.line, c.split_at_line_feed.ensures.rest) (first_line c.args.text.now (grind (arith, common_steps)))
+    rw (c.without_carriage_return.ensures, c.split_at_line_feed.ensures.line, c.split_at_line_feed.ensures.rest)
+    (first_line c.args.text.now (grind (arith, common_steps)))
 
 pub returns-clause-shorter : goal.returns-clause-shorter
-returns-clause-shorter c = rw c.split_at_line_feed.ensures.rest (after_shorter c.args.text.now (grind (arith, common_steps)))
+returns-clause-shorter c = rw c.split_at_line_feed.ensures.rest
+    (after_shorter c.args.text.now (grind (arith, common_steps)))
