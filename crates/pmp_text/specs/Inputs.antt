@@ -5,7 +5,8 @@ use Rattle.pmp_text.specs.Bytes.{Takes, TakesAtMost}
 use Rattle.pmp_text.specs.declared.input.InputFault.{InputFault}
 use Rattle.pmp_text.specs.declared.input.InputFault.TheVariants.{TooLong, Input, Memory}
 
--- the reader had the `old` bytes left and has the `new` ones: it gave all, or there were more than the limit, or it failed
+-- the reader had the `old` bytes left and has the `new` ones: it gave all, or there were more than the limit, or it
+-- failed
 pub record IsReadWhole (limit : ℕ) (old new : Option (List ℕ))
     (result : Result (Vec ℕ Global) InputFault) : Type 0 where
   pub within : IfOk result (λ bytes. length bytes.items ≤ limit)

@@ -116,7 +116,8 @@ publications lines = map (filter_map event_of) (but_last (slice_split is_publish
 -- the number of the first event line behind the last `publish`
 abbrev pub first_unpublished : List Line → Option ℕ
 first_unpublished lines =
-    option_map (λ line. line.number) (find (λ line. is_some (event_of line)) (last_piece (slice_split is_publish lines)))
+    option_map (λ line. line.number)
+    (find (λ line. is_some (event_of line)) (last_piece (slice_split is_publish lines)))
 
 -- ---- the meaning
 

@@ -19,8 +19,8 @@ fn refused(kind: ScriptKind, line: u64) -> Outcome {
 }
 
 /// Two publications of two writes each, 114 bytes.
-const SCRIPT: &[u8; 114] =
-    b"pmp 1\nwrite pmpaddr0 0x200001ff\nwrite pmpcfg0 0x19\npublish\nwrite pmpcfg0 0x1900\nwrite pmpaddr1 0x200001ff\npublish\n";
+const SCRIPT: &[u8; 114] = b"pmp 1\nwrite pmpaddr0 0x200001ff\nwrite pmpcfg0 0x19\npublish\n\
+      write pmpcfg0 0x1900\nwrite pmpaddr1 0x200001ff\npublish\n";
 
 #[test]
 fn each_beginning_of_a_script(rt: HostRuntime) -> Result<(), Fail> {

@@ -33,7 +33,8 @@ fn without_carriage_return(line: &[u8]) -> &[u8]
 
 /// The first line of a text and what stands after it, or nothing where the text is empty.
 pub fn split_first_line(text: &[u8]) -> Option<(&[u8], &[u8])>
-    ensures lines { MatchOption result (lines text.now ≡ []) (λ parts. lines text.now ≡ parts.0.now ∷ lines parts.1.now) }
+    ensures lines { MatchOption result (lines text.now ≡ [])
+        (λ parts. lines text.now ≡ parts.0.now ∷ lines parts.1.now) }
     ensures shorter { IfSome result (λ parts. length parts.1.now < length text.now) }
 {
     if text.is_empty() {

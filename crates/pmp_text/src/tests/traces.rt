@@ -12,7 +12,8 @@ const HEADER: &str = "after,mode,kind,start,length\n";
 
 /// Four rows beside a script with two publications.
 const TRACE: &[u8; 118] =
-    b"after,mode,kind,start,length\n0,U,load,0x80000000,4\n1,U,load,0x80000000,4\n1,U,store,0x80000000,4\n2,U,load,0x80000000,4\n";
+    b"after,mode,kind,start,length\n0,U,load,0x80000000,4\n1,U,load,0x80000000,4\n\
+      1,U,store,0x80000000,4\n2,U,load,0x80000000,4\n";
 
 /// How many rows a text has beside a script with two publications, or its fault.
 fn outcome(alloc: Global, text: &[u8]) -> Outcome {
@@ -61,9 +62,13 @@ fn four_rows_in_any_layout(rt: HostRuntime) -> Result<(), Fail> {
     ];
     let texts: [&[u8]; 4] = [
         TRACE,
-        b"after,mode,kind,start,length\n0,U,load,0x80000000,4\n1,U,load,0x80000000,4\n1,U,store,0x80000000,4\n2,U,load,0x80000000,4",
-        b"after,mode,kind,start,length\r\n0,U,load,0x80000000,4\r\n1,U,load,0x80000000,4\r\n1,U,store,0x80000000,4\r\n2,U,load,0x80000000,4\r\n",
-        b"\"after\",\"mode\",\"kind\",\"start\",\"length\"\n\"0\",\"U\",\"load\",\"0x80000000\",\"4\"\n\"1\",\"U\",\"load\",\"0x80000000\",\"4\"\n\"1\",\"U\",\"store\",\"0x80000000\",\"4\"\n\"2\",\"U\",\"load\",\"0x80000000\",\"4\"\n",
+        b"after,mode,kind,start,length\n0,U,load,0x80000000,4\n1,U,load,0x80000000,4\n\
+          1,U,store,0x80000000,4\n2,U,load,0x80000000,4",
+        b"after,mode,kind,start,length\r\n0,U,load,0x80000000,4\r\n1,U,load,0x80000000,4\r\n\
+          1,U,store,0x80000000,4\r\n2,U,load,0x80000000,4\r\n",
+        b"\"after\",\"mode\",\"kind\",\"start\",\"length\"\n\
+          \"0\",\"U\",\"load\",\"0x80000000\",\"4\"\n\"1\",\"U\",\"load\",\"0x80000000\",\"4\"\n\
+          \"1\",\"U\",\"store\",\"0x80000000\",\"4\"\n\"2\",\"U\",\"load\",\"0x80000000\",\"4\"\n",
     ];
     for text in texts {
         let read = read_trace(rt.alloc(), text, 2)?;

@@ -23,7 +23,8 @@ fn read_rows(
     publications: u64,
 ) -> Result<Vec<Row>, TraceFault>
     requires { IsReading reader.old }
-    ensures { GivesRows (λ rows. map row_fields rows.items) result (rows_meaning publications (records_left reader.old)) }
+    ensures { GivesRows (λ rows. map row_fields rows.items) result
+        (rows_meaning publications (records_left reader.old)) }
 {
     let mut rows = Vec::new(alloc);
     let mut last = None;
@@ -40,8 +41,8 @@ fn read_rows(
 }
 
 /// The rows of the trace that a text describes, beside a script with so many publications, else its first fault. The
-/// time is linear in the text, and only the rows and one record take memory: where they can't grow, `Memory` is answered
-/// in place of any fault further on.
+/// time is linear in the text, and only the rows and one record take memory: where they can't grow, `Memory` is
+/// answered in place of any fault further on.
 pub fn read_trace(alloc: Global, text: &[u8], publications: u64) -> Result<Vec<Row>, TraceFault>
     ensures given { GivesRows (λ rows. map row_fields rows.items) result (trace_meaning publications text.now) }
     ensures ordered { IfOk result (λ rows. IsInOrder publications 0 (afters (map row_fields rows.items))) }

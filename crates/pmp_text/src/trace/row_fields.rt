@@ -92,7 +92,8 @@ impl RowFields {
 pub fn read_row(fields: &ByteRecord, publications: u64, last: Option<u64>) -> Result<Row, TraceKind>
     ensures ok { IfOk result (λ row. (row_of_record (fields_of fields.now) ≡ Some (row_fields row))
         × (row_fault publications last (row_of_record (fields_of fields.now)) ≡ None)) }
-    ensures err { IfErr result (λ kind. row_fault publications last (row_of_record (fields_of fields.now)) ≡ Some kind) }
+    ensures err { IfErr result (λ kind.
+        row_fault publications last (row_of_record (fields_of fields.now)) ≡ Some kind) }
 {
     let row = RowFields::read(fields).ok_or(TraceKind::BadRow)?;
     row.check(publications, last)
