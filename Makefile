@@ -1,21 +1,33 @@
-# make install PREFIX=..  puts the proved program `pmp` on a user's path
+# make                      builds the program, where that isn't done
+# make install PREFIX=..    puts the program, its man page and docs/FORMATS.md on a user's path; make uninstall takes them away
+# make test                 proves and tests everything, then tries the program, the launcher and the documents
 PREFIX ?= /usr/local
 PROGRAM = crates/pmp_tool/out/pmp_tool
+BIN = $(DESTDIR)$(PREFIX)/bin
+DOC = $(DESTDIR)$(PREFIX)/share/doc/pmp
+MAN = $(DESTDIR)$(PREFIX)/share/man/man1
 
-.PHONY: test build install bench bench-decide bench-audit
+.PHONY: build test install uninstall bench bench-decide bench-audit
 
-# Proves and tests everything, then runs the program and each example of the documents.
+# The launcher builds the program, and then the program says its version.
+build:
+	@./pmp --version
+
 test:
 	rt ci
 	checks/program
-
-# The launcher builds the program where that is due.
-build:
-	@./pmp check stdin U load 0x80000ff8 8 < examples/first.pmp
+	checks/launcher
+	checks/documents
 
 install: build
-	install -d "$(DESTDIR)$(PREFIX)/bin"
-	install -m 755 $(PROGRAM) "$(DESTDIR)$(PREFIX)/bin/pmp"
+	@install -d "$(BIN)" "$(DOC)" "$(MAN)"
+	@install -m 755 $(PROGRAM) "$(BIN)/pmp" && echo "installed $(BIN)/pmp"
+	@install -m 644 docs/FORMATS.md "$(DOC)/FORMATS.md" && echo "installed $(DOC)/FORMATS.md"
+	@install -m 644 docs/pmp.1 "$(MAN)/pmp.1" && echo "installed $(MAN)/pmp.1"
+
+uninstall:
+	rm -f "$(BIN)/pmp" "$(DOC)/FORMATS.md" "$(MAN)/pmp.1"
+	@rmdir "$(DOC)" 2>/dev/null || true
 
 # Proves and builds the library and the program, and times them beside plain C.
 bench: bench-decide bench-audit
