@@ -29,7 +29,7 @@ uninstall:
 	rm -f "$(BIN)/pmp" "$(DOC)/FORMATS.md" "$(MAN)/pmp.1"
 	@rmdir "$(DOC)" 2>/dev/null || true
 
-# Proves and builds the library and the program, and times them beside plain C.
+# Proves and builds the library and the program, and compares their times with plain C.
 bench: bench-decide bench-audit
 
 bench-decide:
