@@ -4,8 +4,8 @@ use Rattle.std.specs.List.{AllZip, zip, enumerate_from, flat_map}
 use Rattle.pmp_core.specs.declared.decision.Decision.{Decision}
 use Rattle.pmp_core.specs.declared.event.Event.{Event}
 use Rattle.pmp_core.specs.declared.register_file.TheConstants.{ENTRIES}
-use Rattle.pmp_core.specs.Deciding.{IsDecision}
-use Rattle.pmp_core.specs.Registers.{RegisterFile}
+use Rattle.pmp_core.specs.Decision.{IsDecision}
+use Rattle.pmp_core.specs.RegisterFile.{RegisterFile}
 use Rattle.pmp_text.specs.declared.trace.Row.{Row}
 use Rattle.pmp_text.specs.declared.trace.TraceFault.{TraceFault}
 use Rattle.pmp_text.specs.Outcomes.{no_input_for_rows}

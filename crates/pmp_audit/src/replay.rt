@@ -1,7 +1,7 @@
 //! The register file as a script's publications are done.
 
 ghost use Rattle.std.specs.Prelude.{◌≡◌, ◌<◌, ◌≤◌, IfOk, IfErr, length};
-ghost use Rattle.pmp_core.specs.Deciding.{IsDecision};
+ghost use Rattle.pmp_core.specs.Decision.{IsDecision};
 ghost use Rattle.pmp_audit.specs.AskedFile.{asked_count};
 ghost use Rattle.pmp_audit.specs.Replay.{file_at};
 ghost use Rattle.pmp_audit.specs.declared.fault.AuditFault.TheVariants.{BadAfter};

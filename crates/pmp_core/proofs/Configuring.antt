@@ -9,8 +9,8 @@ use Rattle.std.specs.List.{range_with_len}
 use Rattle.std.proofs.lemmas.Bool.Decides.{nat_tests}
 use Rattle.pmp_core.specs.declared.configuration.Configuration.{Configuration}
 use Rattle.pmp_core.specs.declared.entry.Entry.{Entry}
-use Rattle.pmp_core.specs.Registers.{RegisterFile, reset_entry, entry_at}
-use Rattle.pmp_core.specs.Writing.{holds_byte_of, configured, stored_over}
+use Rattle.pmp_core.specs.RegisterFile.{RegisterFile, reset_entry, entry_at}
+use Rattle.pmp_core.specs.RegisterWrite.{holds_byte_of, configured, stored_over}
 
 -- the first of the eight entries of register q are as new, as many as are done, and all others as before
 pub record Configured (file : RegisterFile) (q value : ℕ) (entries : List Entry) (done : ℕ) : Type 0 where

@@ -12,9 +12,9 @@ use Rattle.pmp_core.specs.declared.decision.Cause.TheVariants.{Rule, Split, NoMa
 use Rattle.pmp_core.specs.declared.decision.Decision.{Decision}
 use Rattle.pmp_core.specs.declared.entry.Entry.{Entry}
 use Rattle.pmp_core.specs.declared.range.ByteRange.{ByteRange}
-use Rattle.pmp_core.specs.Registers.{RegisterFile, reset_entry, HasAddresses}
+use Rattle.pmp_core.specs.RegisterFile.{RegisterFile, reset_entry, HasAddresses}
 use Rattle.pmp_core.specs.Matching.{Matches}
-use Rattle.pmp_core.specs.Deciding.{IsLeast, IsOwner, Touches, Covers, IsDecider, IsDecision, IsDecisionBy}
+use Rattle.pmp_core.specs.Decision.{IsLeast, IsOwner, Touches, Covers, IsDecider, IsDecision, IsDecisionBy}
 use Rattle.pmp_core.specs.Rights.{allows, rights}
 use Rattle.pmp_core.specs.Ranges.{IsInRange, range_of, ranges_of, is_touched, is_covered, decision_in, decision_from}
 use Rattle.pmp_core.specs.Ranges.{decision_of}

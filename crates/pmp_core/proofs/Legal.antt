@@ -13,11 +13,11 @@ use Rattle.pmp_core.specs.declared.csr.Csr.TheVariants.{Cfg, Addr, Mseccfg}
 use Rattle.pmp_core.specs.declared.entry.Entry.{Entry}
 use Rattle.pmp_core.specs.declared.event.Event.{Event}
 use Rattle.pmp_core.specs.declared.event.Event.TheVariants.{Write, Reset}
-use Rattle.pmp_core.specs.Bytes.{configuration_of, is_reserved}
-use Rattle.pmp_core.specs.Registers.{RegisterFile, reset_entry, reset_file, entry_at, IsLegal}
+use Rattle.pmp_core.specs.Configuration.{configuration_of, is_reserved}
+use Rattle.pmp_core.specs.RegisterFile.{RegisterFile, reset_entry, reset_file, entry_at, IsLegal}
 use Rattle.pmp_core.specs.Histories.{LegalLaw}
-use Rattle.pmp_core.specs.Writing.{without_reserved, stored_over, stored, holds_byte_of, configured, is_address_frozen}
-use Rattle.pmp_core.specs.Writing.{written, step}
+use Rattle.pmp_core.specs.RegisterWrite.{without_reserved, stored_over, stored, holds_byte_of, configured, is_address_frozen}
+use Rattle.pmp_core.specs.RegisterWrite.{written, step}
 
 -- ---- reset
 

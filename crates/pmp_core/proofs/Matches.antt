@@ -8,7 +8,7 @@ use Rattle.std.proofs.Math.Pow.{pow_pos}
 use Rattle.pmp_core.specs.declared.configuration.AddressMatching.{AddressMatching}
 use Rattle.pmp_core.specs.declared.configuration.AddressMatching.TheVariants.{Off, Tor, Na4, Napot}
 use Rattle.pmp_core.specs.declared.entry.Entry.{Entry}
-use Rattle.pmp_core.specs.Registers.{reset_entry, HasAddresses}
+use Rattle.pmp_core.specs.RegisterFile.{reset_entry, HasAddresses}
 use Rattle.pmp_core.specs.Matching.{InNapot, MatchesBy, Matches}
 use Rattle.pmp_core.specs.Ranges.{IsInRange, AreRanges, napot_range, range_by, range_of, ranges_of}
 use Rattle.pmp_core.proofs.Places.{no_range, range_at, length-ranges_of}

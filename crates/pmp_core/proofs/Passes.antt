@@ -4,7 +4,7 @@ use Rattle.std.proofs.Common.{drop-cons}
 use Rattle.std.proofs.Math.ListN.{drop_of_length-le}
 use Rattle.pmp_core.specs.declared.access.Access.{Access}
 use Rattle.pmp_core.specs.declared.range.ByteRange.{ByteRange}
-use Rattle.pmp_core.specs.Registers.{RegisterFile}
+use Rattle.pmp_core.specs.RegisterFile.{RegisterFile}
 use Rattle.pmp_core.specs.declared.decision.Cause.TheVariants.{NoMatch}
 use Rattle.pmp_core.specs.Rights.{allows, default_rights}
 use Rattle.pmp_core.specs.Ranges.{is_touched, decision_in, decision_from}

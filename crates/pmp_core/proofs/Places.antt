@@ -6,7 +6,7 @@ use Rattle.std.specs.List.{range_with_len}
 use Rattle.std.proofs.lemmas.List.FromFn.{fill_by_all, length-map-range_with_len, get_or-map-range_with_len}
 use Rattle.pmp_core.specs.declared.entry.Entry.{Entry}
 use Rattle.pmp_core.specs.declared.range.ByteRange.{ByteRange}
-use Rattle.pmp_core.specs.Registers.{reset_entry, entry_at, HasAddresses}
+use Rattle.pmp_core.specs.RegisterFile.{reset_entry, entry_at, HasAddresses}
 use Rattle.pmp_core.specs.Matching.{low_address}
 use Rattle.pmp_core.specs.Ranges.{range_of, ranges_of}
 

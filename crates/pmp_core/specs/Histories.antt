@@ -2,8 +2,8 @@
 use Rattle.std.specs.Prelude.{ℕ, List, fold}
 use Rattle.std.specs.List.{flat_map}
 use Rattle.pmp_core.specs.declared.event.Event.{Event}
-use Rattle.pmp_core.specs.Registers.{RegisterFile, reset_file, IsLegal}
-use Rattle.pmp_core.specs.Writing.{step}
+use Rattle.pmp_core.specs.RegisterFile.{RegisterFile, reset_file, IsLegal}
+use Rattle.pmp_core.specs.RegisterWrite.{step}
 
 -- the file of n entries that reset and then these events give
 abbrev pub replay : (n : ℕ) → List Event → RegisterFile

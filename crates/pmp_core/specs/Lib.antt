@@ -1,15 +1,17 @@
-pub mod Accesses
-pub mod Csrs
-pub mod Faults
-pub mod Bytes
-pub mod Registers
+-- What a reader has to believe: the manual's rules.
+pub mod Access
+pub mod Csr
+pub mod Configuration
 pub mod Mseccfg
+pub mod RegisterFile
 pub mod Matching
 pub mod Perms
 pub mod Rights
-pub mod Deciding
-pub mod Writing
-pub mod Reading
-pub mod Ranges
+pub mod Decision
+pub mod FaultCode
+pub mod RegisterWrite
+pub mod RegisterValue
 pub mod Histories
-pub mod Locking
+pub mod LockLaw
+-- How decisions are computed: a law says that they are the same.
+pub mod Ranges

@@ -3,7 +3,7 @@ use Rattle.std.specs.Prelude.{◌≡◌, ℕ, zero, suc, ◌+◌, ◌-◌, ◌*�
 use Rattle.pmp_core.specs.declared.configuration.AddressMatching.{AddressMatching}
 use Rattle.pmp_core.specs.declared.configuration.AddressMatching.TheVariants.{Off, Tor, Na4, Napot}
 use Rattle.pmp_core.specs.declared.entry.Entry.{Entry}
-use Rattle.pmp_core.specs.Registers.{entry_at}
+use Rattle.pmp_core.specs.RegisterFile.{entry_at}
 
 -- the address register before it, and 0 before the first (3.7.1.1, top of range)
 abbrev pub low_address : List Entry → ℕ → ℕ

@@ -1,7 +1,7 @@
 -- The bits of mseccfg (Smepmp).
 use Rattle.std.specs.Prelude.{ℕ, ◌+◌, ◌*◌, ◌/◌, ◌%◌, Bool, not, ◌&&◌, ◌||◌, ◌==◌}
 use Rattle.pmp_core.specs.declared.mseccfg.MseccfgFields.{MseccfgFields}
-use Rattle.pmp_core.specs.Bytes.{bit_of}
+use Rattle.pmp_core.specs.Configuration.{bit_of}
 
 -- MML is bit 0, MMWP is bit 1, RLB is bit 2
 abbrev pub mseccfg_value : MseccfgFields → ℕ

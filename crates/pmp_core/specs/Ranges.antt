@@ -10,7 +10,7 @@ use Rattle.pmp_core.specs.declared.decision.Cause.TheVariants.{Rule, Split, NoMa
 use Rattle.pmp_core.specs.declared.decision.Decision.{Decision}
 use Rattle.pmp_core.specs.declared.entry.Entry.{Entry}
 use Rattle.pmp_core.specs.declared.range.ByteRange.{ByteRange}
-use Rattle.pmp_core.specs.Registers.{RegisterFile, entry_at}
+use Rattle.pmp_core.specs.RegisterFile.{RegisterFile, entry_at}
 use Rattle.pmp_core.specs.Matching.{Matches, low_address}
 use Rattle.pmp_core.specs.Rights.{allows, rights, default_rights}
 

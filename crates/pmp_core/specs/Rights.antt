@@ -6,8 +6,8 @@ use Rattle.pmp_core.specs.declared.access.Kind.{Kind}
 use Rattle.pmp_core.specs.declared.access.Kind.TheVariants.{Fetch, Load, Store}
 use Rattle.pmp_core.specs.declared.configuration.Configuration.{Configuration}
 use Rattle.pmp_core.specs.declared.perms.Perms.{Perms}
-use Rattle.pmp_core.specs.Bytes.{bit_of}
-use Rattle.pmp_core.specs.Registers.{RegisterFile, entry_at, IsLegal}
+use Rattle.pmp_core.specs.Configuration.{bit_of}
+use Rattle.pmp_core.specs.RegisterFile.{RegisterFile, entry_at, IsLegal}
 
 pub record Rights : Type 0 where
   pub read : Bool

@@ -54,7 +54,7 @@ pub enum AccessFault {
 }
 
 impl Access {
-    ghost use Rattle.pmp_core.specs.Accesses.{access_fault, IsAccess};
+    ghost use Rattle.pmp_core.specs.Access.{access_fault, IsAccess};
 
     /// The access of `length` bytes from byte address `start` on. The length is tested first.
     pub fn new(mode: Mode, kind: Kind, start: u64, length: u64) -> Result<Access, AccessFault>

@@ -1,7 +1,7 @@
 //! Configuration bytes, decoded.
 
 ghost use Rattle.std.specs.Prelude.{◌≡◌};
-ghost use Rattle.pmp_core.specs.Bytes.{configuration_of, byte_of, is_reserved};
+ghost use Rattle.pmp_core.specs.Configuration.{configuration_of, byte_of, is_reserved};
 
 /// How an entry's address register is read: the field A (Volume II, 3.7.1.1).
 #[derive(Clone, Copy, Debug, PartialEq, Eq)]

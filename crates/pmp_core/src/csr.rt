@@ -1,7 +1,7 @@
 //! The unit's control and status registers.
 
 ghost use Rattle.std.specs.Prelude.{◌≡◌};
-ghost use Rattle.pmp_core.specs.Csrs.{numbered};
+ghost use Rattle.pmp_core.specs.Csr.{numbered};
 
 /// A PMP register (Volume II, 3.7.1), or `mseccfg` (Smepmp). A value that names none, such as `Cfg(3)`, reads zero, and
 /// writing it changes nothing.

@@ -1,7 +1,7 @@
 //! What the unit answers.
 
 ghost use Rattle.std.specs.Prelude.{◌≡◌};
-ghost use Rattle.pmp_core.specs.Faults.{fault_of};
+ghost use Rattle.pmp_core.specs.FaultCode.{fault_of};
 
 use crate::access::{Access, Kind};
 

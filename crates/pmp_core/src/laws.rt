@@ -4,12 +4,12 @@ ghost use Rattle.std.specs.Prelude.{◌≡◌, ℕ, ◌<◌, List, Option, lengt
 ghost use Rattle.pmp_core.specs.declared.access.Access.{Access};
 ghost use Rattle.pmp_core.specs.declared.decision.Decision.{Decision};
 ghost use Rattle.pmp_core.specs.declared.entry.Entry.{Entry};
-ghost use Rattle.pmp_core.specs.Registers.{RegisterFile, HasAddresses};
+ghost use Rattle.pmp_core.specs.RegisterFile.{RegisterFile, HasAddresses};
 ghost use Rattle.pmp_core.specs.Matching.{Matches};
-ghost use Rattle.pmp_core.specs.Deciding.{IsOwner, IsDecider, IsDecision};
+ghost use Rattle.pmp_core.specs.Decision.{IsOwner, IsDecider, IsDecision};
 ghost use Rattle.pmp_core.specs.Rights.{BarredRulesLaw, StoreLaw};
 ghost use Rattle.pmp_core.specs.Histories.{LegalLaw};
-ghost use Rattle.pmp_core.specs.Locking.{LockLaw};
+ghost use Rattle.pmp_core.specs.LockLaw.{LockLaw};
 ghost use Rattle.pmp_core.specs.Ranges.{decision_of};
 
 /// What is computed from the entries' ranges is the manual's decision.

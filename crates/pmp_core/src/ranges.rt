@@ -1,7 +1,7 @@
 //! The ranges of all entries.
 
 ghost use Rattle.std.specs.Prelude.{◌≡◌, ◌<◌, ◌^◌, length};
-ghost use Rattle.pmp_core.specs.Registers.{HasAddresses};
+ghost use Rattle.pmp_core.specs.RegisterFile.{HasAddresses};
 ghost use Rattle.pmp_core.specs.Ranges.{ranges_of};
 
 use crate::entry::Entry;

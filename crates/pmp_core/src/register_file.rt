@@ -1,12 +1,12 @@
 //! The register file.
 
 ghost use Rattle.std.specs.Prelude.{◌≡◌, ◌<◌, ◌^◌, ◌↔◌, IsTrue, length, fold};
-ghost use Rattle.pmp_core.specs.Registers.{IsLegal, reset_file, is_frozen};
+ghost use Rattle.pmp_core.specs.RegisterFile.{IsLegal, reset_file, is_frozen};
 ghost use Rattle.pmp_core.specs.Matching.{Matches};
-ghost use Rattle.pmp_core.specs.Deciding.{IsDecision};
+ghost use Rattle.pmp_core.specs.Decision.{IsDecision};
 ghost use Rattle.pmp_core.specs.Rights.{perms_of, rights, default_rights};
-ghost use Rattle.pmp_core.specs.Writing.{step};
-ghost use Rattle.pmp_core.specs.Reading.{register_value};
+ghost use Rattle.pmp_core.specs.RegisterWrite.{step};
+ghost use Rattle.pmp_core.specs.RegisterValue.{register_value};
 ghost use Rattle.pmp_core.specs.Ranges.{AreRanges, decision_of};
 
 use crate::access::{Access, Mode};
@@ -38,7 +38,7 @@ impl Model for RegFile {
     ghost use Rattle.std.specs.Prelude.{◌≡◌, length};
     ghost use Rattle.std.proofs.Common.{sym, ap};
     ghost use Rattle.pmp_core.specs.declared.register_file.TheConstants.{ENTRIES};
-    ghost use Rattle.pmp_core.specs.Registers.{RegisterFile, file_of, IsLegal};
+    ghost use Rattle.pmp_core.specs.RegisterFile.{RegisterFile, file_of, IsLegal};
     ghost use Rattle.pmp_core.specs.Ranges.{ranges_of};
 
     ghost Value = { RegisterFile };

@@ -1,8 +1,8 @@
 //! What a register reads.
 
 ghost use Rattle.std.specs.Prelude.{◌≡◌, ◌*◌};
-ghost use Rattle.pmp_core.specs.Registers.{file_of};
-ghost use Rattle.pmp_core.specs.Reading.{configuration_word, register_value};
+ghost use Rattle.pmp_core.specs.RegisterFile.{file_of};
+ghost use Rattle.pmp_core.specs.RegisterValue.{configuration_word, register_value};
 
 use crate::csr::Csr;
 use crate::entry::Entry;

@@ -1,9 +1,9 @@
 //! What a write to a register leaves.
 
 ghost use Rattle.std.specs.Prelude.{◌≡◌, ◌<◌, ◌%◌, length};
-ghost use Rattle.pmp_core.specs.Registers.{file_of};
-ghost use Rattle.pmp_core.specs.Writing.{without_reserved, stored_over, configurations_written, is_address_frozen};
-ghost use Rattle.pmp_core.specs.Writing.{address_written, is_any_locked, written};
+ghost use Rattle.pmp_core.specs.RegisterFile.{file_of};
+ghost use Rattle.pmp_core.specs.RegisterWrite.{without_reserved, stored_over, configurations_written, is_address_frozen};
+ghost use Rattle.pmp_core.specs.RegisterWrite.{address_written, is_any_locked, written};
 
 use crate::configuration::{AddressMatching, Configuration};
 use crate::csr::Csr;

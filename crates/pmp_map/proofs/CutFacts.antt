@@ -5,7 +5,7 @@ use Rattle.std.proofs.Math.Dec.{eqb}
 use Rattle.std.proofs.lemmas.Bool.{cases_lt, eqb-true}
 use Rattle.std.proofs.lemmas.List.{get_or_past}
 use Rattle.pmp_core.specs.declared.range.ByteRange.{ByteRange}
-use Rattle.pmp_core.specs.Deciding.{IsLeast}
+use Rattle.pmp_core.specs.Decision.{IsLeast}
 use Rattle.pmp_core.specs.Ranges.{IsInRange, range_in}
 use Rattle.pmp_map.specs.Owners.{IsOwnerIn, OwnsBytes}
 

@@ -4,9 +4,9 @@ use Rattle.std.proofs.Common.{◌∙◌, arith, inl, inr}
 use Rattle.std.proofs.lemmas.Bool.{cases_lt}
 use Rattle.pmp_core.specs.declared.access.Access.{Access}
 use Rattle.pmp_core.specs.declared.entry.Entry.{Entry}
-use Rattle.pmp_core.specs.Registers.{RegisterFile}
+use Rattle.pmp_core.specs.RegisterFile.{RegisterFile}
 use Rattle.pmp_core.specs.Matching.{Matches}
-use Rattle.pmp_core.specs.Deciding.{IsByteOf, IsLeast, IsOwner, Covers, IsDecision}
+use Rattle.pmp_core.specs.Decision.{IsByteOf, IsLeast, IsOwner, Covers, IsDecision}
 use Rattle.pmp_map.specs.declared.run.Run.{Run}
 use Rattle.pmp_map.specs.Answers.{decision_by, refusal_by}
 use Rattle.pmp_map.specs.Runs.{IsInRun, run_at, AreRuns}

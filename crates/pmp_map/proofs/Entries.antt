@@ -6,14 +6,14 @@ use Rattle.std.proofs.lemmas.Bool.{cases_lt}
 use Rattle.std.proofs.lemmas.List.{get_or_past}
 use Rattle.pmp_core.specs.declared.entry.Entry.{Entry}
 use Rattle.pmp_core.specs.declared.range.ByteRange.{ByteRange}
-use Rattle.pmp_core.specs.Deciding.{IsOwner}
+use Rattle.pmp_core.specs.Decision.{IsOwner}
 use Rattle.pmp_core.specs.Matching.{Matches}
-use Rattle.pmp_core.specs.Registers.{HasAddresses}
+use Rattle.pmp_core.specs.RegisterFile.{HasAddresses}
 use Rattle.pmp_core.specs.Ranges.{IsInRange, range_in, ranges_of, AreRanges}
 use Rattle.pmp_core.proofs.Matches.{are_ranges}
 use Rattle.pmp_map.specs.declared.run.Run.{Run}
 use Rattle.pmp_map.specs.Owners.{IsOwnerIn}
-use Rattle.pmp_map.specs.Maps.{map_run}
+use Rattle.pmp_map.specs.Tables.{map_run}
 use Rattle.pmp_map.specs.Runs.{AreRunsTo, AreRuns, HasOwnersBelow}
 use Rattle.pmp_map.proofs.CutFacts.{least_alike}
 use Rattle.pmp_map.proofs.FewRuns.{few_runs}

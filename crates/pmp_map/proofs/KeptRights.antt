@@ -3,7 +3,7 @@ use Rattle.std.proofs.Common.{rules, ◌≡◌, ℕ, Bool, Option, Some, None, r
 use Rattle.pmp_core.specs.declared.access.Mode.{Mode}
 use Rattle.pmp_core.specs.declared.access.Mode.TheVariants.{M, S, U}
 use Rattle.pmp_core.specs.declared.configuration.Configuration.{Configuration}
-use Rattle.pmp_core.specs.Registers.{RegisterFile, entry_at}
+use Rattle.pmp_core.specs.RegisterFile.{RegisterFile, entry_at}
 use Rattle.pmp_core.specs.Rights.{perms_of, rule_rights, default_rights_by}
 use Rattle.pmp_map.specs.Answers.{owned_rights, kept_rights, answers_of}
 

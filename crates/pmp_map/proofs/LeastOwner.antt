@@ -3,7 +3,7 @@ use Rattle.std.proofs.Common.{◌≡◌, ℕ, zero, suc, ◌<◌, ◌≤◌, ◌
 use Rattle.std.proofs.Common.{refl, sym, ap, ◌∙◌, arith, inl, inr}
 use Rattle.std.specs.List.{filter_map, cons_option, reduce}
 use Rattle.std.proofs.lemmas.Bool.{cases_lt}
-use Rattle.pmp_core.specs.Deciding.{IsLeast}
+use Rattle.pmp_core.specs.Decision.{IsLeast}
 use Rattle.pmp_map.specs.declared.run.Run.{Run}
 use Rattle.pmp_map.specs.Owners.{least_owner}
 use Rattle.pmp_map.specs.Runs.{run_at}

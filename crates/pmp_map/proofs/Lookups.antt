@@ -6,7 +6,7 @@ use Rattle.std.proofs.lemmas.Bool.{cases_lt}
 use Rattle.std.proofs.lemmas.List.{get_or-take, get_or-drop}
 use Rattle.pmp_core.specs.declared.access.Access.{Access}
 use Rattle.pmp_core.specs.declared.decision.Decision.{Decision}
-use Rattle.pmp_core.specs.Deciding.{IsOwner, IsDecision}
+use Rattle.pmp_core.specs.Decision.{IsOwner, IsDecision}
 use Rattle.pmp_core.specs.Ranges.{decision_of}
 use Rattle.pmp_core.proofs.Decisions.{decided_by_ranges, one_decision}
 use Rattle.pmp_map.specs.declared.run.Run.{Run}
@@ -16,7 +16,7 @@ use Rattle.pmp_map.specs.declared.search.TheConstants.{PLACES}
 use Rattle.pmp_map.specs.Answers.{decision_by, refusal_by}
 use Rattle.pmp_map.specs.Owners.{least_owner}
 use Rattle.pmp_map.specs.Runs.{IsInRun}
-use Rattle.pmp_map.specs.Maps.{map_run, IsMapOf}
+use Rattle.pmp_map.specs.Tables.{map_run, IsMapOf}
 use Rattle.pmp_map.proofs.Order.{start_at, start_past, starts_rise, in_run, run_before}
 use Rattle.pmp_map.proofs.LeastOwner.{least_owner_is}
 use Rattle.pmp_map.proofs.Decided.{decided_whole, decided_split}

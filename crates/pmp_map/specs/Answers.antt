@@ -7,7 +7,7 @@ use Rattle.pmp_core.specs.declared.decision.Cause.{Cause}
 use Rattle.pmp_core.specs.declared.decision.Cause.TheVariants.{Rule, Split, NoMatch}
 use Rattle.pmp_core.specs.declared.decision.Decision.{Decision}
 use Rattle.pmp_core.specs.declared.perms.Perms.{Perms}
-use Rattle.pmp_core.specs.Registers.{RegisterFile}
+use Rattle.pmp_core.specs.RegisterFile.{RegisterFile}
 use Rattle.pmp_core.specs.Rights.{Rights, perms_of, allows, rights, default_rights}
 use Rattle.pmp_map.specs.declared.answers.Answers.{Answers}
 

@@ -1,4 +1,6 @@
+-- What a reader has to believe.
 pub mod Runs
+-- What private contracts cite: owners by ranges, the answers of runs, and a map's tables.
 pub mod Owners
 pub mod Answers
-pub mod Maps
+pub mod Tables

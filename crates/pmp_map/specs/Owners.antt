@@ -2,7 +2,7 @@
 use Rattle.std.specs.Prelude.{ℕ, ◌<◌, ◌≤◌, Option, List, min}
 use Rattle.std.specs.List.{filter_map, reduce}
 use Rattle.pmp_core.specs.declared.range.ByteRange.{ByteRange}
-use Rattle.pmp_core.specs.Deciding.{IsLeast}
+use Rattle.pmp_core.specs.Decision.{IsLeast}
 use Rattle.pmp_core.specs.Ranges.{IsInRange, range_in}
 use Rattle.pmp_map.specs.declared.run.Run.{Run}
 

@@ -2,7 +2,7 @@
 use Rattle.std.specs.Prelude.{◌≡◌, ◌≢◌, ℕ, ◌+◌, ◌^◌, ◌<◌, ◌≤◌, Option, None, IfSome, List, length, All}
 use Rattle.std.specs.List.{slice_index_or}
 use Rattle.pmp_core.specs.declared.entry.Entry.{Entry}
-use Rattle.pmp_core.specs.Deciding.{IsOwner}
+use Rattle.pmp_core.specs.Decision.{IsOwner}
 use Rattle.pmp_map.specs.declared.run.Run.{Run}
 
 -- the byte is one of the run's

@@ -1,7 +1,7 @@
 //! What an access whose bytes have one owner is answered.
 
 ghost use Rattle.std.specs.Prelude.{◌≡◌, ◌<◌, ℕ, Option, IfSome};
-ghost use Rattle.pmp_core.specs.Registers.{RegisterFile};
+ghost use Rattle.pmp_core.specs.RegisterFile.{RegisterFile};
 ghost use Rattle.pmp_map.specs.Answers.{decision_by, answers_of, kept_rights};
 
 use pmp_core::{Access, Cause, Decision, ENTRIES, Mode, Perms, RegFile};

@@ -2,7 +2,7 @@
 
 ghost use Rattle.std.specs.Prelude.{◌≡◌, ◌+◌, ◌*◌, ◌≤◌, List, length};
 ghost use Rattle.pmp_core.specs.declared.entry.Entry.{Entry};
-ghost use Rattle.pmp_core.specs.Registers.{HasAddresses};
+ghost use Rattle.pmp_core.specs.RegisterFile.{HasAddresses};
 ghost use Rattle.pmp_map.specs.declared.run.Run.{Run};
 ghost use Rattle.pmp_map.specs.Runs.{AreRuns};
 

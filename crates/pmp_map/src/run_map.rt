@@ -1,7 +1,7 @@
 //! The map.
 
 ghost use Rattle.std.specs.Prelude.{◌≡◌, ◌+◌, ◌*◌, ◌<◌, ◌≤◌, ◌^◌, length};
-ghost use Rattle.pmp_core.specs.Deciding.{IsOwner, IsDecision};
+ghost use Rattle.pmp_core.specs.Decision.{IsOwner, IsDecision};
 ghost use Rattle.pmp_core.specs.Ranges.{decision_of};
 ghost use Rattle.pmp_map.specs.Runs.{AreRuns, HasOwnersBelow};
 
@@ -28,11 +28,11 @@ pub struct RunMap {
 }
 
 impl Model for RunMap {
-    ghost use Rattle.pmp_core.specs.Registers.{RegisterFile};
+    ghost use Rattle.pmp_core.specs.RegisterFile.{RegisterFile};
 
     ghost Value = { RegisterFile };
 
-    ghost use Rattle.pmp_map.specs.Maps.{IsMapOf};
+    ghost use Rattle.pmp_map.specs.Tables.{IsMapOf};
 
     ghost view = { λ m. m.file.value };
 

@@ -3,7 +3,7 @@
 ghost use Rattle.std.specs.Prelude.{◌≤◌, ◌^◌, length};
 ghost use Rattle.pmp_map.specs.Owners.{IsOwnerIn};
 ghost use Rattle.pmp_map.specs.Runs.{AreRunsTo, HasOwnersBelow};
-ghost use Rattle.pmp_map.specs.Maps.{AreStarts, AreAnswers};
+ghost use Rattle.pmp_map.specs.Tables.{AreStarts, AreAnswers};
 
 use crate::answers::Answers;
 use crate::cuts::{owner_in, run_end};

@@ -4,7 +4,7 @@ use Rattle.std.proofs.Common.{Vec, Option, Some, None, IfOk, Result, Ok, Err, re
 use Rattle.std.specs.Prelude.{filter_map, nat_lt, option_map, option_and_then, slice_get, unwrap_or}
 use Rattle.std.specs.Option.{option_or}
 use Rattle.std.proofs.lemmas.Bool.{ltb-false}
-use Rattle.pmp_core.specs.Accesses.{access_fault}
+use Rattle.pmp_core.specs.Access.{access_fault}
 use Rattle.pmp_text.specs.declared.trace.row_fields.RowFields.{RowFields}
 use Rattle.pmp_text.specs.declared.trace.TraceKind.{TraceKind}
 use Rattle.pmp_text.specs.declared.trace.TraceKind.TheVariants.{BadAfter, BadHeader, BadRow, Order, TooLong}

@@ -7,7 +7,7 @@ use Rattle.std.proofs.lemmas.Grind.{common_steps}
 use Rattle.pmp_core.specs.declared.csr.Csr.{Csr}
 use Rattle.pmp_core.specs.declared.csr.Csr.TheVariants.{Cfg, Addr, Mseccfg}
 use Rattle.pmp_core.specs.declared.csr.CsrFault.{CsrFault}
-use Rattle.pmp_core.specs.Csrs.{numbered}
+use Rattle.pmp_core.specs.Csr.{numbered}
 use Rattle.pmp_text.specs.declared.script.ScriptKind.{ScriptKind}
 use Rattle.pmp_text.specs.Names.{register_name, register_named, register_number, plain_number}
 use Rattle.pmp_text.specs.Numbers.{numeral, is_numeral}

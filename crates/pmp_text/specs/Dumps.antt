@@ -4,8 +4,8 @@ use Rattle.std.specs.Int.{div_ceil}
 use Rattle.std.specs.List.{flat_map, range_with_len}
 use Rattle.pmp_core.specs.declared.csr.Csr.{Csr}
 use Rattle.pmp_core.specs.declared.csr.Csr.TheVariants.{Cfg, Addr, Mseccfg}
-use Rattle.pmp_core.specs.Registers.{RegisterFile}
-use Rattle.pmp_core.specs.Reading.{register_value}
+use Rattle.pmp_core.specs.RegisterFile.{RegisterFile}
+use Rattle.pmp_core.specs.RegisterValue.{register_value}
 use Rattle.pmp_text.specs.Hexadecimal.{hex_text}
 use Rattle.pmp_text.specs.Names.{register_name}
 

@@ -5,7 +5,7 @@ use Rattle.pmp_core.specs.declared.csr.Csr.{Csr}
 use Rattle.pmp_core.specs.declared.csr.Csr.TheVariants.{Cfg, Addr, Mseccfg}
 use Rattle.pmp_core.specs.declared.csr.CsrFault.{CsrFault}
 use Rattle.pmp_core.specs.declared.csr.CsrFault.TheVariants as csr_fault
-use Rattle.pmp_core.specs.Csrs.{numbered}
+use Rattle.pmp_core.specs.Csr.{numbered}
 use Rattle.pmp_text.specs.declared.script.ScriptKind.{ScriptKind}
 use Rattle.pmp_text.specs.declared.script.ScriptKind.TheVariants.{BadName, OddCfg}
 use Rattle.pmp_text.specs.Numbers.{numeral}

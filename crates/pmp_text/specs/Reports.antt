@@ -4,7 +4,7 @@ use Rattle.pmp_core.specs.declared.access.Access.{Access}
 use Rattle.pmp_core.specs.declared.decision.Cause.{Cause}
 use Rattle.pmp_core.specs.declared.decision.Cause.TheVariants.{Rule, Split, NoMatch}
 use Rattle.pmp_core.specs.declared.decision.Decision.{Decision}
-use Rattle.pmp_core.specs.Faults.{fault_of}
+use Rattle.pmp_core.specs.FaultCode.{fault_of}
 
 abbrev pub answer_text : Bool → List ℕ
 answer_text allowed = if allowed then codes "allow" else codes "fault"

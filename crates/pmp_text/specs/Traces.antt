@@ -7,7 +7,7 @@ use Rattle.pmp_core.specs.declared.access.Mode.{Mode}
 use Rattle.pmp_core.specs.declared.access.Kind.{Kind}
 use Rattle.pmp_core.specs.declared.access.AccessFault.{AccessFault}
 use Rattle.pmp_core.specs.declared.access.AccessFault.TheVariants as access
-use Rattle.pmp_core.specs.Accesses.{access_fault}
+use Rattle.pmp_core.specs.Access.{access_fault}
 use Rattle.pmp_text.specs.declared.trace.row_fields.RowFields.{RowFields}
 use Rattle.pmp_text.specs.declared.trace.Row.{Row}
 use Rattle.pmp_text.specs.declared.trace.TraceKind.{TraceKind}

@@ -1,6 +1,6 @@
 use Rattle.std.proofs.Common.{◌≡◌, List, take, refl, ap, ◌∙◌, arith}
 use Rattle.pmp_core.specs.declared.event.Event.{Event}
-use Rattle.pmp_core.specs.Deciding.{IsDecision}
+use Rattle.pmp_core.specs.Decision.{IsDecision}
 use Rattle.pmp_audit.specs.TraceAudit.{file_of_row}
 use Rattle.pmp_audit.proofs.Reports.{no_rows, one_more, one_row_more, order_of_rest, rows_so_far, so_many}
 use Rattle.pmp_audit.proofs.trace_audit.write_report.Goals as goal

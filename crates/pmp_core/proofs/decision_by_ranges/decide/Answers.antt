@@ -1,7 +1,7 @@
 use Rattle.std.proofs.Common.{Bool, length, sym, ap, ◌∙◌, arith}
 use Rattle.pmp_core.specs.declared.decision.Cause.TheVariants.{NoMatch}
 use Rattle.pmp_core.specs.declared.decision.Decision.{Decision}
-use Rattle.pmp_core.specs.Registers.{file_of}
+use Rattle.pmp_core.specs.RegisterFile.{file_of}
 use Rattle.pmp_core.specs.Ranges.{decision_from, decision_of}
 use Rattle.pmp_core.proofs.Places.{length-ranges_of}
 use Rattle.pmp_core.proofs.Passes.{pass_touched, pass_untouched, pass_end}

@@ -1,5 +1,5 @@
 use Rattle.std.proofs.Common.{◌≡◌, drop}
-use Rattle.pmp_core.specs.Registers.{file_of}
+use Rattle.pmp_core.specs.RegisterFile.{file_of}
 use Rattle.pmp_core.specs.Ranges.{decision_from, decision_of}
 use Rattle.pmp_core.proofs.decision_by_ranges.decide.Given as goal
 

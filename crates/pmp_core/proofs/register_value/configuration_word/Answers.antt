@@ -2,9 +2,9 @@ use Rattle.std.proofs.Common.{◌≡◌, ℕ, ◌+◌, ◌*◌, ◌∙◌, ap, a
 use Rattle.std.specs.List.{range_with_len}
 use Rattle.std.specs.Int.{w64, from_le_bytes}
 use Rattle.std.proofs.lemmas.List.FromFn.{fill_by_all}
-use Rattle.pmp_core.specs.Bytes.{byte_of}
-use Rattle.pmp_core.specs.Registers.{entry_at}
-use Rattle.pmp_core.specs.Reading.{configuration_word}
+use Rattle.pmp_core.specs.Configuration.{byte_of}
+use Rattle.pmp_core.specs.RegisterFile.{entry_at}
+use Rattle.pmp_core.specs.RegisterValue.{configuration_word}
 use Rattle.pmp_core.proofs.register_value.configuration_word.Goals as goal
 
 pub returns : goal.returns

@@ -1,6 +1,6 @@
 use Rattle.std.proofs.Common.{◌≡◌, ℕ, ◌+◌, ◌<◌, length, get_or}
-use Rattle.pmp_core.specs.Bytes.{byte_of}
-use Rattle.pmp_core.specs.Registers.{entry_at}
+use Rattle.pmp_core.specs.Configuration.{byte_of}
+use Rattle.pmp_core.specs.RegisterFile.{entry_at}
 use Rattle.pmp_core.proofs.register_value.configuration_word.Given as goal
 
 abbrev pub invariant-loop-place : goal.invariant-loop-place

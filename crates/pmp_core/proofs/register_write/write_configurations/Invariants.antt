@@ -1,4 +1,4 @@
-use Rattle.pmp_core.specs.Registers.{file_of}
+use Rattle.pmp_core.specs.RegisterFile.{file_of}
 use Rattle.pmp_core.proofs.Configuring.{Configured}
 use Rattle.pmp_core.proofs.register_write.write_configurations.Given as goal
 

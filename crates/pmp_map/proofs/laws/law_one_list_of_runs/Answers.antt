@@ -1,5 +1,5 @@
 use Rattle.std.proofs.Common.{◌^◌}
-use Rattle.pmp_core.specs.Deciding.{IsOwner}
+use Rattle.pmp_core.specs.Decision.{IsOwner}
 use Rattle.pmp_core.specs.Matching.{Matches}
 use Rattle.pmp_core.proofs.Decisions.{least_once}
 use Rattle.pmp_map.proofs.OneList.{one_list}

@@ -1,4 +1,4 @@
-use Rattle.pmp_core.specs.Registers.{file_of}
+use Rattle.pmp_core.specs.RegisterFile.{file_of}
 use Rattle.pmp_core.proofs.Decisions.{decided_by_ranges}
 use Rattle.pmp_core.proofs.register_file.RegFile.decide.Goals as goal
 

@@ -1,5 +1,5 @@
 use Rattle.std.proofs.Common.{◌≡◌, length, drop, fold}
-use Rattle.pmp_core.specs.Writing.{step}
+use Rattle.pmp_core.specs.RegisterWrite.{step}
 use Rattle.pmp_core.proofs.register_file.RegFile.run_events.Given as goal
 
 abbrev pub invariant-loop-event : goal.invariant-loop-event

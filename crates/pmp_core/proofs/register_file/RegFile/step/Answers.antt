@@ -1,6 +1,6 @@
 use Rattle.std.proofs.Common.{◌∙◌}
 use Rattle.pmp_core.specs.declared.event.Event.TheVariants.{Write}
-use Rattle.pmp_core.specs.Registers.{file_of, IsLegal}
+use Rattle.pmp_core.specs.RegisterFile.{file_of, IsLegal}
 use Rattle.pmp_core.proofs.Legal.{step_legal}
 use Rattle.pmp_core.proofs.register_file.RegFile.step.Goals as goal
 use Rattle.pmp_core.proofs.register_file.RegFile.step.Goals.{After-write}

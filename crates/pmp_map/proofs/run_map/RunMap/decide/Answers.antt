@@ -1,7 +1,7 @@
 use Rattle.std.proofs.Common.{◌+◌, ◌-◌, ◌<◌, ◌≤◌, length, arith}
 use Rattle.std.proofs.lemmas.Option.{get_or_from_slice_get}
-use Rattle.pmp_core.specs.Deciding.{IsDecision}
-use Rattle.pmp_map.specs.Maps.{map_run}
+use Rattle.pmp_core.specs.Decision.{IsDecision}
+use Rattle.pmp_map.specs.Tables.{map_run}
 use Rattle.pmp_map.proofs.Lookups.{IsPlaceOf, found, few_places, whole_decided, places_rise, split_decided, computed}
 use Rattle.pmp_map.proofs.run_map.RunMap.decide.Goals as goal
 use Rattle.pmp_map.proofs.run_map.RunMap.decide.Goals.{After-place_of-place, After-place_of-last, After-decision}

@@ -11,9 +11,9 @@ use Rattle.pmp_core.specs.declared.csr.Csr.TheVariants.{Cfg, Addr, Mseccfg}
 use Rattle.pmp_core.specs.declared.entry.Entry.{Entry}
 use Rattle.pmp_core.specs.declared.event.Event.{Event}
 use Rattle.pmp_core.specs.declared.event.Event.TheVariants.{Write, Reset}
-use Rattle.pmp_core.specs.Bytes.{configuration_of, is_reserved}
+use Rattle.pmp_core.specs.Configuration.{configuration_of, is_reserved}
 use Rattle.pmp_core.specs.Mseccfg.{mseccfg_written}
-use Rattle.pmp_core.specs.Registers.{RegisterFile, reset_file, entry_at, is_frozen}
+use Rattle.pmp_core.specs.RegisterFile.{RegisterFile, reset_file, entry_at, is_frozen}
 use Rattle.pmp_core.specs.Rights.{is_barred}
 
 -- a reserved combination is stored as no rights at all (3.7.1)

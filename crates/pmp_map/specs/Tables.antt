@@ -1,6 +1,6 @@
 -- What a map keeps of its register file.
 use Rattle.std.specs.Prelude.{◌≡◌, ℕ, ◌^◌, ◌<◌, ◌≤◌, Some, List, length, slice_index, slice_get}
-use Rattle.pmp_core.specs.Registers.{RegisterFile, HasAddresses}
+use Rattle.pmp_core.specs.RegisterFile.{RegisterFile, HasAddresses}
 use Rattle.pmp_core.specs.declared.register_file.TheConstants.{ENTRIES}
 use Rattle.pmp_map.specs.declared.run.Run.{Run}
 use Rattle.pmp_map.specs.declared.answers.Answers.{Answers}

@@ -5,9 +5,9 @@ use Rattle.std.specs.Int.{w64, from_le_bytes}
 use Rattle.pmp_core.specs.declared.csr.Csr.{Csr}
 use Rattle.pmp_core.specs.declared.csr.Csr.TheVariants.{Cfg, Addr, Mseccfg}
 use Rattle.pmp_core.specs.declared.entry.Entry.{Entry}
-use Rattle.pmp_core.specs.Bytes.{byte_of}
+use Rattle.pmp_core.specs.Configuration.{byte_of}
 use Rattle.pmp_core.specs.Mseccfg.{mseccfg_value}
-use Rattle.pmp_core.specs.Registers.{RegisterFile, entry_at}
+use Rattle.pmp_core.specs.RegisterFile.{RegisterFile, entry_at}
 
 -- the bytes of the eight entries from the first on, that one's lowest (3.7.1)
 unfoldable pub configuration_word : List Entry → ℕ → ℕ

@@ -3,9 +3,9 @@ use Rattle.std.specs.Prelude.{◌≡◌, ◌↔◌, ℕ, Bool, true, false, List
 use Rattle.std.specs.List.{list_all}
 use Rattle.pmp_core.specs.declared.event.Event.{Event}
 use Rattle.pmp_core.specs.declared.event.Event.TheVariants.{Write, Reset}
-use Rattle.pmp_core.specs.Registers.{RegisterFile, entry_at, is_frozen}
+use Rattle.pmp_core.specs.RegisterFile.{RegisterFile, entry_at, is_frozen}
 use Rattle.pmp_core.specs.Matching.{Matches}
-use Rattle.pmp_core.specs.Writing.{step}
+use Rattle.pmp_core.specs.RegisterWrite.{step}
 
 abbrev pub is_write : Event → Bool
 is_write (Write csr value) = true

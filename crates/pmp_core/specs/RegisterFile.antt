@@ -4,7 +4,7 @@ use Rattle.std.specs.List.{slice_index_or}
 use Rattle.pmp_core.specs.declared.configuration.AddressMatching.TheVariants.{Off}
 use Rattle.pmp_core.specs.declared.entry.Entry.{Entry}
 use Rattle.pmp_core.specs.declared.mseccfg.MseccfgFields.{MseccfgFields}
-use Rattle.pmp_core.specs.Bytes.{is_reserved}
+use Rattle.pmp_core.specs.Configuration.{is_reserved}
 
 -- the entries (3.7.1), and the bits MML, MMWP and RLB of mseccfg (Smepmp)
 pub record RegisterFile : Type 0 where
