@@ -1,7 +1,6 @@
 -- A script has no more publications and events than lines, and no more lines than bytes.
-use Rattle.std.proofs.Common.{◌≡◌, ℕ, suc, ◌+◌, ◌<◌, ◌≤◌, Bool, true, false, cond, ltb, List, [], ◌∷◌, ◌++◌, length}
+use Rattle.std.proofs.Common.{◌≡◌, ℕ, suc, ◌+◌, ◌<◌, ◌≤◌, Bool, true, false, cond, ltb, List, [], ◌∷◌, length}
 use Rattle.std.proofs.Common.{Option, Some, None, Result, Ok, Err, refl, sym, ap, ◌∙◌, arith, inl, inr}
-use Rattle.std.specs.Prelude.{unwrap_or}
 use Rattle.std.specs.List.{slice_split, onto_first}
 use Rattle.std.specs.Str.Lines.{strip_carriage_return}
 use Rattle.std.proofs.lemmas.Bool.{cases_lt}
@@ -19,7 +18,8 @@ use Rattle.pmp_text.specs.Lines.{is_line_feed, has_bytes, without_empty_end, lin
 use Rattle.pmp_text.specs.Statements.{statement_of}
 use Rattle.pmp_text.specs.Scripts.{Line, at_line, numbered_from, counts, significant_from, significant_lines}
 use Rattle.pmp_text.specs.Scripts.{is_version, script_meaning}
-use Rattle.pmp_text.specs.Steps.Progress.{Progress, nothing_read, published, after_statement, all_published, resumed}
+use Rattle.pmp_text.specs.Steps.Progress.{Progress, longer, nothing_read, published, after_statement, all_published}
+use Rattle.pmp_text.specs.Steps.Progress.{resumed}
 use Rattle.pmp_text.specs.Sizes.{script_size}
 use Rattle.pmp_text.specs.Limits.{script_limit}
 use Rattle.pmp_text.proofs.Meanings.{long_script, no_version, other_version, this_version}
@@ -36,13 +36,6 @@ read_published so_far =
     let batches = length-append so_far.published (so_far.batch ∷ []) in
     let events = sum_by_push (λ (batch : List Event). length batch) so_far.published so_far.batch in
     omega arith
-
-abbrev longer : Progress → ℕ → Event → Progress
-longer so_far number event = record {
-  published = so_far.published;
-  batch = so_far.batch ++ event ∷ [];
-  since = Some (unwrap_or so_far.since number);
-}
 
 read_event : (so_far : Progress) (number : ℕ) (event : Event) → read (longer so_far number event) ≡ suc (read so_far)
 read_event so_far number event = let events = length-append so_far.batch (event ∷ []) in omega arith

@@ -19,7 +19,8 @@ use Rattle.pmp_text.specs.Statements.{statement_of}
 use Rattle.pmp_text.specs.Scripts.{Line, at_line, counted, open_events, statement_fault, first_fault, event_of}
 use Rattle.pmp_text.specs.Scripts.{publishes, is_publish, but_last, last_piece, fault_or_batches, is_version}
 use Rattle.pmp_text.specs.Scripts.{significant_lines, lines_meaning, script_meaning, publications, first_unpublished}
-use Rattle.pmp_text.specs.Steps.Progress.{Progress, nothing_read, published, after_statement, all_published, resumed}
+use Rattle.pmp_text.specs.Steps.Progress.{Progress, longer, nothing_read, published, after_statement, all_published}
+use Rattle.pmp_text.specs.Steps.Progress.{resumed}
 use Rattle.pmp_text.specs.Limits.{script_limit}
 
 -- what pieces add to an open batch: the batches that they publish, and where events stay open
@@ -136,17 +137,13 @@ module _ (so_far : Progress) (last : Line) (front : List Line)
       (so_far.published ++ batches_from so_far.batch ([] ∷ pieces_of more))) (sym since)
 
   module _ (event : Event) where
-    abbrev longer : Progress
-    longer = record {
-      published = so_far.published;
-      batch = so_far.batch ++ event ∷ [];
-      since = Some (unwrap_or so_far.since line.number);
-    }
+    abbrev next_one : Progress
+    next_one = longer so_far line.number event
 
-    fits : (room : Bool) → (room ≡ true → resumed longer more
+    fits : (room : Bool) → (room ≡ true → resumed next_one more
         ≡ fault_or_batches later (since_from so_far.since (cut false))
         (so_far.published ++ batches_from so_far.batch (cut false)))
-        → reads (cond room (Ok longer) (Err (at_line line.number BatchFull)))
+        → reads (cond room (Ok next_one) (Err (at_line line.number BatchFull)))
         ≡ fault_or_batches (option_or (option_map (at_line line.number) (cond room None (Some BatchFull))) later)
         (since_from so_far.since (cut false)) (so_far.published ++ batches_from so_far.batch (cut false))
     fits true same = same refl
@@ -154,13 +151,13 @@ module _ (so_far : Progress) (last : Line) (front : List Line)
 
     event_agrees : statement_of line.words ≡ Ok (statement.Event event)
         → (ltb (length so_far.batch) BATCH_EVENTS ≡ true
-        → resumed longer more ≡ meant_from longer (line ∷ last ∷ front) more)
+        → resumed next_one more ≡ meant_from next_one (line ∷ last ∷ front) more)
         → reads (after_statement so_far line.number (Ok (statement.Event event))) ≡ means (Ok (statement.Event event))
     event_agrees says same =
         let since = since_from-event line event says so_far.since (pieces_of more) (some_piece more) in
         let batches = batches_from-event line event says so_far.batch (pieces_of more) in
         let ends = ap (λ (since : Option ℕ). fault_or_batches later since
-        (so_far.published ++ batches_from longer.batch (pieces_of more))) (sym since)
+        (so_far.published ++ batches_from next_one.batch (pieces_of more))) (sym since)
         ∙ ap (λ (batches : List (List Event)). fault_or_batches later (since_from so_far.since (cut false))
         (so_far.published ++ batches)) (sym batches) in
         fits (ltb (length so_far.batch) BATCH_EVENTS) (λ room. same room ∙ ends)
@@ -194,7 +191,7 @@ by_saying (Ok statement.Publish) line more says same so_far last front count =
 by_saying (Ok (statement.Event event)) line more says same so_far last front count =
     agree so_far last front count line more (Ok (statement.Event event)) says
     (event_agrees so_far last front count line more event says
-    (λ room. same (longer so_far last front count line more event) line (last ∷ front)
+    (λ room. same (longer so_far line.number event) line (last ∷ front)
     (counted_event so_far (last ∷ front) line event count says)))
 
 nothing_left : (so_far : Progress) (since : Option ℕ)

@@ -73,7 +73,7 @@ row_of_record fields = option_and_then row_of_fields (five_fields fields)
 
 -- how many publications a row asks for
 abbrev pub after_of : Option RowFields → Option ℕ
-after_of said = option_map (λ row. row.after) said
+after_of row = option_map (λ fields. fields.after) row
 
 -- fewer publications than the row before
 abbrev pub falls_behind : (last : Option ℕ) → (after : ℕ) → Bool

@@ -26,8 +26,8 @@ abbrev pub published : Progress → Progress
 published so_far = record { published = so_far.published ++ so_far.batch ∷ []; batch = []; since = None }
 
 -- an event joins the open batch
-abbrev pub with_room : Progress → ℕ → Event → Progress
-with_room so_far number event = record {
+abbrev pub longer : Progress → ℕ → Event → Progress
+longer so_far number event = record {
   published = so_far.published;
   batch = so_far.batch ++ event ∷ [];
   since = Some (unwrap_or so_far.since number);
@@ -36,7 +36,7 @@ with_room so_far number event = record {
 -- an event joins the open batch where that has room
 abbrev pub with_event : Progress → ℕ → Event → Result Progress ScriptFault
 with_event so_far number event =
-    if nat_lt (length so_far.batch) BATCH_EVENTS then Ok (with_room so_far number event)
+    if nat_lt (length so_far.batch) BATCH_EVENTS then Ok (longer so_far number event)
     else Err (at_line number BatchFull)
 
 -- a line with this number was read, which says this
