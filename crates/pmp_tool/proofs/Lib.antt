@@ -1,4 +1,5 @@
 pub mod Building
 pub mod Matching
+pub mod Requesting
 pub mod Running
-pub mod Wording
+pub mod Telling

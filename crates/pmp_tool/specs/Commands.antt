@@ -1,40 +1,111 @@
 -- What the matches of the command line ask for.
-use Rattle.std.specs.Prelude.{◌≡◌, ℕ, List, Option, Some, None, codes, option_map}
+use Rattle.std.specs.Prelude.{ℕ, List, Option, Some, None, Result, Ok, Err, if◌then◌else◌, codes}
+use Rattle.std.specs.Option.{option_and_then}
+use Rattle.std.specs.Str.{bytes_eq}
 use Rattle.clap.specs.Words.{Row, Text, first_of}
 use Rattle.pmp_core.specs.declared.access.Access.{Access}
+use Rattle.pmp_core.specs.declared.access.AccessFault.{AccessFault}
+use Rattle.pmp_core.specs.declared.access.Kind.{Kind}
+use Rattle.pmp_core.specs.declared.access.Mode.{Mode}
+use Rattle.pmp_core.specs.Accesses.{access_fault}
+use Rattle.pmp_text.specs.AccessWords.{kind_named, mode_named}
 use Rattle.pmp_text.specs.Numbers.{word_number}
+use Rattle.pmp_tool.specs.declared.command.Command.{Command}
+use Rattle.pmp_tool.specs.declared.command.CommandName.{CommandName}
+use Rattle.pmp_tool.specs.declared.command.CommandName.TheVariants as name
 use Rattle.pmp_tool.specs.declared.command.Request.{Request}
-use Rattle.pmp_tool.specs.declared.command.Request.TheVariants.{Check, Audit, Dump, Map}
-use Rattle.pmp_tool.specs.Words.{IsAccessOf}
+use Rattle.pmp_tool.specs.declared.command.Request.TheVariants as request
+use Rattle.pmp_tool.specs.declared.refusal.Refusal.{Refusal}
+use Rattle.pmp_tool.specs.declared.refusal.Refusal.TheVariants.{BadWord}
+use Rattle.pmp_tool.specs.Refusals.{refusal_of_access}
 
--- four of the matches name the access
-pub record AsksToCheck (rows : List Row) (access : Access) : Type 0 where
-  pub mode : Text
-  pub kind : Text
-  pub start : Text
-  pub length : Text
-  pub mode_is : first_of (codes "mode") rows ≡ Some mode
-  pub kind_is : first_of (codes "kind") rows ≡ Some kind
-  pub start_is : first_of (codes "start") rows ≡ Some start
-  pub length_is : first_of (codes "length") rows ≡ Some length
-  pub access_is : IsAccessOf mode kind start length access
+-- what is asked for of a script, in plain values
+pub data Task : Type 0 where
+  Check : Mode → Kind → (start length : ℕ) → Task
+  Audit : (trace : Text) → Task
+  Dump : (after : Option ℕ) → Task
+  Map : (after : Option ℕ) → Task
 
--- how many publications are taken by the option's value, where it has one: all of them, or a number of them
-abbrev pub after_of : Option Text → Option (Option ℕ)
-after_of None = Some None
-after_of (Some word) = option_map Some (word_number word)
+abbrev pub check_task : Access → Task
+check_task access = Check access.mode access.kind access.start access.length
 
--- what a subcommand with these matches asks for
-abbrev pub Asks : (name : Text) (rows : List Row) → Request → Type 0
-Asks name rows (Check access) = (name ≡ codes "check") × AsksToCheck rows access
-Asks name rows (Audit trace) = (name ≡ codes "audit") × (first_of (codes "trace") rows ≡ Some trace.now)
-Asks name rows (Dump after) = (name ≡ codes "dump") × (after_of (first_of (codes "after") rows) ≡ Some after)
-Asks name rows (Map after) = (name ≡ codes "map") × (after_of (first_of (codes "after") rows) ≡ Some after)
+abbrev pub task_of : Request → Task
+task_of (request.Check access) = check_task access
+task_of (request.Audit trace) = Audit trace.now
+task_of (request.Dump after) = Dump after
+task_of (request.Map after) = Map after
 
--- the subcommand with its matches asks for that, of the script at a path
-pub record AsksFor (found : Option (Text × List Row)) (path : List ℕ) (request : Request) : Type 0 where
-  pub name : Text
-  pub rows : List Row
-  pub found_is : found ≡ Some (name, rows)
-  pub script : first_of (codes "script") rows ≡ Some path
-  pub asks : Asks name rows request
+-- a task, and the path of the script
+pub record Asked : Type 0 where
+  pub script : Text
+  pub task : Task
+
+abbrev pub asked : Command → Asked
+asked command = record { script = command.script.now; task = task_of command.request }
+
+-- a result with its value seen so
+abbrev pub result_map : {X Y : Type 0} → (X → Y) → Result X Refusal → Result Y Refusal
+result_map view (Ok x) = Ok (view x)
+result_map view (Err refusal) = Err refusal
+
+-- the word in a place that its command requires
+abbrev pub required : Option Text → Result Text Refusal
+required None = Err BadWord
+required (Some word) = Ok word
+
+abbrev pub task_unless : Option AccessFault → Task → Result Task Refusal
+task_unless None task = Ok task
+task_unless (Some fault) task = Err (refusal_of_access fault)
+
+-- an access has lawful numbers; its words are read before it is made
+abbrev pub check_of : Option Mode → Option Kind → (start length : Option ℕ) → Result Task Refusal
+check_of (Some mode) (Some kind) (Some start) (Some length) =
+    task_unless (access_fault start length) (Check mode kind start length)
+check_of _ _ _ _ = Err BadWord
+
+abbrev pub check_in : List Row → Result Task Refusal
+check_in rows =
+    check_of (option_and_then mode_named (first_of (codes "mode") rows))
+    (option_and_then kind_named (first_of (codes "kind") rows))
+    (option_and_then word_number (first_of (codes "start") rows))
+    (option_and_then word_number (first_of (codes "length") rows))
+
+-- an option's number
+abbrev pub number_given : Option ℕ → Result (Option ℕ) Refusal
+number_given None = Err BadWord
+number_given (Some number) = Ok (Some number)
+
+-- how many publications are taken: all of them where the option isn't used
+abbrev pub after_of : Option Text → Result (Option ℕ) Refusal
+after_of None = Ok None
+after_of (Some word) = number_given (word_number word)
+
+-- what a command's matches ask for
+abbrev pub task_in : CommandName → List Row → Result Task Refusal
+task_in name.Check rows = check_in rows
+task_in name.Audit rows = result_map Audit (required (first_of (codes "trace") rows))
+task_in name.Dump rows = result_map Dump (after_of (first_of (codes "after") rows))
+task_in name.Map rows = result_map Map (after_of (first_of (codes "after") rows))
+
+-- the command that a word names
+abbrev pub command_named : Text → Option CommandName
+command_named word =
+    if bytes_eq word (codes "check") then Some name.Check
+    else (if bytes_eq word (codes "audit") then Some name.Audit
+    else (if bytes_eq word (codes "dump") then Some name.Dump
+    else (if bytes_eq word (codes "map") then Some name.Map else None)))
+
+abbrev pub asked_with : (script : Result Text Refusal) → Result Task Refusal → Result Asked Refusal
+asked_with (Err refusal) task = Err refusal
+asked_with (Ok script) (Err refusal) = Err refusal
+asked_with (Ok script) (Ok task) = Ok (record { script = script; task = task })
+
+-- the script's place is read before the rest of the words
+abbrev pub asked_in : Option CommandName → List Row → Result Asked Refusal
+asked_in None rows = Err BadWord
+asked_in (Some name) rows = asked_with (required (first_of (codes "script") rows)) (task_in name rows)
+
+-- what the subcommand that clap found asks for
+unfoldable pub asked_of : Option (Text × List Row) → Result Asked Refusal
+asked_of None = Err BadWord
+asked_of (Some (word, rows)) = asked_in (command_named word) rows

@@ -1,18 +1,19 @@
 -- How the program tells of a failure, and the status of that.
-use Rattle.std.specs.Prelude.{ℕ, Option, Some, None, ◌==◌, if◌then◌else◌}
+use Rattle.std.specs.Prelude.{ℕ, List, Option, Some, None, IfSome}
 use Rattle.clap.specs.Words.{kind_of}
 use Rattle.clap.specs.declared.error.Error.{Error}
 use Rattle.clap.specs.declared.error.kind.ErrorKind.{ErrorKind}
 use Rattle.clap.specs.declared.error.kind.ErrorKind.TheVariants.{OutOfMemory}
+use Rattle.pmp_text.specs.Bytes.{AppendsBeginning}
 use Rattle.pmp_audit.specs.declared.fault.AuditFault.{AuditFault}
 use Rattle.pmp_audit.specs.declared.fault.AuditFault.TheVariants as audit
 use Rattle.pmp_tool.specs.declared.failure.Failure.{Failure}
 use Rattle.pmp_tool.specs.declared.failure.Failure.TheVariants.{Words, Refused}
-use Rattle.pmp_tool.specs.declared.refusal.Place.{Place}
-use Rattle.pmp_tool.specs.declared.refusal.Place.TheVariants.{ScriptLine, TraceRow}
+use Rattle.pmp_tool.specs.declared.fault_line.Place.{Place}
 use Rattle.pmp_tool.specs.declared.refusal.Refusal.{Refusal}
 use Rattle.pmp_tool.specs.declared.refusal.Refusal.TheVariants.{BadAfter, Memory, Output}
-use Rattle.pmp_tool.specs.Refusals.{status_of, refusal_of_script, refusal_of_trace}
+use Rattle.pmp_tool.specs.Refusals.{line_text, refusal_of_script, refusal_of_trace, script_place, status_of}
+use Rattle.pmp_tool.specs.Refusals.{trace_place}
 
 abbrev pub failure_status : Failure → ℕ
 failure_status (Words error) = 2
@@ -33,16 +34,18 @@ unparsed_as _ error = Words error
 abbrev pub unparsed : Error → Failure
 unparsed error = unparsed_as (kind_of error) error
 
--- line 0 stands for none, and so does row 0
-abbrev pub script_place : ℕ → Option Place
-script_place line = if line == 0 then None else Some (ScriptLine line)
-
-abbrev pub trace_place : ℕ → Option Place
-trace_place row = if row == 0 then None else Some (TraceRow row)
-
 abbrev pub unaudited : AuditFault → Failure
 unaudited (audit.Script fault) = refused_at (refusal_of_script fault.kind) (script_place fault.line)
 unaudited (audit.Trace fault) = refused_at (refusal_of_trace fault.kind) (trace_place fault.row)
 unaudited audit.BadAfter = refused BadAfter
 unaudited audit.Memory = refused Memory
 unaudited audit.Output = refused Output
+
+-- a refusal's text is a line; clap's texts are its own
+abbrev pub failure_text : Failure → Option (List ℕ)
+failure_text (Words error) = None
+failure_text (Refused line) = Some (line_text line.refusal line.place)
+
+-- known bytes grow by a failure's text or by a beginning of it
+abbrev pub Tells : Failure → (before after : Option (List ℕ)) → Type 0
+Tells failure before after = IfSome (failure_text failure) (AppendsBeginning before after)

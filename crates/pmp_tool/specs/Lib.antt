@@ -1,6 +1,10 @@
+-- What a reader has to believe: what words ask for, what is answered, and how a failure is told.
 pub mod CommandLines
 pub mod Commands
 pub mod Failures
+pub mod Inputs
 pub mod Refusals
+pub mod Requests
 pub mod Runs
-pub mod Words
+-- The rest, which only private contracts cite.
+pub mod Building

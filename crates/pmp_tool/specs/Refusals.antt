@@ -1,5 +1,5 @@
 -- What the program says of a refusal.
-use Rattle.std.specs.Prelude.{ℕ, List, ◌++◌, Option, Some, None, codes, decimal}
+use Rattle.std.specs.Prelude.{ℕ, List, ◌++◌, Option, Some, None, codes, decimal, ◌==◌, if◌then◌else◌}
 use Rattle.pmp_core.specs.declared.access.AccessFault.{AccessFault}
 use Rattle.pmp_core.specs.declared.access.AccessFault.TheVariants as access
 use Rattle.pmp_text.specs.declared.input.InputFault.{InputFault}
@@ -8,10 +8,13 @@ use Rattle.pmp_text.specs.declared.script.ScriptKind.{ScriptKind}
 use Rattle.pmp_text.specs.declared.script.ScriptKind.TheVariants as script
 use Rattle.pmp_text.specs.declared.trace.TraceKind.{TraceKind}
 use Rattle.pmp_text.specs.declared.trace.TraceKind.TheVariants as trace
-use Rattle.pmp_tool.specs.declared.refusal.Place.{Place}
-use Rattle.pmp_tool.specs.declared.refusal.Place.TheVariants.{ScriptLine, TraceRow}
+use Rattle.pmp_tool.specs.declared.fault_line.Place.{Place}
+use Rattle.pmp_tool.specs.declared.fault_line.Place.TheVariants.{ScriptLine, TraceRow}
 use Rattle.pmp_tool.specs.declared.refusal.Refusal.{Refusal}
-use Rattle.pmp_tool.specs.declared.refusal.Refusal.TheVariants.{BadLength, PastEnd, BadVersion, BadLine, BadName, OddCfg, BadNumber, BatchFull, Unpublished, TooLong, BadHeader, BadRow, BadAfter, Order, BadWord, Memory, Input, Output}
+use Rattle.pmp_tool.specs.declared.refusal.Refusal.TheVariants.{BadLength, PastEnd, BadVersion, BadLine, BadName}
+use Rattle.pmp_tool.specs.declared.refusal.Refusal.TheVariants.{OddCfg, BadNumber, BatchFull, Unpublished, TooLong}
+use Rattle.pmp_tool.specs.declared.refusal.Refusal.TheVariants.{BadHeader, BadRow, BadAfter, Order, BadWord, Memory}
+use Rattle.pmp_tool.specs.declared.refusal.Refusal.TheVariants.{Input, Output}
 
 abbrev pub number_of : Refusal → ℕ
 number_of BadLength = 3
@@ -66,8 +69,21 @@ refusal_text refusal = decimal (number_of refusal) ++ (codes " " ++ name_of refu
 -- with the script's line or the trace's row, where it is known
 abbrev pub fault_text : Refusal → Option Place → List ℕ
 fault_text refusal None = codes "pmp: refused " ++ refusal_text refusal
-fault_text refusal (Some (ScriptLine line)) = codes "pmp: script line " ++ (decimal line ++ (codes ": refused " ++ refusal_text refusal))
-fault_text refusal (Some (TraceRow row)) = codes "pmp: trace row " ++ (decimal row ++ (codes ": refused " ++ refusal_text refusal))
+fault_text refusal (Some (ScriptLine line)) =
+    codes "pmp: script line " ++ (decimal line ++ (codes ": refused " ++ refusal_text refusal))
+fault_text refusal (Some (TraceRow row)) =
+    codes "pmp: trace row " ++ (decimal row ++ (codes ": refused " ++ refusal_text refusal))
+
+-- with its LF
+abbrev pub line_text : Refusal → Option Place → List ℕ
+line_text refusal place = fault_text refusal place ++ codes "\n"
+
+-- line 0 stands for none, and so does row 0
+abbrev pub script_place : ℕ → Option Place
+script_place line = if line == 0 then None else Some (ScriptLine line)
+
+abbrev pub trace_place : ℕ → Option Place
+trace_place row = if row == 0 then None else Some (TraceRow row)
 
 abbrev pub refusal_of_access : AccessFault → Refusal
 refusal_of_access access.BadLength = BadLength

@@ -1,86 +1,82 @@
--- What a run of the program answers.
-use Rattle.std.specs.Prelude.{◌≡◌, ◌⊎◌, ℕ, List, length, Option, Result, Ok, Err, IsErr, IfSome, ⊤, ◌==◌, if◌then◌else◌}
-use Rattle.std.specs.Io.KnownBytes.{Appends}
-use Rattle.pmp_core.specs.declared.event.Event.{Event}
-use Rattle.pmp_text.specs.declared.script.ScriptFault.{ScriptFault}
-use Rattle.pmp_text.specs.Scripts.{script_meaning}
-use Rattle.pmp_text.specs.Traces.{trace_meaning}
-use Rattle.pmp_audit.specs.declared.auditing.Summary.{Summary}
-use Rattle.pmp_audit.specs.Audits.{IsAudited}
-use Rattle.pmp_audit.specs.Checks.{IsChecked}
-use Rattle.pmp_audit.specs.Showing.{AsksTooMuch, IsDumped, IsMapped}
-use Rattle.pmp_tool.specs.declared.command.Request.{Request}
-use Rattle.pmp_tool.specs.declared.command.Request.TheVariants.{Check, Audit, Dump, Map}
+-- What a run of the program answers, and why it gives no answer.
+use Rattle.std.specs.Prelude.{◌≡◌, ℕ, List, Option, ◌==◌, if◌then◌else◌}
+use Rattle.std.specs.Io.KnownBytes.{Appends, Keeps}
+use Rattle.std.specs.Borrow.{Bor}
+use Rattle.clap.specs.Words.{Text}
+use Rattle.clap.specs.declared.error.Error.{Error}
+use Rattle.pmp_text.specs.declared.input.InputFault.{InputFault}
+use Rattle.pmp_text.specs.Bytes.{AppendsBeginning}
+use Rattle.pmp_text.specs.Limits.{script_limit, trace_limit}
+use Rattle.pmp_audit.specs.declared.fault.AuditFault.{AuditFault}
+use Rattle.pmp_audit.specs.Answers.{IsRefused, IsWritten}
+use Rattle.pmp_tool.specs.declared.command.Command.{Command}
+use Rattle.pmp_tool.specs.declared.command.Request.TheVariants.{Audit}
+use Rattle.pmp_tool.specs.declared.failure.Failure.{Failure}
+use Rattle.pmp_tool.specs.declared.failure.Failure.TheVariants.{Words}
+use Rattle.pmp_tool.specs.declared.refusal.Refusal.{Refusal}
+use Rattle.pmp_tool.specs.declared.refusal.Refusal.TheVariants.{Memory, Output}
 use Rattle.pmp_tool.specs.declared.run.Outcome.{Outcome}
-use Rattle.pmp_tool.specs.declared.run.Outcome.TheVariants.{Decided, Audited, Dumped, Mapped, Told}
-use Rattle.pmp_tool.specs.CommandLines.{AskForText, MayAskForText, WordsAskFor}
+use Rattle.pmp_tool.specs.declared.run.Outcome.TheVariants.{Decided, Audited, Told}
+use Rattle.pmp_tool.specs.CommandLines.{IsRefusedCommandLine, MayAskForText, WordsAskFor, WordsAreRefused}
+use Rattle.pmp_tool.specs.Commands.{asked}
+use Rattle.pmp_tool.specs.Failures.{refused, unaudited}
+use Rattle.pmp_tool.specs.Inputs.{AreBytesOf, CantBeRead, Inputs}
+use Rattle.pmp_tool.specs.Refusals.{refusal_of_input}
+use Rattle.pmp_tool.specs.Requests.{RequestRefuses, RequestSays}
 
--- the bytes at each path, where it is known what they are
-abbrev pub Inputs : Type 0
-Inputs = List ℕ → Option (List ℕ)
+-- the script of a command was read, and what the command asks for was written
+pub record CommandAnswers (scripts traces : Inputs) (command : Command) (before after : Option (List ℕ))
+    (outcome : Outcome) : Type 0 where
+  pub script : List ℕ
+  pub read : AreBytesOf (scripts command.script.now) script
+  pub written : IsWritten (RequestSays traces script command.request) before after outcome
 
--- the trace at a path was audited beside a script's text
-pub record IsAuditOf (traces : Inputs) (text path : List ℕ) (before after : Option (List ℕ)) (summary : Summary) : Type 0 where
-  pub trace : List ℕ
-  pub read : IfSome (traces path) (λ known. trace ≡ known)
-  pub audited : IsAudited text trace before after summary
+-- what the words ask for was written: help or the version, or the answer to a command
+abbrev pub Answers : (words : List Text) (scripts traces : Inputs) (before after : Option (List ℕ)) → Outcome → Type 0
+Answers words scripts traces before after Told = MayAskForText words × ((text : List ℕ) × Appends before after text)
+Answers words scripts traces before after outcome =
+    (command : Command) × WordsAskFor words (asked command) × CommandAnswers scripts traces command before after outcome
 
--- what was asked for of a script's text was written
-abbrev pub IsDone : (traces : Inputs) (text : List ℕ) → Request → (before after : Option (List ℕ)) → Outcome → Type 0
-IsDone traces text (Check access) before after (Decided decision) = IsChecked text access before after decision
-IsDone traces text (Audit trace) before after (Audited summary) = IsAuditOf traces text trace.now before after summary
-IsDone traces text (Dump count) before after Dumped = IsDumped text count before after
-IsDone traces text (Map count) before after Mapped = IsMapped text count before after
-IsDone _ _ _ _ _ _ = ⊥
+-- why a command gets no answer
+pub data CommandFails (scripts traces : Inputs) (command : Command)
+    (before after : Option (List ℕ)) : Failure → Type 0 where
+  -- its script can't be read
+  no_script : (fault : InputFault) → CantBeRead script_limit (scripts command.script.now) fault → Keeps before after
+      → CommandFails scripts traces command before after (refused (refusal_of_input fault))
+  -- nor can the trace that it names
+  no_trace : (trace : Bor (List ℕ)) (fault : InputFault) → command.request ≡ Audit trace
+      → CantBeRead trace_limit (traces trace.now) fault → Keeps before after
+      → CommandFails scripts traces command before after (refused (refusal_of_input fault))
+  -- what was read is refused, or memory or the output failed
+  no_answer : (script : List ℕ) (fault : AuditFault) → AreBytesOf (scripts command.script.now) script
+      → IsRefused (RequestSays traces script command.request) before after
+      (RequestRefuses traces script command.request) fault
+      → CommandFails scripts traces command before after (unaudited fault)
 
--- what was asked for of the script at a path was written
-pub record IsMet (scripts traces : Inputs) (path : List ℕ) (request : Request) (before after : Option (List ℕ)) (outcome : Outcome) : Type 0 where
-  pub text : List ℕ
-  pub read : IfSome (scripts path) (λ known. text ≡ known)
-  pub done : IsDone traces text request before after outcome
+-- why a text of help, or the version, isn't written wholly
+pub data TextFails (before after : Option (List ℕ)) : Failure → Type 0 where
+  no_room : Keeps before after → TextFails before after (refused Memory)
+  no_output : (text : List ℕ) → AppendsBeginning before after text → TextFails before after (refused Output)
 
--- the words ask for something of a script, and that was written
-pub record IsReplied (words : List (List ℕ)) (scripts traces : Inputs) (before after : Option (List ℕ)) (outcome : Outcome) : Type 0 where
-  pub path : List ℕ
-  pub request : Request
-  pub asked : WordsAskFor words path request
-  pub met : IsMet scripts traces path request before after outcome
+-- why words get no answer
+pub data Fails (words : List Text) (scripts traces : Inputs) (before after : Option (List ℕ)) : Failure → Type 0 where
+  -- clap refuses them
+  refused_words : (error : Error) → IsRefusedCommandLine words error → Keeps before after
+      → Fails words scripts traces before after (Words error)
+  -- a word isn't what its place asks for, or numbers make no access
+  refused_word : (refusal : Refusal) → WordsAreRefused words refusal → Keeps before after
+      → Fails words scripts traces before after (refused refusal)
+  -- there is no memory for what clap makes of them
+  no_memory : Keeps before after → Fails words scripts traces before after (refused Memory)
+  -- they ask for help or the version, which isn't written wholly
+  no_text : (failure : Failure) → MayAskForText words → TextFails before after failure
+      → Fails words scripts traces before after failure
+  -- they ask for something of a script that gets no answer
+  no_command : (command : Command) (failure : Failure) → WordsAskFor words (asked command)
+      → CommandFails scripts traces command before after failure → Fails words scripts traces before after failure
 
--- some text was written
-abbrev pub IsTold : (before after : Option (List ℕ)) → Type 0
-IsTold before after = (text : List ℕ) × Appends before after text
-
--- what the words ask for was written: what clap says of the command line, or an answer
-abbrev pub IsAnswered : (words : List (List ℕ)) (scripts traces : Inputs) (before after : Option (List ℕ)) → Outcome → Type 0
-IsAnswered words scripts traces before after Told = MayAskForText words × IsTold before after
-IsAnswered words scripts traces before after outcome = IsReplied words scripts traces before after outcome
-
--- a trace beside a script that is at fault, or that is itself at fault beside the script's publications
-abbrev pub IsFaultyBeside : Result (List (List Event)) ScriptFault → (trace : List ℕ) → Type 0
-IsFaultyBeside (Err fault) trace = ⊤
-IsFaultyBeside (Ok batches) trace = IsErr (trace_meaning (length batches) trace)
-
--- the script's text, or the trace where one is asked for, is at fault as far as it is known; or too many publications are
--- asked for
-abbrev pub IsFaultyInput : (traces : Inputs) → Request → (text : List ℕ) → Type 0
-IsFaultyInput traces (Audit trace) text = IfSome (traces trace.now) (λ known. IsFaultyBeside (script_meaning text) known)
-IsFaultyInput traces (Check access) text = IsErr (script_meaning text)
-IsFaultyInput traces (Dump after) text = IsErr (script_meaning text) ⊎ AsksTooMuch text after
-IsFaultyInput traces (Map after) text = IsErr (script_meaning text) ⊎ AsksTooMuch text after
-
--- that is so of the script at a path, where it is known
-abbrev pub IsKnownToFail : (scripts traces : Inputs) (path : List ℕ) → Request → Type 0
-IsKnownToFail scripts traces path request = IfSome (scripts path) (IsFaultyInput traces request)
-
--- the words don't just ask for a text, and where they ask for something of a script, an input that they name is at fault
-pub record IsFaulty (words : List (List ℕ)) (scripts traces : Inputs) : Type 0 where
-  pub no_text : AskForText words → ⊥
-  pub input : (path : List ℕ) (request : Request) → WordsAskFor words path request → IsKnownToFail scripts traces path request
-
--- a text, a dump and a map end well, and accesses do that are all allowed
+-- accesses end well where all are allowed, and all else does
 abbrev pub outcome_status : Outcome → ℕ
 outcome_status (Decided decision) = if decision.allowed then 0 else 1
 outcome_status (Audited summary) = if summary.faults == 0 then 0 else 1
-outcome_status Dumped = 0
-outcome_status Mapped = 0
-outcome_status Told = 0
+outcome_status _ = 0

@@ -1,13 +1,11 @@
 //! What the program's words ask for.
 
-ghost use Rattle.std.specs.Prelude.{◌≡◌, ℕ, List, None, Some, MatchResult, IfOk, IfErr, codes};
+ghost use Rattle.std.specs.Prelude.{◌≡◌, codes};
 ghost use Rattle.clap.specs.Words.{first_of, found_of, rows_of, subcommand_rows_of};
-ghost use Rattle.pmp_tool.specs.Commands.{AsksFor, AsksToCheck, after_of};
-ghost use Rattle.pmp_tool.specs.Refusals.{status_of};
-ghost use Rattle.pmp_tool.specs.Words.{IsAccessOf, words_fault};
-ghost use Rattle.pmp_tool.specs.declared.command.Request.{Request};
-ghost use Rattle.pmp_tool.specs.declared.refusal.Refusal.TheVariants.{BadWord};
-ghost use Rattle.pmp_core.specs.declared.access.Access.{Access};
+ghost use Rattle.pmp_text.specs.AccessWords.{kind_named, mode_named};
+ghost use Rattle.pmp_text.specs.Numbers.{word_number};
+ghost use Rattle.pmp_tool.specs.Commands.{after_of, asked, asked_of, check_in, check_of, check_task, command_named};
+ghost use Rattle.pmp_tool.specs.Commands.{required, result_map, task_in, task_of};
 
 use crate::refusal::Refusal;
 use clap::ArgMatches;
@@ -34,38 +32,61 @@ pub struct Command<'a> {
     pub request: Request<'a>,
 }
 
+/// The names of the program's commands.
+#[derive(Clone, Copy, Debug, PartialEq, Eq)]
+enum CommandName {
+    Check,
+    Audit,
+    Dump,
+    Map,
+}
+
+/// The command that a word names.
+fn read_name(word: &str) -> Option<CommandName>
+    ensures { result ≡ command_named word.now }
+{
+    match word {
+        "check" => Some(CommandName::Check),
+        "audit" => Some(CommandName::Audit),
+        "dump" => Some(CommandName::Dump),
+        "map" => Some(CommandName::Map),
+        _ => None,
+    }
+}
+
 /// What the subcommand that `clap` found in the words asks for.
 pub fn read_command<'a>(matches: &ArgMatches<'a>) -> Result<Command<'a>, Refusal>
-    ensures ok { IfOk result (λ command. AsksFor (subcommand_rows_of matches.now) command.script.now command.request) }
-    ensures err { IfErr result (λ refusal. (status_of refusal ≡ 2)
-        × ((path : List ℕ) (request : Request) → AsksFor (subcommand_rows_of matches.now) path request → ⊥)) }
+    ensures { result_map asked result ≡ asked_of (subcommand_rows_of matches.now) }
 {
-    let (name, words) = matches.subcommand().ok_or(Refusal::BadWord)?;
+    let (word, words) = matches.subcommand().ok_or(Refusal::BadWord)?;
+    let name = read_name(word).ok_or(Refusal::BadWord)?;
     let script = word_of(words, "script")?;
-    let request = match name {
-        "check" => Request::Check(read_check(words)?),
-        "audit" => Request::Audit(word_of(words, "trace")?),
-        "dump" => Request::Dump(read_after(words)?),
-        "map" => Request::Map(read_after(words)?),
-        _ => return Err(Refusal::BadWord),
-    };
+    let request = read_request(name, words)?;
     Ok(Command { script, request })
+}
+
+/// What the command with this name asks for of the script.
+fn read_request<'a>(name: CommandName, words: &ArgMatches<'a>) -> Result<Request<'a>, Refusal>
+    ensures { result_map task_of result ≡ task_in name (rows_of (found_of words.now)) }
+{
+    match name {
+        CommandName::Check => Ok(Request::Check(read_check(words)?)),
+        CommandName::Audit => Ok(Request::Audit(word_of(words, "trace")?)),
+        CommandName::Dump => Ok(Request::Dump(read_after(words)?)),
+        CommandName::Map => Ok(Request::Map(read_after(words)?)),
+    }
 }
 
 /// The word in a place that its command requires.
 fn word_of<'a>(words: &ArgMatches<'a>, id: &str) -> Result<&'a str, Refusal>
-    ensures { MatchResult result
-        (λ word. first_of id.now (rows_of (found_of words.now)) ≡ Some word.now)
-        (λ refusal. (refusal ≡ BadWord) × (first_of id.now (rows_of (found_of words.now)) ≡ None)) }
+    ensures { result_map (λ word. word.now) result ≡ required (first_of id.now (rows_of (found_of words.now))) }
 {
     words.get_str(id).ok_or(Refusal::BadWord)
 }
 
 /// The access of a check.
 fn read_check(words: &ArgMatches) -> Result<Access, Refusal>
-    ensures ok { IfOk result (AsksToCheck (rows_of (found_of words.now))) }
-    ensures err { IfErr result (λ refusal. (status_of refusal ≡ 2)
-        × ((access : Access) → AsksToCheck (rows_of (found_of words.now)) access → ⊥)) }
+    ensures { result_map check_task result ≡ check_in (rows_of (found_of words.now)) }
 {
     let mode = word_of(words, "mode")?;
     let kind = word_of(words, "kind")?;
@@ -76,9 +97,8 @@ fn read_check(words: &ArgMatches) -> Result<Access, Refusal>
 
 /// The access that four words describe. All words are read before the access is made.
 fn read_access(mode: &str, kind: &str, start: &str, length: &str) -> Result<Access, Refusal>
-    ensures { MatchResult result
-        (IsAccessOf mode.now kind.now start.now length.now)
-        (λ refusal. words_fault mode.now kind.now start.now length.now ≡ Some refusal) }
+    ensures { result_map check_task result
+        ≡ check_of (mode_named mode.now) (kind_named kind.now) (word_number start.now) (word_number length.now) }
 {
     let mode = read_mode(mode.as_bytes()).ok_or(Refusal::BadWord)?;
     let kind = read_kind(kind.as_bytes()).ok_or(Refusal::BadWord)?;
@@ -89,9 +109,7 @@ fn read_access(mode: &str, kind: &str, start: &str, length: &str) -> Result<Acce
 
 /// How many publications are taken, where the words say that.
 fn read_after(words: &ArgMatches) -> Result<Option<u64>, Refusal>
-    ensures { MatchResult result
-        (λ after. after_of (first_of (codes "after") (rows_of (found_of words.now))) ≡ Some after)
-        (λ refusal. (refusal ≡ BadWord) × (after_of (first_of (codes "after") (rows_of (found_of words.now))) ≡ None)) }
+    ensures { result ≡ after_of (first_of (codes "after") (rows_of (found_of words.now))) }
 {
     match words.get_str("after") {
         Some(word) => Ok(Some(read_word_number(word.as_bytes()).ok_or(Refusal::BadWord)?)),

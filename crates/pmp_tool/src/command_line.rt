@@ -1,8 +1,11 @@
 //! The command line, as the crate `clap` reads it.
 
 ghost use Rattle.std.specs.Prelude.{◌≡◌, map, false, IfOk, IfErr, string_bytes};
-ghost use Rattle.clap.specs.Words.{HasKind, fault_of, rule_of};
-ghost use Rattle.pmp_tool.specs.CommandLines.{IsCommand, IsTaken, after_rule, audit_app, check_app, dump_app, map_app, pmp_app, word_rule};
+ghost use Rattle.clap.specs.Words.{HasKind, app_of, fault_of, new_app, rule_of};
+ghost use Rattle.pmp_tool.specs.Building.{Changes, IsCommand, IsLocal, IsTaken};
+ghost use Rattle.pmp_tool.specs.CommandLines.{after_rule, audit_app, check_app, dump_app, map_app, pmp_app, top_app};
+ghost use Rattle.pmp_tool.specs.CommandLines.{with_after, with_command, with_word};
+ghost use Rattle.pmp_tool.specs.CommandLines.{word_rule};
 
 use crate::help;
 use clap::{Arg, ArgMatches, Command, Error};
@@ -20,61 +23,91 @@ pub fn parse_words<'a>(alloc: Global, words: &'a [String]) -> Result<ArgMatches<
 fn pmp<'a>(alloc: Global) -> Result<Command<'a>, AllocError>
     ensures { IfOk result (λ command. IsCommand command pmp_app) }
 {
-    Command::new(alloc, "pmp")
-        .bin_name("pmp")?
-        .about(help::ABOUT)
-        .after_help(help::MORE)
-        .version(help::VERSION)
-        .no_binary_name(true)
-        .subcommand_required(true)
-        .arg_required_else_help(true)
-        .subcommand(check(alloc)?)?
-        .subcommand(audit(alloc)?)?
-        .subcommand(dump(alloc)?)?
-        .subcommand(map(alloc)?)
+    let program = top(alloc)?;
+    let program = with_command(program, check(alloc)?)?;
+    let program = with_command(program, audit(alloc)?)?;
+    let program = with_command(program, dump(alloc)?)?;
+    let program = with_command(program, map(alloc)?)?;
+    Ok(program)
 }
 
 fn check<'a>(alloc: Global) -> Result<Command<'a>, AllocError>
     ensures { IfOk result (λ command. IsCommand command check_app) }
 {
-    Command::new(alloc, "check")
-        .about(help::CHECK)
-        .after_help(help::MORE_OF_CHECK)
-        .arg(word(alloc, "script", "SCRIPT", help::SCRIPT))?
-        .arg(word(alloc, "mode", "MODE", help::MODE))?
-        .arg(word(alloc, "kind", "KIND", help::KIND))?
-        .arg(word(alloc, "start", "START", help::START))?
-        .arg(word(alloc, "length", "LENGTH", help::LENGTH))
+    let command = named(alloc, "check", help::CHECK, help::MORE_OF_CHECK);
+    let command = with_word(alloc, command, "script", "SCRIPT", help::SCRIPT)?;
+    let command = with_word(alloc, command, "mode", "MODE", help::MODE)?;
+    let command = with_word(alloc, command, "kind", "KIND", help::KIND)?;
+    let command = with_word(alloc, command, "start", "START", help::START)?;
+    let command = with_word(alloc, command, "length", "LENGTH", help::LENGTH)?;
+    Ok(command)
 }
 
 fn audit<'a>(alloc: Global) -> Result<Command<'a>, AllocError>
     ensures { IfOk result (λ command. IsCommand command audit_app) }
 {
-    Command::new(alloc, "audit")
-        .about(help::AUDIT)
-        .after_help(help::MORE_OF_AUDIT)
-        .arg(word(alloc, "script", "SCRIPT", help::SCRIPT))?
-        .arg(word(alloc, "trace", "TRACE", help::TRACE))
+    let command = named(alloc, "audit", help::AUDIT, help::MORE_OF_AUDIT);
+    let command = with_word(alloc, command, "script", "SCRIPT", help::SCRIPT)?;
+    let command = with_word(alloc, command, "trace", "TRACE", help::TRACE)?;
+    Ok(command)
 }
 
 fn dump<'a>(alloc: Global) -> Result<Command<'a>, AllocError>
     ensures { IfOk result (λ command. IsCommand command dump_app) }
 {
-    Command::new(alloc, "dump")
-        .about(help::DUMP)
-        .after_help(help::MORE_OF_DUMP)
-        .arg(word(alloc, "script", "SCRIPT", help::SCRIPT))?
-        .arg(after(alloc))
+    let command = named(alloc, "dump", help::DUMP, help::MORE_OF_DUMP);
+    let command = with_word(alloc, command, "script", "SCRIPT", help::SCRIPT)?;
+    let command = with_after(alloc, command)?;
+    Ok(command)
 }
 
 fn map<'a>(alloc: Global) -> Result<Command<'a>, AllocError>
     ensures { IfOk result (λ command. IsCommand command map_app) }
 {
-    Command::new(alloc, "map")
-        .about(help::MAP)
-        .after_help(help::MORE_OF_MAP)
-        .arg(word(alloc, "script", "SCRIPT", help::SCRIPT))?
-        .arg(after(alloc))
+    let command = named(alloc, "map", help::MAP, help::MORE_OF_MAP);
+    let command = with_word(alloc, command, "script", "SCRIPT", help::SCRIPT)?;
+    let command = with_after(alloc, command)?;
+    Ok(command)
+}
+
+/// The program without its commands.
+fn top<'a>(alloc: Global) -> Result<Command<'a>, AllocError>
+    ensures { IfOk result (λ command. IsCommand command top_app) }
+{
+    let program = named(alloc, "pmp", help::ABOUT, help::MORE)
+        .version(help::VERSION)
+        .no_binary_name(true)
+        .subcommand_required(true)
+        .arg_required_else_help(true);
+    program.bin_name("pmp")
+}
+
+/// A command without words.
+fn named<'a>(alloc: Global, name: &'a str, about: &'a str, more: &'a str) -> Command<'a>
+    ensures { IsCommand result (new_app name.entry.now) }
+{
+    Command::new(alloc, name).about(about).after_help(more)
+}
+
+/// The program with a command more.
+fn with_command<'a>(program: Command<'a>, command: Command<'a>) -> Result<Command<'a>, AllocError>
+    requires { IsLocal command }
+    ensures { IfOk result (Changes (λ app. with_command app (app_of command.entry)) program.entry) }
+{
+    program.subcommand(command)
+}
+
+/// The command with a word more.
+fn with_word<'a>(
+    alloc: Global,
+    command: Command<'a>,
+    id: &'a str,
+    name: &'a str,
+    help: &'a str,
+) -> Result<Command<'a>, AllocError>
+    ensures { IfOk result (Changes (λ app. with_word app id.entry.now) command.entry) }
+{
+    command.arg(word(alloc, id, name, help))
 }
 
 /// A word that its command requires, taken as text.
@@ -86,6 +119,13 @@ fn word<'a>(alloc: Global, id: &'a str, name: &'a str, help: &'a str) -> Arg<'a>
         .value_name(name)
         .help(help)
         .required(true)
+}
+
+/// The command with `--after N`.
+fn with_after<'a>(alloc: Global, command: Command<'a>) -> Result<Command<'a>, AllocError>
+    ensures { IfOk result (Changes with_after command.entry) }
+{
+    command.arg(after(alloc))
 }
 
 /// `--after N`, taken as text.

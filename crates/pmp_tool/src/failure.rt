@@ -1,20 +1,24 @@
 //! Why the program gives no answer, and the exit status of that.
 
-ghost use Rattle.std.specs.Prelude.{◌≡◌};
+ghost use Rattle.std.specs.Prelude.{◌≡◌, ◌≤◌, IfSome, OnOk, OnErr};
+ghost use Rattle.std.specs.Io.KnownBytes.{Appends};
 ghost use Rattle.clap.specs.Words.{kind_of};
-ghost use Rattle.pmp_tool.specs.Failures.{failure_status, refused, unaudited, unparsed};
+ghost use Rattle.pmp_tool.specs.Failures.{Tells, failure_status, failure_text, refused, unaudited, unparsed};
 ghost use Rattle.pmp_tool.specs.Refusals.{refusal_of_input};
+ghost use Rattle.pmp_tool.specs.declared.refusal.Refusal.TheVariants.{Memory, Output};
 
-use crate::refusal::{FaultLine, Place, Refusal};
+use crate::fault_line::{FaultLine, Place};
+use crate::refusal::Refusal;
 use clap::error::ErrorKind;
 use pmp_audit::AuditFault;
-use pmp_text::InputFault;
-use std::fmt;
+use pmp_text::{InputFault, OutputFault};
+use std::alloc::AllocError;
+use std::io::Write;
 
 /// The exit status of words that have no form that the program knows.
 const UNKNOWN_WORDS: u8 = 2;
 
-/// Why the program gives no answer. Its text is whole lines.
+/// Why the program gives no answer.
 #[derive(Debug, Drop)]
 pub enum Failure {
     /// What `clap` says of the words.
@@ -24,20 +28,25 @@ pub enum Failure {
 
 impl Failure {
     pub fn status(&self) -> u8
-        ensures { result ≡ failure_status self.now }
+        ensures value { result ≡ failure_status self.now }
+        ensures above { 2 ≤ result }
+        ensures below { result ≤ 3 }
     {
         match self {
             Failure::Words(_) => UNKNOWN_WORDS,
             Failure::Refused(line) => line.refusal.status(),
         }
     }
-}
 
-impl fmt::Display for Failure {
-    fn fmt<W: fmt::Write>(&self, f: &mut fmt::Formatter<W>) -> fmt::Result {
+    /// Writes what a user reads of the failure, by one write where the writer takes it whole.
+    pub fn tell<W: Write>(&self, writer: &mut W) -> Result<(), OutputFault>
+        ensures whole { OnOk result (IfSome (failure_text self.now)
+            (Appends (W.contents writer.old) (W.contents writer.new))) }
+        ensures beginning { Tells self.now (W.contents writer.old) (W.contents writer.new) }
+    {
         match self {
-            Failure::Words(error) => write!(f, "{error}"),
-            Failure::Refused(line) => writeln!(f, "{line}"),
+            Failure::Words(error) => Ok(write!(writer, "{error}")?),
+            Failure::Refused(line) => line.write_to(writer),
         }
     }
 }
@@ -58,6 +67,22 @@ impl From<Refusal> for Failure {
 
     fn from(refusal: Refusal) -> Failure {
         Failure::Refused(FaultLine::from(refusal))
+    }
+}
+
+impl From<AllocError> for Failure {
+    ghost from_gives = { λ _ failure. failure ≡ refused Memory };
+
+    fn from(_: AllocError) -> Failure {
+        Failure::from(Refusal::Memory)
+    }
+}
+
+impl From<OutputFault> for Failure {
+    ghost from_gives = { λ _ failure. failure ≡ refused Output };
+
+    fn from(_: OutputFault) -> Failure {
+        Failure::from(Refusal::Output)
     }
 }
 

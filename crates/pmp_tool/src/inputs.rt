@@ -1,17 +1,12 @@
 //! Where the program's inputs come from.
 
-ghost use Rattle.std.specs.Prelude.{◌≡◌, ℕ, ◌<◌, ◌≤◌, List, length, Option, None, Err, IfOk, IfSome};
+ghost use Rattle.std.specs.Prelude.{◌≡◌, ℕ, ◌≤◌, List, length, Option, None, IfOk, IfErr};
+ghost use Rattle.pmp_text.specs.Limits.{script_limit, trace_limit};
+ghost use Rattle.pmp_tool.specs.Inputs.{AreBytesOf, CantBeRead};
 
-use pmp_text::{InputFault, MAX_LIMIT, MAX_SCRIPT, MAX_TRACE, read_bytes};
+use pmp_text::{InputFault, read_script_bytes, read_trace_bytes};
 use std::fs;
-use std::io::Read;
 use std::rt::Files;
-
-/// The most bytes of a script.
-pub const SCRIPT_LIMIT: u64 = MAX_SCRIPT as u64;
-
-/// The most bytes of a trace.
-pub const TRACE_LIMIT: u64 = MAX_TRACE as u64;
 
 /// The inputs that the program's words name.
 pub trait Inputs {
@@ -23,16 +18,14 @@ pub trait Inputs {
 
     /// The bytes of the script at this path.
     fn script(&mut self, path: &str) -> Result<Vec<u8>, InputFault>
-        ensures read { IfOk result (λ bytes. IfSome (scripts self.old path.now) (λ known. bytes.items ≡ known)) }
-        ensures too_long { result ≡ Err InputFault.TooLong →
-            IfSome (scripts self.old path.now) (λ known. SCRIPT_LIMIT < length known) }
+        ensures read { IfOk result (λ bytes. AreBytesOf (scripts self.old path.now) bytes.items) }
+        ensures unread { IfErr result (CantBeRead script_limit (scripts self.old path.now)) }
         ensures traces { traces self.new ≡ traces self.old };
 
     /// The bytes of the trace at this path.
     fn trace(&mut self, path: &str) -> Result<Vec<u8>, InputFault>
-        ensures read { IfOk result (λ bytes. IfSome (traces self.old path.now) (λ known. bytes.items ≡ known)) }
-        ensures too_long { result ≡ Err InputFault.TooLong →
-            IfSome (traces self.old path.now) (λ known. TRACE_LIMIT < length known) };
+        ensures read { IfOk result (λ bytes. AreBytesOf (traces self.old path.now) bytes.items) }
+        ensures unread { IfErr result (CantBeRead trace_limit (traces self.old path.now)) };
 }
 
 /// The files of the system. `stdin` as a script's path means standard input.
@@ -49,31 +42,32 @@ impl<'a, R> SystemInputs<'a, R> {
 
 impl<R: Files + Input + AllocGlobal> Inputs for SystemInputs<'_, R> {
     fn script(&mut self, path: &str) -> Result<Vec<u8>, InputFault> {
-        match path {
-            "stdin" => read_bytes(
-                self.runtime.alloc(),
-                &mut self.runtime.reader(),
-                SCRIPT_LIMIT,
-            ),
-            _ => read_file(self.runtime, path, SCRIPT_LIMIT),
-        }
+        read_script_at(self.runtime, path)
     }
 
     fn trace(&mut self, path: &str) -> Result<Vec<u8>, InputFault> {
-        read_file(self.runtime, path, TRACE_LIMIT)
+        read_trace_at(self.runtime, path)
     }
 }
 
-/// The bytes of the file at the path, at most `limit`.
-fn read_file<R: Files + AllocGlobal>(
+/// The bytes of the script at the path, or of standard input.
+fn read_script_at<R: Files + Input + AllocGlobal>(
     runtime: &R,
     path: &str,
-    limit: u64,
 ) -> Result<Vec<u8>, InputFault>
-    requires { limit ≤ MAX_LIMIT }
-    ensures { IfOk result (λ bytes. length bytes.items ≤ limit) }
+    ensures { IfOk result (λ bytes. length bytes.items ≤ script_limit) }
 {
-    read_bytes(runtime.alloc(), &mut fs::open(runtime, path)?, limit)
+    match path {
+        "stdin" => read_script_bytes(runtime.alloc(), &mut runtime.reader()),
+        _ => read_script_bytes(runtime.alloc(), &mut fs::open(runtime, path)?),
+    }
+}
+
+/// The bytes of the trace at the path.
+fn read_trace_at<R: Files + AllocGlobal>(runtime: &R, path: &str) -> Result<Vec<u8>, InputFault>
+    ensures { IfOk result (λ bytes. length bytes.items ≤ trace_limit) }
+{
+    read_trace_bytes(runtime.alloc(), &mut fs::open(runtime, path)?)
 }
 
 #[cfg(test)]

@@ -4,13 +4,15 @@
 mod command;
 mod command_line;
 mod failure;
+mod fault_line;
 mod help;
 mod inputs;
 mod refusal;
 mod run;
 
+use fault_line::FaultLine;
 use inputs::SystemInputs;
-use refusal::{FaultLine, Refusal};
+use refusal::Refusal;
 use run::run_tool;
 use std::env;
 use std::io::ErrorKind;
@@ -20,7 +22,7 @@ fn main(rt: HostRuntime) -> ExitCode {
     let words = match arguments(&rt) {
         Ok(words) => words,
         Err(refusal) => {
-            let _ = eprintln!(rt; "{}", FaultLine::from(refusal));
+            let _ = FaultLine::from(refusal).write_to(&mut rt.stderr());
             return ExitCode::from(refusal.status());
         }
     };

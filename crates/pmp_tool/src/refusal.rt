@@ -1,12 +1,11 @@
-//! What the program says and answers where it refuses.
+//! Why the program refuses, and the exit status of that.
 
-ghost use Rattle.std.specs.Prelude.{◌≡◌, None, Some};
-ghost use Rattle.pmp_tool.specs.Refusals.{fault_text, name_of, number_of, refusal_of_access, refusal_of_input, refusal_of_script, refusal_of_trace, refusal_text, status_of};
-ghost use Rattle.pmp_tool.specs.Failures.{script_place, trace_place};
-ghost use Rattle.pmp_tool.specs.declared.refusal.Refusal.TheVariants.{Memory, Output};
+ghost use Rattle.std.specs.Prelude.{◌≡◌, ◌≤◌, Some};
+ghost use Rattle.pmp_tool.specs.Refusals.{name_of, number_of, refusal_of_access, refusal_of_input, refusal_of_script};
+ghost use Rattle.pmp_tool.specs.Refusals.{refusal_of_trace, refusal_text, status_of};
 
 use pmp_core::AccessFault;
-use pmp_text::{InputFault, NoMemory, OutputFault, ScriptKind, TraceKind};
+use pmp_text::{InputFault, ScriptKind, TraceKind};
 use std::fmt;
 
 /// Why the program refuses. A variant's value is the number that users see.
@@ -84,7 +83,9 @@ impl Refusal {
 
     /// The program's exit status: 3 where its surroundings failed it, and else 2.
     pub fn status(self) -> u8
-        ensures { result ≡ status_of self }
+        ensures value { result ≡ status_of self }
+        ensures above { 2 ≤ result }
+        ensures below { result ≤ 3 }
     {
         match self {
             Refusal::Memory | Refusal::Input | Refusal::Output => 3,
@@ -159,167 +160,5 @@ impl From<InputFault> for Refusal {
             InputFault::Input => Refusal::Input,
             InputFault::Memory => Refusal::Memory,
         }
-    }
-}
-
-impl From<NoMemory> for Refusal {
-    ghost from_gives = { λ _ refusal. refusal ≡ Memory };
-
-    fn from(_: NoMemory) -> Refusal {
-        Refusal::Memory
-    }
-}
-
-impl From<OutputFault> for Refusal {
-    ghost from_gives = { λ _ refusal. refusal ≡ Output };
-
-    fn from(_: OutputFault) -> Refusal {
-        Refusal::Output
-    }
-}
-
-/// Where an input is at fault.
-#[derive(Clone, Copy, Debug, PartialEq, Eq)]
-pub enum Place {
-    /// A line of the script, from 1.
-    ScriptLine(u64),
-    /// A row of the trace, from 1.
-    TraceRow(u64),
-}
-
-impl Place {
-    /// A line of the script, where 0 stands for none.
-    pub fn script_line(line: u64) -> Option<Place>
-        ensures { result ≡ script_place line }
-    {
-        (line > 0).then_some(Place::ScriptLine(line))
-    }
-
-    /// A row of the trace, where 0 stands for none.
-    pub fn trace_row(row: u64) -> Option<Place>
-        ensures { result ≡ trace_place row }
-    {
-        (row > 0).then_some(Place::TraceRow(row))
-    }
-}
-
-/// The line that tells of a refusal, without its LF. Printing it takes no memory.
-#[derive(Clone, Copy, Debug, PartialEq, Eq)]
-pub struct FaultLine {
-    pub refusal: Refusal,
-    pub place: Option<Place>,
-}
-
-impl From<Refusal> for FaultLine {
-    ghost from_gives = { λ refusal line. (line.refusal ≡ refusal) × (line.place ≡ None) };
-
-    fn from(refusal: Refusal) -> FaultLine {
-        FaultLine {
-            refusal,
-            place: None,
-        }
-    }
-}
-
-impl fmt::Display for FaultLine {
-    ghost output = { λ line. Some (fault_text line.refusal line.place) };
-
-    fn fmt<W: fmt::Write>(&self, f: &mut fmt::Formatter<W>) -> fmt::Result {
-        let refusal = self.refusal;
-        match self.place {
-            Some(Place::ScriptLine(line)) => write!(
-                f,
-                "pmp: script line {line}: refused {refusal}"
-            ),
-            Some(Place::TraceRow(row)) => write!(f, "pmp: trace row {row}: refused {refusal}"),
-            None => write!(f, "pmp: refused {refusal}"),
-        }
-    }
-}
-
-#[cfg(test)]
-mod tests {
-    use super::*;
-    use std::test::Fail;
-
-    #[test]
-    fn tells_of_each_refusal(rt: HostRuntime) -> Result<(), Fail> {
-        let rows = [
-            (Refusal::BadLength, None, 2, "pmp: refused 3 BadLength"),
-            (Refusal::PastEnd, None, 2, "pmp: refused 4 PastEnd"),
-            (
-                Refusal::BadVersion,
-                Some(Place::ScriptLine(1)),
-                2,
-                "pmp: script line 1: refused 10 BadVersion",
-            ),
-            (
-                Refusal::BadLine,
-                Some(Place::ScriptLine(2)),
-                2,
-                "pmp: script line 2: refused 11 BadLine",
-            ),
-            (
-                Refusal::BadName,
-                Some(Place::ScriptLine(3)),
-                2,
-                "pmp: script line 3: refused 12 BadName",
-            ),
-            (
-                Refusal::OddCfg,
-                Some(Place::ScriptLine(2)),
-                2,
-                "pmp: script line 2: refused 13 OddCfg",
-            ),
-            (
-                Refusal::BadNumber,
-                Some(Place::ScriptLine(10)),
-                2,
-                "pmp: script line 10: refused 14 BadNumber",
-            ),
-            (
-                Refusal::BatchFull,
-                Some(Place::ScriptLine(66)),
-                2,
-                "pmp: script line 66: refused 15 BatchFull",
-            ),
-            (
-                Refusal::Unpublished,
-                Some(Place::ScriptLine(2)),
-                2,
-                "pmp: script line 2: refused 16 Unpublished",
-            ),
-            (Refusal::TooLong, None, 2, "pmp: refused 17 TooLong"),
-            (Refusal::BadHeader, None, 2, "pmp: refused 20 BadHeader"),
-            (
-                Refusal::BadRow,
-                Some(Place::TraceRow(1)),
-                2,
-                "pmp: trace row 1: refused 21 BadRow",
-            ),
-            (Refusal::BadAfter, None, 2, "pmp: refused 22 BadAfter"),
-            (
-                Refusal::BadAfter,
-                Some(Place::TraceRow(30)),
-                2,
-                "pmp: trace row 30: refused 22 BadAfter",
-            ),
-            (
-                Refusal::Order,
-                Some(Place::TraceRow(2)),
-                2,
-                "pmp: trace row 2: refused 23 Order",
-            ),
-            (Refusal::BadWord, None, 2, "pmp: refused 24 BadWord"),
-            (Refusal::Memory, None, 3, "pmp: refused 40 Memory"),
-            (Refusal::Input, None, 3, "pmp: refused 41 Input"),
-            (Refusal::Output, None, 3, "pmp: refused 42 Output"),
-        ];
-        for (refusal, place, status, text) in rows {
-            let told = FaultLine { refusal, place }.to_string(rt.alloc())?;
-            assert_eq!(rt; told.as_bytes(), text.as_bytes());
-            assert_eq!(rt; refusal.status(), status, "{refusal}");
-        }
-        Ok(())
     }
 }

@@ -1,9 +1,10 @@
 //! The program: from words to an exit status.
 
-ghost use Rattle.std.specs.Prelude.{◌≡◌, ◌≤◌, map, IfOk, IfErr, string_bytes};
-ghost use Rattle.std.specs.Io.KnownBytes.{Keeps};
-ghost use Rattle.pmp_tool.specs.Failures.{failure_status};
-ghost use Rattle.pmp_tool.specs.Runs.{IsAnswered, IsFaulty, IsKnownToFail, IsMet, IsTold, outcome_status};
+ghost use Rattle.std.specs.Prelude.{◌≡◌, ℕ, ◌≤◌, List, map, IfOk, IfErr, string_bytes};
+ghost use Rattle.std.specs.Io.KnownBytes.{Appends, Keeps};
+ghost use Rattle.pmp_tool.specs.Failures.{Tells, failure_status};
+ghost use Rattle.pmp_tool.specs.Runs.{Answers, CommandAnswers, CommandFails, Fails, TextFails, outcome_status};
+ghost use Rattle.pmp_tool.specs.declared.failure.Failure.{Failure};
 ghost use Rattle.pmp_tool.specs.declared.run.Outcome.{Outcome};
 ghost use Rattle.pmp_tool.specs.declared.run.Outcome.TheVariants.{Told};
 
@@ -11,7 +12,6 @@ use crate::command::{Command, Request, read_command};
 use crate::command_line::parse_words;
 use crate::failure::Failure;
 use crate::inputs::Inputs;
-use crate::refusal::Refusal;
 use pmp_audit::{Summary, audit, check, dump, map_of};
 use pmp_core::Decision;
 use pmp_text::write_out;
@@ -25,11 +25,11 @@ const DONE: u8 = 0;
 const REFUSED: u8 = 1;
 
 /// Runs the program on its words, those after its own name, and answers its exit status: 0 where each access is
-/// allowed, or the registers, the runs or a text of help were written, 1 where an access is refused, 2 or 3 where there is no
-/// answer, with a text on `err` that says why.
+/// allowed, or the registers, the runs or a text of help were written, 1 where an access is refused, 2 or 3 where
+/// there is no answer, with a text on `err` that says why.
 ///
-/// `out` gets the report rows, the register lines, the run lines or the text. Where nothing can be written to `err`, the status is the
-/// same.
+/// `out` gets the report rows, the register lines, the run lines or the text. A text on `err` is handed over whole, by
+/// one write. Where it can't be written, or not wholly, the status is the same.
 pub fn run_tool<I: Inputs, O: Write, E: Write>(
     alloc: Global,
     words: &[String],
@@ -39,18 +39,24 @@ pub fn run_tool<I: Inputs, O: Write, E: Write>(
 ) -> u8
     ensures status { result ≤ 3 }
 
-    // The inputs that the words name were read, and what they ask for was written.
+    // What the words ask for was written, and nothing to standard error.
     ensures answered { result ≤ 1 → (outcome : Outcome) × (result ≡ outcome_status outcome)
-        × IsAnswered (map string_bytes words.now) (I.scripts inputs.old) (I.traces inputs.old) (O.contents out.old) (O.contents out.new) outcome }
+        × Answers (map string_bytes words.now) (I.scripts inputs.old) (I.traces inputs.old)
+        (O.contents out.old) (O.contents out.new) outcome
+        × Keeps (E.contents err.old) (E.contents err.new) }
 
-    // The words or the inputs are at fault, and nothing was written.
-    ensures refused { result ≡ 2 → IsFaulty (map string_bytes words.now) (I.scripts inputs.old) (I.traces inputs.old)
-        × Keeps (O.contents out.old) (O.contents out.new) }
+    // Why it wasn't, or not wholly, and how standard error tells of that.
+    ensures failed { 2 ≤ result → (failure : Failure) × (result ≡ failure_status failure)
+        × Fails (map string_bytes words.now) (I.scripts inputs.old) (I.traces inputs.old)
+        (O.contents out.old) (O.contents out.new) failure
+        × Tells failure (E.contents err.old) (E.contents err.new) }
+
+    ensures untouched { result ≡ 2 → Keeps (O.contents out.old) (O.contents out.new) }
 {
     match run(alloc, words, inputs, out) {
         Ok(outcome) => outcome.status(),
         Err(failure) => {
-            let _ = write!(err, "{failure}");
+            let _ = failure.tell(err);
             failure.status()
         }
     }
@@ -63,12 +69,10 @@ fn run<I: Inputs, O: Write>(
     inputs: &mut I,
     out: &mut O,
 ) -> Result<Outcome, Failure>
-    ensures ok { IfOk result
-        (IsAnswered (map string_bytes words.now) (I.scripts inputs.old) (I.traces inputs.old) (O.contents out.old) (O.contents out.new)) }
-    ensures status { IfErr result (λ failure. 2 ≤ failure_status failure) }
-    ensures faulty { IfErr result (λ failure. failure_status failure ≡ 2
-        → IsFaulty (map string_bytes words.now) (I.scripts inputs.old) (I.traces inputs.old)) }
-    ensures untouched { IfErr result (λ failure. failure_status failure ≡ 2 → Keeps (O.contents out.old) (O.contents out.new)) }
+    ensures ok { IfOk result (Answers (map string_bytes words.now) (I.scripts inputs.old) (I.traces inputs.old)
+        (O.contents out.old) (O.contents out.new)) }
+    ensures err { IfErr result (Fails (map string_bytes words.now) (I.scripts inputs.old) (I.traces inputs.old)
+        (O.contents out.old) (O.contents out.new)) }
 {
     match parse_words(alloc, words) {
         Ok(matches) => answer(alloc, read_command(&matches)?, inputs, out),
@@ -79,11 +83,12 @@ fn run<I: Inputs, O: Write>(
 
 /// Writes a text of help, or the version.
 fn tell<O: Write>(alloc: Global, text: &clap::Error, out: &mut O) -> Result<Outcome, Failure>
-    ensures ok { IfOk result (λ outcome. (outcome ≡ Told) × IsTold (O.contents out.old) (O.contents out.new)) }
-    ensures err { IfErr result (λ failure. failure_status failure ≡ 3) }
+    ensures ok { IfOk result (λ outcome. (outcome ≡ Told)
+        × ((bytes : List ℕ) × Appends (O.contents out.old) (O.contents out.new) bytes)) }
+    ensures err { IfErr result (TextFails (O.contents out.old) (O.contents out.new)) }
 {
-    let text = text.to_string(alloc).map_err(|_| Refusal::Memory)?;
-    write_out(out, text.as_bytes()).map_err(Refusal::from)?;
+    let text = text.to_string(alloc)?;
+    write_out(out, text.as_bytes())?;
     Ok(Outcome::Told)
 }
 
@@ -94,12 +99,10 @@ fn answer<I: Inputs, O: Write>(
     inputs: &mut I,
     out: &mut O,
 ) -> Result<Outcome, Failure>
-    ensures ok { IfOk result
-        (IsMet (I.scripts inputs.old) (I.traces inputs.old) command.entry.script.now command.entry.request (O.contents out.old) (O.contents out.new)) }
-    ensures status { IfErr result (λ failure. 2 ≤ failure_status failure) }
-    ensures faulty { IfErr result (λ failure. failure_status failure ≡ 2
-        → IsKnownToFail (I.scripts inputs.old) (I.traces inputs.old) command.entry.script.now command.entry.request) }
-    ensures untouched { IfErr result (λ failure. failure_status failure ≡ 2 → Keeps (O.contents out.old) (O.contents out.new)) }
+    ensures ok { IfOk result (CommandAnswers (I.scripts inputs.old) (I.traces inputs.old) command.entry
+        (O.contents out.old) (O.contents out.new)) }
+    ensures err { IfErr result (CommandFails (I.scripts inputs.old) (I.traces inputs.old) command.entry
+        (O.contents out.old) (O.contents out.new)) }
 {
     let script = inputs.script(command.script)?;
     match command.request {

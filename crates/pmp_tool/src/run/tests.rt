@@ -3,6 +3,7 @@
 mod audits;
 mod checks;
 mod dumps;
+mod errors;
 mod maps;
 mod refusals;
 mod words;
@@ -14,8 +15,8 @@ use std::process::Abort;
 use std::test::Fail;
 
 /// Two publications: entry 0 reads a page, then entry 1 does in its place.
-const SCRIPT: &str =
-    "pmp 1\nwrite pmpaddr0 0x200001ff\nwrite pmpcfg0 0x19\npublish\nwrite pmpcfg0 0x1900\nwrite pmpaddr1 0x200001ff\npublish\n";
+const SCRIPT: &str = "pmp 1\nwrite pmpaddr0 0x200001ff\nwrite pmpcfg0 0x19\npublish\n\
+    write pmpcfg0 0x1900\nwrite pmpaddr1 0x200001ff\npublish\n";
 
 /// One script, under the name `table`, and one trace, under the name `trace`. What is named `long` is too long, for
 /// what is named `large` there is no memory, and nothing else can be opened.
@@ -53,16 +54,22 @@ struct Answer {
     err: Vec<u8>,
 }
 
-/// Runs the program on words that blanks part.
-fn run_on(mut inputs: Table, words: &str) -> Result<Answer, AllocError> {
-    let alloc = inputs.alloc;
+/// The words that blanks part.
+fn list_of(alloc: Global, words: &str) -> Result<Vec<String>, AllocError> {
     let mut list = Vec::new(alloc);
     for word in words.split_whitespace() {
         list.push(word.to_string(alloc)?)?;
     }
+    Ok(list)
+}
+
+/// Runs the program on words that blanks part.
+fn run_on(mut inputs: Table, words: &str) -> Result<Answer, AllocError> {
+    let alloc = inputs.alloc;
+    let words = list_of(alloc, words)?;
     let mut out = Vec::new(alloc);
     let mut err = Vec::new(alloc);
-    let status = run_tool(alloc, &list, &mut inputs, &mut out, &mut err);
+    let status = run_tool(alloc, &words, &mut inputs, &mut out, &mut err);
     Ok(Answer { status, out, err })
 }
 
@@ -100,13 +107,11 @@ fn a_full_output_is_refused(rt: HostRuntime) -> Result<(), Fail> {
         "check table M load 0x0 4",
         "audit table trace",
         "dump table",
+        "map table",
         "--help",
         "--version",
     ] {
-        let mut words = Vec::new(alloc);
-        for word in command.split_whitespace() {
-            words.push(word.to_string(alloc)?)?;
-        }
+        let words = list_of(alloc, command)?;
         let mut inputs = Table {
             alloc,
             script: b"pmp 1",

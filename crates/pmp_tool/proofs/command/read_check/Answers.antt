@@ -1,8 +1,14 @@
-use Rattle.clap.specs.Words.{found_of, rows_of}
-use Rattle.pmp_tool.proofs.Wording.{refused_check}
+use Rattle.std.proofs.Common.{codes}
+use Rattle.clap.specs.Words.{first_of, found_of, rows_of}
+use Rattle.pmp_tool.proofs.Matching.{word_is}
 use Rattle.pmp_tool.proofs.command.read_check.Goals as goal
 
-pub returns-clause-err : goal.returns-clause-err
-returns-clause-err c =
-    refused_check (rows_of (found_of c.args.words.now)) c.in_ok-mode.mode.now c.in_ok-kind.kind.now c.in_ok-start.start.now c.in_ok-length.length.now
-    c.in_ok-mode.ensures c.in_ok-kind.ensures c.in_ok-start.ensures c.in_ok-length.ensures c.read_access.result c.read_access.ensures
+pub returns : goal.returns
+returns c =
+    let rows = rows_of (found_of c.args.words.now) in
+    rw (
+      word_is (first_of (codes "mode") rows) c.in_ok-mode.mode.now c.in_ok-mode.ensures,
+      word_is (first_of (codes "kind") rows) c.in_ok-kind.kind.now c.in_ok-kind.ensures,
+      word_is (first_of (codes "start") rows) c.in_ok-start.start.now c.in_ok-start.ensures,
+      word_is (first_of (codes "length") rows) c.in_ok-length.length.now c.in_ok-length.ensures,
+    ) c.read_access.ensures

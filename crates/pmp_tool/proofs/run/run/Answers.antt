@@ -1,18 +1,35 @@
-use Rattle.std.proofs.Common.{map, string_bytes}
+use Rattle.std.proofs.Common.{◌∙◌, refl, sym, ap, map, string_bytes, true≢false}
 use Rattle.std.proofs.lemmas.Result.{IfErr-weaker, err_from_is_err_and}
-use Rattle.pmp_tool.proofs.Running.{fails_alike, taken_but_faulty}
+use Rattle.std.proofs.KnownBytes.{Keeps-refl}
+use Rattle.pmp_tool.specs.Commands.{asked_of}
+use Rattle.pmp_tool.specs.Runs.{no_command, no_text, refused_word}
+use Rattle.pmp_tool.proofs.Running.{asked_for_text, refused_by_clap}
 use Rattle.pmp_tool.proofs.run.run.Goals as goal
 
-pub returns-in_err-read_command-in-Ok-clause-faulty : goal.returns-in_err-read_command-in-Ok-clause-faulty
-returns-in_err-read_command-in-Ok-clause-faulty g c =
+pub returns-in_err-read_command-in-Ok-clause-err : goal.returns-in_err-read_command-in-Ok-clause-err
+returns-in_err-read_command-in-Ok-clause-err g c =
     let p = err_from_is_err_and c.from_residual.result c.from_residual.ensures.1 in
-    rw p.1 (λ two. taken_but_faulty (g.I.Inputs.scripts c.args.inputs.now) (g.I.Inputs.traces c.args.inputs.now) (map string_bytes c.args.words.now) c.in-Ok.matches c.in-Ok.ensures.ok
-    (λ path request asked. absurd (c.in_err-read_command-in-Ok.ensures.err.1 path request asked)))
+    let taken = c.in-Ok.ensures.ok in
+    rw (p.1, p.2)
+    (refused_word c.in_err-read_command-in-Ok.field-0.0
+    (taken.0, sym (ap asked_of taken.1) ∙ sym c.in_err-read_command-in-Ok.ensures) (Keeps-refl _))
 
-pub returns-in_ok-read_command-in-Ok-clause-faulty : goal.returns-in_ok-read_command-in-Ok-clause-faulty
-returns-in_ok-read_command-in-Ok-clause-faulty g c =
-    let scripts = g.I.Inputs.scripts c.args.inputs.now in
-    let traces = g.I.Inputs.traces c.args.inputs.now in
+pub returns-in_ok-read_command-in-Ok-clause-err : goal.returns-in_ok-read_command-in-Ok-clause-err
+returns-in_ok-read_command-in-Ok-clause-err g c =
+    let taken = c.in-Ok.ensures.ok in
     let command = c.in_ok-read_command-in-Ok.field-0 in
-    IfErr-weaker c.answer.result _ _ (λ failure fails two. taken_but_faulty scripts traces (map string_bytes c.args.words.now) c.in-Ok.matches c.in-Ok.ensures.ok
-    (λ path request asked. fails_alike scripts traces _ command.script.now path command.request request c.in_ok-read_command-in-Ok.ensures.ok asked (fails two))) c.answer.ensures.faulty
+    IfErr-weaker c.answer.result _ _
+    (λ failure fails. no_command command failure
+    (taken.0, sym (ap asked_of taken.1) ∙ sym c.in_ok-read_command-in-Ok.ensures) fails) c.answer.ensures.err
+
+pub returns-in-Err-clause-err : goal.returns-in-Err-clause-err
+returns-in-Err-clause-err g c =
+    let kinds = c.if-use_stderr.ensures.0 refl in
+    rw c.from.ensures (refused_by_clap _ _ _ _ _ c.in-Err.error c.in-Err.ensures.err kinds.0 kinds.1 (Keeps-refl _))
+
+pub returns-in-Err-2-clause-err : goal.returns-in-Err-2-clause-err
+returns-in-Err-2-clause-err g c =
+    let asked =
+    asked_for_text (map string_bytes c.args.words.now) c.in-Err.error c.in-Err.ensures.err
+    (λ refused. true≢false (sym (c.if-use_stderr.ensures.1 refused))) in
+    IfErr-weaker c.tell.result _ _ (λ failure fails. no_text failure asked fails) c.tell.ensures.err

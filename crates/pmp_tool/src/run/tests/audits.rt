@@ -1,6 +1,7 @@
 //! `pmp audit` on worked examples.
 
 use super::*;
+use refusals::assert_line;
 
 const HEADER: &str = "after,mode,kind,start,length";
 
@@ -28,28 +29,18 @@ fn assert_report<R: Abort + AllocGlobal>(
     Ok(())
 }
 
-fn assert_faulty<R: Abort + AllocGlobal>(
-    rt: &R,
-    script: &str,
-    rows: &str,
-    line: &str,
-) -> Result<(), Fail> {
-    let trace = format!(in rt.alloc(); "{HEADER}\n{rows}\n")?;
-    let answer = audit(rt, script, trace.as_str())?;
-    let line = format!(in rt.alloc(); "pmp: {line}\n")?;
-    assert_eq!(rt; answer.err.as_slice(), line.as_bytes(), "{rows}");
-    assert!(rt; answer.out.is_empty(), "{rows}");
-    assert_eq!(rt; answer.status, 2, "{rows}");
-    Ok(())
-}
-
 #[test]
 fn each_row_is_decided_after_its_publications(rt: HostRuntime) -> Result<(), Fail> {
     for trace in [
-        "after,mode,kind,start,length\n0,U,load,0x80000000,4\n1,U,load,0x80000000,4\n1,U,store,0x80000000,4\n2,U,load,0x80000000,4\n",
-        "after,mode,kind,start,length\r\n0,U,load,0x80000000,4\r\n1,U,load,0x80000000,4\r\n1,U,store,0x80000000,4\r\n2,U,load,0x80000000,4\r\n",
-        "after,mode,kind,start,length\n0,U,load,0x80000000,4\n1,U,load,0x80000000,4\n1,U,store,0x80000000,4\n2,U,load,0x80000000,4",
-        "\"after\",\"mode\",\"kind\",\"start\",\"length\"\n\"0\",\"U\",\"load\",\"0x80000000\",\"4\"\n\"1\",\"U\",\"load\",\"0x80000000\",\"4\"\n\"1\",\"U\",\"store\",\"0x80000000\",\"4\"\n\"2\",\"U\",\"load\",\"0x80000000\",\"4\"\n",
+        "after,mode,kind,start,length\n0,U,load,0x80000000,4\n1,U,load,0x80000000,4\n1,U,store,0x80000000,4\n\
+        2,U,load,0x80000000,4\n",
+        "after,mode,kind,start,length\r\n0,U,load,0x80000000,4\r\n1,U,load,0x80000000,4\r\n\
+        1,U,store,0x80000000,4\r\n2,U,load,0x80000000,4\r\n",
+        "after,mode,kind,start,length\n0,U,load,0x80000000,4\n1,U,load,0x80000000,4\n1,U,store,0x80000000,4\n\
+        2,U,load,0x80000000,4",
+        "\"after\",\"mode\",\"kind\",\"start\",\"length\"\n\"0\",\"U\",\"load\",\"0x80000000\",\"4\"\n\
+        \"1\",\"U\",\"load\",\"0x80000000\",\"4\"\n\"1\",\"U\",\"store\",\"0x80000000\",\"4\"\n\
+        \"2\",\"U\",\"load\",\"0x80000000\",\"4\"\n",
     ] {
         assert_report(&rt, trace, REPORT, 1)?;
     }
@@ -68,41 +59,22 @@ fn rows_that_are_all_allowed_end_well(rt: HostRuntime) -> Result<(), Fail> {
 }
 
 #[test]
-fn traces_are_refused_with_their_row(rt: HostRuntime) -> Result<(), Fail> {
-    for (rows, line) in [
+fn a_fault_of_the_script_comes_before_any_of_the_trace(rt: HostRuntime) -> Result<(), Fail> {
+    for (script, trace, line) in [
         (
-            "1,U,load,0x0,4\n0,U,load,0x0,4",
-            "trace row 2: refused 23 Order",
+            "pmp 1\nreset\n",
+            "x",
+            "script line 2: refused 16 Unpublished",
         ),
-        ("3,U,load,0x0,4", "trace row 1: refused 22 BadAfter"),
-        ("0,U,load,0x0", "trace row 1: refused 21 BadRow"),
-        ("0,u,load,0x0,4", "trace row 1: refused 21 BadRow"),
-        ("0,U,load,0x0,0", "trace row 1: refused 3 BadLength"),
         (
-            "0,U,load,0xffffffffffffff,2",
-            "trace row 1: refused 4 PastEnd",
+            "pmp 2\n",
+            "after,mode,kind,start,length\n9,U,load,0x0,4\n",
+            "script line 1: refused 10 BadVersion",
         ),
-        ("3,U,load,0x0,0", "trace row 1: refused 22 BadAfter"),
     ] {
-        assert_faulty(&rt, SCRIPT, rows, line)?;
+        assert_line(&rt, script, trace, "audit table trace", line, 2)?;
     }
     Ok(())
-}
-
-#[test]
-fn a_fault_of_the_script_comes_before_any_of_the_trace(rt: HostRuntime) -> Result<(), Fail> {
-    assert_faulty(
-        &rt,
-        "pmp 1\nreset\n",
-        "x",
-        "script line 2: refused 16 Unpublished",
-    )?;
-    assert_faulty(
-        &rt,
-        "pmp 2\n",
-        "9,U,load,0x0,4",
-        "script line 1: refused 10 BadVersion",
-    )
 }
 
 #[test]

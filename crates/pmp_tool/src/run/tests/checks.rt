@@ -247,57 +247,6 @@ fn words_are_judged_before_the_script(rt: HostRuntime) -> Result<(), Fail> {
     Ok(())
 }
 
-#[test]
-fn scripts_are_refused_with_their_line(rt: HostRuntime) -> Result<(), Fail> {
-    for (script, line) in [
-        ("", "pmp: script line 1: refused 10 BadVersion"),
-        ("pmp 2\n", "pmp: script line 1: refused 10 BadVersion"),
-        ("pmp 1\nstop\n", "pmp: script line 2: refused 11 BadLine"),
-        (
-            "pmp 1\nreset\n",
-            "pmp: script line 2: refused 16 Unpublished",
-        ),
-        (
-            "pmp 1\nwrite mseccfg 0\n",
-            "pmp: script line 2: refused 16 Unpublished",
-        ),
-        (
-            "pmp 1\nwrite pmpaddr64 0\n",
-            "pmp: script line 2: refused 12 BadName",
-        ),
-        (
-            "pmp 1\nwrite pmpcfg1 0\n",
-            "pmp: script line 2: refused 13 OddCfg",
-        ),
-        (
-            "pmp 1\nwrite pmpcfg0 x\n",
-            "pmp: script line 2: refused 14 BadNumber",
-        ),
-        (
-            "pmp 1\n\nwrite pmpcfg0 0\n",
-            "pmp: script line 3: refused 16 Unpublished",
-        ),
-    ] {
-        assert_refused(&rt, script.as_bytes(), "check table U load 0x0 4", line, 2)?;
-    }
-    Ok(())
-}
-
-#[test]
-fn a_batch_has_no_room_for_a_sixty_fifth_event(rt: HostRuntime) -> Result<(), Fail> {
-    let mut script = "pmp 1\n".to_string(rt.alloc())?;
-    for _ in 0..65 {
-        script.push_str("write pmpaddr0 0\n")?;
-    }
-    assert_refused(
-        &rt,
-        script.as_bytes(),
-        "check table U load 0x0 4",
-        "pmp: script line 66: refused 15 BatchFull",
-        2,
-    )
-}
-
 /// A script of one byte above the limit, which an `Inputs` of the program would have stopped reading at.
 #[test]
 fn a_script_is_too_long(rt: HostRuntime) -> Result<(), Fail> {

@@ -217,32 +217,3 @@ fn more_publications_than_there_are(rt: HostRuntime) -> Result<(), Fail> {
     }
     Ok(())
 }
-
-#[test]
-fn faulty_scripts_are_not_dumped(rt: HostRuntime) -> Result<(), Fail> {
-    for (script, line) in [
-        ("", "pmp: script line 1: refused 10 BadVersion"),
-        (
-            "pmp 1\nreset\n",
-            "pmp: script line 2: refused 16 Unpublished",
-        ),
-        ("pmp 1\nreset 1\n", "pmp: script line 2: refused 11 BadLine"),
-        (
-            "pmp 1\nwrite pmpcfg1 0\n",
-            "pmp: script line 2: refused 13 OddCfg",
-        ),
-    ] {
-        assert_refused(&rt, script.as_bytes(), "dump table", line, 2)?;
-    }
-    Ok(())
-}
-
-#[test]
-fn resets_fill_a_batch(rt: HostRuntime) -> Result<(), Fail> {
-    let mut script = "pmp 1\n".to_string(rt.alloc())?;
-    for _ in 0..65 {
-        script.push_str("reset\n")?;
-    }
-    let line = "pmp: script line 66: refused 15 BatchFull";
-    assert_refused(&rt, script.as_bytes(), "dump table", line, 2)
-}

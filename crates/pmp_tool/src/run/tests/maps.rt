@@ -27,13 +27,18 @@ fn runs_of_owners(rt: HostRuntime) -> Result<(), Fail> {
         &rt,
         PAGE,
         "map table",
-        "00000000000000,0000007fffffff,-,rwx,---\n00000080000000,00000080000fff,0,rwx,r--\n00000080001000,ffffffffffffff,-,rwx,---\n",
+        "00000000000000,0000007fffffff,-,rwx,---\n\
+        00000080000000,00000080000fff,0,rwx,r--\n\
+        00000080001000,ffffffffffffff,-,rwx,---\n",
     )?;
     assert_map(
         &rt,
         "pmp 1\nwrite pmpaddr0 0x10\nwrite pmpaddr1 0x11\nwrite pmpcfg0 0x1111\npublish\n",
         "map table --after 1",
-        "00000000000000,0000000000003f,-,rwx,---\n00000000000040,00000000000043,0,rwx,r--\n00000000000044,00000000000047,1,rwx,r--\n00000000000048,ffffffffffffff,-,rwx,---\n",
+        "00000000000000,0000000000003f,-,rwx,---\n\
+        00000000000040,00000000000043,0,rwx,r--\n\
+        00000000000044,00000000000047,1,rwx,r--\n\
+        00000000000048,ffffffffffffff,-,rwx,---\n",
     )
 }
 

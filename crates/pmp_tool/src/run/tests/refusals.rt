@@ -1,4 +1,4 @@
-//! Each refusal, by its line and its status.
+//! Each refusal of an input, by its line and its status.
 
 use super::*;
 
@@ -11,7 +11,8 @@ fn overfull(alloc: Global) -> Result<String, AllocError> {
     Ok(script)
 }
 
-fn assert_line<R: Abort + AllocGlobal>(
+/// Asserts a refusal: nothing but this line, after the program's name, on standard error, and this status.
+pub fn assert_line<R: Abort + AllocGlobal>(
     rt: &R,
     script: &str,
     trace: &str,
@@ -33,18 +34,12 @@ fn assert_line<R: Abort + AllocGlobal>(
 }
 
 #[test]
-fn of_words_and_inputs(rt: HostRuntime) -> Result<(), Fail> {
+fn of_inputs(rt: HostRuntime) -> Result<(), Fail> {
     for (words, line, status) in [
-        ("check table U load 0 0", "refused 3 BadLength", 2),
-        (
-            "check table U load 0xffffffffffffff 2",
-            "refused 4 PastEnd",
-            2,
-        ),
         ("check long U load 0 4", "refused 17 TooLong", 2),
-        ("dump table --after 3", "refused 22 BadAfter", 2),
-        ("check table Q load 0 4", "refused 24 BadWord", 2),
+        ("audit table long", "refused 17 TooLong", 2),
         ("dump large", "refused 40 Memory", 3),
+        ("audit table large", "refused 40 Memory", 3),
         ("dump none", "refused 41 Input", 3),
     ] {
         assert_line(&rt, SCRIPT, "", words, line, status)?;
@@ -56,6 +51,7 @@ fn of_words_and_inputs(rt: HostRuntime) -> Result<(), Fail> {
 fn of_scripts(rt: HostRuntime) -> Result<(), Fail> {
     let overfull = overfull(rt.alloc())?;
     for (script, line) in [
+        ("", "script line 1: refused 10 BadVersion"),
         ("pmp 2\n", "script line 1: refused 10 BadVersion"),
         ("pmp 1\nstop\n", "script line 2: refused 11 BadLine"),
         (
@@ -72,6 +68,10 @@ fn of_scripts(rt: HostRuntime) -> Result<(), Fail> {
         ),
         (overfull.as_str(), "script line 66: refused 15 BatchFull"),
         ("pmp 1\nreset\n", "script line 2: refused 16 Unpublished"),
+        (
+            "pmp 1\n\nwrite mseccfg 0\n",
+            "script line 3: refused 16 Unpublished",
+        ),
     ] {
         assert_line(&rt, script, "", "dump table", line, 2)?;
     }
@@ -82,12 +82,14 @@ fn of_scripts(rt: HostRuntime) -> Result<(), Fail> {
 fn of_traces(rt: HostRuntime) -> Result<(), Fail> {
     for (rows, line) in [
         ("1\n", "trace row 1: refused 21 BadRow"),
+        ("1,u,load,0,4\n", "trace row 1: refused 21 BadRow"),
         ("3,U,load,0,4\n", "trace row 1: refused 22 BadAfter"),
         (
             "1,U,load,0,4\n0,U,load,0,4\n",
             "trace row 2: refused 23 Order",
         ),
         ("1,U,load,0,0\n", "trace row 1: refused 3 BadLength"),
+        ("3,U,load,0,0\n", "trace row 1: refused 22 BadAfter"),
         (
             "1,U,load,0xffffffffffffff,2\n",
             "trace row 1: refused 4 PastEnd",

@@ -91,25 +91,3 @@ fn other_words_are_refused(rt: HostRuntime) -> Result<(), Fail> {
     }
     Ok(())
 }
-
-/// Where nothing can be said, the status is the same.
-#[test]
-fn a_full_error_output_is_passed_over(rt: HostRuntime) -> Result<(), Fail> {
-    let alloc = rt.alloc();
-    for command in ["check", "dump table --after x"] {
-        let mut words = Vec::new(alloc);
-        for word in command.split_whitespace() {
-            words.push(word.to_string(alloc)?)?;
-        }
-        let mut inputs = Table {
-            alloc,
-            script: b"",
-            trace: b"",
-        };
-        let mut out = Vec::new(alloc);
-        let status = run_tool(alloc, &words, &mut inputs, &mut out, &mut Full);
-        assert_eq!(rt; status, 2, "{command}");
-        assert!(rt; out.is_empty(), "{command}");
-    }
-    Ok(())
-}

@@ -1,0 +1,18 @@
+-- What is known of the program's inputs, and what reading them answers.
+use Rattle.std.specs.Prelude.{◌≡◌, ℕ, ◌<◌, List, length, Option, IfSome, ⊤}
+use Rattle.pmp_text.specs.declared.input.InputFault.{InputFault}
+use Rattle.pmp_text.specs.declared.input.InputFault.TheVariants.{TooLong, Input, Memory}
+
+-- the bytes at each path, where it is known what they are
+abbrev pub Inputs : Type 0
+Inputs = List ℕ → Option (List ℕ)
+
+-- the bytes are those of an input, as far as they are known
+abbrev pub AreBytesOf : Option (List ℕ) → List ℕ → Type 0
+AreBytesOf known bytes = IfSome known (λ those. bytes ≡ those)
+
+-- an input can't be read; one that is too long has more bytes than the limit, as far as they are known
+abbrev pub CantBeRead : (limit : ℕ) (known : Option (List ℕ)) → InputFault → Type 0
+CantBeRead limit known TooLong = IfSome known (λ bytes. limit < length bytes)
+CantBeRead limit known Input = ⊤
+CantBeRead limit known Memory = ⊤

@@ -1,0 +1,30 @@
+-- What is said of a request, and when it is refused.
+use Rattle.std.specs.Prelude.{ℕ, List}
+use Rattle.pmp_audit.specs.declared.fault.AuditFault.{AuditFault}
+use Rattle.pmp_audit.specs.AccessCheck.{CheckRefuses, CheckSays}
+use Rattle.pmp_audit.specs.AskedFile.{FileRefuses}
+use Rattle.pmp_audit.specs.Map.{MapSays}
+use Rattle.pmp_audit.specs.RegisterDump.{DumpSays}
+use Rattle.pmp_audit.specs.TraceAudit.{AuditRefuses, AuditSays}
+use Rattle.pmp_tool.specs.declared.command.Request.{Request}
+use Rattle.pmp_tool.specs.declared.command.Request.TheVariants.{Check, Audit, Dump, Map}
+use Rattle.pmp_tool.specs.declared.run.Outcome.{Outcome}
+use Rattle.pmp_tool.specs.declared.run.Outcome.TheVariants.{Decided, Audited, Dumped, Mapped}
+use Rattle.pmp_tool.specs.Inputs.{AreBytesOf, Inputs}
+
+-- which text goes with which outcome of a request of this script
+abbrev pub RequestSays : (traces : Inputs) (script : List ℕ) → Request → Outcome → (text : List ℕ) → Type 0
+RequestSays traces script (Check access) (Decided decision) text = CheckSays script access decision text
+RequestSays traces script (Audit path) (Audited summary) text =
+    (trace : List ℕ) × AreBytesOf (traces path.now) trace × AuditSays script trace summary text
+RequestSays traces script (Dump after) Dumped text = DumpSays script after tt text
+RequestSays traces script (Map after) Mapped text = MapSays script after tt text
+RequestSays _ _ _ _ _ = ⊥
+
+-- which faults of the script, or of the trace, a request is refused for
+abbrev pub RequestRefuses : (traces : Inputs) (script : List ℕ) → Request → AuditFault → Type 0
+RequestRefuses traces script (Check access) fault = CheckRefuses script fault
+RequestRefuses traces script (Audit path) fault =
+    (trace : List ℕ) × AreBytesOf (traces path.now) trace × AuditRefuses script trace fault
+RequestRefuses traces script (Dump after) fault = FileRefuses script after fault
+RequestRefuses traces script (Map after) fault = FileRefuses script after fault
