@@ -7,7 +7,7 @@ use Rattle.pmp_core.specs.declared.access.Access.{Access}
 use Rattle.pmp_core.specs.declared.access.AccessFault.{AccessFault}
 use Rattle.pmp_core.specs.declared.access.Kind.{Kind}
 use Rattle.pmp_core.specs.declared.access.Mode.{Mode}
-use Rattle.pmp_core.specs.Accesses.{access_fault}
+use Rattle.pmp_core.specs.Access.{access_fault}
 use Rattle.pmp_text.specs.AccessWords.{kind_named, mode_named}
 use Rattle.pmp_text.specs.Numbers.{word_number}
 use Rattle.pmp_tool.specs.declared.command.Command.{Command}
