@@ -1,0 +1,4 @@
+pub mod JournalFacts
+pub mod LookFacts
+pub mod RowFacts
+pub mod RuleFacts

@@ -1,0 +1,10 @@
+-- What a reader has to believe: these, beside the definitions of pmp_core
+pub mod Batches
+pub mod Object
+pub mod Tokens
+pub mod Looks
+pub mod Room
+-- How the crate keeps them
+pub mod Journals
+pub mod Rule
+pub mod Seats

@@ -1,0 +1,128 @@
+//! Lists of batches as events and ends side by side.
+
+ghost use Rattle.std.specs.Prelude.{◌≡◌, ◌+◌, ◌<◌, ◌≤◌, ◌^◌, [], ◌∷◌, ◌++◌, length, map, take, All, OnOk, OnErr, vec_len};
+ghost use Rattle.std.specs.Prelude.{ℕ, slice_index, vec_capacity};
+ghost use Rattle.pmp_core.specs.Histories.{joined};
+ghost use Rattle.pmp_share.specs.Batches.{Batches, event_count};
+ghost use Rattle.pmp_share.specs.Journals.{batches_of, IsCut};
+
+use pmp_core::Event;
+use std::alloc::{AllocError, Global};
+use std::marker::Model;
+
+/// A list of batches, as a contract sees it.
+#[derive(Drop)]
+pub struct Journal {
+    events: Vec<Event>,
+    /// How many events stood once each batch was added.
+    ends: Vec<u64>,
+}
+
+impl Model for Journal {
+    ghost Value = { Batches };
+
+    ghost view = { λ journal. batches_of journal.ends.items journal.events.items };
+
+    ghost invariant = { λ journal. IsCut journal.ends.items journal.events.items };
+}
+
+/// Adds each of these ends, so much later.
+fn push_later(ends: &mut Vec<u64>, later: u64, more: &[u64])
+    requires room { vec_len ends.old + length more.now ≤ vec_capacity ends.old }
+    requires fits { All (λ end. later + end < 2 ^ 64) more.now }
+    ensures { ends.new.items ≡ ends.old.items ++ map (λ end. later + end) more.now }
+{
+    for end in more {
+        ends.push_reserved(later + *end);
+    }
+}
+
+/// Where the first batches end, so many of them.
+fn end_of(ends: &[u64], batches: usize) -> u64
+    requires { batches ≤ length ends.now }
+    ensures none { batches ≡ 0 → result ≡ 0 }
+    ensures last { (k : ℕ) → batches ≡ k + 1 → result ≡ slice_index ends.now k }
+{
+    if batches == 0 {
+        return 0;
+    }
+    ends[batches - 1]
+}
+
+impl Journal {
+    /// A list of no batches.
+    pub fn new(alloc: Global) -> Journal
+        ensures { result ≡ [] }
+    {
+        Journal {
+            events: Vec::new(alloc),
+            ends: Vec::new(alloc),
+        }
+    }
+
+    /// How many batches it has.
+    pub fn batches(&self) -> usize
+        ensures { result ≡ length self.now }
+    {
+        let ends = self.ends.as_slice();
+        ends.len()
+    }
+
+    /// All their events.
+    pub fn events(&self) -> &[Event]
+        ensures { result.now ≡ joined self.now }
+    {
+        self.events.as_slice()
+    }
+
+    /// How many events they hold.
+    pub fn event_count(&self) -> u64
+        ensures { result ≡ event_count self.now }
+    {
+        self.events.len() as u64
+    }
+
+    /// Adds a batch behind the others.
+    pub fn push(&mut self, batch: &[Event]) -> Result<(), AllocError>
+        ensures added { OnOk result (self.new ≡ self.old ++ batch.now ∷ []) }
+        ensures refused { OnErr result (self.new ≡ self.old) }
+    {
+        self.ends.reserve(1)?;
+        self.events.extend_from_slice(batch)?;
+        let end = self.events.as_slice().len();
+        self.ends.push_reserved(end as u64);
+        Ok(())
+    }
+
+    /// Adds all batches of another list behind its own.
+    pub fn append(&mut self, more: &Journal) -> Result<(), AllocError>
+        ensures added { OnOk result (self.new ≡ self.old ++ more.now) }
+        ensures refused { OnErr result (self.new ≡ self.old) }
+    {
+        let later = self.events.as_slice().len() as u64;
+        self.ends.reserve(more.ends.len())?;
+        self.events.extend_from_slice(more.events.as_slice())?;
+        push_later(&mut self.ends, later, more.ends.as_slice());
+        Ok(())
+    }
+
+    /// Keeps the first batches, so many of them, or all if there are fewer.
+    pub fn truncate(&mut self, batches: usize)
+        ensures { self.new ≡ take batches self.old }
+    {
+        if batches >= self.batches() {
+            return;
+        }
+        let events = end_of(self.ends.as_slice(), batches);
+        self.events.truncate(events as usize);
+        self.ends.truncate(batches);
+    }
+
+    /// Takes all batches away.
+    pub fn clear(&mut self)
+        ensures { self.new ≡ [] }
+    {
+        self.events.clear();
+        self.ends.clear();
+    }
+}

@@ -1,0 +1,25 @@
+//! A PMP unit that threads share: one publisher reprograms it by batches of events, and checkers decide accesses
+//! meanwhile, each in the register file that whole published batches give.
+//!
+//! `start` makes them. The definitions that contracts cite are in `specs/`.
+#![tactic(auto)]
+
+mod batch;
+mod checker;
+mod fault;
+mod journal;
+mod notice;
+mod opening;
+mod publisher;
+mod room;
+mod row;
+mod rule;
+mod view;
+
+pub use batch::{Batch, BatchFull};
+pub use checker::{Checker, Moved};
+pub use fault::ShareFault;
+pub use notice::Notice;
+pub use opening::start;
+pub use publisher::Publisher;
+pub use room::HISTORY_LIMIT;

@@ -1,0 +1,52 @@
+//! How a unit starts.
+
+ghost use Rattle.std.specs.Prelude.{◌≡◌, ◌≤◌, [], ◌∷◌, IfOk, IfErr, replicate};
+ghost use Rattle.pmp_share.specs.declared.fault.ShareFault.TheVariants.{Full, Memory};
+ghost use Rattle.pmp_share.specs.declared.opening.TheConstants.{CHECKERS};
+ghost use Rattle.pmp_share.specs.Object.{no_batches};
+
+use crate::checker::Checker;
+use crate::fault::ShareFault;
+use crate::publisher::Publisher;
+use std::alloc::Global;
+use std::sync::Wait;
+
+/// The most checkers of one unit.
+pub const CHECKERS: u8 = 8;
+
+/// So many checkers of the publisher's unit.
+fn seat_checkers(
+    alloc: Global,
+    publisher: &mut Publisher,
+    k: u8,
+) -> Result<Vec<Checker>, ShareFault>
+    ensures same { publisher.new ≡ publisher.old }
+    ensures made { IfOk result (λ checkers. checkers.items
+        ≡ replicate k (record { unit = publisher.old.unit; held = publisher.old.published ∷ [] })) }
+    ensures refused { IfErr result (λ fault. fault ≡ Memory) }
+{
+    let mut checkers = Vec::new(alloc);
+    for seated in 0..k {
+        checkers.push(publisher.checker()?)?;
+    }
+    Ok(checkers)
+}
+
+/// One publisher and `k` checkers of one unit, in the register file of reset and with nothing published.
+pub fn start<R: Wait>(rt: &R, alloc: Global, k: u8) -> Result<(Publisher, Vec<Checker>), ShareFault>
+    requires { (1 ≤ k) × (k ≤ CHECKERS) }
+    ensures publisher { IfOk result (λ started. (started.0.published ≡ no_batches) × (started.0.pending ≡ [])
+        × (started.0.tried ≡ 0)) }
+    ensures checkers { IfOk result (λ started. started.1.items
+        ≡ replicate k (record { unit = started.0.unit; held = no_batches ∷ [] })) }
+    ensures refused { IfErr result (λ fault. ¬ (fault ≡ Full)) }
+{
+    let mut publisher = Publisher::open(alloc)?;
+    match seat_checkers(alloc, &mut publisher, k) {
+        Ok(checkers) => Ok((publisher, checkers)),
+        Err(fault) => {
+            publisher.end(rt);
+            Err(fault)
+        }
+    }
+}
