@@ -1,3 +1,4 @@
+pub mod Crossing
 pub mod JournalFacts
 pub mod LookFacts
 pub mod RowFacts

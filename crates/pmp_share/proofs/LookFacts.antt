@@ -7,6 +7,7 @@ use Rattle.std.proofs.lemmas.List.{get_or_append_left, get_or_push, nil_from_len
 use Rattle.pmp_core.specs.Histories.{joined}
 use Rattle.pmp_share.specs.Batches.{Batches, StartsWith, AllBegin, event_count}
 use Rattle.pmp_share.specs.Looks.{is_as_late, later_of, latest, Bound, Looked, KeepsBound, LearnsBound}
+use Rattle.pmp_share.specs.Laws.{SameEventsLaw}
 use Rattle.pmp_share.proofs.JournalFacts.{joined-append, event_count-append}
 
 pub latest-one : (one : Batches) → latest (one ∷ []) ≡ one
@@ -55,6 +56,12 @@ unfolding latest
 latest_more [] told = (omega arith, le_refl _)
 latest_more (x ∷ xs) told = rw (fold-append later_of x xs (told ∷ [])) (later_most (fold later_of x xs) told)
 
+pub same_events_law : SameEventsLaw
+same_events_law batches front (rest, e) same =
+    let none : joined rest ≡ [] =
+        nil_from_length (joined rest) (omega (arith, ap event_count e, event_count-append front rest)) in
+    ap joined e ∙ joined-append front rest ∙ ap (λ es. joined front ++ es) none ∙ append-nil (joined front)
+
 -- ---- a look
 
 module _ (old new : List Batches) (looked : Looked old new) where
@@ -66,12 +73,7 @@ module _ (old new : List Batches) (looked : Looked old new) where
 
   -- as many events are the same events
   pub same_events : event_count (latest new) ≤ event_count (latest old) → joined (latest new) ≡ joined (latest old)
-  same_events le =
-      let rest : Batches = begins_latest.0 in
-      let e : latest new ≡ latest old ++ rest = begins_latest.1 in
-      let none : joined rest ≡ [] =
-      nil_from_length (joined rest) (omega (arith, ap event_count e, event_count-append (latest old) rest)) in
-      ap joined e ∙ joined-append (latest old) rest ∙ ap (λ es. joined (latest old) ++ es) none ∙ append-nil _
+  same_events le = same_events_law (latest new) (latest old) begins_latest (omega (arith, no_fewer))
 
   pub keeps_bound : KeepsBound old new
   keeps_bound batches (one, (k, lt, at), (rest, e)) =

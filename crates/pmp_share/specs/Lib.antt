@@ -4,6 +4,7 @@ pub mod Object
 pub mod Tokens
 pub mod Looks
 pub mod Room
+pub mod Laws
 -- How the crate keeps them
 pub mod Journals
 pub mod Rule

@@ -8,6 +8,7 @@ mod batch;
 mod checker;
 mod fault;
 mod journal;
+pub mod laws;
 mod notice;
 mod opening;
 mod publisher;
@@ -23,3 +24,6 @@ pub use notice::Notice;
 pub use opening::start;
 pub use publisher::Publisher;
 pub use room::HISTORY_LIMIT;
+
+#[cfg(test)]
+mod tests;

@@ -1,0 +1,53 @@
+//! How much a batch and a unit hold.
+
+use super::{batch_of, page_load, publish, tell, unit_of_two, BY_ENTRY_ZERO};
+use crate::batch::{Batch, BatchFull};
+use crate::fault::ShareFault;
+use crate::room::HISTORY_LIMIT;
+use pmp_core::{BATCH_EVENTS, Csr, Event};
+
+#[test]
+fn a_batch_holds_sixty_four_events(rt: HostRuntime) {
+    let mut batch = Batch::new();
+    for _ in 0..BATCH_EVENTS {
+        assert_eq!(rt; batch.push(Event::Reset), Ok(()));
+    }
+    assert_eq!(rt; batch.push(Event::Reset), Err(BatchFull));
+    assert_eq!(rt; batch.events().len(), 64);
+}
+
+#[test]
+fn a_unit_holds_so_many_events(rt: HostRuntime) {
+    let (mut publisher, mut checker, _other) = unit_of_two(&rt, rt.alloc());
+    let full = batch_of(&rt, &[Event::Write(Csr::Addr(0), 1); BATCH_EVENTS]);
+    for half in 1..=2 {
+        for _ in 0..8192 {
+            assert_eq!(rt; publisher.submit(&full), Ok(()));
+        }
+        assert_eq!(rt; publisher.publish(&rt), Ok(half * 524_288));
+    }
+    assert_eq!(rt; publisher.journal_len(), 1_048_576);
+    let one = batch_of(&rt, &[Event::Reset]);
+    assert_eq!(rt; publisher.submit(&one), Err(ShareFault::Full));
+    assert_eq!(rt; (publisher.journal_len(), publisher.pending_len()), (1_048_576, 0));
+    assert_eq!(rt; publish(&rt, &mut publisher, &[]), 1_048_576);
+    let notice = tell(&rt, &mut publisher);
+    assert_eq!(rt; notice.len(), 1_048_576);
+    assert_eq!(rt; checker.decide(&rt, &page_load(&rt)).1, 1_048_576);
+    publisher.end(&rt);
+}
+
+#[test]
+fn a_unit_holds_so_many_batches(rt: HostRuntime) {
+    let (mut publisher, mut checker, _other) = unit_of_two(&rt, rt.alloc());
+    publish(&rt, &mut publisher, &super::ENTRY_ZERO);
+    let none = Batch::new();
+    for _ in 1..HISTORY_LIMIT {
+        assert_eq!(rt; publisher.submit(&none), Ok(()));
+    }
+    assert_eq!(rt; publisher.submit(&none), Err(ShareFault::Full));
+    assert_eq!(rt; publisher.publish(&rt), Ok(2));
+    assert_eq!(rt; publisher.submit(&none), Err(ShareFault::Full));
+    assert_eq!(rt; checker.decide(&rt, &page_load(&rt)), (BY_ENTRY_ZERO, 2));
+    publisher.end(&rt);
+}

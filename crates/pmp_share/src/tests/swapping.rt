@@ -1,0 +1,99 @@
+//! Checkers that decide on threads of their own while two entries are swapped.
+
+ghost use Rattle.std.specs.Prelude.{◌≡◌};
+
+use super::{BY_ENTRY_ZERO, ENTRY_ONE, ENTRY_ZERO, ENTRY_ZERO_AGAIN, page_load, publish, tell, unit_of_two};
+use crate::checker::Checker;
+use crate::notice::Notice;
+use crate::publisher::Publisher;
+use pmp_core::{Cause, Decision};
+use std::process::Abort;
+use std::snapshot::Snapshot;
+use std::sync::Wait;
+use std::thread;
+use std::thread::Promise;
+
+/// The checker that comes back is of the unit that it was of.
+#[derive(Drop)]
+struct SameUnit(Snapshot<Checker>);
+
+impl Promise<Checker> for SameUnit {
+    ghost kept_by = { λ promise checker. checker.unit ≡ promise.0.value.unit };
+}
+
+/// Whether the decision fits so many events: entry 0 decides after each whole round, entry 1 in the middle of one.
+fn is_of_round(decision: &Decision, count: u64) -> bool {
+    decision.allowed
+        && match decision.cause {
+            Cause::Rule(0) => count >= 2 && (count - 2) % 5 == 0,
+            Cause::Rule(1) => count >= 4 && (count - 4) % 5 == 0,
+            _ => false,
+        }
+}
+
+/// Learns a notice and decides so often.
+fn watch<R: Wait + Abort>(rt: &R, mut checker: Checker, notice: Notice, decisions: u32) -> Checker
+    requires { notice.unit ≡ checker.unit }
+    ensures { result.unit ≡ checker.unit }
+{
+    let access = page_load(rt);
+    let mut least = notice.len();
+    checker.learn(notice);
+    for asked in 0..decisions {
+        let (decision, count) = checker.decide(rt, &access);
+        assert!(rt; least <= count, "the list went back to {count} events");
+        assert!(rt; is_of_round(&decision, count), "a decision that doesn't fit {count} events");
+        least = count;
+    }
+    checker
+}
+
+/// Publishes both swaps 200 times, each by itself.
+fn swap_entries<R: Wait + Abort>(rt: &R, publisher: &mut Publisher)
+    ensures { publisher.new.unit ≡ publisher.old.unit }
+{
+    for round in 0..200 {
+        assert_eq!(rt; publish(rt, publisher, &ENTRY_ONE), 4 + 5 * round);
+        assert_eq!(rt; publish(rt, publisher, &ENTRY_ZERO_AGAIN), 7 + 5 * round);
+    }
+}
+
+#[test]
+fn swaps_are_seen_whole(rt: HostRuntime) {
+    let (mut publisher, first, second) = unit_of_two(&rt, rt.alloc());
+    publish(&rt, &mut publisher, &ENTRY_ZERO);
+    let (to_first, to_second) = (tell(&rt, &mut publisher), tell(&rt, &mut publisher));
+    let first = thread::spawn_with(&rt, SameUnit(Snapshot::of(&first)), move || {
+        watch(&rt, first, to_first, 10_000)
+    })
+    .ok()
+    .expect(&rt, "a thread");
+    let second = thread::spawn_with(&rt, SameUnit(Snapshot::of(&second)), move || {
+        watch(&rt, second, to_second, 10_000)
+    })
+    .ok()
+    .expect(&rt, "a thread");
+    swap_entries(&rt, &mut publisher);
+    let mut first = first.join(&rt);
+    let mut second = second.join(&rt);
+    first.learn(tell(&rt, &mut publisher));
+    let access = page_load(&rt);
+    assert_eq!(rt; first.decide(&rt, &access), (BY_ENTRY_ZERO, 1002));
+    assert_eq!(rt; second.decide(&rt, &access), (BY_ENTRY_ZERO, 1002));
+    publisher.end(&rt);
+}
+
+#[test]
+fn a_dropped_checker_stops_no_publication(rt: HostRuntime) {
+    let (mut publisher, first, mut second) = unit_of_two(&rt, rt.alloc());
+    publish(&rt, &mut publisher, &ENTRY_ZERO);
+    let notice = tell(&rt, &mut publisher);
+    let gone = thread::spawn(&rt, move || drop(watch(&rt, first, notice, 100)))
+        .ok()
+        .expect(&rt, "a thread");
+    swap_entries(&rt, &mut publisher);
+    gone.join(&rt);
+    assert_eq!(rt; publish(&rt, &mut publisher, &[]), 1002);
+    assert_eq!(rt; second.decide(&rt, &page_load(&rt)), (BY_ENTRY_ZERO, 1002));
+    publisher.end(&rt);
+}
