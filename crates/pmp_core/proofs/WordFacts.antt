@@ -1,5 +1,6 @@
 -- The words of a register file give it back.
-use Rattle.std.proofs.Common.{◌≡◌, ℕ, zero, suc, ◌+◌, ◌*◌, ◌/◌, ◌%◌, ◌<◌, ◌≤◌, ◌==◌, Bool, true, false, nat_lt, List, length, map}
+use Rattle.std.proofs.Common.{◌≡◌, ℕ, zero, suc, ◌+◌, ◌*◌, ◌/◌, ◌%◌, ◌<◌, ◌≤◌, ◌==◌, Bool, true, false, nat_lt, List}
+use Rattle.std.proofs.Common.{length, map}
 use Rattle.std.proofs.Common.{◌-◌, get_or, zero-add, refl, sym, ap, ◌∙◌, inl, inr, arith}
 use Rattle.std.specs.Int.{w64, to_le_bytes}
 use Rattle.std.specs.List.{range_with_len}
@@ -13,10 +14,10 @@ use Rattle.pmp_core.specs.declared.configuration.AddressMatching.TheVariants.{Of
 use Rattle.pmp_core.specs.declared.configuration.Configuration.{Configuration}
 use Rattle.pmp_core.specs.declared.entry.Entry.{Entry}
 use Rattle.pmp_core.specs.declared.mseccfg.MseccfgFields.{MseccfgFields}
-use Rattle.pmp_core.specs.Bytes.{configuration_of, byte_of, bit_of, field_of, matching_of}
+use Rattle.pmp_core.specs.Configuration.{configuration_of, byte_of, bit_of, field_of, matching_of}
 use Rattle.pmp_core.specs.Mseccfg.{mseccfg_value, mseccfg_fields}
-use Rattle.pmp_core.specs.Registers.{RegisterFile, entry_at}
-use Rattle.pmp_core.specs.Reading.{configuration_word}
+use Rattle.pmp_core.specs.RegisterFile.{RegisterFile, entry_at}
+use Rattle.pmp_core.specs.RegisterValue.{configuration_word}
 use Rattle.pmp_core.specs.Words.{word_at, words_of, AreWordsOf}
 
 -- ---- a byte, and mseccfg
@@ -132,7 +133,8 @@ word_byte entries first j lt =
 
 -- ---- the words
 
-address_word : (file : RegisterFile) (place : ℕ) → place < 16 → word_at file place ≡ (entry_at file.entries place).address
+address_word : (file : RegisterFile) (place : ℕ) → place < 16
+    → word_at file place ≡ (entry_at file.entries place).address
 unfolding word_at
 address_word file place lt = let early : nat_lt place 16 ≡ true = grind (arith, nat_tests) in rw early refl
 

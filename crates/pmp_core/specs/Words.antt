@@ -3,8 +3,8 @@ use Rattle.std.specs.Prelude.{◌≡◌, ℕ, ◌==◌, nat_lt, if◌then◌else
 use Rattle.std.specs.List.{range_with_len}
 use Rattle.pmp_core.specs.declared.csr.Csr.{Csr}
 use Rattle.pmp_core.specs.declared.csr.Csr.TheVariants.{Cfg, Addr, Mseccfg}
-use Rattle.pmp_core.specs.Registers.{RegisterFile, IsLegal}
-use Rattle.pmp_core.specs.Reading.{register_value}
+use Rattle.pmp_core.specs.RegisterFile.{RegisterFile, IsLegal}
+use Rattle.pmp_core.specs.RegisterValue.{register_value}
 
 -- which register a word is of: pmpaddr0 to pmpaddr15, pmpcfg0, pmpcfg2, mseccfg
 abbrev pub register_at : ℕ → Csr

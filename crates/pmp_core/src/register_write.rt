@@ -2,7 +2,8 @@
 
 ghost use Rattle.std.specs.Prelude.{◌≡◌, ◌<◌, ◌%◌, length};
 ghost use Rattle.pmp_core.specs.RegisterFile.{file_of};
-ghost use Rattle.pmp_core.specs.RegisterWrite.{without_reserved, stored_over, configurations_written, is_address_frozen};
+ghost use Rattle.pmp_core.specs.RegisterWrite.{without_reserved, stored_over, configurations_written};
+ghost use Rattle.pmp_core.specs.RegisterWrite.{is_address_frozen};
 ghost use Rattle.pmp_core.specs.RegisterWrite.{address_written, is_any_locked, written};
 
 use crate::configuration::{AddressMatching, Configuration};

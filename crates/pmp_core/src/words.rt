@@ -1,7 +1,7 @@
 //! A register file as a row of words, for as long as threads share it so.
 
 ghost use Rattle.std.specs.Prelude.{◌≡◌, ◌<◌};
-ghost use Rattle.pmp_core.specs.Registers.{RegisterFile, entry_at};
+ghost use Rattle.pmp_core.specs.RegisterFile.{RegisterFile, entry_at};
 ghost use Rattle.pmp_core.specs.Words.{register_at, AreWordsOf};
 
 use crate::configuration::Configuration;

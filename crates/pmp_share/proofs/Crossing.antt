@@ -38,9 +38,9 @@ journal_send = search (crosses, sendable) depth 14
 
 inside_send : IsSend inside.the_row
 inside_send = recorded_send (inside.the_field).row _ _ (inside.the_type).to_one (struct_send (shape inside.the_type) (
-    seat_threads.the_send (Array u64 tt 20) _ words_send,
-    (file_send, (search sendable depth 6, (search (journal_send, crosses, sendable) depth 12, tt))),
-    ))
+  seat_threads.the_send (Array u64 tt 20) _ words_send,
+  (file_send, (search sendable depth 6, (search (journal_send, crosses, sendable) depth 12, tt))),
+))
 
 pub checker_send : IsSend checker.the_row
 checker_send = checker_threads.the_send

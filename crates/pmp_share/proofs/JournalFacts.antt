@@ -1,5 +1,6 @@
 -- What ends and events stand for.
-use Rattle.std.proofs.Common.{◌≡◌, ℕ, zero, suc, ◌+◌, ◌-◌, ◌<◌, ◌≤◌, List, [], ◌∷◌, ◌++◌, length, map, take, drop, get_or, refl, ap, sym}
+use Rattle.std.proofs.Common.{◌≡◌, ℕ, zero, suc, ◌+◌, ◌-◌, ◌<◌, ◌≤◌, List, [], ◌∷◌, ◌++◌, length, map, take, drop}
+use Rattle.std.proofs.Common.{get_or, refl, ap, sym}
 use Rattle.std.proofs.Common.{◌^◌, subst, zero-add, ◌∙◌, arith, length-append, append-nil, append_assoc, All}
 use Rattle.std.proofs.lemmas.List.{take_at, drop_at, take-append-drop, nil_from_length}
 use Rattle.std.proofs.lemmas.Grind.{flat_map-append}
@@ -31,7 +32,8 @@ cut_from-ends_from n (b ∷ bs) =
     ∙ cut_from-ends_from (n + length b) bs in
     λ i. front i ∷ others i
 
-ends_from-append : (n : ℕ) (xs ys : Batches) → ends_from n (xs ++ ys) ≡ ends_from n xs ++ ends_from (n + event_count xs) ys
+ends_from-append : (n : ℕ) (xs ys : Batches)
+    → ends_from n (xs ++ ys) ≡ ends_from n xs ++ ends_from (n + event_count xs) ys
 unfolding ends_from
 ends_from-append n [] ys = ap (λ (k : ℕ). ends_from k ys) (omega arith)
 ends_from-append n (x ∷ xs) ys =
@@ -88,7 +90,8 @@ module _ (ends : List ℕ) (events : List Event) where
   pub cut_stands : IsCut ends events → Stands ends events (batches_of ends events)
   cut_stands is = record { joined_up = sym is.whole; ended = sym is.cut }
 
-  pub end_within : IsCut ends events → (later : ℕ) → later + length events < 2 ^ 64 → All (λ end. later + end < 2 ^ 64) ends
+  pub end_within : IsCut ends events → (later : ℕ) → later + length events < 2 ^ 64
+      → All (λ end. later + end < 2 ^ 64) ends
   end_within is later fits k d lt =
       let all : All (λ end. end ≤ length events) ends =
       subst (λ es. All (λ end. end ≤ length events) es) is.cut
@@ -133,7 +136,8 @@ module _ (ends : List ℕ) (events : List Event) (is : IsCut ends events) where
       → Stands (ends ++ map (λ end. length events + end) more_ends) (events ++ more)
       (batches_of ends events ++ batches_of more_ends more)
   append_stands more_ends more other = record {
-    joined_up = sym (joined-append (batches_of ends events) (batches_of more_ends more) ∙ (λ i. is.whole i ++ other.whole i));
+    joined_up = sym (joined-append (batches_of ends events) (batches_of more_ends more)
+        ∙ (λ i. is.whole i ++ other.whole i));
     ended =
         let shifted : ends_from (0 + event_count (batches_of ends events)) (batches_of more_ends more)
         ≡ map (λ end. length events + end) more_ends =
@@ -146,8 +150,7 @@ module _ (ends : List ℕ) (events : List Event) (is : IsCut ends events) where
   pub take_stands : (k : ℕ) (end : ℕ) → end ≡ event_count (take k (batches_of ends events))
       → Stands (take k ends) (take end events) (take k (batches_of ends events))
   take_stands k end at = record {
-    joined_up =
-        (λ i. take (at i) (sym is.whole i)) ∙ sym (joined-take k (batches_of ends events));
+    joined_up = (λ i. take (at i) (sym is.whole i)) ∙ sym (joined-take k (batches_of ends events));
     ended = ap (take k) (sym is.cut) ∙ sym (ends_from-take 0 k (batches_of ends events));
   }
 

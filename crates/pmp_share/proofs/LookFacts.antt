@@ -1,6 +1,8 @@
 -- What a look tells of what was held.
-use Rattle.std.proofs.Common.{◌≡◌, ℕ, zero, suc, ◌+◌, ◌<◌, ◌≤◌, Bool, true, false, cond, ◌&&◌, ◌||◌, nat_lt, nat_le, ◌==◌, List, [], ◌∷◌, ◌++◌}
-use Rattle.std.proofs.Common.{fold, All, Contains, get_or, length, refl, ap, sym, subst, ◌∙◌, arith, le_refl, append-nil, append_assoc, length-append}
+use Rattle.std.proofs.Common.{◌≡◌, ℕ, zero, suc, ◌+◌, ◌<◌, ◌≤◌, Bool, true, false, cond, ◌&&◌, ◌||◌, nat_lt, nat_le}
+use Rattle.std.proofs.Common.{◌==◌, List, [], ◌∷◌, ◌++◌}
+use Rattle.std.proofs.Common.{fold, All, Contains, get_or, length, refl, ap, sym, subst, ◌∙◌, arith, le_refl}
+use Rattle.std.proofs.Common.{append-nil, append_assoc, length-append}
 use Rattle.std.proofs.lemmas.Bool.Decides.{nat_tests}
 use Rattle.std.proofs.lemmas.Grind.{fold-append}
 use Rattle.std.proofs.lemmas.List.{get_or_append_left, get_or_push, nil_from_length}
@@ -29,7 +31,8 @@ module _ (one other : Batches) where
     | false ↦ p
   ]
 
-  later_most : (event_count one ≤ event_count (later_of one other)) × (event_count other ≤ event_count (later_of one other))
+  later_most : (event_count one ≤ event_count (later_of one other))
+      × (event_count other ≤ event_count (later_of one other))
   later_most = by_test (is_as_late one other) refl
     where
       by_test : (late : Bool) → is_as_late one other ≡ late → (event_count one ≤ event_count (cond late other one))
@@ -41,7 +44,8 @@ fold_cases : (P : Batches → Type 0) (best : Batches) (others : List Batches) �
     → P (fold later_of best others)
 fold_cases P best [] p all = p
 fold_cases P best (x ∷ xs) p all =
-    fold_cases P (later_of best x) xs (later_cases best x P p (all 0 x (omega arith))) (λ k d lt. all (suc k) d (omega arith))
+    fold_cases P (later_of best x) xs (later_cases best x P p (all 0 x (omega arith)))
+    (λ k d lt. all (suc k) d (omega arith))
 
 -- what holds of each held list holds of the latest
 pub latest_cases : (P : Batches → Type 0) (held : List Batches) → P [] → All P held → P (latest held)
@@ -50,7 +54,8 @@ latest_cases P [] p all = p
 latest_cases P (x ∷ xs) p all = fold_cases P x xs (all 0 x (omega arith)) (λ k d lt. all (suc k) d (omega arith))
 
 -- one list more
-pub latest_more : (held : List Batches) (told : Batches) → (event_count (latest held) ≤ event_count (latest (held ++ told ∷ [])))
+pub latest_more : (held : List Batches) (told : Batches)
+    → (event_count (latest held) ≤ event_count (latest (held ++ told ∷ [])))
     × (event_count told ≤ event_count (latest (held ++ told ∷ [])))
 unfolding latest
 latest_more [] told = (omega arith, le_refl _)
@@ -59,7 +64,7 @@ latest_more (x ∷ xs) told = rw (fold-append later_of x xs (told ∷ [])) (late
 pub same_events_law : SameEventsLaw
 same_events_law batches front (rest, e) same =
     let none : joined rest ≡ [] =
-        nil_from_length (joined rest) (omega (arith, ap event_count e, event_count-append front rest)) in
+    nil_from_length (joined rest) (omega (arith, ap event_count e, event_count-append front rest)) in
     ap joined e ∙ joined-append front rest ∙ ap (λ es. joined front ++ es) none ∙ append-nil (joined front)
 
 -- ---- a look
@@ -88,10 +93,14 @@ module _ (old new : List Batches) (looked : Looked old new) where
 
 -- ---- a notice
 
-pub learns_bound : (old : List Batches) (told : Batches) (new : List Batches) → new ≡ old ++ told ∷ [] → LearnsBound old told new
+pub learns_bound : (old : List Batches) (told : Batches) (new : List Batches) → new ≡ old ++ told ∷ []
+    → LearnsBound old told new
 learns_bound old told new is = (
-  (λ batches (one, (k, lt, at), starts). subst (λ (held : List Batches). Bound held batches) (sym is)
-      (one, (k, omega (arith, length-append old (told ∷ [])), get_or_append_left old (told ∷ []) one k lt ∙ at), starts)),
+  (λ batches (one, (k, lt, at), starts). subst (λ (held : List Batches). Bound held batches) (sym is) (
+    one,
+    (k, omega (arith, length-append old (told ∷ [])), get_or_append_left old (told ∷ []) one k lt ∙ at),
+    starts,
+  )),
   subst (λ (held : List Batches). Bound held told) (sym is) (
     told,
     (length old, omega (arith, length-append old (told ∷ [])), get_or_push old told told (length old) refl),

@@ -4,15 +4,16 @@ use Rattle.std.proofs.lemmas.List.{take_at, get_or_at, length-replicate}
 use Rattle.std.proofs.lemmas.List.FromFn.{length-map-range_with_len}
 use Rattle.pmp_core.specs.declared.event.Event.{Event}
 use Rattle.pmp_core.specs.declared.register_file.TheConstants.{ENTRIES}
-use Rattle.pmp_core.specs.Registers.{RegisterFile, reset_entry, reset_file}
+use Rattle.pmp_core.specs.RegisterFile.{RegisterFile, reset_entry, reset_file}
 use Rattle.pmp_core.specs.Histories.{joined, replay, file_after}
-use Rattle.pmp_core.specs.Writing.{step}
+use Rattle.pmp_core.specs.RegisterWrite.{step}
 use Rattle.pmp_core.specs.Words.{word_at, words_of, AreWordsOf}
 use Rattle.pmp_core.proofs.Legal.{legal_law, length-step}
 use Rattle.pmp_share.specs.Batches.{Batches, event_count}
 use Rattle.pmp_share.specs.Rule.{row_of}
 
-length-fold-step : (file : RegisterFile) (events : List Event) → length (fold step file events).entries ≡ length file.entries
+length-fold-step : (file : RegisterFile) (events : List Event)
+    → length (fold step file events).entries ≡ length file.entries
 length-fold-step file [] = refl
 length-fold-step file (event ∷ events) = length-fold-step (step file event) events ∙ length-step file event
 

@@ -1,5 +1,6 @@
 -- Each step of a token keeps the running rule.
-use Rattle.std.proofs.Common.{◌≡◌, ◌≢◌, ℕ, zero, suc, Bool, true, false, List, [], ◌∷◌, ◌++◌, All, get_or, length, refl, ap, sym, subst, ◌∙◌, ⊎_elim, arith}
+use Rattle.std.proofs.Common.{◌≡◌, ◌≢◌, ℕ, zero, suc, Bool, true, false, List, [], ◌∷◌, ◌++◌, All, get_or, length, refl}
+use Rattle.std.proofs.Common.{ap, sym, subst, ◌∙◌, ⊎_elim, arith}
 use Rattle.std.proofs.Common.{append-nil, append_assoc, set}
 use mathlib.Core.Option.{some, some-injective, some-ne-none}
 use lib.ListN.{get_elem?}
@@ -23,7 +24,8 @@ none_begin batches k d lt = absurd (omega arith)
 one_begins : (batches front : Batches) → StartsWith batches front → AllBegin batches (front ∷ [])
 one_begins batches front starts = All-push (StartsWith batches) [] front (none_begin batches) starts
 
-begin_longer : (batches more : Batches) (fronts : List Batches) → AllBegin batches fronts → AllBegin (batches ++ more) fronts
+begin_longer : (batches more : Batches) (fronts : List Batches) → AllBegin batches fronts
+    → AllBegin (batches ++ more) fronts
 begin_longer batches more fronts all k d lt = starts_longer batches more _ (all k d lt)
 
 holding_fits : (published : Batches) (publisher seat : ℕ) (held : List Batches) → AllBegin published held
@@ -48,7 +50,8 @@ set_fits published publisher seat views new here others j view at = ⊎_elim
     (at_set views seat j new view at)
 
 only_first : (seat : ℕ) (view : View) → get_elem? (publishing [] ∷ []) seat ≡ some view → Fits [] 0 seat view
-only_first zero view at = subst (λ (v : View). Fits [] 0 0 v) (some-injective (publishing []) view at) (publishing_fits [] 0)
+only_first zero view at =
+    subst (λ (v : View). Fits [] 0 0 v) (some-injective (publishing []) view at) (publishing_fits [] 0)
 only_first (suc seat) view at = absurd (some-ne-none view (sym at))
 
 pub first_kept : Kept (row_of []) (publishing [] ∷ [])
@@ -62,7 +65,8 @@ looks seat view silent words views (published, publisher, row, fits) at = (
     publisher,
     row,
     set_fits published publisher seat views (holding (published ∷ []))
-        (holding_fits published publisher seat (published ∷ []) (one_begins published published (starts_alike published)))
+        (holding_fits published publisher seat (published ∷ [])
+        (one_begins published published (starts_alike published)))
         (λ j v other there. fits j v there),
   ),
   (published, row, (fits seat view at).begins, refl),
@@ -110,7 +114,8 @@ pub learns : (seat : ℕ) (view : View) (other : ℕ) (notice : View)
     → Merges Kept seat view other notice (with_told view notice) (holding [])
 learns seat view other notice words views (published, publisher, row, fits) at distinct there =
     let both = with_told view notice in
-    let told : AllBegin published notice.held = (fits other notice (subst (λ m. m ≡ some notice) (set_else views seat other both distinct) there)).begins in (
+    let told : AllBegin published notice.held =
+    (fits other notice (subst (λ m. m ≡ some notice) (set_else views seat other both distinct) there)).begins in (
       published,
       publisher,
       row,

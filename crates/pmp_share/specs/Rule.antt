@@ -33,11 +33,13 @@ Kept words views =
 -- load: the row is that of some batches, which begin with all that was held and take their place
 abbrev pub Loads : View → List ℕ → List ℕ → View → Type 0
 Loads before words _ after =
-    (published : Batches) × (words ≡ row_of published) × AllBegin published before.held × (after ≡ holding (published ∷ []))
+    (published : Batches) × (words ≡ row_of published) × AllBegin published before.held
+    × (after ≡ holding (published ∷ []))
 
 -- store: the publisher's batches are followed by the next ones
 abbrev pub Stores : Batches → View → List ℕ → List ℕ → View → Type 0
-Stores next before _ _ after = (published : Batches) → before ≡ publishing published → after ≡ publishing (published ++ next)
+Stores next before _ _ after = (published : Batches) → before ≡ publishing published
+    → after ≡ publishing (published ++ next)
 
 -- split: a checker or a notice holds what the publisher's view does
 abbrev pub heard : View → View

@@ -2,7 +2,7 @@
 use Rattle.std.specs.Prelude.{◌≡◌, ℕ, Bool, false, List, [], ◌∷◌}
 use Rattle.atomic_table.specs.Seated.{TableId}
 use Rattle.pmp_core.specs.declared.register_file.TheConstants.{ENTRIES}
-use Rattle.pmp_core.specs.Registers.{RegisterFile}
+use Rattle.pmp_core.specs.RegisterFile.{RegisterFile}
 use Rattle.pmp_core.specs.Histories.{file_after}
 use Rattle.pmp_share.specs.declared.view.View.{View}
 use Rattle.pmp_share.specs.Batches.{Batches, event_count}

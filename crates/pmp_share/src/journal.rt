@@ -1,6 +1,7 @@
 //! Lists of batches as events and ends side by side.
 
-ghost use Rattle.std.specs.Prelude.{◌≡◌, ◌+◌, ◌<◌, ◌≤◌, ◌^◌, [], ◌∷◌, ◌++◌, length, map, take, All, OnOk, OnErr, vec_len};
+ghost use Rattle.std.specs.Prelude.{◌≡◌, ◌+◌, ◌<◌, ◌≤◌, ◌^◌, [], ◌∷◌, ◌++◌, length, map, take, All, OnOk, OnErr};
+ghost use Rattle.std.specs.Prelude.{vec_len};
 ghost use Rattle.std.specs.Prelude.{ℕ, slice_index, vec_capacity};
 ghost use Rattle.pmp_core.specs.Histories.{joined};
 ghost use Rattle.pmp_share.specs.Batches.{Batches, event_count};

@@ -66,9 +66,7 @@ fn batch_of(rt: &impl Abort, events: &[Event]) -> Batch {
 fn submit(rt: &impl Abort, publisher: &mut Publisher, events: &[Event])
     ensures { publisher.new.unit ≡ publisher.old.unit }
 {
-    publisher
-        .submit(&batch_of(rt, events))
-        .expect(rt, "memory");
+    publisher.submit(&batch_of(rt, events)).expect(rt, "memory");
 }
 
 fn publish<R: Wait + Abort>(rt: &R, publisher: &mut Publisher, events: &[Event]) -> u64

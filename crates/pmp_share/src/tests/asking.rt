@@ -11,7 +11,12 @@ use pmp_core::{Access, Decision};
 use std::sync::Wait;
 
 /// Decides an access in just the batches that the notice tells of, if no more events are published.
-fn ask<R: Wait>(rt: &R, checker: &mut Checker, notice: Notice, access: &Access) -> Result<Decision, Moved>
+fn ask<R: Wait>(
+    rt: &R,
+    checker: &mut Checker,
+    notice: Notice,
+    access: &Access,
+) -> Result<Decision, Moved>
     requires { notice.unit ≡ checker.old.unit }
     ensures unit { checker.new.unit ≡ checker.old.unit }
     ensures decided { IfOk result (λ decision. Decides notice.told access.now decision) }
@@ -31,6 +36,9 @@ fn a_worker_decides_in_what_it_was_told(rt: HostRuntime) {
     let late = tell(&rt, &mut publisher);
     assert_eq!(rt; ask(&rt, &mut first, notice, &access), Ok(BY_ENTRY_ZERO));
     publish(&rt, &mut publisher, &ENTRY_ONE);
-    assert_eq!(rt; ask(&rt, &mut second, late, &access), Err(Moved { seen: 4 }));
+    assert_eq!(rt;
+        ask(&rt, &mut second, late, &access),
+        Err(Moved { seen: 4 })
+    );
     publisher.end(&rt);
 }

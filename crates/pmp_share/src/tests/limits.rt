@@ -1,6 +1,6 @@
 //! How much a batch and a unit hold.
 
-use super::{batch_of, page_load, publish, tell, unit_of_two, BY_ENTRY_ZERO};
+use super::{BY_ENTRY_ZERO, batch_of, page_load, publish, tell, unit_of_two};
 use crate::batch::{Batch, BatchFull};
 use crate::fault::ShareFault;
 use crate::room::HISTORY_LIMIT;
@@ -29,7 +29,10 @@ fn a_unit_holds_so_many_events(rt: HostRuntime) {
     assert_eq!(rt; publisher.journal_len(), 1_048_576);
     let one = batch_of(&rt, &[Event::Reset]);
     assert_eq!(rt; publisher.submit(&one), Err(ShareFault::Full));
-    assert_eq!(rt; (publisher.journal_len(), publisher.pending_len()), (1_048_576, 0));
+    assert_eq!(rt;
+        (publisher.journal_len(), publisher.pending_len()),
+        (1_048_576, 0)
+    );
     assert_eq!(rt; publish(&rt, &mut publisher, &[]), 1_048_576);
     let notice = tell(&rt, &mut publisher);
     assert_eq!(rt; notice.len(), 1_048_576);

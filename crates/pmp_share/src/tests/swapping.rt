@@ -2,7 +2,9 @@
 
 ghost use Rattle.std.specs.Prelude.{◌≡◌};
 
-use super::{BY_ENTRY_ZERO, ENTRY_ONE, ENTRY_ZERO, ENTRY_ZERO_AGAIN, page_load, publish, tell, unit_of_two};
+use super::{
+    BY_ENTRY_ZERO, ENTRY_ONE, ENTRY_ZERO, ENTRY_ZERO_AGAIN, page_load, publish, tell, unit_of_two,
+};
 use crate::checker::Checker;
 use crate::notice::Notice;
 use crate::publisher::Publisher;
@@ -42,7 +44,10 @@ fn watch<R: Wait + Abort>(rt: &R, mut checker: Checker, notice: Notice, decision
     for asked in 0..decisions {
         let (decision, count) = checker.decide(rt, &access);
         assert!(rt; least <= count, "the list went back to {count} events");
-        assert!(rt; is_of_round(&decision, count), "a decision that doesn't fit {count} events");
+        assert!(rt;
+            is_of_round(&decision, count),
+            "a decision that doesn't fit {count} events"
+        );
         least = count;
     }
     checker

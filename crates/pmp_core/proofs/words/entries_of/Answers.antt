@@ -1,6 +1,6 @@
 use Rattle.std.proofs.Common.{◌≡◌, length, ◌∙◌, sym, arith}
 use Rattle.std.proofs.lemmas.List.{ext_get_or}
-use Rattle.pmp_core.specs.Registers.{reset_entry}
+use Rattle.pmp_core.specs.RegisterFile.{reset_entry}
 use Rattle.pmp_core.proofs.words.entries_of.Goals as goal
 
 pub returns : goal.returns

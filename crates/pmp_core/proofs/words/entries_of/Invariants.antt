@@ -1,5 +1,5 @@
 use Rattle.std.proofs.Common.{◌≡◌, ℕ, ◌<◌, length}
-use Rattle.pmp_core.specs.Registers.{RegisterFile, entry_at}
+use Rattle.pmp_core.specs.RegisterFile.{RegisterFile, entry_at}
 use Rattle.pmp_core.specs.Words.{AreWordsOf}
 use Rattle.pmp_core.proofs.words.entries_of.Given as goal
 

@@ -16,7 +16,8 @@ swap_as-requires g c =
         search rules,
         (
           search rules,
-          subst (λ view. Turns Kept c.args.seat.now.id view (λ _. c.args.row) (Stores next)) (sym c.requires.shown.1) turns,
+          subst (λ view. Turns Kept c.args.seat.now.id view (λ _. c.args.row) (Stores next)) (sym c.requires.shown.1)
+              turns,
         ),
       ),
     )

@@ -1,5 +1,5 @@
 use Rattle.std.proofs.Common.{◌≡◌, ◌∙◌, ap, subst, sym}
-use Rattle.pmp_core.specs.Registers.{RegisterFile, file_of, IsLegal}
+use Rattle.pmp_core.specs.RegisterFile.{RegisterFile, file_of, IsLegal}
 use Rattle.pmp_core.specs.Words.{AreWordsOf}
 use Rattle.pmp_core.proofs.WordFacts.{mseccfg_at}
 use Rattle.pmp_core.proofs.register_file.RegFile.from_words.Goals as goal
@@ -15,8 +15,7 @@ read_back c file is =
 
 pub invariant_of-result : goal.invariant_of-result
 invariant_of-result c =
-    let file = c.requires.0 in let is = c.requires.1 in
-    (
+    let file = c.requires.0 in let is = c.requires.1 in (
       subst IsLegal (sym (read_back c file is)) is.legal,
       c.decode_ranges.ensures,
       rw (c.entries_of-entries.ensures file is) is.entries,

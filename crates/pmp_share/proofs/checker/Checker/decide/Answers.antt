@@ -1,5 +1,5 @@
 use Rattle.std.proofs.Common.{subst}
-use Rattle.pmp_core.specs.Deciding.{IsDecision}
+use Rattle.pmp_core.specs.Decision.{IsDecision}
 use Rattle.pmp_share.proofs.LookFacts.{keeps_bound}
 use Rattle.pmp_share.proofs.checker.Checker.decide.Goals as goal
 

@@ -1,5 +1,5 @@
 use Rattle.std.proofs.Common.{subst, sym, ◌∙◌, arith}
-use Rattle.pmp_core.specs.Deciding.{IsDecision}
+use Rattle.pmp_core.specs.Decision.{IsDecision}
 use Rattle.pmp_share.proofs.LookFacts.{keeps_bound, no_fewer, same_events}
 use Rattle.pmp_share.proofs.checker.Checker.decide_at.Goals as goal
 

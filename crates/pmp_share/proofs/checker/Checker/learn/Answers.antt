@@ -8,7 +8,8 @@ use Rattle.pmp_share.proofs.RuleFacts.{learns}
 use Rattle.pmp_share.proofs.checker.Checker.learn.Goals as goal
 use Rattle.pmp_share.proofs.checker.Checker.learn.Goals.{After-join_pass}
 
-held_more : (c : After-join_pass) → c.join_pass.new.pass.me.0.client.held ≡ c.args.self.now.held ++ c.args.notice.told ∷ []
+held_more : (c : After-join_pass) → c.join_pass.new.pass.me.0.client.held ≡ c.args.self.now.held
+    ++ c.args.notice.told ∷ []
 held_more c =
     ap (λ (view : View). view.held) c.join_pass.ensures.1
     ∙ (λ i. (ap (λ (token : CheckerToken). token.held) c.self.view_is i)

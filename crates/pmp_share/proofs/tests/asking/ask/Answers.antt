@@ -1,10 +1,11 @@
-use Rattle.std.proofs.Common.{◌≡◌, ◌∙◌, List, [], ◌∷◌, ◌++◌, length, Result, Ok, Err, OnOk, IfOk, subst, sym, refl, arith}
+use Rattle.std.proofs.Common.{◌≡◌, ◌∙◌, List, [], ◌∷◌, ◌++◌, length, Result, Ok, Err, OnOk, IfOk, subst, sym, refl}
+use Rattle.std.proofs.Common.{arith}
 use Rattle.std.proofs.Common.{length-append}
 use Rattle.std.proofs.lemmas.List.{get_or_push}
 use Rattle.pmp_core.specs.declared.decision.Decision.{Decision}
 use Rattle.pmp_core.specs.declared.register_file.TheConstants.{ENTRIES}
 use Rattle.pmp_core.specs.declared.event.Event.{Event}
-use Rattle.pmp_core.specs.Deciding.{IsDecision}
+use Rattle.pmp_core.specs.Decision.{IsDecision}
 use Rattle.pmp_core.specs.Histories.{joined, replay}
 use Rattle.pmp_share.specs.declared.checker.Moved.{Moved}
 use Rattle.pmp_share.specs.Batches.{Batches, StartsWith, event_count}
@@ -29,6 +30,7 @@ returns-clause-decided g c =
     let told = c.args.notice.told in
     let looked = subst (λ (held : List Batches). Looked held new) c.learn.ensures.held c.decide_at.ensures.looked in
     on_answer c.decide_at.result _ _ _ c.decide_at.ensures.at_len c.decide_at.ensures.decided
-    (λ at decision decided. subst (λ (events : List Event). IsDecision (replay ENTRIES events) c.args.access.now decision)
+    (λ at decision decided. subst (λ (events : List Event). IsDecision (replay ENTRIES events) c.args.access.now
+    decision)
     (c.law_same_events.ensures (latest new) told (begins_last c.args.checker.now.held new told looked)
     (at.0 ∙ c.len-len.ensures)) decided)
