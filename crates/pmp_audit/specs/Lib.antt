@@ -5,7 +5,7 @@ pub mod TraceAudit
 pub mod AskedFile
 pub mod RegisterDump
 pub mod Map
--- The rest, which only private contracts cite.
 pub mod Fault
+-- The rest, which only private contracts cite.
 pub mod Replay
 pub mod Report

@@ -1,4 +1,4 @@
-//! Audits written to vectors, and to outputs that fail.
+//! Answers written to vectors, and to outputs that fail.
 
 mod firmware;
 mod maps;
