@@ -1,5 +1,5 @@
 -- The sequential object, whose state is the list of published batches, empty at first.
--- Each step of the running rule (docs/SHARING.md) is one event of it or none.
+-- Each step of the running rule (docs/ARCHITECTURE.md) is one event of it or none.
 use Rattle.std.specs.Prelude.{◌≡◌, [], ◌++◌}
 use Rattle.pmp_core.specs.declared.access.Access.{Access}
 use Rattle.pmp_core.specs.declared.decision.Decision.{Decision}
