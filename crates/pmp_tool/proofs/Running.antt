@@ -1,7 +1,7 @@
 -- Why a run gives no answer.
 use Rattle.std.proofs.Common.{◌≡◌, ◌≢◌, ◌⊎◌, ◌∙◌, refl, sym, subst, inl, inr, ℕ, List, Option}
 use Rattle.std.specs.Io.KnownBytes.{Keeps}
-use Rattle.clap.specs.Words.{HasKind, IsAmong, Text, fault_of, kind_of, subcommand_rows_of}
+use Rattle.clap.specs.Words.{HasKind, IsAmong, Text, fault_of, kind_of}
 use Rattle.clap.specs.declared.error.Error.{Error}
 use Rattle.clap.specs.declared.error.kind.ErrorKind.{ErrorKind}
 use Rattle.clap.specs.declared.error.kind.ErrorKind.TheVariants.{DisplayHelp, DisplayVersion, OutOfMemory}
@@ -10,7 +10,7 @@ use Rattle.pmp_audit.specs.declared.fault.AuditFault.{AuditFault}
 use Rattle.pmp_audit.specs.declared.fault.AuditFault.TheVariants as audit
 use Rattle.pmp_tool.specs.declared.command.Command.{Command}
 use Rattle.pmp_tool.specs.declared.failure.Failure.{Failure}
-use Rattle.pmp_tool.specs.CommandLines.{IsRefusedCommandLine, MayAskForText, pmp_app}
+use Rattle.pmp_tool.specs.CommandLines.{MayAskForText, pmp_app}
 use Rattle.pmp_tool.specs.Failures.{failure_status, unaudited, unparsed, unparsed_as}
 use Rattle.pmp_tool.specs.Inputs.{Inputs}
 use Rattle.pmp_tool.specs.Requests.{RequestRefuses, RequestSays}

@@ -10,8 +10,8 @@ at_ok (Ok value) ok holds = holds
 at_ok (Err error) ok holds = absurd cc
 
 -- an empty string holds the text that is written to it
-pub string_written : (old new : ArrayString 62) (text : List ℕ) → old.bytes ≡ []
+pub string_written : (CAP : ℕ) (old new : ArrayString CAP) (text : List ℕ) → old.bytes ≡ []
     → WritesInCalls (λ s bytes t. t.bytes ≡ s.bytes ++ bytes) old text new → new.bytes ≡ text
-string_written old new text empty wrote =
+string_written CAP old new text empty wrote =
     contents_after_writes (λ s bytes t. t.bytes ≡ s.bytes ++ bytes) (λ s. s.bytes)
     (λ w bs v took. took) old text new wrote ∙ ap (λ bytes. bytes ++ text) empty

@@ -1,8 +1,7 @@
 //! Why the program gives no answer, and the exit status of that.
 
-ghost use Rattle.std.specs.Prelude.{◌≡◌, ◌≤◌, IfSome, OnOk, OnErr};
+ghost use Rattle.std.specs.Prelude.{◌≡◌, ◌≤◌, IfSome, OnOk};
 ghost use Rattle.std.specs.Io.KnownBytes.{Appends};
-ghost use Rattle.clap.specs.Words.{kind_of};
 ghost use Rattle.pmp_tool.specs.Failures.{Tells, failure_status, failure_text, refused, unaudited, unparsed};
 ghost use Rattle.pmp_tool.specs.Refusals.{refusal_of_input};
 ghost use Rattle.pmp_tool.specs.declared.refusal.Refusal.TheVariants.{Memory, Output};

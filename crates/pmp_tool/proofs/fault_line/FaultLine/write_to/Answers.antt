@@ -1,6 +1,7 @@
 use Rattle.std.proofs.Common.{◌≡◌, ◌∙◌, sym, ap}
 use Rattle.std.specs.Prelude.{is_ok}
 use Rattle.pmp_tool.specs.Refusals.{line_text}
+use Rattle.pmp_tool.specs.declared.fault_line.TheConstants.{LONGEST_LINE}
 use Rattle.pmp_tool.proofs.Telling.{at_ok, string_written}
 use Rattle.pmp_tool.proofs.fault_line.FaultLine.write_to.Goals as goal
 
@@ -11,5 +12,5 @@ returns g c =
     (sym c.map_err.ensures.variant ∙ ap is_ok c.in_ok-map_err.was) c.writeln.ensures.writes in
     let line : c.as_bytes.result.now ≡ line_text c.args.self.now.refusal c.args.self.now.place =
     c.as_bytes.ensures.value ∙ c.as_str.ensures.value
-    ∙ string_written c.new-line.result c.writeln.new.self _ c.new-line.ensures wrote in
+    ∙ string_written LONGEST_LINE c.new-line.result c.writeln.new.self _ c.new-line.ensures wrote in
     rw line at c.write_out.ensures
