@@ -30,6 +30,7 @@ const REFUSED: u8 = 1;
 ///
 /// `out` gets the report rows, the register lines, the run lines or the text. A text on `err` is handed over whole, by
 /// one write. Where it can't be written, or not wholly, the status is the same.
+#[tactic(auto, using(crate::proofs::Running::keeps_at_two))]
 pub fn run_tool<I: Inputs, O: Write, E: Write>(
     alloc: Global,
     words: &[String],
