@@ -13,11 +13,12 @@ MAN = $(DESTDIR)$(PREFIX)/share/man/man1
 build:
 	@./pmp --version
 
+# rt ci builds the program from nothing.
 test:
 	rt ci
-	checks/program
+	checks/program $(PROGRAM)
 	checks/launcher
-	checks/documents
+	checks/documents $(PROGRAM)
 
 install: build
 	@install -d "$(BIN)" "$(DOC)" "$(MAN)"
