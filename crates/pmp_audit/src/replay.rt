@@ -31,16 +31,16 @@ impl<'a> Model for Replay<'a> {
     ghost use Rattle.std.specs.Prelude.{◌≡◌, ◌≤◌, IfSome, length};
     ghost use Rattle.pmp_audit.specs.Replay.{file_at};
 
-    ghost view = { λ r. record { batches = r.script.now; done = r.done } };
+    ghost view = { λ r. record { batches = r.script.now.batches; done = r.done } };
 
-    ghost invariant = { λ r. (r.done ≤ length r.script.now)
-        × (r.file ≡ file_at (record { batches = r.script.now; done = r.done })) × IfSome r.map (λ map. map ≡ r.file) };
+    ghost invariant = { λ r. (r.done ≤ length r.script.now.batches)
+        × (r.file ≡ file_at (record { batches = r.script.now.batches; done = r.done })) × IfSome r.map (λ map. map ≡ r.file) };
 }
 
 impl<'a> Replay<'a> {
     /// Before the first publication.
     pub fn new(script: &'a Script) -> Replay<'a>
-        ensures { result ≡ record { batches = script.now; done = 0 } }
+        ensures { result ≡ record { batches = script.now.batches; done = 0 } }
     {
         Replay {
             script,
@@ -52,11 +52,11 @@ impl<'a> Replay<'a> {
 
     /// After the first `after` publications, or after all of them where that is none; `BadAfter` where there are fewer.
     pub fn after(script: &'a Script, after: Option<u64>) -> Result<Replay<'a>, AuditFault>
-        ensures within { IfOk result (λ _. asked_count after script.now ≤ length script.now) }
+        ensures within { IfOk result (λ _. asked_count after script.now.batches ≤ length script.now.batches) }
         ensures done { IfOk result
-            (λ replay. replay ≡ record { batches = script.now; done = asked_count after script.now }) }
+            (λ replay. replay ≡ record { batches = script.now.batches; done = asked_count after script.now.batches }) }
         ensures beyond { IfErr result
-            (λ fault. (fault ≡ BadAfter) × (length script.now < asked_count after script.now)) }
+            (λ fault. (fault ≡ BadAfter) × (length script.now.batches < asked_count after script.now.batches)) }
     {
         let count = after.unwrap_or(script.batches());
         if count > script.batches() {

@@ -31,6 +31,3 @@ pub use perms::Perms;
 pub use range::ByteRange;
 pub use register_file::{ENTRIES, RegFile};
 pub use words::WORDS;
-
-#[cfg(test)]
-mod tests;

@@ -15,6 +15,3 @@ mod tables;
 
 pub use run::{RUNS, Run};
 pub use run_map::RunMap;
-
-#[cfg(test)]
-mod tests;

@@ -1,6 +1,7 @@
 -- What a reader has to believe: what each text means, and what each call answers.
 pub mod AccessWords
 pub mod Bytes
+pub mod Contents
 pub mod Dumps
 pub mod Hexadecimal
 pub mod Inputs

@@ -18,6 +18,3 @@ pub use numbers::read_word_number;
 pub use output::{OutputFault, write_out};
 pub use script::{MAX_SCRIPT, Script, ScriptFault, ScriptKind, read_script};
 pub use trace::{MAX_TRACE, Row, TraceFault, TraceKind, read_trace};
-
-#[cfg(test)]
-mod tests;

@@ -1,8 +1,8 @@
 //! Scripts: the publications that a text describes, and why a text describes none.
 
-ghost use Rattle.std.specs.Prelude.{◌≡◌, ◌<◌, ◌≤◌, All, List, [], map, length, slice_index_or};
+ghost use Rattle.std.specs.Prelude.{◌≡◌, ◌<◌, ◌≤◌, All, [], map, length, slice_index_or};
 ghost use Rattle.pmp_core.specs.declared.event.TheConstants.{BATCH_EVENTS};
-ghost use Rattle.pmp_core.specs.declared.event.Event.{Event};
+ghost use Rattle.pmp_text.specs.Contents.{ScriptContents};
 ghost use Rattle.pmp_text.specs.declared.script.ScriptKind.TheVariants.{Memory};
 
 mod lines;
@@ -72,9 +72,9 @@ pub struct Script {
 }
 
 impl Model for Script {
-    ghost Value = { List (List Event) };
+    ghost Value = { ScriptContents };
 
-    ghost view = { λ script. map (λ batch. batch.items) script.batches.items };
+    ghost view = { λ script. record { batches = map (λ batch. batch.items) script.batches.items } };
 
     ghost invariant = { λ script. All (λ batch. length batch.items ≤ BATCH_EVENTS) script.batches.items };
 }
@@ -82,22 +82,22 @@ impl Model for Script {
 impl Script {
     pub(crate) fn from_batches(batches: Vec<Vec<Event>>) -> Script
         requires { All (λ batch. length batch.items ≤ BATCH_EVENTS) batches.items }
-        ensures { result ≡ map (λ batch. batch.items) batches.items }
+        ensures { result ≡ record { batches = map (λ batch. batch.items) batches.items } }
     {
         Script { batches }
     }
 
     /// How many publications there are.
     pub fn batches(&self) -> u64
-        ensures { result ≡ length self.now }
+        ensures { result ≡ length self.now.batches }
     {
         self.batches.len() as u64
     }
 
     /// The events of the publication with this index, from 0.
     pub fn batch(&self, index: u64) -> &[Event]
-        requires { index < length self.now }
-        ensures events { result.now ≡ slice_index_or self.now index [] }
+        requires { index < length self.now.batches }
+        ensures events { result.now ≡ slice_index_or self.now.batches index [] }
         ensures limit { length result.now ≤ BATCH_EVENTS }
     {
         &self.batches[index as usize]

@@ -1,6 +1,6 @@
 //! What was read of a script so far.
 
-ghost use Rattle.std.specs.Prelude.{◌≡◌, ◌≤◌, All, length, map};
+ghost use Rattle.std.specs.Prelude.{◌≡◌, ◌≤◌, All, Err, IfErr, IfOk, Ok, length, map};
 ghost use Rattle.pmp_core.specs.declared.event.TheConstants.{BATCH_EVENTS};
 ghost use Rattle.pmp_text.specs.Outcomes.{Gives};
 ghost use Rattle.pmp_text.specs.Steps.Progress.{Progress, nothing_read, published, with_event, after_line, finished};
@@ -82,7 +82,8 @@ impl ScriptBuilder {
 
     /// The script, if no events are left unpublished.
     pub fn finish(self) -> Result<Script, ScriptFault>
-        ensures { result ≡ finished self }
+        ensures ok { IfOk result (λ script. finished self ≡ Ok script.batches) }
+        ensures err { IfErr result (λ fault. finished self ≡ Err fault) }
     {
         match self.since {
             None => Ok(Script::from_batches(self.published)),

@@ -29,7 +29,7 @@ fn is_version_line(line: &[u8]) -> bool
 
 /// Reads the lines behind a script's first one.
 fn read_statements(alloc: Global, lines: SignificantLines) -> Result<Script, ScriptFault>
-    ensures { Gives (λ script. script) result (resumed nothing_read (lines_left lines.entry)) }
+    ensures { Gives (λ script. script.batches) result (resumed nothing_read (lines_left lines.entry)) }
 {
     let mut builder = ScriptBuilder::new(alloc);
     for line in lines {
@@ -41,7 +41,7 @@ fn read_statements(alloc: Global, lines: SignificantLines) -> Result<Script, Scr
 /// The script that a text describes, else its first fault. The time is linear in the text, and only the
 /// publications take memory: where they can't grow, `Memory` is answered in place of any fault further on.
 pub fn read_script(alloc: Global, text: &[u8]) -> Result<Script, ScriptFault>
-    ensures { Gives (λ script. script) result (script_meaning text.now) }
+    ensures { Gives (λ script. script.batches) result (script_meaning text.now) }
 {
     if text.len() > MAX_SCRIPT {
         return Err(ScriptKind::TooLong.at(0));

@@ -8,7 +8,7 @@ use Rattle.pmp_audit.proofs.trace_audit.audit.Goals as goal
 
 pub returns-clause-err : goal.returns-clause-err
 returns-clause-err g c =
-    let script = c.in_ok-script.script in
+    let script = c.in_ok-script.script.batches in
     let rows = c.deref.result.now in
     let trace_means : trace_meaning (length script) c.args.trace.now ≡ Ok (map row_fields rows) =
     rw (c.deref.ensures.value, ← c.batches.ensures) c.in_ok-rows.ensures.given in

@@ -7,13 +7,13 @@ use Rattle.pmp_audit.proofs.trace_audit.write_report.Goals as goal
 
 pub loop-row-init : goal.loop-row-init
 loop-row-init c =
-    let none = no_rows c.args.script.now c.args.report.now.items c.default-summary.result
+    let none = no_rows c.args.script.now.batches c.args.report.now.items c.default-summary.result
     c.default-summary.ensures.0 c.default-summary.ensures.1 in
     rw c.new-replay.ensures (refl, c.requires, none)
 
 pub count-requires-clause-rows : goal.count-requires-clause-rows
 count-requires-clause-rows c =
-    let script = c.args.script.now in
+    let script = c.args.script.now.batches in
     let rows = c.args.rows.now in
     let i = c.loop-row.row-index in
     let done = rows_so_far script (take i rows) c.args.report.now.items c.loop-row.report.items c.loop-row.summary
@@ -23,7 +23,7 @@ count-requires-clause-rows c =
 
 pub loop-row-preserved : goal.loop-row-preserved
 loop-row-preserved c =
-    let script = c.args.script.now in
+    let script = c.args.script.now.batches in
     let rows = c.args.rows.now in
     let i = c.loop-row.row-index in
     let row = c.row-item.result in

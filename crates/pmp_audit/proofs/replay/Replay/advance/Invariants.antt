@@ -6,5 +6,5 @@ use Rattle.pmp_audit.proofs.replay.Replay.advance.Given as goal
 -- the file is the one after the publications so far
 abbrev pub invariant-loop-index : goal.invariant-loop-index
 invariant-loop-index l =
-    (l.self-inside.script.now ≡ l.fn.self.batches)
+    (l.self-inside.script.now.batches ≡ l.fn.self.batches)
     × (l.self-inside.file ≡ file_after ENTRIES (take l.index l.fn.self.batches))

@@ -1,9 +1,12 @@
-use crate::trace::{Row, TraceFault, TraceKind, read_trace};
+//! Traces.
+
 use csv::{ByteRecord, Error, ReaderBuilder};
 use pmp_core::{Access, Kind, Mode};
+use pmp_text::{Row, TraceFault, TraceKind, read_trace};
 use std::alloc::{AllocError, Global};
 use std::io;
 use std::io::{ErrorKind, Read};
+use std::process::Abort;
 use std::test::*;
 
 type Outcome = Result<u64, TraceFault>;
@@ -81,85 +84,132 @@ fn four_rows_in_any_layout(rt: HostRuntime) -> Result<(), Fail> {
     Ok(())
 }
 
-#[test]
-fn first_fault_of_a_row_and_of_a_trace(rt: HostRuntime) -> Result<(), Fail> {
-    let alloc = rt.alloc();
-    let cases: [(&[u8], Outcome); 31] = [
-        (
-            b"0,M,fetch,0,1\n1,S,load,0,4096\n2,U,store,0xfffffffffff000,4096\n",
-            Ok(3),
-        ),
-        (b"0,U,load,0x0\n", refused(TraceKind::BadRow, 1)),
-        (b"0,U,load,0x0,4,\n", refused(TraceKind::BadRow, 1)),
-        (b"0,u,load,0x0,4\n", refused(TraceKind::BadRow, 1)),
-        (b"0,H,load,0x0,4\n", refused(TraceKind::BadRow, 1)),
-        (b"0,,load,0x0,4\n", refused(TraceKind::BadRow, 1)),
-        (b"0,U,Load,0x0,4\n", refused(TraceKind::BadRow, 1)),
-        (b"0,U,loads,0x0,4\n", refused(TraceKind::BadRow, 1)),
-        (b"0,U,load, 0x0,4\n", refused(TraceKind::BadRow, 1)),
-        (b"0,U,load,0x0,4 \n", refused(TraceKind::BadRow, 1)),
-        (b"-1,U,load,0x0,4\n", refused(TraceKind::BadRow, 1)),
-        (b"0,U,load,0x,4\n", refused(TraceKind::BadRow, 1)),
-        (b"0,U,load,0X0,4\n", refused(TraceKind::BadRow, 1)),
-        (
-            b"0,U,load,18446744073709551616,4\n",
-            refused(TraceKind::BadRow, 1),
-        ),
-        (
-            b"00000000000000000001,U,load,0x0000000000000000,00004\n",
-            Ok(1),
-        ),
-        (
-            b"000000000000000000001,U,load,0,4\n",
-            refused(TraceKind::BadRow, 1),
-        ),
-        (b"3,U,load,0x0,4\n", refused(TraceKind::BadAfter, 1)),
-        (b"3,U,load,0x0,0\n", refused(TraceKind::BadAfter, 1)),
-        (b"3,U,load,0x0\n", refused(TraceKind::BadRow, 1)),
-        (
-            b"1,U,load,0x0,4\n0,U,load,0x0,4\n",
-            refused(TraceKind::Order, 2),
-        ),
-        (
-            b"1,U,load,0x0,4\n0,U,load,0x0,0\n",
-            refused(TraceKind::Order, 2),
-        ),
-        (
-            b"2,U,load,0x0,4\n3,U,load,0x0,4\n",
-            refused(TraceKind::BadAfter, 2),
-        ),
-        (b"0,U,load,0x0,0\n", refused(TraceKind::BadLength, 1)),
-        (b"0,U,load,0x0,4097\n", refused(TraceKind::BadLength, 1)),
-        (
-            b"0,U,load,0xffffffffffffffff,0\n",
-            refused(TraceKind::BadLength, 1),
-        ),
-        (
-            b"0,U,load,0xffffffffffffff,2\n",
-            refused(TraceKind::PastEnd, 1),
-        ),
-        (b"0,U,load,0xffffffffffffff,1\n", Ok(1)),
-        (
-            b"0,U,load,18446744073709551615,1\n",
-            refused(TraceKind::PastEnd, 1),
-        ),
-        (
-            b"0,U,load,0,0\n3,U,load,0,4\nx\n",
-            refused(TraceKind::BadLength, 1),
-        ),
-        (
-            b"0,U,load,0,4\n1,U,load,0,4\nx\n",
-            refused(TraceKind::BadRow, 3),
-        ),
-        (
-            b"after,mode,kind,start,length\n",
-            refused(TraceKind::BadRow, 1),
-        ),
-    ];
+/// Asserts what the rows behind the header are, or how they are refused.
+fn assert_outcomes<R: Abort>(
+    rt: &R,
+    alloc: Global,
+    cases: &[(&[u8], Outcome)],
+) -> Result<(), Fail> {
     for (rows, expected) in cases {
-        assert_eq!(rt; behind_header(alloc, rows)?, expected, "{rows:?}");
+        assert_eq!(rt; behind_header(alloc, rows)?, *expected, "{rows:?}");
     }
     Ok(())
+}
+
+#[test]
+fn rows_without_a_fault(rt: HostRuntime) -> Result<(), Fail> {
+    assert_outcomes(
+        &rt,
+        rt.alloc(),
+        &[
+            (
+                b"0,M,fetch,0,1\n1,S,load,0,4096\n2,U,store,0xfffffffffff000,4096\n",
+                Ok(3),
+            ),
+            (
+                b"00000000000000000001,U,load,0x0000000000000000,00004\n",
+                Ok(1),
+            ),
+            (b"0,U,load,0xffffffffffffff,1\n", Ok(1)),
+        ],
+    )
+}
+
+#[test]
+fn a_row_of_other_fields(rt: HostRuntime) -> Result<(), Fail> {
+    let rows: [&[u8]; 15] = [
+        b"0,U,load,0x0\n",
+        b"0,U,load,0x0,4,\n",
+        b"0,u,load,0x0,4\n",
+        b"0,H,load,0x0,4\n",
+        b"0,,load,0x0,4\n",
+        b"0,U,Load,0x0,4\n",
+        b"0,U,loads,0x0,4\n",
+        b"0,U,load, 0x0,4\n",
+        b"0,U,load,0x0,4 \n",
+        b"-1,U,load,0x0,4\n",
+        b"0,U,load,0x,4\n",
+        b"0,U,load,0X0,4\n",
+        b"0,U,load,18446744073709551616,4\n",
+        b"000000000000000000001,U,load,0,4\n",
+        b"after,mode,kind,start,length\n",
+    ];
+    for row in rows {
+        assert_eq!(rt;
+            behind_header(rt.alloc(), row)?,
+            refused(TraceKind::BadRow, 1),
+            "{row:?}"
+        );
+    }
+    Ok(())
+}
+
+#[test]
+fn a_row_out_of_order_or_past_the_publications(rt: HostRuntime) -> Result<(), Fail> {
+    assert_outcomes(
+        &rt,
+        rt.alloc(),
+        &[
+            (b"3,U,load,0x0,4\n", refused(TraceKind::BadAfter, 1)),
+            (
+                b"2,U,load,0x0,4\n3,U,load,0x0,4\n",
+                refused(TraceKind::BadAfter, 2),
+            ),
+            (
+                b"1,U,load,0x0,4\n0,U,load,0x0,4\n",
+                refused(TraceKind::Order, 2),
+            ),
+        ],
+    )
+}
+
+#[test]
+fn a_row_of_no_access(rt: HostRuntime) -> Result<(), Fail> {
+    assert_outcomes(
+        &rt,
+        rt.alloc(),
+        &[
+            (b"0,U,load,0x0,0\n", refused(TraceKind::BadLength, 1)),
+            (b"0,U,load,0x0,4097\n", refused(TraceKind::BadLength, 1)),
+            (
+                b"0,U,load,0xffffffffffffff,2\n",
+                refused(TraceKind::PastEnd, 1),
+            ),
+            (
+                b"0,U,load,18446744073709551615,1\n",
+                refused(TraceKind::PastEnd, 1),
+            ),
+        ],
+    )
+}
+
+/// Within a row the fields come first, then the publications, the order, the length and the end.
+#[test]
+fn first_fault_of_a_row_and_of_a_trace(rt: HostRuntime) -> Result<(), Fail> {
+    assert_outcomes(
+        &rt,
+        rt.alloc(),
+        &[
+            (b"3,U,load,0x0\n", refused(TraceKind::BadRow, 1)),
+            (b"3,U,load,0x0,0\n", refused(TraceKind::BadAfter, 1)),
+            (
+                b"1,U,load,0x0,4\n0,U,load,0x0,0\n",
+                refused(TraceKind::Order, 2),
+            ),
+            (
+                b"0,U,load,0xffffffffffffffff,0\n",
+                refused(TraceKind::BadLength, 1),
+            ),
+            (
+                b"0,U,load,0,0\n3,U,load,0,4\nx\n",
+                refused(TraceKind::BadLength, 1),
+            ),
+            (
+                b"0,U,load,0,4\n1,U,load,0,4\nx\n",
+                refused(TraceKind::BadRow, 3),
+            ),
+        ],
+    )
 }
 
 #[test]

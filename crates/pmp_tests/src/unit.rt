@@ -1,6 +1,6 @@
 //! Worked examples, and the decision read off byte by byte.
 
-use super::*;
+use pmp_core::*;
 use std::process::Abort;
 use std::test::Fail;
 

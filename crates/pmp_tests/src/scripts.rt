@@ -1,11 +1,9 @@
-use crate::names::read_register;
-use crate::numbers::read_word_number;
-use crate::script::{ScriptFault, ScriptKind, read_script};
+//! Scripts, register names and numbers.
+
 use pmp_core::{Csr, Event};
+use pmp_text::{ScriptFault, ScriptKind, read_script, read_word_number};
 use std::alloc::{AllocError, Global};
 use std::test::*;
-
-mod traces;
 
 type Outcome = Result<u64, ScriptFault>;
 
@@ -145,34 +143,82 @@ fn lines_and_words(rt: HostRuntime) {
     }
 }
 
-#[test]
-fn register_names(rt: HostRuntime) {
-    let names = [
-        (b"pmpcfg0".as_slice(), Ok(Csr::Cfg(0))),
-        (b"0x3A0".as_slice(), Ok(Csr::Cfg(0))),
-        (b"0x00000000000003a0".as_slice(), Ok(Csr::Cfg(0))),
-        (b"pmpcfg14".as_slice(), Ok(Csr::Cfg(14))),
-        (b"pmpaddr63".as_slice(), Ok(Csr::Addr(63))),
-        (b"pmpcfg1".as_slice(), Err(ScriptKind::OddCfg)),
-        (b"0x3a1".as_slice(), Err(ScriptKind::OddCfg)),
-        (b"pmpcfg16".as_slice(), Err(ScriptKind::BadName)),
-        (b"pmpcfg01".as_slice(), Err(ScriptKind::BadName)),
-        (b"pmpcfg".as_slice(), Err(ScriptKind::BadName)),
-        (b"pmpaddr64".as_slice(), Err(ScriptKind::BadName)),
-        (b"PMPADDR0".as_slice(), Err(ScriptKind::BadName)),
-        (b"0x3f0".as_slice(), Err(ScriptKind::BadName)),
-        (b"0x103a0".as_slice(), Err(ScriptKind::BadName)),
-        (b"mseccfg".as_slice(), Ok(Csr::Mseccfg)),
-        (b"0x747".as_slice(), Ok(Csr::Mseccfg)),
-        (b"0x748".as_slice(), Err(ScriptKind::BadName)),
-        (b"mseccfg0".as_slice(), Err(ScriptKind::BadName)),
-        (b"mseccf".as_slice(), Err(ScriptKind::BadName)),
-        (b"0x".as_slice(), Err(ScriptKind::BadName)),
-        (b"928".as_slice(), Err(ScriptKind::BadName)),
-    ];
-    for (name, expected) in names {
-        assert_eq!(rt; read_register(name), expected, "of {:?}", name);
+/// The register that a script's second line writes by this name, or what is wrong with the name.
+fn register(alloc: Global, name: &[u8]) -> Result<Result<Csr, ScriptFault>, Fail> {
+    let mut text = Vec::from_slice(alloc, b"pmp 1\nwrite ")?;
+    text.extend_from_slice(name)?;
+    text.extend_from_slice(b" 0\npublish\n")?;
+    let script = match read_script(alloc, &text) {
+        Ok(script) => script,
+        Err(fault) => return Ok(Err(fault)),
+    };
+    if script.batches() == 1 {
+        if let [Event::Write(csr, 0)] = script.batch(0) {
+            return Ok(Ok(*csr));
+        }
     }
+    Err(Fail::new("the script doesn't have one event"))
+}
+
+#[test]
+fn names_of_registers(rt: HostRuntime) -> Result<(), Fail> {
+    let names: [(&[u8], Csr); 7] = [
+        (b"pmpcfg0", Csr::Cfg(0)),
+        (b"0x3A0", Csr::Cfg(0)),
+        (b"0x00000000000003a0", Csr::Cfg(0)),
+        (b"pmpcfg14", Csr::Cfg(14)),
+        (b"pmpaddr63", Csr::Addr(63)),
+        (b"mseccfg", Csr::Mseccfg),
+        (b"0x747", Csr::Mseccfg),
+    ];
+    for (name, csr) in names {
+        assert_eq!(rt; register(rt.alloc(), name)?, Ok(csr), "of {:?}", name);
+    }
+    Ok(())
+}
+
+#[test]
+fn names_of_no_register(rt: HostRuntime) -> Result<(), Fail> {
+    let odd: [&[u8]; 3] = [b"pmpcfg1", b"pmpcfg15", b"0x3a1"];
+    for name in odd {
+        let fault = ScriptKind::OddCfg;
+        assert_eq!(rt;
+            register(rt.alloc(), name)?,
+            Err(ScriptFault {
+                kind: fault,
+                line: 2
+            }),
+            "of {:?}",
+            name
+        );
+    }
+    let bad: [&[u8]; 12] = [
+        b"pmpcfg16",
+        b"pmpcfg01",
+        b"pmpcfg",
+        b"pmpaddr64",
+        b"PMPADDR0",
+        b"0x3f0",
+        b"0x103a0",
+        b"0x748",
+        b"mseccfg0",
+        b"mseccf",
+        b"0x",
+        b"928",
+    ];
+    for name in bad {
+        let fault = ScriptKind::BadName;
+        assert_eq!(rt;
+            register(rt.alloc(), name)?,
+            Err(ScriptFault {
+                kind: fault,
+                line: 2
+            }),
+            "of {:?}",
+            name
+        );
+    }
+    Ok(())
 }
 
 #[test]

@@ -1,7 +1,7 @@
 //! Worked maps, and decisions by them.
 
-use super::*;
 use pmp_core::{Access, Cause, Csr, Decision, Event, Kind, Mode, RegFile};
+use pmp_map::{RUNS, Run, RunMap};
 use std::process::Abort;
 use std::test::Fail;
 
