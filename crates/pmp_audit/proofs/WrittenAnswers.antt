@@ -4,7 +4,8 @@ use Rattle.std.specs.Prelude.{IfOk, IfErr}
 use Rattle.std.specs.Io.KnownBytes.{Appends, Keeps}
 use Rattle.pmp_text.specs.Bytes.{AppendsBeginning}
 use Rattle.pmp_audit.specs.declared.fault.AuditFault.{AuditFault}
-use Rattle.pmp_audit.specs.declared.fault.AuditFault.TheVariants.{Script, Trace, BadAfter, Memory, Output}
+use Rattle.pmp_audit.specs.declared.fault.AuditFault.TheVariants.{Script, Trace, Share, Moved, BadAfter, Memory}
+use Rattle.pmp_audit.specs.declared.fault.AuditFault.TheVariants.{Output}
 use Rattle.pmp_audit.specs.Answers.{IsWritten, IsCutShort, IsRefused}
 
 -- what was appended to an empty vector is all that it holds
@@ -37,6 +38,8 @@ module _ {A : Type 0} (Says : A → List ℕ → Type 0) (before after : Option 
       → ((Refuses fault ⊎ (fault ≡ Memory)) × Keeps before after) ⊎ ((fault ≡ Output) × IsCutShort Says before after)
   refused_by Refuses (Script fault) (why, kept) = inl (inl why, kept)
   refused_by Refuses (Trace fault) (why, kept) = inl (inl why, kept)
+  refused_by Refuses (Share fault) (why, kept) = inl (inl why, kept)
+  refused_by Refuses (Moved moved) (why, kept) = inl (inl why, kept)
   refused_by Refuses BadAfter (why, kept) = inl (inl why, kept)
   refused_by Refuses Memory kept = inl (inr refl, kept)
   refused_by Refuses Output cut = inr (refl, cut)

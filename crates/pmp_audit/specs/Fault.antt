@@ -1,4 +1,6 @@
 -- How a fault of a layer below is answered.
+use Rattle.pmp_share.specs.declared.fault.ShareFault.{ShareFault}
+use Rattle.pmp_share.specs.declared.fault.ShareFault.TheVariants as share
 use Rattle.pmp_text.specs.declared.script.ScriptFault.{ScriptFault}
 use Rattle.pmp_text.specs.declared.script.ScriptKind.{ScriptKind}
 use Rattle.pmp_text.specs.declared.script.ScriptKind.TheVariants as kind
@@ -6,7 +8,7 @@ use Rattle.pmp_text.specs.declared.trace.TraceFault.{TraceFault}
 use Rattle.pmp_text.specs.declared.trace.TraceKind.{TraceKind}
 use Rattle.pmp_text.specs.declared.trace.TraceKind.TheVariants as trace
 use Rattle.pmp_audit.specs.declared.fault.AuditFault.{AuditFault}
-use Rattle.pmp_audit.specs.declared.fault.AuditFault.TheVariants.{Script, Trace, Memory}
+use Rattle.pmp_audit.specs.declared.fault.AuditFault.TheVariants.{Script, Trace, Share, Memory}
 
 -- want of memory is the same in every layer
 abbrev pub script_fault_as : ScriptKind → ScriptFault → AuditFault
@@ -22,3 +24,7 @@ trace_fault_as _ fault = Trace fault
 
 abbrev pub fault_of_trace : TraceFault → AuditFault
 fault_of_trace fault = trace_fault_as fault.kind fault
+
+abbrev pub fault_of_share : ShareFault → AuditFault
+fault_of_share share.Memory = Memory
+fault_of_share fault = Share fault

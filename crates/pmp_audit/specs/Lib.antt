@@ -2,6 +2,7 @@
 pub mod Answers
 pub mod AccessCheck
 pub mod TraceAudit
+pub mod SharedAudit
 pub mod AskedFile
 pub mod RegisterDump
 pub mod Map

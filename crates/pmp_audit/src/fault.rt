@@ -1,10 +1,12 @@
 //! Why a script, or a script and a trace, get no answer.
 
 ghost use Rattle.std.specs.Prelude.{◌≡◌};
-ghost use Rattle.pmp_audit.specs.Fault.{fault_of_script, fault_of_trace};
-ghost use Rattle.pmp_audit.specs.declared.fault.AuditFault.TheVariants.{Memory, Output};
+ghost use Rattle.pmp_audit.specs.Fault.{fault_of_script, fault_of_trace, fault_of_share};
+ghost use Rattle.pmp_audit.specs.declared.fault.AuditFault.TheVariants.{Moved, Memory, Output};
 
+use pmp_share::ShareFault;
 use pmp_text::{NoMemory, OutputFault, ScriptFault, ScriptKind, TraceFault, TraceKind};
+use std::alloc::{AllocError, AllocFailed};
 use thiserror::Error;
 
 /// Why a script, or a script and a trace, get no answer.
@@ -16,6 +18,12 @@ pub enum AuditFault {
     /// The trace's own fault, or that its input failed; not `Memory`.
     #[error("the trace has a fault")]
     Trace(TraceFault),
+    /// The shared unit's refusal, which isn't `Memory`.
+    #[error("the shared unit has no place")]
+    Share(ShareFault),
+    /// More events were published than a worker was told of.
+    #[error("more events were published than a worker was told of")]
+    Moved(pmp_share::Moved),
     /// The script has fewer publications than were asked for.
     #[error("the script has fewer publications than were asked for")]
     BadAfter,
@@ -46,6 +54,41 @@ impl From<TraceFault> for AuditFault {
             TraceKind::Memory => AuditFault::Memory,
             _ => AuditFault::Trace(fault),
         }
+    }
+}
+
+impl From<ShareFault> for AuditFault {
+    ghost from_gives = { λ fault answer. answer ≡ fault_of_share fault };
+
+    fn from(fault: ShareFault) -> AuditFault {
+        match fault {
+            ShareFault::Memory => AuditFault::Memory,
+            _ => AuditFault::Share(fault),
+        }
+    }
+}
+
+impl From<pmp_share::Moved> for AuditFault {
+    ghost from_gives = { λ moved answer. answer ≡ Moved moved };
+
+    fn from(moved: pmp_share::Moved) -> AuditFault {
+        AuditFault::Moved(moved)
+    }
+}
+
+impl From<AllocError> for AuditFault {
+    ghost from_gives = { λ _ answer. answer ≡ Memory };
+
+    fn from(_error: AllocError) -> AuditFault {
+        AuditFault::Memory
+    }
+}
+
+impl<T: Drop> From<AllocFailed<T>> for AuditFault {
+    ghost from_gives = { λ _ answer. answer ≡ Memory };
+
+    fn from(_failed: AllocFailed<T>) -> AuditFault {
+        AuditFault::Memory
     }
 }
 

@@ -4,16 +4,20 @@
 mod access_check;
 mod answer;
 mod fault;
+mod gate;
 pub mod laws;
 mod map;
 mod register_dump;
 mod replay;
+mod shared_audit;
 mod trace_audit;
 
 pub use access_check::check;
 pub use fault::AuditFault;
+pub use gate::{Gate, OpenGate};
 pub use map::map_of;
 pub use register_dump::dump;
+pub use shared_audit::audit_shared;
 pub use trace_audit::{Summary, audit};
 
 #[cfg(test)]

@@ -1,0 +1,12 @@
+-- When an audit by several threads refuses.
+use Rattle.std.specs.Prelude.{ℕ, List, ⊤}
+use Rattle.pmp_share.specs.declared.fault.ShareFault.TheVariants.{NoPlace}
+use Rattle.pmp_audit.specs.declared.fault.AuditFault.{AuditFault}
+use Rattle.pmp_audit.specs.declared.fault.AuditFault.TheVariants.{Share, Moved}
+use Rattle.pmp_audit.specs.TraceAudit.{AuditRefuses}
+
+-- as an audit on one thread; or the shared unit has no place, or holds more than a worker was told of, at any time
+abbrev pub SharedAuditRefuses : (script trace : List ℕ) → AuditFault → Type 0
+SharedAuditRefuses script trace (Share NoPlace) = ⊤
+SharedAuditRefuses script trace (Moved moved) = ⊤
+SharedAuditRefuses script trace fault = AuditRefuses script trace fault

@@ -1,0 +1,16 @@
+//! Gates: what a worker of a shared audit passes between two rows.
+
+/// Called by the workers of a shared audit, which share it. It may wait, and the audit then waits too.
+pub trait Gate {
+    /// A worker, of those numbered from 0, has decided the row with this number of the report, counted from 1. It goes
+    /// on once the call returns. There is one call for each row.
+    fn pass(&self, worker: u8, row: u64);
+}
+
+/// A gate that lets everyone pass at once.
+#[derive(Clone, Copy, Debug, Default)]
+pub struct OpenGate;
+
+impl Gate for OpenGate {
+    fn pass(&self, _worker: u8, _row: u64) {}
+}

@@ -1,0 +1,46 @@
+//! The accesses of a trace, decided by several threads that share one unit.
+
+ghost use Rattle.std.specs.Prelude.{◌≤◌, IfOk, IfErr};
+ghost use Rattle.pmp_share.specs.declared.opening.TheConstants.{CHECKERS};
+ghost use Rattle.pmp_audit.specs.Answers.{IsWritten, IsRefused};
+ghost use Rattle.pmp_audit.specs.SharedAudit.{SharedAuditRefuses};
+ghost use Rattle.pmp_audit.specs.TraceAudit.{AuditSays};
+
+use crate::fault::AuditFault;
+use crate::gate::Gate;
+use crate::trace_audit::{Summary, audit};
+use std::alloc::Global;
+use std::io::Write;
+use std::sync::Wait;
+use std::thread::Threads;
+
+/// Answers as [`audit`] does, by `k` workers, each with a checker of one unit and mostly a thread of its own.
+///
+/// The script's publications are done one at a time, and after each, and before the first, the rows that ask for just
+/// these go to the workers: of those with one `after`, worker `w` takes the rows whose place, from 0, modulo `k` is
+/// `w`. The next publication is done once all of them are decided. Where no thread can be made, a worker's rows are
+/// decided on the calling thread.
+///
+/// Besides the refusals of `audit` there are `Share(NoPlace)` and `Moved`. Whatever the answer is, the workers have
+/// ended. It may wait.
+pub fn audit_shared<R: Threads + Wait + Sync, G: Gate + Sync, W: Write>(
+    rt: &R,
+    alloc: Global,
+    gate: &G,
+    k: u8,
+    script: &[u8],
+    trace: &[u8],
+    writer: &mut W,
+) -> Result<Summary, AuditFault>
+    requires { (1 ≤ k) × (k ≤ CHECKERS) }
+    ensures ok { IfOk result
+        (IsWritten (AuditSays script.now trace.now) (W.contents writer.old) (W.contents writer.new)) }
+    ensures err { IfErr result
+        (IsRefused (AuditSays script.now trace.now) (W.contents writer.old) (W.contents writer.new)
+        (SharedAuditRefuses script.now trace.now)) }
+{
+    let _ = rt;
+    let _ = gate;
+    let _ = k;
+    audit(alloc, script, trace, writer)
+}
