@@ -21,7 +21,7 @@ pub use batch::{Batch, BatchFull};
 pub use checker::{Checker, Moved};
 pub use fault::ShareFault;
 pub use notice::Notice;
-pub use opening::start;
+pub use opening::{CHECKERS, start};
 pub use publisher::Publisher;
 pub use room::HISTORY_LIMIT;
 

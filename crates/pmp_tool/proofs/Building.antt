@@ -10,7 +10,8 @@ use Rattle.clap.specs.declared.builder.arg.Arg.{Arg}
 use Rattle.clap.specs.declared.builder.command.Command.{Command}
 use Rattle.clap.specs.declared.builder.command.Command.TheViews.{out-Command}
 use Rattle.pmp_tool.specs.Building.{Changes, IsCommand, IsTaken}
-use Rattle.pmp_tool.specs.CommandLines.{after_rule, pmp_app, with_after, with_command, with_word, word_rule}
+use Rattle.pmp_tool.specs.CommandLines.{after_rule, checkers_rule, pmp_app, with_after, with_checkers, with_command}
+use Rattle.pmp_tool.specs.CommandLines.{with_word, word_rule}
 
 same_globals : (old added : Bool) → added ≡ false → (old || added) ≡ old
 same_globals old added none = rw none (or-false old)
@@ -27,6 +28,12 @@ unfolding with_after
 after_added old new arg rule local added =
     (added.shape local ∙ ap (with_rule (app_of old)) rule, added.globals ∙ same_globals _ _ local)
 
+pub checkers_added : (old new : Command) (arg : Arg) → rule_of arg ≡ checkers_rule → arg.global ≡ false
+    → AddsArg old arg new → Changes with_checkers old new
+unfolding with_checkers
+checkers_added old new arg rule local added =
+    (added.shape local ∙ ap (with_rule (app_of old)) rule, added.globals ∙ same_globals _ _ local)
+
 pub command_added : (old new sub : Command) → (out-Command sub).has_globals ≡ false → AddsSubcommand old sub new
     → Changes (λ app. with_command app (app_of sub)) old new
 unfolding with_command
@@ -34,11 +41,11 @@ command_added old new sub local added = (added.shape local, added.globals ∙ sa
 
 -- clap's exact statements hold of the program's command
 is_exact : is_simple_and_free pmp_app ≡ true
-unfolding clap_on_literals with_word with_after with_command
+unfolding clap_on_literals with_word with_after with_checkers with_command
 is_exact = refl
 
 is_read : is_simple pmp_app ≡ true
-unfolding clap_on_literals with_word with_after with_command
+unfolding clap_on_literals with_word with_after with_checkers with_command
 is_read = refl
 
 abbrev Fails : List Text → Result ArgMatches Error → App → Type 0

@@ -11,7 +11,8 @@ use Rattle.clap.specs.declared.parser.matches.SubCommand.{SubCommand}
 use Rattle.clap.specs.declared.parser.matches.Found.{Found}
 use Rattle.clap.proofs.WalkLemmas.{first_value-rows}
 use Rattle.pmp_text.specs.Numbers.{word_number}
-use Rattle.pmp_tool.specs.Commands.{after_of, asked_in, asked_of, command_named, number_given, required, result_map}
+use Rattle.pmp_tool.specs.Commands.{after_of, asked_in, asked_of, command_named, number_given, required}
+use Rattle.pmp_tool.specs.Refusals.{result_map}
 use Rattle.pmp_tool.specs.declared.command.CommandName.{CommandName}
 use Rattle.pmp_tool.specs.declared.refusal.Refusal.{Refusal}
 use Rattle.pmp_tool.specs.declared.refusal.Refusal.TheVariants.{BadWord}

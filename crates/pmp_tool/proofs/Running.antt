@@ -68,7 +68,7 @@ refused_keeps Says before after Refuses fault refused two = refused.1
 command_keeps : {scripts traces : Inputs} {command : Command} {before after : Option (List ℕ)} {failure : Failure}
     → CommandFails scripts traces command before after failure → failure_status failure ≡ 2 → Keeps before after
 command_keeps (no_script fault unread keeps) two = keeps
-command_keeps (no_trace trace fault asked unread keeps) two = keeps
+command_keeps (no_trace trace checkers fault asked unread keeps) two = keeps
 command_keeps {traces = traces} {command = command} {before = before} {after = after}
     (no_answer script fault read refused) two =
     refused_keeps (RequestSays traces script command.request) before after

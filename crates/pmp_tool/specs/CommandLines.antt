@@ -1,9 +1,11 @@
 -- The command line, as the crate clap reads it.
-use Rattle.std.specs.Prelude.{◌≡◌, ◌≢◌, ◌⊎◌, List, [], Some, Ok, Err, true, codes}
+use Rattle.std.specs.Prelude.{◌≡◌, ◌≢◌, ◌⊎◌, List, [], Some, Ok, Err, pos, true, codes}
 use Rattle.clap.specs.Words.{App, IsAmong, Rule, Text, fault_of, kind_of, new_app, new_rule, subcommand_of}
 use Rattle.clap.specs.Words.{with_rule, with_subcommand}
+use Rattle.clap.specs.declared.builder.value_parser.ValueParser.TheVariants as parser
 use Rattle.clap.specs.declared.error.Error.{Error}
 use Rattle.clap.specs.declared.error.kind.ErrorKind.TheVariants.{DisplayHelp, DisplayVersion}
+use Rattle.pmp_share.specs.declared.opening.TheConstants.{CHECKERS}
 use Rattle.pmp_tool.specs.declared.refusal.Refusal.{Refusal}
 use Rattle.pmp_tool.specs.Commands.{Asked, asked_of}
 
@@ -15,6 +17,14 @@ word_rule id = record (new_rule id) { value_names = 1; required = true }
 abbrev pub after_rule : Rule
 after_rule = record (new_rule (codes "after")) { long = Some (codes "after"); value_names = 1 }
 
+-- `--checkers K`, a number from 1 to how many a unit has places for
+abbrev pub checkers_rule : Rule
+checkers_rule = record (new_rule (codes "checkers")) {
+  long = Some (codes "checkers");
+  value_names = 1;
+  parser = Some (parser.Signed (pos 1) (pos CHECKERS));
+}
+
 -- a command with a word more
 unfoldable pub with_word : App → (id : Text) → App
 with_word app id = with_rule app (word_rule id)
@@ -22,6 +32,10 @@ with_word app id = with_rule app (word_rule id)
 -- a command with `--after N`
 unfoldable pub with_after : App → App
 with_after app = with_rule app after_rule
+
+-- a command with `--checkers K`
+unfoldable pub with_checkers : App → App
+with_checkers app = with_rule app checkers_rule
 
 -- a command of a script
 abbrev pub script_app : (name : Text) → App
@@ -33,9 +47,9 @@ check_app =
     with_word (with_word (with_word (with_word (script_app (codes "check")) (codes "mode")) (codes "kind"))
     (codes "start")) (codes "length")
 
--- `audit SCRIPT TRACE`
+-- `audit SCRIPT TRACE [--checkers K]`
 abbrev pub audit_app : App
-audit_app = with_word (script_app (codes "audit")) (codes "trace")
+audit_app = with_checkers (with_word (script_app (codes "audit")) (codes "trace"))
 
 -- `dump SCRIPT [--after N]`
 abbrev pub dump_app : App

@@ -1,5 +1,5 @@
 -- What the matches of the command line ask for.
-use Rattle.std.specs.Prelude.{ℕ, List, Option, Some, None, Result, Ok, Err, if◌then◌else◌, codes}
+use Rattle.std.specs.Prelude.{ℕ, List, Option, Some, None, Result, Ok, Err, if◌then◌else◌, codes, option_map}
 use Rattle.std.specs.Option.{option_and_then}
 use Rattle.std.specs.Str.{bytes_eq}
 use Rattle.clap.specs.Words.{Row, Text, first_of}
@@ -17,12 +17,13 @@ use Rattle.pmp_tool.specs.declared.command.Request.{Request}
 use Rattle.pmp_tool.specs.declared.command.Request.TheVariants as request
 use Rattle.pmp_tool.specs.declared.refusal.Refusal.{Refusal}
 use Rattle.pmp_tool.specs.declared.refusal.Refusal.TheVariants.{BadWord}
-use Rattle.pmp_tool.specs.Refusals.{refusal_of_access}
+use Rattle.pmp_tool.specs.Checkers.{checkers_given}
+use Rattle.pmp_tool.specs.Refusals.{refusal_of_access, result_map}
 
 -- what is asked for of a script, in plain values
 pub data Task : Type 0 where
   Check : Mode → Kind → (start length : ℕ) → Task
-  Audit : (trace : Text) → Task
+  Audit : (trace : Text) (checkers : Option ℕ) → Task
   Dump : (after : Option ℕ) → Task
   Map : (after : Option ℕ) → Task
 
@@ -31,7 +32,7 @@ check_task access = Check access.mode access.kind access.start access.length
 
 abbrev pub task_of : Request → Task
 task_of (request.Check access) = check_task access
-task_of (request.Audit trace) = Audit trace.now
+task_of (request.Audit trace checkers) = Audit trace.now (option_map (λ checkers. checkers.count) checkers)
 task_of (request.Dump after) = Dump after
 task_of (request.Map after) = Map after
 
@@ -42,11 +43,6 @@ pub record Asked : Type 0 where
 
 abbrev pub asked : Command → Asked
 asked command = record { script = command.script.now; task = task_of command.request }
-
--- a result with its value seen so
-abbrev pub result_map : {X Y : Type 0} → (X → Y) → Result X Refusal → Result Y Refusal
-result_map view (Ok x) = Ok (view x)
-result_map view (Err refusal) = Err refusal
 
 -- the word in a place that its command requires
 abbrev pub required : Option Text → Result Text Refusal
@@ -80,10 +76,25 @@ abbrev pub after_of : Option Text → Result (Option ℕ) Refusal
 after_of None = Ok None
 after_of (Some word) = number_given (word_number word)
 
+-- by how many checkers an audit is made: on one thread where the option isn't used
+abbrev pub checkers_of : Option Text → Result (Option ℕ) Refusal
+checkers_of None = Ok None
+checkers_of (Some word) = result_map Some (checkers_given (word_number word))
+
+abbrev pub audit_with : (trace : Result Text Refusal) → (checkers : Result (Option ℕ) Refusal) → Result Task Refusal
+audit_with (Err refusal) checkers = Err refusal
+audit_with (Ok trace) (Err refusal) = Err refusal
+audit_with (Ok trace) (Ok checkers) = Ok (Audit trace checkers)
+
+-- the trace's place is read before the option
+abbrev pub audit_in : List Row → Result Task Refusal
+audit_in rows =
+    audit_with (required (first_of (codes "trace") rows)) (checkers_of (first_of (codes "checkers") rows))
+
 -- what a command's matches ask for
 abbrev pub task_in : CommandName → List Row → Result Task Refusal
 task_in name.Check rows = check_in rows
-task_in name.Audit rows = result_map Audit (required (first_of (codes "trace") rows))
+task_in name.Audit rows = audit_in rows
 task_in name.Dump rows = result_map Dump (after_of (first_of (codes "after") rows))
 task_in name.Map rows = result_map Map (after_of (first_of (codes "after") rows))
 

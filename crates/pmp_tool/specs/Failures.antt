@@ -11,9 +11,9 @@ use Rattle.pmp_tool.specs.declared.failure.Failure.{Failure}
 use Rattle.pmp_tool.specs.declared.failure.Failure.TheVariants.{Words, Refused}
 use Rattle.pmp_tool.specs.declared.fault_line.Place.{Place}
 use Rattle.pmp_tool.specs.declared.refusal.Refusal.{Refusal}
-use Rattle.pmp_tool.specs.declared.refusal.Refusal.TheVariants.{BadAfter, Memory, Output}
-use Rattle.pmp_tool.specs.Refusals.{line_text, refusal_of_script, refusal_of_trace, script_place, status_of}
-use Rattle.pmp_tool.specs.Refusals.{trace_place}
+use Rattle.pmp_tool.specs.declared.refusal.Refusal.TheVariants.{BadAfter, Memory, Moved, Output}
+use Rattle.pmp_tool.specs.Refusals.{line_text, refusal_of_script, refusal_of_share, refusal_of_trace, script_place}
+use Rattle.pmp_tool.specs.Refusals.{status_of, trace_place}
 
 abbrev pub failure_status : Failure → ℕ
 failure_status (Words error) = 2
@@ -37,6 +37,8 @@ unparsed error = unparsed_as (kind_of error) error
 abbrev pub unaudited : AuditFault → Failure
 unaudited (audit.Script fault) = refused_at (refusal_of_script fault.kind) (script_place fault.line)
 unaudited (audit.Trace fault) = refused_at (refusal_of_trace fault.kind) (trace_place fault.row)
+unaudited (audit.Share fault) = refused (refusal_of_share fault)
+unaudited (audit.Moved moved) = refused Moved
 unaudited audit.BadAfter = refused BadAfter
 unaudited audit.Memory = refused Memory
 unaudited audit.Output = refused Output

@@ -1,7 +1,9 @@
 -- What the program says of a refusal.
-use Rattle.std.specs.Prelude.{ℕ, List, ◌++◌, Option, Some, None, codes, decimal, ◌==◌, if◌then◌else◌}
+use Rattle.std.specs.Prelude.{ℕ, List, ◌++◌, Option, Some, None, Result, Ok, Err, codes, decimal, ◌==◌, if◌then◌else◌}
 use Rattle.pmp_core.specs.declared.access.AccessFault.{AccessFault}
 use Rattle.pmp_core.specs.declared.access.AccessFault.TheVariants as access
+use Rattle.pmp_share.specs.declared.fault.ShareFault.{ShareFault}
+use Rattle.pmp_share.specs.declared.fault.ShareFault.TheVariants as share
 use Rattle.pmp_text.specs.declared.input.InputFault.{InputFault}
 use Rattle.pmp_text.specs.declared.input.InputFault.TheVariants as input
 use Rattle.pmp_text.specs.declared.script.ScriptKind.{ScriptKind}
@@ -14,7 +16,7 @@ use Rattle.pmp_tool.specs.declared.refusal.Refusal.{Refusal}
 use Rattle.pmp_tool.specs.declared.refusal.Refusal.TheVariants.{BadLength, PastEnd, BadVersion, BadLine, BadName}
 use Rattle.pmp_tool.specs.declared.refusal.Refusal.TheVariants.{OddCfg, BadNumber, BatchFull, Unpublished, TooLong}
 use Rattle.pmp_tool.specs.declared.refusal.Refusal.TheVariants.{BadHeader, BadRow, BadAfter, Order, BadWord, Memory}
-use Rattle.pmp_tool.specs.declared.refusal.Refusal.TheVariants.{Input, Output}
+use Rattle.pmp_tool.specs.declared.refusal.Refusal.TheVariants.{NoPlace, Full, Moved, Input, Output}
 
 abbrev pub number_of : Refusal → ℕ
 number_of BadLength = 3
@@ -32,6 +34,9 @@ number_of BadRow = 21
 number_of BadAfter = 22
 number_of Order = 23
 number_of BadWord = 24
+number_of NoPlace = 30
+number_of Full = 31
+number_of Moved = 32
 number_of Memory = 40
 number_of Input = 41
 number_of Output = 42
@@ -52,12 +57,17 @@ name_of BadRow = codes "BadRow"
 name_of BadAfter = codes "BadAfter"
 name_of Order = codes "Order"
 name_of BadWord = codes "BadWord"
+name_of NoPlace = codes "NoPlace"
+name_of Full = codes "Full"
+name_of Moved = codes "Moved"
 name_of Memory = codes "Memory"
 name_of Input = codes "Input"
 name_of Output = codes "Output"
 
--- 3 where memory, input or output failed, and else 2
+-- 3 where memory, input, output or a shared unit failed, and else 2
 abbrev pub status_of : Refusal → ℕ
+status_of NoPlace = 3
+status_of Moved = 3
 status_of Memory = 3
 status_of Input = 3
 status_of Output = 3
@@ -89,6 +99,11 @@ abbrev pub refusal_of_access : AccessFault → Refusal
 refusal_of_access access.BadLength = BadLength
 refusal_of_access access.PastEnd = PastEnd
 
+abbrev pub refusal_of_share : ShareFault → Refusal
+refusal_of_share share.NoPlace = NoPlace
+refusal_of_share share.Full = Full
+refusal_of_share share.Memory = Memory
+
 abbrev pub refusal_of_input : InputFault → Refusal
 refusal_of_input input.TooLong = TooLong
 refusal_of_input input.Input = Input
@@ -115,3 +130,8 @@ refusal_of_trace trace.PastEnd = PastEnd
 refusal_of_trace trace.TooLong = TooLong
 refusal_of_trace trace.Memory = Memory
 refusal_of_trace trace.Input = Input
+
+-- a result with its value seen so
+abbrev pub result_map : {X Y : Type 0} → (X → Y) → Result X Refusal → Result Y Refusal
+result_map view (Ok x) = Ok (view x)
+result_map view (Err refusal) = Err refusal

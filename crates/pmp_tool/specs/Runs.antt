@@ -9,6 +9,7 @@ use Rattle.pmp_text.specs.Bytes.{AppendsBeginning}
 use Rattle.pmp_text.specs.Limits.{script_limit, trace_limit}
 use Rattle.pmp_audit.specs.declared.fault.AuditFault.{AuditFault}
 use Rattle.pmp_audit.specs.Answers.{IsRefused, IsWritten}
+use Rattle.pmp_tool.specs.declared.checkers.Checkers.{Checkers}
 use Rattle.pmp_tool.specs.declared.command.Command.{Command}
 use Rattle.pmp_tool.specs.declared.command.Request.TheVariants.{Audit}
 use Rattle.pmp_tool.specs.declared.failure.Failure.{Failure}
@@ -44,7 +45,8 @@ pub data CommandFails (scripts traces : Inputs) (command : Command)
   no_script : (fault : InputFault) → CantBeRead script_limit (scripts command.script.now) fault → Keeps before after
       → CommandFails scripts traces command before after (refused (refusal_of_input fault))
   -- nor can the trace that it names
-  no_trace : (trace : Bor (List ℕ)) (fault : InputFault) → command.request ≡ Audit trace
+  no_trace : (trace : Bor (List ℕ)) (checkers : Option Checkers) (fault : InputFault)
+      → command.request ≡ Audit trace checkers
       → CantBeRead trace_limit (traces trace.now) fault → Keeps before after
       → CommandFails scripts traces command before after (refused (refusal_of_input fault))
   -- what was read is refused, or memory or the output failed

@@ -1,23 +1,25 @@
 //! What the program's words ask for.
 
-ghost use Rattle.std.specs.Prelude.{◌≡◌, codes};
+ghost use Rattle.std.specs.Prelude.{◌≡◌, codes, option_map};
 ghost use Rattle.clap.specs.Words.{first_of, found_of, rows_of, subcommand_rows_of};
 ghost use Rattle.pmp_text.specs.AccessWords.{kind_named, mode_named};
 ghost use Rattle.pmp_text.specs.Numbers.{word_number};
-ghost use Rattle.pmp_tool.specs.Commands.{after_of, asked, asked_of, check_in, check_of, check_task, command_named};
-ghost use Rattle.pmp_tool.specs.Commands.{required, result_map, task_in, task_of};
+ghost use Rattle.pmp_tool.specs.Commands.{after_of, asked, asked_of, audit_in, check_in, check_of, check_task};
+ghost use Rattle.pmp_tool.specs.Commands.{checkers_of, command_named, required, task_in, task_of};
+ghost use Rattle.pmp_tool.specs.Refusals.{result_map};
 
+use crate::checkers::{Checkers, read_checkers};
 use crate::refusal::Refusal;
 use clap::ArgMatches;
 use pmp_core::Access;
 use pmp_text::{read_kind, read_mode, read_word_number};
 
 /// What is asked for of a script.
-#[derive(Clone, Copy, Debug, PartialEq, Eq)]
+#[derive(Clone, Copy)]
 pub enum Request<'a> {
     Check(Access),
-    /// The path of the trace.
-    Audit(&'a str),
+    /// The path of the trace, and how many checkers decide its rows, where that is said.
+    Audit(&'a str, Option<Checkers>),
     /// How many publications are taken, where not all are.
     Dump(Option<u64>),
     /// The same.
@@ -25,7 +27,7 @@ pub enum Request<'a> {
 }
 
 /// What the program's words ask for.
-#[derive(Clone, Copy, Debug, PartialEq, Eq)]
+#[derive(Clone, Copy)]
 pub struct Command<'a> {
     /// The path of the script.
     pub script: &'a str,
@@ -71,7 +73,7 @@ fn read_request<'a>(name: CommandName, words: &ArgMatches<'a>) -> Result<Request
 {
     match name {
         CommandName::Check => Ok(Request::Check(read_check(words)?)),
-        CommandName::Audit => Ok(Request::Audit(word_of(words, "trace")?)),
+        CommandName::Audit => read_audit(words),
         CommandName::Dump => Ok(Request::Dump(read_after(words)?)),
         CommandName::Map => Ok(Request::Map(read_after(words)?)),
     }
@@ -82,6 +84,26 @@ fn word_of<'a>(words: &ArgMatches<'a>, id: &str) -> Result<&'a str, Refusal>
     ensures { result_map (λ word. word.now) result ≡ required (first_of id.now (rows_of (found_of words.now))) }
 {
     words.get_str(id).ok_or(Refusal::BadWord)
+}
+
+/// The trace of an audit, and its checkers.
+fn read_audit<'a>(words: &ArgMatches<'a>) -> Result<Request<'a>, Refusal>
+    ensures { result_map task_of result ≡ audit_in (rows_of (found_of words.now)) }
+{
+    let trace = word_of(words, "trace")?;
+    let checkers = asked_checkers(words)?;
+    Ok(Request::Audit(trace, checkers))
+}
+
+/// How many checkers decide, where the words say that.
+fn asked_checkers(words: &ArgMatches) -> Result<Option<Checkers>, Refusal>
+    ensures { result_map (option_map (λ checkers. checkers.count)) result
+        ≡ checkers_of (first_of (codes "checkers") (rows_of (found_of words.now))) }
+{
+    match words.get_str("checkers") {
+        Some(word) => Ok(Some(read_checkers(word)?)),
+        None => Ok(None),
+    }
 }
 
 /// The access of a check.

@@ -3,12 +3,13 @@
 ghost use Rattle.std.specs.Prelude.{◌≡◌, map, false, IfOk, IfErr, string_bytes};
 ghost use Rattle.clap.specs.Words.{HasKind, app_of, fault_of, new_app, rule_of};
 ghost use Rattle.pmp_tool.specs.Building.{Changes, IsCommand, IsLocal, IsTaken};
-ghost use Rattle.pmp_tool.specs.CommandLines.{after_rule, audit_app, check_app, dump_app, map_app, pmp_app, top_app};
-ghost use Rattle.pmp_tool.specs.CommandLines.{with_after, with_command, with_word};
+ghost use Rattle.pmp_tool.specs.CommandLines.{after_rule, audit_app, check_app, checkers_rule, dump_app, map_app};
+ghost use Rattle.pmp_tool.specs.CommandLines.{pmp_app, top_app, with_after, with_checkers, with_command, with_word};
 ghost use Rattle.pmp_tool.specs.CommandLines.{word_rule};
 
 use crate::help;
-use clap::{Arg, ArgMatches, Command, Error};
+use clap::{Arg, ArgMatches, Command, Error, value_parser};
+use pmp_share::CHECKERS;
 use std::alloc::{AllocError, Global};
 
 /// What `clap` makes of the program's words, those after its own name.
@@ -49,6 +50,7 @@ fn audit<'a>(alloc: Global) -> Result<Command<'a>, AllocError>
     let command = named(alloc, "audit", help::AUDIT, help::MORE_OF_AUDIT);
     let command = with_word(alloc, command, "script", "SCRIPT", help::SCRIPT)?;
     let command = with_word(alloc, command, "trace", "TRACE", help::TRACE)?;
+    let command = with_checkers(alloc, command)?;
     Ok(command)
 }
 
@@ -137,4 +139,23 @@ fn after<'a>(alloc: Global) -> Arg<'a>
         .long("after")
         .value_name("N")
         .help(help::AFTER)
+}
+
+/// The command with `--checkers K`.
+fn with_checkers<'a>(alloc: Global, command: Command<'a>) -> Result<Command<'a>, AllocError>
+    ensures { IfOk result (Changes with_checkers command.entry) }
+{
+    command.arg(checkers(alloc))
+}
+
+/// `--checkers K`, a number that a unit has places for.
+fn checkers<'a>(alloc: Global) -> Arg<'a>
+    ensures rule { rule_of result ≡ checkers_rule }
+    ensures local { result.global ≡ false }
+{
+    Arg::new(alloc, "checkers")
+        .long("checkers")
+        .value_name("K")
+        .value_parser(value_parser!(u8).range(1..=i64::from(CHECKERS)))
+        .help(help::CHECKERS)
 }

@@ -106,6 +106,8 @@ impl From<AuditFault> for Failure {
                 refusal: Refusal::from(fault.kind),
                 place: Place::trace_row(fault.row),
             }),
+            AuditFault::Share(fault) => Failure::from(Refusal::from(fault)),
+            AuditFault::Moved(_) => Failure::from(Refusal::Moved),
             AuditFault::BadAfter => Failure::from(Refusal::BadAfter),
             AuditFault::Memory => Failure::from(Refusal::Memory),
             AuditFault::Output => Failure::from(Refusal::Output),

@@ -31,6 +31,9 @@ pub const LENGTH: &str = "How many bytes it has, a number from 1 to 4096; it end
 pub const AFTER: &str =
     "Takes the first N publications, a number up to how many there are; all without this option";
 
+pub const CHECKERS: &str =
+    "Decides the rows by K checkers on threads, a number from 1 to 8; K changes the time, never what is written";
+
 pub const MORE: &str = "\
 Exit status:
   0  every access is allowed, or what was asked for was written
@@ -66,7 +69,7 @@ Exit status:
   0  every access of the trace is allowed
   1  the unit refuses one of them
   2  no answer: the words, the script or the trace are at fault
-  3  no answer: memory, an input or the output failed
+  3  no answer: memory, an input, the output or a place for a checker failed
 
 Example:
   printf 'after,mode,kind,start,length\\n0,M,load,0x0,8\\n' > trace.csv

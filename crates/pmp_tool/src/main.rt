@@ -1,6 +1,7 @@
 //! The command `pmp`, which decides accesses to physical memory as the PMP unit of one RV64 hart does.
 #![tactic(auto)]
 
+mod checkers;
 mod command;
 mod command_line;
 mod failure;
@@ -28,6 +29,7 @@ fn main(rt: HostRuntime) -> ExitCode {
     };
     let mut inputs = SystemInputs::new(&rt);
     ExitCode::from(run_tool(
+        &rt,
         rt.alloc(),
         &words,
         &mut inputs,

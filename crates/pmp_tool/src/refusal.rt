@@ -2,9 +2,10 @@
 
 ghost use Rattle.std.specs.Prelude.{◌≡◌, ◌≤◌, Some};
 ghost use Rattle.pmp_tool.specs.Refusals.{name_of, number_of, refusal_of_access, refusal_of_input, refusal_of_script};
-ghost use Rattle.pmp_tool.specs.Refusals.{refusal_of_trace, refusal_text, status_of};
+ghost use Rattle.pmp_tool.specs.Refusals.{refusal_of_share, refusal_of_trace, refusal_text, status_of};
 
 use pmp_core::AccessFault;
+use pmp_share::ShareFault;
 use pmp_text::{InputFault, ScriptKind, TraceKind};
 use std::fmt;
 
@@ -41,6 +42,12 @@ pub enum Refusal {
     Order = 23,
     /// A word of the command line that isn't what its place asks for.
     BadWord = 24,
+    /// A unit that several threads share has no place for a checker or a notice.
+    NoPlace = 30,
+    /// A unit that several threads share has no room for more events or batches.
+    Full = 31,
+    /// More events are published than were asked for.
+    Moved = 32,
     /// No memory.
     Memory = 40,
     /// An input that can't be opened or read.
@@ -75,6 +82,9 @@ impl Refusal {
             Refusal::BadAfter => "BadAfter",
             Refusal::Order => "Order",
             Refusal::BadWord => "BadWord",
+            Refusal::NoPlace => "NoPlace",
+            Refusal::Full => "Full",
+            Refusal::Moved => "Moved",
             Refusal::Memory => "Memory",
             Refusal::Input => "Input",
             Refusal::Output => "Output",
@@ -88,6 +98,7 @@ impl Refusal {
         ensures below { result ≤ 3 }
     {
         match self {
+            Refusal::NoPlace | Refusal::Moved => 3,
             Refusal::Memory | Refusal::Input | Refusal::Output => 3,
             _ => 2,
         }
@@ -159,6 +170,18 @@ impl From<InputFault> for Refusal {
             InputFault::TooLong => Refusal::TooLong,
             InputFault::Input => Refusal::Input,
             InputFault::Memory => Refusal::Memory,
+        }
+    }
+}
+
+impl From<ShareFault> for Refusal {
+    ghost from_gives = { λ fault refusal. refusal ≡ refusal_of_share fault };
+
+    fn from(fault: ShareFault) -> Refusal {
+        match fault {
+            ShareFault::NoPlace => Refusal::NoPlace,
+            ShareFault::Full => Refusal::Full,
+            ShareFault::Memory => Refusal::Memory,
         }
     }
 }

@@ -2,21 +2,27 @@
 
 ghost use Rattle.std.specs.Prelude.{◌≡◌, ℕ, ◌≤◌, List, map, IfOk, IfErr, string_bytes};
 ghost use Rattle.std.specs.Io.KnownBytes.{Appends, Keeps};
+ghost use Rattle.pmp_audit.specs.Answers.{IsRefused, IsWritten};
+ghost use Rattle.pmp_audit.specs.TraceAudit.{AuditSays};
 ghost use Rattle.pmp_tool.specs.Failures.{Tells, failure_status};
+ghost use Rattle.pmp_tool.specs.Requests.{AuditByRefuses};
 ghost use Rattle.pmp_tool.specs.Runs.{Answers, CommandAnswers, CommandFails, Fails, TextFails, outcome_status};
 ghost use Rattle.pmp_tool.specs.declared.failure.Failure.{Failure};
 ghost use Rattle.pmp_tool.specs.declared.run.Outcome.{Outcome};
 ghost use Rattle.pmp_tool.specs.declared.run.Outcome.TheVariants.{Told};
 
+use crate::checkers::Checkers;
 use crate::command::{Command, Request, read_command};
 use crate::command_line::parse_words;
 use crate::failure::Failure;
 use crate::inputs::Inputs;
-use pmp_audit::{Summary, audit, check, dump, map_of};
+use pmp_audit::{AuditFault, OpenGate, Summary, audit, audit_shared, check, dump, map_of};
 use pmp_core::Decision;
 use pmp_text::write_out;
 use std::alloc::Global;
 use std::io::Write;
+use std::sync::Wait;
+use std::thread::Threads;
 
 /// The exit status of texts, registers and runs that were written, and of accesses that are all allowed.
 const DONE: u8 = 0;
@@ -28,10 +34,13 @@ const REFUSED: u8 = 1;
 /// allowed, or the registers, the runs or a text of help were written, 1 where an access is refused, 2 or 3 where
 /// there is no answer, with a text on `err` that says why.
 ///
+/// `rt` makes the threads of an audit by several checkers, for which the call may wait.
+///
 /// `out` gets the report rows, the register lines, the run lines or the text. A text on `err` is handed over whole, by
 /// one write. Where it can't be written, or not wholly, the status is the same.
 #[tactic(auto, using(crate::proofs::Running::keeps_at_two))]
-pub fn run_tool<I: Inputs, O: Write, E: Write>(
+pub fn run_tool<R: Threads + Wait + Sync, I: Inputs, O: Write, E: Write>(
+    rt: &R,
     alloc: Global,
     words: &[String],
     inputs: &mut I,
@@ -54,7 +63,7 @@ pub fn run_tool<I: Inputs, O: Write, E: Write>(
 
     ensures untouched { result ≡ 2 → Keeps (O.contents out.old) (O.contents out.new) }
 {
-    match run(alloc, words, inputs, out) {
+    match run(rt, alloc, words, inputs, out) {
         Ok(outcome) => outcome.status(),
         Err(failure) => {
             let _ = failure.tell(err);
@@ -64,7 +73,8 @@ pub fn run_tool<I: Inputs, O: Write, E: Write>(
 }
 
 /// Reads the words, and does what they ask for.
-fn run<I: Inputs, O: Write>(
+fn run<R: Threads + Wait + Sync, I: Inputs, O: Write>(
+    rt: &R,
     alloc: Global,
     words: &[String],
     inputs: &mut I,
@@ -76,7 +86,7 @@ fn run<I: Inputs, O: Write>(
         (O.contents out.old) (O.contents out.new)) }
 {
     match parse_words(alloc, words) {
-        Ok(matches) => answer(alloc, read_command(&matches)?, inputs, out),
+        Ok(matches) => answer(rt, alloc, read_command(&matches)?, inputs, out),
         Err(error) if error.use_stderr() => Err(Failure::from(error)),
         Err(text) => tell(alloc, &text, out),
     }
@@ -94,7 +104,8 @@ fn tell<O: Write>(alloc: Global, text: &clap::Error, out: &mut O) -> Result<Outc
 }
 
 /// Reads the inputs of a command, and does what it asks for.
-fn answer<I: Inputs, O: Write>(
+fn answer<R: Threads + Wait + Sync, I: Inputs, O: Write>(
+    rt: &R,
     alloc: Global,
     command: Command<'_>,
     inputs: &mut I,
@@ -108,9 +119,9 @@ fn answer<I: Inputs, O: Write>(
     let script = inputs.script(command.script)?;
     match command.request {
         Request::Check(access) => Ok(Outcome::Decided(check(alloc, &script, &access, out)?)),
-        Request::Audit(trace) => {
+        Request::Audit(trace, checkers) => {
             let trace = inputs.trace(trace)?;
-            Ok(Outcome::Audited(audit(alloc, &script, &trace, out)?))
+            Ok(Outcome::Audited(audit_by(rt, alloc, checkers, &script, &trace, out)?))
         }
         Request::Dump(after) => {
             dump(alloc, &script, after, out)?;
@@ -120,6 +131,27 @@ fn answer<I: Inputs, O: Write>(
             map_of(alloc, &script, after, out)?;
             Ok(Outcome::Mapped)
         }
+    }
+}
+
+/// Audits a trace by so many checkers, or else on the calling thread.
+fn audit_by<R: Threads + Wait + Sync, O: Write>(
+    rt: &R,
+    alloc: Global,
+    checkers: Option<Checkers>,
+    script: &[u8],
+    trace: &[u8],
+    out: &mut O,
+) -> Result<Summary, AuditFault>
+    ensures ok { IfOk result
+        (IsWritten (AuditSays script.now trace.now) (O.contents out.old) (O.contents out.new)) }
+    ensures err { IfErr result
+        (IsRefused (AuditSays script.now trace.now) (O.contents out.old) (O.contents out.new)
+        (AuditByRefuses checkers script.now trace.now)) }
+{
+    match checkers {
+        Some(checkers) => audit_shared(rt, alloc, &OpenGate, checkers.count(), script, trace, out),
+        None => audit(alloc, script, trace, out),
     }
 }
 

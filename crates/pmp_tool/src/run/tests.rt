@@ -64,19 +64,29 @@ fn list_of(alloc: Global, words: &str) -> Result<Vec<String>, AllocError> {
 }
 
 /// Runs the program on words that blanks part.
-fn run_on(mut inputs: Table, words: &str) -> Result<Answer, AllocError> {
+fn run_on<R: Threads + Wait + Sync>(
+    rt: &R,
+    mut inputs: Table,
+    words: &str,
+) -> Result<Answer, AllocError> {
     let alloc = inputs.alloc;
     let words = list_of(alloc, words)?;
     let mut out = Vec::new(alloc);
     let mut err = Vec::new(alloc);
-    let status = run_tool(alloc, &words, &mut inputs, &mut out, &mut err);
+    let status = run_tool(rt, alloc, &words, &mut inputs, &mut out, &mut err);
     Ok(Answer { status, out, err })
 }
 
 /// The same with this script, and an empty trace.
-fn run(alloc: Global, script: &[u8], words: &str) -> Result<Answer, AllocError> {
+fn run<R: AllocGlobal + Threads + Wait + Sync>(
+    rt: &R,
+    script: &[u8],
+    words: &str,
+) -> Result<Answer, AllocError> {
+    let alloc = rt.alloc();
     let trace = b"";
     run_on(
+        rt,
         Table {
             alloc,
             script,
@@ -118,7 +128,7 @@ fn a_full_output_is_refused(rt: HostRuntime) -> Result<(), Fail> {
             trace: b"after,mode,kind,start,length\n0,M,load,0x0,4\n",
         };
         let mut err = Vec::new(alloc);
-        let status = run_tool(alloc, &words, &mut inputs, &mut Full, &mut err);
+        let status = run_tool(&rt, alloc, &words, &mut inputs, &mut Full, &mut err);
         assert_eq!(rt; status, 3, "{command}");
         assert_eq!(rt;
             err.as_slice(),

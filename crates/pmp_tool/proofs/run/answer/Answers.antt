@@ -4,9 +4,10 @@ use Rattle.pmp_audit.specs.AccessCheck.{CheckRefuses, CheckSays}
 use Rattle.pmp_audit.specs.AskedFile.{FileRefuses}
 use Rattle.pmp_audit.specs.Map.{MapSays}
 use Rattle.pmp_audit.specs.RegisterDump.{DumpSays}
-use Rattle.pmp_audit.specs.TraceAudit.{AuditRefuses, AuditSays}
+use Rattle.pmp_audit.specs.TraceAudit.{AuditSays}
 use Rattle.pmp_tool.specs.declared.command.Request.TheVariants.{Audit, Check, Dump, Map}
 use Rattle.pmp_tool.specs.declared.run.Outcome.TheVariants.{Audited, Decided, Dumped, Mapped}
+use Rattle.pmp_tool.specs.Requests.{AuditByRefuses}
 use Rattle.pmp_tool.specs.Runs.{no_script, no_trace}
 use Rattle.pmp_tool.proofs.Requesting.{not_answered}
 use Rattle.pmp_tool.proofs.run.answer.Goals as goal
@@ -32,22 +33,22 @@ returns-in_err-trace-in-Audit-clause-err g c =
     let p = err_from_is_err_and c.from_residual-in_err-trace-in-Audit.result
     c.from_residual-in_err-trace-in-Audit.ensures.1 in
     rw (p.1, p.2)
-    (no_trace c.in-Audit.trace c.in_err-trace-in-Audit.field-0.0 c.in-Audit.is
+    (no_trace c.in-Audit.trace c.in-Audit.checkers c.in_err-trace-in-Audit.field-0.0 c.in-Audit.is
     (rw c.in_ok-script.ensures.traces at c.in_err-trace-in-Audit.ensures.unread) (Keeps-refl _))
 
-pub returns-in_err-audit-in-Audit-clause-err : goal.returns-in_err-audit-in-Audit-clause-err
-returns-in_err-audit-in-Audit-clause-err g c =
-    let p = err_from_is_err_and c.from_residual-in_err-audit-in-Audit.result
-    c.from_residual-in_err-audit-in-Audit.ensures.1 in
+pub returns-in_err-audit_by-in-Audit-clause-err : goal.returns-in_err-audit_by-in-Audit-clause-err
+returns-in_err-audit_by-in-Audit-clause-err g c =
+    let p = err_from_is_err_and c.from_residual-in_err-audit_by-in-Audit.result
+    c.from_residual-in_err-audit_by-in-Audit.ensures.1 in
     let script = c.in_ok-script.script.items in
     let trace = c.in_ok-trace-in-Audit.trace.items in
     let read = rw c.in_ok-script.ensures.traces at c.in_ok-trace-in-Audit.ensures.read in
     let refused =
-    rw (c.deref-in-Audit.ensures.value, c.deref-in-Audit-2.ensures.value) at c.in_err-audit-in-Audit.ensures.err in
+    rw (c.deref-in-Audit.ensures.value, c.deref-in-Audit-2.ensures.value) at c.in_err-audit_by-in-Audit.ensures.err in
     rw (p.1, p.2)
-    (not_answered _ _ c.args.command script c.in_ok-script.ensures.read (Audit c.in-Audit.trace) c.in-Audit.is _ _
-    Audited (AuditSays script trace) (λ summary text says. (trace, read, says)) (AuditRefuses script trace)
-    (λ fault refuses. (trace, read, refuses)) c.in_err-audit-in-Audit.field-0.0 refused)
+    (not_answered _ _ c.args.command script c.in_ok-script.ensures.read (Audit c.in-Audit.trace c.in-Audit.checkers) c.in-Audit.is _ _
+    Audited (AuditSays script trace) (λ summary text says. (trace, read, says)) (AuditByRefuses c.in-Audit.checkers script trace)
+    (λ fault refuses. (trace, read, refuses)) c.in_err-audit_by-in-Audit.field-0.0 refused)
 
 pub returns-in_err-dump-in-Dump-clause-err : goal.returns-in_err-dump-in-Dump-clause-err
 returns-in_err-dump-in-Dump-clause-err g c =

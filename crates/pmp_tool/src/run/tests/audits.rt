@@ -7,16 +7,20 @@ const HEADER: &str = "after,mode,kind,start,length";
 
 const REPORT: &str = "1,fault,5,none,\n2,allow,,rule,0\n3,fault,7,rule,0\n4,allow,,rule,1\n";
 
-fn audit<R: AllocGlobal>(rt: &R, script: &str, trace: &str) -> Result<Answer, AllocError> {
+fn audit<R: AllocGlobal + Threads + Wait + Sync>(
+    rt: &R,
+    script: &str,
+    trace: &str,
+) -> Result<Answer, AllocError> {
     let inputs = Table {
         alloc: rt.alloc(),
         script: script.as_bytes(),
         trace: trace.as_bytes(),
     };
-    run_on(inputs, "audit table trace")
+    run_on(rt, inputs, "audit table trace")
 }
 
-fn assert_report<R: Abort + AllocGlobal>(
+fn assert_report<R: Abort + AllocGlobal + Threads + Wait + Sync>(
     rt: &R,
     trace: &str,
     report: &str,
@@ -96,10 +100,79 @@ fn both_inputs_are_read_before_either_is_judged(rt: HostRuntime) -> Result<(), F
             script: b"",
             trace: b"",
         };
-        let answer = run_on(inputs, words)?;
+        let answer = run_on(&rt, inputs, words)?;
         assert_eq!(rt; answer.err.as_slice(), line.as_bytes(), "{words}");
         assert!(rt; answer.out.is_empty(), "{words}");
         assert_eq!(rt; answer.status, status, "{words}");
+    }
+    Ok(())
+}
+
+const TRACE: &str = "after,mode,kind,start,length\n0,U,load,0x80000000,4\n1,U,load,0x80000000,4\n\
+    1,U,store,0x80000000,4\n2,U,load,0x80000000,4\n";
+
+#[test]
+fn checkers_on_threads_write_the_same_bytes(rt: HostRuntime) -> Result<(), Fail> {
+    for words in [
+        "audit table trace --checkers 1",
+        "audit table trace --checkers 2",
+        "audit --checkers=8 table trace",
+    ] {
+        let inputs = Table {
+            alloc: rt.alloc(),
+            script: SCRIPT.as_bytes(),
+            trace: TRACE.as_bytes(),
+        };
+        let answer = run_on(&rt, inputs, words)?;
+        assert_eq!(rt; answer.out.as_slice(), REPORT.as_bytes(), "{words}");
+        assert!(rt; answer.err.is_empty(), "{words}");
+        assert_eq!(rt; answer.status, 1, "{words}");
+    }
+    Ok(())
+}
+
+#[test]
+fn checkers_on_threads_refuse_the_same_traces(rt: HostRuntime) -> Result<(), Fail> {
+    let words = "audit table trace --checkers 2";
+    for (trace, line) in [
+        (
+            "after,mode,kind,start,length\n1,U,load,0x0,4\n0,U,load,0x0,4\n",
+            "trace row 2: refused 23 Order",
+        ),
+        (
+            "after,mode,kind,start,length\n3,U,load,0x0,4\n",
+            "trace row 1: refused 22 BadAfter",
+        ),
+        ("", "refused 20 BadHeader"),
+    ] {
+        assert_line(&rt, SCRIPT, trace, words, line, 2)?;
+    }
+    Ok(())
+}
+
+/// `clap` refuses a number that isn't from 1 to 8, and the program one with a plus sign, which is no number elsewhere.
+#[test]
+fn a_unit_has_one_to_eight_checkers(rt: HostRuntime) -> Result<(), Fail> {
+    for count in [
+        "0",
+        "9",
+        "-1",
+        "x",
+        "1.5",
+        "+1",
+        "256",
+        "18446744073709551617",
+    ] {
+        let words = format!(in rt.alloc(); "audit table trace --checkers={count}")?;
+        let inputs = Table {
+            alloc: rt.alloc(),
+            script: SCRIPT.as_bytes(),
+            trace: TRACE.as_bytes(),
+        };
+        let answer = run_on(&rt, inputs, words.as_str())?;
+        assert_eq!(rt; answer.status, 2, "{words}");
+        assert!(rt; answer.out.is_empty(), "{words}");
+        assert!(rt; !answer.err.is_empty(), "{words}");
     }
     Ok(())
 }

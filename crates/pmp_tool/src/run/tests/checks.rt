@@ -3,7 +3,7 @@
 use super::*;
 
 /// Asserts the report row of each access after these writes, and the status that goes with it.
-pub fn assert_rows<R: Abort + AllocGlobal>(
+pub fn assert_rows<R: Abort + AllocGlobal + Threads + Wait + Sync>(
     rt: &R,
     writes: &str,
     rows: &[(&str, &str)],
@@ -11,7 +11,7 @@ pub fn assert_rows<R: Abort + AllocGlobal>(
     let script = format!(in rt.alloc(); "pmp 1\n{writes}\npublish\n")?;
     for (access, row) in rows {
         let words = format!(in rt.alloc(); "check table {access}")?;
-        let answer = run(rt.alloc(), script.as_bytes(), words.as_str())?;
+        let answer = run(rt, script.as_bytes(), words.as_str())?;
         let line = format!(in rt.alloc(); "{row}\n")?;
         assert_eq!(rt;
             answer.out.as_slice(),
@@ -26,14 +26,14 @@ pub fn assert_rows<R: Abort + AllocGlobal>(
 }
 
 /// Asserts a refusal: nothing but this line on standard error, and this status.
-pub fn assert_refused<R: Abort + AllocGlobal>(
+pub fn assert_refused<R: Abort + AllocGlobal + Threads + Wait + Sync>(
     rt: &R,
     script: &[u8],
     words: &str,
     line: &str,
     status: u8,
 ) -> Result<(), Fail> {
-    let answer = run(rt.alloc(), script, words)?;
+    let answer = run(rt, script, words)?;
     let line = format!(in rt.alloc(); "{line}\n")?;
     assert_eq!(rt; answer.err.as_slice(), line.as_bytes(), "{words}");
     assert!(rt; answer.out.is_empty(), "{words}");
@@ -47,7 +47,7 @@ fn a_unit_after_reset(rt: HostRuntime) -> Result<(), Fail> {
         ("check table M load 0x0 8", "1,allow,,none,\n", 0),
         ("check table U load 0x0 8", "1,fault,5,none,\n", 1),
     ] {
-        let answer = run(rt.alloc(), b"pmp 1", words)?;
+        let answer = run(&rt, b"pmp 1", words)?;
         assert_eq!(rt; answer.out.as_slice(), line.as_bytes());
         assert_eq!(rt; answer.status, status);
     }

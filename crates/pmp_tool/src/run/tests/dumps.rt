@@ -26,7 +26,7 @@ const NAMES: [&str; 19] = [
 ];
 
 /// Asserts the whole dump: every register that isn't given is zero.
-fn assert_dump<R: Abort + AllocGlobal>(
+fn assert_dump<R: Abort + AllocGlobal + Threads + Wait + Sync>(
     rt: &R,
     script: &str,
     words: &str,
@@ -44,7 +44,7 @@ fn assert_dump<R: Abort + AllocGlobal>(
         expected.extend_from_slice(name.as_bytes())?;
         expected.extend_from_slice(value.as_bytes())?;
     }
-    let answer = run(rt.alloc(), script.as_bytes(), words)?;
+    let answer = run(rt, script.as_bytes(), words)?;
     assert_eq!(rt;
         answer.out.as_slice(),
         expected.as_slice(),
@@ -56,7 +56,7 @@ fn assert_dump<R: Abort + AllocGlobal>(
 }
 
 /// Asserts the dump after these writes.
-fn assert_registers<R: Abort + AllocGlobal>(
+fn assert_registers<R: Abort + AllocGlobal + Threads + Wait + Sync>(
     rt: &R,
     writes: &str,
     registers: &[(&str, u64)],

@@ -24,7 +24,12 @@ impl Write for Tight {
 }
 
 /// Runs the program on a faulty script, with room for so many bytes of standard error: the status, and what it got.
-fn run_tight(alloc: Global, words: &str, room: usize) -> Result<(u8, Tight), AllocError> {
+fn run_tight<R: AllocGlobal + Threads + Wait + Sync>(
+    rt: &R,
+    words: &str,
+    room: usize,
+) -> Result<(u8, Tight), AllocError> {
+    let alloc = rt.alloc();
     let words = list_of(alloc, words)?;
     let mut inputs = Table {
         alloc,
@@ -37,7 +42,7 @@ fn run_tight(alloc: Global, words: &str, room: usize) -> Result<(u8, Tight), All
         writes: 0,
     };
     let mut out = Vec::new(alloc);
-    let status = run_tool(alloc, &words, &mut inputs, &mut out, &mut err);
+    let status = run_tool(rt, alloc, &words, &mut inputs, &mut out, &mut err);
     Ok((status, err))
 }
 
@@ -50,7 +55,7 @@ fn a_text_goes_out_in_one_write(rt: HostRuntime) -> Result<(), Fail> {
         ("dump large", 3),
         ("dump", 2),
     ] {
-        let (status, err) = run_tight(rt.alloc(), words, usize::MAX)?;
+        let (status, err) = run_tight(&rt, words, usize::MAX)?;
         assert_eq!(rt; status, wanted, "{words}");
         assert_eq!(rt; err.writes, 1, "{words}");
         assert!(rt; err.held.ends_with(b"\n"), "{words}");
@@ -62,11 +67,11 @@ fn a_text_goes_out_in_one_write(rt: HostRuntime) -> Result<(), Fail> {
 fn a_failed_write_leaves_a_beginning_and_the_status(rt: HostRuntime) -> Result<(), Fail> {
     let line = b"pmp: script line 2: refused 11 BadLine\n".as_slice();
     for room in 0..=line.len() {
-        let (status, err) = run_tight(rt.alloc(), "dump table", room)?;
+        let (status, err) = run_tight(&rt, "dump table", room)?;
         assert_eq!(rt; err.held.as_slice(), &line[..room]);
         assert_eq!(rt; status, 2);
     }
-    let (status, _) = run_tight(rt.alloc(), "dump", 10)?;
+    let (status, _) = run_tight(&rt, "dump", 10)?;
     assert_eq!(rt; status, 2);
     Ok(())
 }

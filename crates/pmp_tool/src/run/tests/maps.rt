@@ -3,13 +3,13 @@
 use super::*;
 use checks::assert_refused;
 
-fn assert_map<R: Abort + AllocGlobal>(
+fn assert_map<R: Abort + AllocGlobal + Threads + Wait + Sync>(
     rt: &R,
     script: &str,
     words: &str,
     map: &str,
 ) -> Result<(), Fail> {
-    let answer = run(rt.alloc(), script.as_bytes(), words)?;
+    let answer = run(rt, script.as_bytes(), words)?;
     assert_eq!(rt; answer.out.as_slice(), map.as_bytes(), "{words}");
     assert!(rt; answer.err.is_empty(), "{words}");
     assert_eq!(rt; answer.status, 0, "{words}");
@@ -87,7 +87,7 @@ fn accesses_across_a_comb(rt: HostRuntime) -> Result<(), Fail> {
         ("check table U load 0x78 8", "1,fault,5,split,15\n", 1),
         ("check table U load 0x0 256", "1,fault,5,split,0\n", 1),
     ] {
-        let answer = run(rt.alloc(), script.as_bytes(), words)?;
+        let answer = run(&rt, script.as_bytes(), words)?;
         assert_eq!(rt; answer.out.as_slice(), row.as_bytes(), "{words}");
         assert_eq!(rt; answer.status, status, "{words}");
     }

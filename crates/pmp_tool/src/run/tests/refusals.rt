@@ -12,7 +12,7 @@ fn overfull(alloc: Global) -> Result<String, AllocError> {
 }
 
 /// Asserts a refusal: nothing but this line, after the program's name, on standard error, and this status.
-pub fn assert_line<R: Abort + AllocGlobal>(
+pub fn assert_line<R: Abort + AllocGlobal + Threads + Wait + Sync>(
     rt: &R,
     script: &str,
     trace: &str,
@@ -25,7 +25,7 @@ pub fn assert_line<R: Abort + AllocGlobal>(
         script: script.as_bytes(),
         trace: trace.as_bytes(),
     };
-    let answer = run_on(inputs, words)?;
+    let answer = run_on(rt, inputs, words)?;
     let line = format!(in rt.alloc(); "pmp: {line}\n")?;
     assert_eq!(rt; answer.err.as_slice(), line.as_bytes(), "{words}");
     assert!(rt; answer.out.is_empty(), "{line}");

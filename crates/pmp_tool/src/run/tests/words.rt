@@ -42,7 +42,7 @@ fn help_tells_what_a_user_needs(rt: HostRuntime) -> Result<(), Fail> {
         (["map --help", "map -h", "help map"], map),
     ] {
         for words in commands {
-            let answer = run(rt.alloc(), b"", words)?;
+            let answer = run(&rt, b"", words)?;
             assert_says(&rt, &answer.out, wanted);
             assert_says(&rt, &answer.out, &["Usage: pmp", "Exit status:"]);
             assert_says(&rt, &answer.out, &["Example:\n", "docs/FORMATS.md"]);
@@ -56,7 +56,7 @@ fn help_tells_what_a_user_needs(rt: HostRuntime) -> Result<(), Fail> {
 #[test]
 fn the_version_is_told(rt: HostRuntime) -> Result<(), Fail> {
     for words in ["--version", "-V"] {
-        let answer = run(rt.alloc(), b"", words)?;
+        let answer = run(&rt, b"", words)?;
         assert_eq!(rt; answer.out.as_slice(), b"pmp 0.1.0\n".as_slice());
         assert!(rt; answer.err.is_empty());
         assert_eq!(rt; answer.status, 0);
@@ -84,7 +84,7 @@ fn other_words_are_refused(rt: HostRuntime) -> Result<(), Fail> {
         ("dump table --after -1", "'-1'"),
         ("dump table --after 1 --after 2", "multiple times"),
     ] {
-        let answer = run(rt.alloc(), SCRIPT.as_bytes(), words)?;
+        let answer = run(&rt, SCRIPT.as_bytes(), words)?;
         assert_says(&rt, &answer.err, &[wanted, "--help"]);
         assert!(rt; answer.out.is_empty(), "{words}");
         assert_eq!(rt; answer.status, 2, "{words}");
