@@ -39,7 +39,7 @@ Exit status:
   0  every access is allowed, or what was asked for was written
   1  the unit refuses an access
   2  no answer: the words, the script or the trace are at fault
-  3  no answer: memory, an input or the output failed
+  3  no answer: memory, an input, the output or a place for a checker failed
 
 Example:
   echo 'pmp 1' | pmp check stdin M load 0x0 8
