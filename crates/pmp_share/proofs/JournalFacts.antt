@@ -1,7 +1,8 @@
 -- What ends and events stand for.
 use Rattle.std.proofs.Common.{◌≡◌, ℕ, zero, suc, ◌+◌, ◌-◌, ◌<◌, ◌≤◌, List, [], ◌∷◌, ◌++◌, length, map, take, drop}
 use Rattle.std.proofs.Common.{get_or, refl, ap, sym}
-use Rattle.std.proofs.Common.{◌^◌, subst, zero-add, ◌∙◌, arith, length-append, append-nil, append_assoc, All}
+use Rattle.std.proofs.Common.{zero-add, ◌∙◌, arith, length-append, append-nil}
+use Rattle.std.proofs.Math.Seq.{drop-append-add}
 use Rattle.std.proofs.lemmas.List.{take_at, drop_at, take-append-drop, nil_from_length}
 use Rattle.std.proofs.lemmas.Grind.{flat_map-append}
 use Rattle.pmp_core.specs.declared.event.Event.{Event}
@@ -42,14 +43,6 @@ ends_from-append n (x ∷ xs) ys =
     ap (λ (es : List ℕ). (n + length x) ∷ es)
     (ends_from-append (n + length x) xs ys ∙ ap (λ (k : ℕ). ends_from (n + length x) xs ++ ends_from k ys) later)
 
--- behind so many more events every batch ends so much later
-pub ends_from-add : (n k : ℕ) (bs : Batches) → ends_from (n + k) bs ≡ map (λ end. n + end) (ends_from k bs)
-unfolding ends_from
-ends_from-add n k [] = refl
-ends_from-add n k (b ∷ bs) =
-    let at : n + k + length b ≡ n + (k + length b) = omega arith in
-    λ i. at i ∷ (ap (λ (m : ℕ). ends_from m bs) at ∙ ends_from-add n (k + length b) bs) i
-
 ends_from-take : (n k : ℕ) (bs : Batches) → ends_from n (take k bs) ≡ take k (ends_from n bs)
 unfolding ends_from
 ends_from-take n zero bs = refl
@@ -72,13 +65,27 @@ joined-take k bs =
     sym (ap (take (event_count (take k bs))) (sym parts)
     ∙ take_at (joined (take k bs)) (joined (drop k bs)) (event_count (take k bs)) refl)
 
--- each end is within the events
-ends_within : (n : ℕ) (bs : Batches) → All (λ end. end ≤ n + event_count bs) (ends_from n bs)
-unfolding ends_from
-ends_within n [] k d lt = absurd (omega arith)
-ends_within n (b ∷ bs) zero d lt = omega (arith, length-append b (joined bs))
-ends_within n (b ∷ bs) (suc k) d lt =
-    omega (arith, ends_within (n + length b) bs k d (omega arith), length-append b (joined bs))
+-- the batch at a place, between where the batches before it end and where it ends
+batch_between : (k : ℕ) (bs : Batches) → k < length bs
+    → take (suc k) bs ≡ take k bs
+    ++ take (event_count (take (suc k) bs) - event_count (take k bs)) (drop (event_count (take k bs)) (joined bs)) ∷ []
+batch_between k [] lt = absurd (omega arith)
+batch_between zero (b ∷ bs) lt =
+    let len : event_count (b ∷ []) ≡ length b = ap length (append-nil b) in
+    let all : event_count (b ∷ []) - 0 ≡ length b = omega (arith, len) in
+    let front : take (event_count (b ∷ []) - 0) (b ++ joined bs) ≡ b = rw all (take_at b (joined bs) (length b) refl) in
+    λ i. sym front i ∷ []
+batch_between (suc k) (b ∷ bs) lt =
+    let before : event_count (take (suc k) (b ∷ bs)) ≡ length b + event_count (take k bs) =
+    length-append b (joined (take k bs)) in
+    let up_to : event_count (take (suc (suc k)) (b ∷ bs)) ≡ length b + event_count (take (suc k) bs) =
+    length-append b (joined (take (suc k) bs)) in
+    let size : event_count (take (suc (suc k)) (b ∷ bs)) - event_count (take (suc k) (b ∷ bs))
+    ≡ event_count (take (suc k) bs) - event_count (take k bs) = omega (arith, before, up_to) in
+    let rest : drop (event_count (take (suc k) (b ∷ bs))) (b ++ joined bs) ≡ drop (event_count (take k bs)) (joined bs) =
+    rw before (drop-append-add b (joined bs) (event_count (take k bs))) in
+    ap (λ (x : Batches). b ∷ x) (batch_between k bs (omega arith))
+    ∙ (λ i. b ∷ (take k bs ++ take (sym size i) (sym rest i) ∷ []))
 
 -- ---- a journal that stands for these batches
 
@@ -89,14 +96,6 @@ pub record Stands (ends : List ℕ) (events : List Event) (batches : Batches) : 
 module _ (ends : List ℕ) (events : List Event) where
   pub cut_stands : IsCut ends events → Stands ends events (batches_of ends events)
   cut_stands is = record { joined_up = sym is.whole; ended = sym is.cut }
-
-  pub end_within : IsCut ends events → (later : ℕ) → later + length events < 2 ^ 64
-      → All (λ end. later + end < 2 ^ 64) ends
-  end_within is later fits k d lt =
-      let all : All (λ end. end ≤ length events) ends =
-      subst (λ es. All (λ end. end ≤ length events) es) is.cut
-      (λ j e h. omega (arith, ends_within 0 (batches_of ends events) j e h, ap length is.whole)) in
-      omega (arith, all k d lt)
 
   pub length_ends : IsCut ends events → length (batches_of ends events) ≡ length ends
   length_ends is = sym (length-ends_from 0 (batches_of ends events)) ∙ ap length is.cut
@@ -132,21 +131,6 @@ module _ (ends : List ℕ) (events : List Event) (is : IsCut ends events) where
         sym (ends_from-append 0 (batches_of ends events) (batch ∷ []) ∙ (λ i. is.cut i ++ sym last i ∷ []));
   }
 
-  pub append_stands : (more_ends : List ℕ) (more : List Event) → IsCut more_ends more
-      → Stands (ends ++ map (λ end. length events + end) more_ends) (events ++ more)
-      (batches_of ends events ++ batches_of more_ends more)
-  append_stands more_ends more other = record {
-    joined_up = sym (joined-append (batches_of ends events) (batches_of more_ends more)
-        ∙ (λ i. is.whole i ++ other.whole i));
-    ended =
-        let shifted : ends_from (0 + event_count (batches_of ends events)) (batches_of more_ends more)
-        ≡ map (λ end. length events + end) more_ends =
-        ap (λ (m : ℕ). ends_from m (batches_of more_ends more)) (omega (arith, counted))
-        ∙ ends_from-add (length events) 0 (batches_of more_ends more)
-        ∙ ap (map (λ end. length events + end)) other.cut in
-        sym (ends_from-append 0 (batches_of ends events) (batches_of more_ends more) ∙ (λ i. is.cut i ++ shifted i));
-  }
-
   pub take_stands : (k : ℕ) (end : ℕ) → end ≡ event_count (take k (batches_of ends events))
       → Stands (take k ends) (take end events) (take k (batches_of ends events))
   take_stands k end at = record {
@@ -159,3 +143,34 @@ module _ (ends : List ℕ) (events : List Event) (is : IsCut ends events) where
       ap (λ (es : List ℕ). get_or es k 0) (sym is.cut)
       ∙ get_or-ends_from 0 k (batches_of ends events) (omega (arith, length_ends ends events is))
       ∙ zero-add (event_count (take (suc k) (batches_of ends events)))
+
+  -- where the first batches end, so many of them
+  pub end_is : (batches end : ℕ) → batches ≤ length ends → (batches ≡ 0 → end ≡ 0)
+      → ((k : ℕ) → batches ≡ k + 1 → end ≡ get_or ends k 0) → end ≡ event_count (take batches (batches_of ends events))
+  end_is zero end le none last = none refl
+  end_is (suc k) end le none last = last k (omega arith) ∙ end_at k (omega arith)
+
+  pub batch_is : (k start end : ℕ) → k < length ends → start ≡ event_count (take k (batches_of ends events))
+      → end ≡ event_count (take (suc k) (batches_of ends events))
+      → take (suc k) (batches_of ends events)
+      ≡ take k (batches_of ends events) ++ take (end - start) (drop start events) ∷ []
+  batch_is k start end lt from to =
+      batch_between k (batches_of ends events) (omega (arith, length_ends ends events is))
+      ∙ (λ i. take k (batches_of ends events) ++ take (sym to i - sym from i) (drop (sym from i) (is.whole i)) ∷ [])
+
+  pub batch_bounds : (k start end : ℕ) → k < length ends → start ≡ event_count (take k (batches_of ends events))
+      → end ≡ event_count (take (suc k) (batches_of ends events)) → (start ≤ end) × (end ≤ length events)
+  batch_bounds k start end lt from to =
+      let bs : Batches = batches_of ends events in
+      let one : List Event =
+      take (event_count (take (suc k) bs) - event_count (take k bs)) (drop (event_count (take k bs)) (joined bs)) in
+      let more = ap event_count (batch_between k bs (omega (arith, length_ends ends events is))) in (
+        omega (arith, from, to, more, event_count-append (take k bs) (one ∷ [])),
+        omega (
+          arith,
+          to,
+          counted,
+          ap event_count (take-append-drop (suc k) bs),
+          event_count-append (take (suc k) bs) (drop (suc k) bs),
+        ),
+      )

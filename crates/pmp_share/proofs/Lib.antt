@@ -1,5 +1,7 @@
-pub mod Crossing
 pub mod JournalFacts
+pub mod Fronts
 pub mod LookFacts
-pub mod RowFacts
+pub mod Adding
 pub mod RuleFacts
+pub mod StageFacts
+pub mod CheckFacts

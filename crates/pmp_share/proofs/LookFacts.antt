@@ -2,19 +2,82 @@
 use Rattle.std.proofs.Common.{◌≡◌, ℕ, zero, suc, ◌+◌, ◌<◌, ◌≤◌, Bool, true, false, cond, ◌&&◌, ◌||◌, nat_lt, nat_le}
 use Rattle.std.proofs.Common.{◌==◌, List, [], ◌∷◌, ◌++◌}
 use Rattle.std.proofs.Common.{fold, All, Contains, get_or, length, refl, ap, sym, subst, ◌∙◌, arith, le_refl}
-use Rattle.std.proofs.Common.{append-nil, append_assoc, length-append}
+use Rattle.std.proofs.Common.{append-nil, append_assoc, length-append, MatchBool}
 use Rattle.std.proofs.lemmas.Bool.Decides.{nat_tests}
 use Rattle.std.proofs.lemmas.Grind.{fold-append}
 use Rattle.std.proofs.lemmas.List.{get_or_append_left, get_or_push, nil_from_length}
+use mathlib.Core.List.{IsPrefix}
 use Rattle.pmp_core.specs.Histories.{joined}
 use Rattle.pmp_share.specs.Batches.{Batches, StartsWith, AllBegin, event_count}
 use Rattle.pmp_share.specs.Looks.{is_as_late, later_of, latest, Bound, Looked, KeepsBound, LearnsBound}
 use Rattle.pmp_share.specs.Laws.{SameEventsLaw}
+use Rattle.pmp_share.proofs.Fronts.{front_shorter}
 use Rattle.pmp_share.proofs.JournalFacts.{joined-append, event_count-append}
 
 pub latest-one : (one : Batches) → latest (one ∷ []) ≡ one
 unfolding latest
 latest-one one = refl
+
+-- ---- beginnings
+
+pub starts_alike : (batches : Batches) → StartsWith batches batches
+starts_alike batches = ([], sym (append-nil batches))
+
+pub starts_longer : (batches more front : Batches) → StartsWith batches front → StartsWith (batches ++ more) front
+starts_longer batches more front (rest, e) =
+    (rest ++ more, ap (λ (b : Batches). b ++ more) e ∙ append_assoc front rest more)
+
+-- what begins a beginning begins the whole
+pub starts_on : (batches front first : Batches) → StartsWith batches front → StartsWith front first
+    → StartsWith batches first
+starts_on batches front first (rest, e) (more, f) =
+    (more ++ rest, e ∙ ap (λ (b : Batches). b ++ rest) f ∙ append_assoc first more rest)
+
+-- as many batches are the same batches
+pub starts_whole : (batches front : Batches) → StartsWith batches front → length batches ≡ length front → front ≡ batches
+starts_whole batches front (rest, e) same =
+    let none : rest ≡ [] = nil_from_length rest (omega (arith, ap length e, length-append front rest)) in
+    sym (e ∙ ap (λ (b : Batches). front ++ b) none ∙ append-nil front)
+
+le_true : (m n : ℕ) → nat_le m n ≡ true → m ≤ n
+le_true m n e = grind (arith, nat_tests)
+
+le_false : (m n : ℕ) → nat_le m n ≡ false → n ≤ m
+le_false m n e = grind (arith, nat_tests)
+
+late_le : (a b m n : ℕ) → (nat_lt a b || (a == b && nat_le m n)) ≡ true → b ≤ a → m ≤ n
+late_le a b m n e le = grind (arith, nat_tests)
+
+early_le : (a b m n : ℕ) → (nat_lt a b || (a == b && nat_le m n)) ≡ false → a ≤ b → n ≤ m
+early_le a b m n e le = grind (arith, nat_tests)
+
+begins_fewer : (batches front : Batches) → StartsWith batches front → event_count front ≤ event_count batches
+begins_fewer batches front (rest, e) = omega (arith, ap event_count e, event_count-append front rest)
+
+-- of two beginnings of one list the later one begins with the other
+module _ (one other whole : Batches) (p : IsPrefix one whole) (q : IsPrefix other whole) where
+  one_begins : length one ≤ length other → StartsWith other one
+  one_begins le = let front = front_shorter one other whole p q le in (front.0, sym front.1)
+
+  other_begins : length other ≤ length one → StartsWith one other
+  other_begins le = let front = front_shorter other one whole q p le in (front.0, sym front.1)
+
+  late_begins : (fewer : Bool) → nat_le (length one) (length other) ≡ fewer → is_as_late one other ≡ true
+      → StartsWith other one
+  late_begins true e is = one_begins (le_true _ _ e)
+  late_begins false e is =
+      one_begins (late_le _ _ _ _ is (begins_fewer one other (other_begins (le_false _ _ e))))
+
+  early_begins : (fewer : Bool) → nat_le (length other) (length one) ≡ fewer → is_as_late one other ≡ false
+      → StartsWith one other
+  early_begins true e is = other_begins (le_true _ _ e)
+  early_begins false e is =
+      other_begins (early_le _ _ _ _ is (begins_fewer other one (one_begins (le_false _ _ e))))
+
+  pub later_begins : (late : Bool) → is_as_late one other ≡ late
+      → MatchBool late (StartsWith other one) (StartsWith one other)
+  later_begins true is = late_begins (nat_le (length one) (length other)) refl is
+  later_begins false is = early_begins (nat_le (length other) (length one)) refl is
 
 -- ---- the latest of several
 
@@ -60,6 +123,19 @@ pub latest_more : (held : List Batches) (told : Batches)
 unfolding latest
 latest_more [] told = (omega arith, le_refl _)
 latest_more (x ∷ xs) told = rw (fold-append later_of x xs (told ∷ [])) (later_most (fold later_of x xs) told)
+
+never_early : {A : Type 0} (b n : ℕ) → (nat_lt 0 b || (0 == b && nat_le 0 n)) ≡ false → A
+never_early b n e = absurd (grind (arith, nat_tests))
+
+-- one list more is the latest where it is as late
+pub latest_push : (held : List Batches) (told best : Batches) → latest held ≡ best
+    → (is_as_late best told ≡ true → latest (held ++ told ∷ []) ≡ told)
+    × (is_as_late best told ≡ false → latest (held ++ told ∷ []) ≡ best)
+unfolding latest
+latest_push [] told best is = (λ late. refl, λ late. never_early (event_count told) (length told)
+    (subst (λ (b : Batches). is_as_late b told ≡ false) (sym is) late))
+latest_push (x ∷ xs) told best is = rw (fold-append later_of x xs (told ∷ []), is)
+    ((λ late. rw late refl), (λ late. rw late refl))
 
 pub same_events_law : SameEventsLaw
 same_events_law batches front (rest, e) same =

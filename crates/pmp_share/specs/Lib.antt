@@ -7,5 +7,10 @@ pub mod Room
 pub mod Laws
 -- How the crate keeps them
 pub mod Journals
+pub mod History
+pub mod Versions
 pub mod Rule
-pub mod Seats
+pub mod Digests
+pub mod Stages
+pub mod Publishing
+pub mod Checking

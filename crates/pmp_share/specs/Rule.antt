@@ -1,50 +1,35 @@
--- The running rule over a shared row of words: the words of the register file, and how many events gave it.
-use Rattle.std.specs.Prelude.{◌≡◌, ℕ, Bool, true, false, List, [], ◌∷◌, ◌++◌, length}
+-- The running rule over the published version.
+use Rattle.std.specs.Prelude.{◌≡◌, ℕ, List, Option, Some, None}
 use mathlib.Core.Option.{some}
 use lib.ListN.{get_elem?}
-use Rattle.pmp_core.specs.declared.register_file.TheConstants.{ENTRIES}
-use Rattle.pmp_core.specs.Histories.{joined, file_after}
-use Rattle.pmp_core.specs.Words.{words_of}
-use Rattle.pmp_share.specs.declared.view.View.{View}
-use Rattle.pmp_share.specs.Batches.{Batches, AllBegin, event_count}
+use Rattle.logbook.specs.Pages.{Book}
+use Rattle.pmp_share.specs.declared.view.Known.{Known}
+use Rattle.pmp_share.specs.declared.version.Version.{Version}
+use Rattle.pmp_share.specs.Batches.{Batches, StartsWith}
 
--- the row after these batches
-unfoldable pub row_of : Batches → List ℕ
-row_of batches = words_of (file_after ENTRIES batches) ++ event_count batches ∷ []
+-- this beginning of this history
+abbrev pub known : Book → Batches → Known
+known book list = record { list = list; book = book }
 
--- the publisher's view, and that of a checker or a notice
-abbrev pub publishing : Batches → View
-publishing batches = record { publishes = true; held = batches ∷ [] }
+-- all that a version has
+abbrev pub known_of : Version → Known
+known_of version = known version.past.book version.journal
 
-abbrev pub holding : List Batches → View
-holding held = record { publishes = false; held = held }
+-- what is known is a beginning of the version's batches
+abbrev pub Fits : Version → Option Known → Type 0
+Fits version None = Unit {0}
+Fits version (Some view) = (view.book ≡ version.past.book) × StartsWith version.journal view.list
 
--- each list in a view begins the published batches; in the publisher's view they are the one list, and it has one seat
-pub record Fits (published : Batches) (publisher seat : ℕ) (view : View) : Type 0 where
-  pub begins : AllBegin published view.held
-  pub sole : view.publishes ≡ true → (seat ≡ publisher) × (view ≡ publishing published)
+-- the version's history is its batches, which all that is known begins
+pub record Kept (version : Version) (views : List (Option Known)) : Type 0 where
+  pub noted : version.past.log ≡ version.journal
+  pub fits : (seat : ℕ) (view : Option Known) → get_elem? views seat ≡ some view → Fits version view
 
--- the row is that of the published batches, which every view fits
-abbrev pub Kept : List ℕ → List View → Type 0
-Kept words views =
-    (published : Batches) × (publisher : ℕ) × (words ≡ row_of published)
-    × ((seat : ℕ) (view : View) → get_elem? views seat ≡ some view → Fits published publisher seat view)
+-- entrance: what was known begins the batches of the version, all of which are known now
+abbrev pub Enters : Option Known → Version → Version → Option Known → Type 0
+Enters before version _ after =
+    Fits version before × (version.past.log ≡ version.journal) × (after ≡ Some (known_of version))
 
--- load: the row is that of some batches, which begin with all that was held and take their place
-abbrev pub Loads : View → List ℕ → List ℕ → View → Type 0
-Loads before words _ after =
-    (published : Batches) × (words ≡ row_of published) × AllBegin published before.held
-    × (after ≡ holding (published ∷ []))
-
--- store: the publisher's batches are followed by the next ones
-abbrev pub Stores : Batches → View → List ℕ → List ℕ → View → Type 0
-Stores next before _ _ after = (published : Batches) → before ≡ publishing published
-    → after ≡ publishing (published ++ next)
-
--- split: a checker or a notice holds what the publisher's view does
-abbrev pub heard : View → View
-heard view = holding view.held
-
--- join: the notice's list is added to those that the checker holds
-abbrev pub with_told : View → View → View
-with_told view notice = holding (view.held ++ notice.held)
+-- publication: all batches of the next version are known
+abbrev pub Shown : Option Known → Version → Version → Option Known → Type 0
+Shown _ _ next after = after ≡ Some (known_of next)

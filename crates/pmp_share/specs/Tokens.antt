@@ -1,21 +1,21 @@
 -- What contracts see of a publisher, a notice and a checker. `unit` is one for all that come from one start.
 use Rattle.std.specs.Prelude.{ℕ, List}
-use Rattle.atomic_table.specs.Seated.{TableId}
+use Rattle.logbook.specs.Pages.{Book}
 use Rattle.pmp_share.specs.Batches.{Batches}
 
 -- the batches that are published, those that wait, and how many of these the last publication left waiting
 pub record PublisherToken : Type 0 where
-  pub unit : TableId
+  pub unit : Book
   pub published : Batches
   pub pending : Batches
   pub tried : ℕ
 
 -- the batches that it tells of
 pub record NoticeToken : Type 0 where
-  pub unit : TableId
+  pub unit : Book
   pub told : Batches
 
 -- the lists of batches that it looked at or learnt of
 pub record CheckerToken : Type 0 where
-  pub unit : TableId
+  pub unit : Book
   pub held : List Batches

@@ -8,13 +8,11 @@ ghost use Rattle.pmp_share.specs.Batches.{event_count};
 ghost use Rattle.pmp_share.specs.Looks.{latest, Looked, KeepsBound, LearnsBound};
 ghost use Rattle.pmp_share.specs.Object.{Decides};
 
+use crate::held::Held;
 use crate::notice::Notice;
-use crate::row::{Cell, Seat, file_of};
-use crate::rule::{Learns, Looks};
-use pmp_core::{Access, Decision, RegFile, WORDS};
-use std::alloc::Global;
+use crate::stand::Stand;
+use pmp_core::{Access, Decision};
 use std::marker::Model;
-use std::sync::{Arc, Wait};
 
 /// More events are published than were asked for.
 #[derive(Clone, Copy, Debug, PartialEq, Eq)]
@@ -27,36 +25,28 @@ pub struct Moved {
 /// entered between its calls, and can go to any thread.
 #[derive(Drop)]
 pub struct Checker {
-    cell: Arc<Cell, Global>,
-    seat: Seat,
+    stand: Stand,
+    held: Held,
 }
 
 impl Model for Checker {
-    ghost use Rattle.std.specs.Arc.{arc_value};
-    ghost use Rattle.crossbeam_utils.specs.Seq.{cell_view};
     ghost use Rattle.pmp_share.specs.Tokens.{CheckerToken};
-    ghost use Rattle.pmp_share.specs.Seats.{IsChecker};
+    ghost use Rattle.pmp_share.specs.Checking.{IsChecker};
 
     ghost Value = { CheckerToken };
 
-    ghost view = { λ checker. record { unit = checker.seat.table_id; held = (cell_view checker.seat).held } };
+    ghost view = { λ checker. record { unit = checker.stand.book; held = checker.held } };
 
-    ghost invariant = { λ checker.
-        IsChecker (arc_value checker.cell).table.shared.table_id checker.seat.table_id (cell_view checker.seat) };
+    ghost invariant = { λ checker. IsChecker checker.stand checker.held };
 }
 
 impl Checker {
-    ghost use Rattle.std.specs.Arc.{arc_value};
-    ghost use Rattle.std.specs.Prelude.{false};
-    ghost use Rattle.crossbeam_utils.specs.Seq.{cell_view};
-
-    /// The checker of a seat at the cell.
-    pub(crate) fn new(cell: Arc<Cell, Global>, seat: Seat) -> Checker
-        requires own { seat.table_id ≡ (arc_value cell).table.shared.table_id }
-        requires silent { (cell_view seat).publishes ≡ false }
-        ensures { result ≡ record { unit = seat.table_id; held = (cell_view seat).held } }
+    /// A checker that holds what is known there.
+    pub(crate) fn new(stand: Stand) -> Checker
+        ensures { result ≡ record { unit = stand.book; held = stand.list ∷ [] } }
     {
-        Checker { cell, seat }
+        let held = Held::alone(stand.digest());
+        Checker { stand, held }
     }
 
     /// Takes in a notice of its own unit. From now on it decides in nothing less.
@@ -68,23 +58,15 @@ impl Checker {
             × (event_count notice.told ≤ event_count (latest self.new.held)) }
         ensures bound { LearnsBound self.old.held notice.told self.new.held }
     {
-        self.cell
-            .join_pass::<Learns>(&mut self.seat, notice.into_seat());
+        let stand = notice.into_stand();
+        self.held = self.held.with(stand.digest());
+        if self.stand.is_before(&stand) {
+            self.stand = stand;
+        }
     }
 
-    /// The register file of what is published, and how many events gave it.
-    fn look<R: Wait>(&mut self, rt: &R) -> (RegFile, u64)
-        ensures unit { self.new.unit ≡ self.old.unit }
-        ensures looked { Looked self.old.held self.new.held }
-        ensures file { result.0 ≡ file_after ENTRIES (latest self.new.held) }
-        ensures count { result.1 ≡ event_count (latest self.new.held) }
-    {
-        let row = self.cell.load_as::<Looks, R>(rt, &mut self.seat);
-        (file_of(&row), row[WORDS])
-    }
-
-    /// Decides an access in what is published, and answers how many events that is. It may wait.
-    pub fn decide<R: Wait>(&mut self, rt: &R, access: &Access) -> (Decision, u64)
+    /// Decides an access in what is published, and answers how many events that is. It waits for nobody.
+    pub fn decide(&mut self, access: &Access) -> (Decision, u64)
         ensures unit { self.new.unit ≡ self.old.unit }
         ensures looked { Looked self.old.held self.new.held }
         ensures decided { Decides (latest self.new.held) access.now result.0 }
@@ -92,17 +74,13 @@ impl Checker {
         ensures count { result.1 ≡ event_count (latest self.new.held) }
         ensures bound { KeepsBound self.old.held self.new.held }
     {
-        let (file, count) = self.look(rt);
-        (file.decide(access), count)
+        let answer = self.stand.look(access);
+        self.held = Held::alone(self.stand.digest());
+        answer
     }
 
-    /// Decides an access in what is published, if that is just `len` events. It may wait.
-    pub fn decide_at<R: Wait>(
-        &mut self,
-        rt: &R,
-        len: u64,
-        access: &Access,
-    ) -> Result<Decision, Moved>
+    /// Decides an access in what is published, if that is just `len` events. It waits for nobody.
+    pub fn decide_at(&mut self, len: u64, access: &Access) -> Result<Decision, Moved>
         requires reached { len ≤ event_count (latest self.old.held) }
         ensures unit { self.new.unit ≡ self.old.unit }
         ensures looked { Looked self.old.held self.new.held }
@@ -114,10 +92,10 @@ impl Checker {
         ensures moved { IfErr result (λ moved. (moved.seen ≡ event_count (latest self.new.held)) × (len < moved.seen)) }
         ensures bound { KeepsBound self.old.held self.new.held }
     {
-        let (file, seen) = self.look(rt);
+        let (decision, seen) = self.decide(access);
         if seen != len {
             return Err(Moved { seen });
         }
-        Ok(file.decide(access))
+        Ok(decision)
     }
 }

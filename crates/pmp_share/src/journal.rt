@@ -1,8 +1,7 @@
 //! Lists of batches as events and ends side by side.
 
-ghost use Rattle.std.specs.Prelude.{◌≡◌, ◌+◌, ◌<◌, ◌≤◌, ◌^◌, [], ◌∷◌, ◌++◌, length, map, take, All, OnOk, OnErr};
-ghost use Rattle.std.specs.Prelude.{vec_len};
-ghost use Rattle.std.specs.Prelude.{ℕ, slice_index, vec_capacity};
+ghost use Rattle.std.specs.Prelude.{◌≡◌, ℕ, ◌+◌, ◌-◌, ◌<◌, ◌≤◌, [], ◌∷◌, ◌++◌, length, take, drop, OnOk, OnErr};
+ghost use Rattle.std.specs.Prelude.{slice_index};
 ghost use Rattle.pmp_core.specs.Histories.{joined};
 ghost use Rattle.pmp_share.specs.Batches.{Batches, event_count};
 ghost use Rattle.pmp_share.specs.Journals.{batches_of, IsCut};
@@ -27,17 +26,6 @@ impl Model for Journal {
     ghost invariant = { λ journal. IsCut journal.ends.items journal.events.items };
 }
 
-/// Adds each of these ends, so much later.
-fn push_later(ends: &mut Vec<u64>, later: u64, more: &[u64])
-    requires room { vec_len ends.old + length more.now ≤ vec_capacity ends.old }
-    requires fits { All (λ end. later + end < 2 ^ 64) more.now }
-    ensures { ends.new.items ≡ ends.old.items ++ map (λ end. later + end) more.now }
-{
-    for end in more {
-        ends.push_reserved(later + *end);
-    }
-}
-
 /// Where the first batches end, so many of them.
 fn end_of(ends: &[u64], batches: usize) -> u64
     requires { batches ≤ length ends.now }
@@ -48,6 +36,22 @@ fn end_of(ends: &[u64], batches: usize) -> u64
         return 0;
     }
     ends[batches - 1]
+}
+
+/// Where one batch ends.
+fn own_end(ends: &[u64], index: usize) -> u64
+    requires { index < length ends.now }
+    ensures { result ≡ slice_index ends.now index }
+{
+    ends[index]
+}
+
+/// The events from one number on, up to another.
+fn part_of(events: &[Event], start: u64, end: u64) -> &[Event]
+    requires { (start ≤ end) × (end ≤ length events.now) }
+    ensures { result.now ≡ take (end - start) (drop start events.now) }
+{
+    &events[start as usize..end as usize]
 }
 
 impl Journal {
@@ -95,16 +99,17 @@ impl Journal {
         Ok(())
     }
 
-    /// Adds all batches of another list behind its own.
-    pub fn append(&mut self, more: &Journal) -> Result<(), AllocError>
-        ensures added { OnOk result (self.new ≡ self.old ++ more.now) }
-        ensures refused { OnErr result (self.new ≡ self.old) }
+    /// The events of one batch.
+    pub fn batch(&self, index: usize) -> &[Event]
+        requires { index < length self.now }
+        ensures { take (index + 1) self.now ≡ take index self.now ++ result.now ∷ [] }
     {
-        let later = self.events.as_slice().len() as u64;
-        self.ends.reserve(more.ends.len())?;
-        self.events.extend_from_slice(more.events.as_slice())?;
-        push_later(&mut self.ends, later, more.ends.as_slice());
-        Ok(())
+        let ends = self.ends.as_slice();
+        part_of(
+            self.events.as_slice(),
+            end_of(ends, index),
+            own_end(ends, index),
+        )
     }
 
     /// Keeps the first batches, so many of them, or all if there are fewer.

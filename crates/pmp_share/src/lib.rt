@@ -6,15 +6,25 @@
 
 mod batch;
 mod checker;
+mod digest;
+mod entry;
 mod fault;
+mod growth;
+mod handing;
+mod held;
 mod journal;
+mod keeper;
 pub mod laws;
 mod notice;
 mod opening;
+mod past;
 mod publisher;
 mod room;
-mod row;
 mod rule;
+mod stage;
+mod stand;
+mod told;
+mod version;
 mod view;
 
 pub use batch::{Batch, BatchFull};

@@ -5,76 +5,50 @@ ghost use Rattle.pmp_core.specs.declared.register_file.TheConstants.{ENTRIES};
 ghost use Rattle.pmp_core.specs.Histories.{file_after};
 ghost use Rattle.pmp_share.specs.Batches.{event_count};
 
-use crate::journal::Journal;
-use crate::row::Seat;
+use crate::stand::Stand;
 use pmp_core::RegFile;
 use std::marker::Model;
-use std::snapshot::Snapshot;
 
 /// What was published when it was told. A contract sees the batches; it can go to any thread.
 #[derive(Drop)]
 pub struct Notice {
-    seat: Seat,
-    /// What their events give.
-    file: RegFile,
-    count: u64,
-    /// The batches, for contracts alone.
-    told: Snapshot<Journal>,
+    stand: Stand,
 }
 
 impl Model for Notice {
-    ghost use Rattle.std.specs.Prelude.{◌≡◌, []};
-    ghost use Rattle.crossbeam_utils.specs.Seq.{cell_view};
     ghost use Rattle.pmp_share.specs.Tokens.{NoticeToken};
-    ghost use Rattle.pmp_share.specs.Seats.{IsNotice};
 
     ghost Value = { NoticeToken };
 
-    ghost view = { λ notice. record { unit = notice.seat.table_id; told = notice.told.value } };
-
-    ghost invariant = { λ notice. IsNotice (cell_view notice.seat) notice.file notice.count notice.told.value
-        × (notice.seat.me.1 ≡ []) };
+    ghost view = { λ notice. record { unit = notice.stand.book; told = notice.stand.list } };
 }
 
 impl Notice {
-    ghost use Rattle.std.specs.Prelude.{[], ◌∷◌};
-    ghost use Rattle.crossbeam_utils.specs.Seq.{cell_view};
-    ghost use Rattle.pmp_share.specs.Rule.{holding};
-
-    /// The notice of a seat that holds these batches.
-    pub(crate) fn new(seat: Seat, file: RegFile, published: &Journal) -> Notice
-        requires seat { (cell_view seat ≡ holding (published.now ∷ [])) × (seat.me.1 ≡ []) }
-        requires replayed { file ≡ file_after ENTRIES published.now }
-        ensures { result ≡ record { unit = seat.table_id; told = published.now } }
+    /// The notice of what is known there.
+    pub(crate) fn new(stand: Stand) -> Notice
+        ensures { result ≡ record { unit = stand.book; told = stand.list } }
     {
-        Notice {
-            seat,
-            file,
-            count: published.event_count(),
-            told: Snapshot::of(published),
-        }
+        Notice { stand }
     }
 
-    /// The seat that holds the batches.
-    pub(crate) fn into_seat(self) -> Seat
-        ensures unit { result.table_id ≡ self.unit }
-        ensures shown { cell_view result ≡ holding (self.told ∷ []) }
-        ensures empty { result.me.1 ≡ [] }
+    /// Where it stands.
+    pub(crate) fn into_stand(self) -> Stand
+        ensures { result ≡ record { book = self.unit; list = self.told } }
     {
-        self.seat
+        self.stand
     }
 
     /// How many events it tells of.
     pub fn len(&self) -> u64
         ensures { result ≡ event_count self.now.told }
     {
-        self.count
+        self.stand.digest().events()
     }
 
     /// The register file that these events give.
     pub fn file(&self) -> RegFile
         ensures { result ≡ file_after ENTRIES self.now.told }
     {
-        self.file
+        self.stand.digest().file()
     }
 }

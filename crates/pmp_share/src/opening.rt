@@ -1,7 +1,7 @@
 //! How a unit starts.
 
 ghost use Rattle.std.specs.Prelude.{◌≡◌, ◌≤◌, [], ◌∷◌, IfOk, IfErr, replicate};
-ghost use Rattle.pmp_share.specs.declared.fault.ShareFault.TheVariants.{Full, Memory};
+ghost use Rattle.pmp_share.specs.declared.fault.ShareFault.TheVariants.{Full};
 ghost use Rattle.pmp_share.specs.declared.opening.TheConstants.{CHECKERS};
 ghost use Rattle.pmp_share.specs.Object.{no_batches};
 
@@ -23,7 +23,7 @@ fn seat_checkers(
     ensures same { publisher.new ≡ publisher.old }
     ensures made { IfOk result (λ checkers. checkers.items
         ≡ replicate k (record { unit = publisher.old.unit; held = publisher.old.published ∷ [] })) }
-    ensures refused { IfErr result (λ fault. fault ≡ Memory) }
+    ensures refused { IfErr result (λ fault. ¬ (fault ≡ Full)) }
 {
     let mut checkers = Vec::new(alloc);
     for seated in 0..k {
@@ -41,7 +41,7 @@ pub fn start<R: Wait>(rt: &R, alloc: Global, k: u8) -> Result<(Publisher, Vec<Ch
         ≡ replicate k (record { unit = started.0.unit; held = no_batches ∷ [] })) }
     ensures refused { IfErr result (λ fault. ¬ (fault ≡ Full)) }
 {
-    let mut publisher = Publisher::open(alloc)?;
+    let mut publisher = Publisher::open(rt, alloc)?;
     match seat_checkers(alloc, &mut publisher, k) {
         Ok(checkers) => Ok((publisher, checkers)),
         Err(fault) => {

@@ -1,8 +1,6 @@
 //! The publisher: it alone adds batches to a unit's history.
 
 ghost use Rattle.std.specs.Prelude.{◌≡◌, ◌↔◌, [], ◌∷◌, ◌++◌, Err, ◌⊎◌, IfOk, IfErr, OnOk, OnErr, false, length, take};
-ghost use Rattle.pmp_core.specs.declared.register_file.TheConstants.{ENTRIES};
-ghost use Rattle.pmp_core.specs.Histories.{file_after};
 ghost use Rattle.pmp_share.specs.declared.fault.ShareFault.TheVariants.{Full, Memory};
 ghost use Rattle.pmp_share.specs.Batches.{event_count};
 ghost use Rattle.pmp_share.specs.Object.{Publishes};
@@ -11,64 +9,53 @@ ghost use Rattle.pmp_share.specs.Room.{has_room};
 use crate::batch::Batch;
 use crate::checker::Checker;
 use crate::fault::ShareFault;
+use crate::handing::hand_over;
 use crate::journal::Journal;
 use crate::notice::Notice;
 use crate::room::has_room;
-use crate::row::{Cell, Seat, row_of, show};
-use crate::rule::Tells;
-use pmp_core::RegFile;
+use crate::stage::Stage;
 use std::alloc::Global;
-use std::marker::{Brand, Model};
-use std::sync::{Arc, Wait};
+use std::marker::Model;
+use std::sync::Wait;
 
 /// Adds batches to the history of its unit: `submit` puts them into the pending list, and `publish` publishes all of
 /// that in one step. It isn't dropped but ended.
 pub struct Publisher {
-    cell: Arc<Cell, Global>,
-    seat: Seat,
-    /// What the published events give.
-    file: RegFile,
-    published: Journal,
+    stage: Stage,
     pending: Journal,
+    /// How many pending batches are handed over to the next version.
+    handed: usize,
     /// How many pending batches the last publication left.
     tried: usize,
 }
 
 impl Model for Publisher {
-    ghost use Rattle.std.specs.Arc.{arc_value};
-    ghost use Rattle.crossbeam_utils.specs.Seq.{cell_view};
     ghost use Rattle.pmp_share.specs.Tokens.{PublisherToken};
-    ghost use Rattle.pmp_share.specs.Seats.{IsPublisher};
+    ghost use Rattle.pmp_share.specs.Publishing.{IsPublisher};
 
     ghost Value = { PublisherToken };
 
     ghost view = { λ publisher. record {
-      unit = publisher.seat.table_id;
-      published = publisher.published;
+      unit = publisher.stage.unit;
+      published = publisher.stage.shown;
       pending = publisher.pending;
       tried = publisher.tried;
     } };
 
-    ghost invariant = { λ publisher.
-        IsPublisher (arc_value publisher.cell).table.shared.table_id publisher.seat.table_id (cell_view publisher.seat)
-        publisher.file publisher.published };
+    ghost invariant = { λ publisher. IsPublisher publisher.stage publisher.pending publisher.handed publisher.tried };
 }
 
 impl Publisher {
     /// A publisher of a new unit, after reset.
-    pub(crate) fn open(alloc: Global) -> Result<Publisher, ShareFault>
+    pub(crate) fn open<R: Wait>(rt: &R, alloc: Global) -> Result<Publisher, ShareFault>
         ensures made { IfOk result (λ publisher. (publisher.published ≡ []) × (publisher.pending ≡ [])
             × (publisher.tried ≡ 0)) }
         ensures refused { IfErr result (λ fault. fault ≡ Memory) }
     {
-        let file = RegFile::reset();
-        let (cell, seat) = Cell::ruled(alloc, row_of(&file, 0))?;
         Ok(Publisher {
-            cell: Arc::new(alloc, cell)?,
-            seat,
-            file,
-            published: Journal::new(alloc),
+            stage: Stage::open(rt, alloc)?,
             pending: Journal::new(alloc),
+            handed: 0,
             tried: 0,
         })
     }
@@ -78,11 +65,9 @@ impl Publisher {
         ensures same { self.new ≡ self.old }
         ensures made { IfOk result (λ checker.
             checker ≡ record { unit = self.old.unit; held = self.old.published ∷ [] }) }
-        ensures refused { IfErr result (λ fault. fault ≡ Memory) }
+        ensures refused { IfErr result (λ fault. ¬ (fault ≡ Full)) }
     {
-        let cell = Arc::try_clone(&self.cell)?;
-        let seat = self.cell.split_pass::<Tells>(&mut self.seat);
-        Ok(Checker::new(cell, seat))
+        Ok(Checker::new(self.stage.stand()?))
     }
 
     /// Adds a copy of the batch to the pending list. An empty batch is a batch.
@@ -93,7 +78,7 @@ impl Publisher {
             ↔ (has_room self.old.published self.old.pending batch.now ≡ false) }
         ensures memory { IfErr result (λ fault. (fault ≡ Full) ⊎ (fault ≡ Memory)) }
     {
-        if !has_room(&self.published, &self.pending, batch.events()) {
+        if !has_room(self.stage.shown(), &self.pending, batch.events()) {
             return Err(ShareFault::Full);
         }
         self.pending.push(batch.events())?;
@@ -120,27 +105,23 @@ impl Publisher {
         ensures tried { self.new.tried ≡ length self.new.pending }
     {
         self.tried = self.pending.batches();
-        self.published.append(&self.pending)?;
-        self.file.run_events(self.pending.events());
-        let events = self.published.event_count();
-        let row = row_of(&self.file, events);
-        show::<Brand, R>(rt, &self.cell, &mut self.seat, row, &self.pending);
+        hand_over(&mut self.stage, &self.pending, &mut self.handed)?;
+        self.stage.show(rt)?;
         self.pending.clear();
+        self.handed = 0;
         self.tried = 0;
-        Ok(events)
+        Ok(self.stage.shown().event_count())
     }
 
     /// Ends the publisher, with what is pending. The checkers go on deciding.
     pub fn end<R: Wait>(self, rt: &R) {
-        let _ = rt;
         let Publisher {
-            cell: _cell,
-            seat: _seat,
-            file: _,
-            published: _published,
+            stage,
             pending: _pending,
+            handed: _,
             tried: _,
         } = self;
+        stage.end(rt);
     }
 
     /// A notice of all that is published.
@@ -150,15 +131,14 @@ impl Publisher {
             notice ≡ record { unit = self.old.unit; told = self.old.published }) }
         ensures refused { IfErr result (λ fault. ¬ (fault ≡ Full)) }
     {
-        let seat = self.cell.split_pass::<Tells>(&mut self.seat);
-        Ok(Notice::new(seat, self.file, &self.published))
+        Ok(Notice::new(self.stage.stand()?))
     }
 
     /// How many events are published.
     pub fn journal_len(&self) -> u64
         ensures { result ≡ event_count self.now.published }
     {
-        self.published.event_count()
+        self.stage.shown().event_count()
     }
 
     /// How many events are pending.

@@ -1,81 +1,56 @@
-//! The running rule: what the shared words say, and what each step of a token does.
+//! The running rule: what the published version says, and what each step does.
 
-ghost use Rattle.std.specs.Prelude.{List};
-ghost use Rattle.pmp_core.specs.declared.event.Event.{Event};
-
-use crate::view::View;
+use crate::version::Version;
+use crate::view::{Known, View};
 use atomic_table::{Join, Split};
 use crossbeam_utils::rule::{Outcome, Protocol};
-use pmp_core::WORDS;
-use std::marker::{Brand, PhantomData};
 
-/// The words of the register file, and how many events gave it.
-pub const ROW: usize = WORDS + 1;
-
-pub type Row = [u64; ROW];
-
-/// Every token has looked at, or heard of, beginnings of one list of batches, which the words are of.
+/// Whatever is known is a beginning of the published batches.
 pub struct OneHistory;
 
-impl Protocol<Row, View> for OneHistory {
-    ghost use Rattle.std.specs.Prelude.{[]};
-    ghost use Rattle.pmp_share.specs.Rule.{Kept, publishing};
+impl Protocol<Version, View> for OneHistory {
+    ghost use Rattle.std.specs.Prelude.{None};
+    ghost use Rattle.pmp_share.specs.Rule.{Kept};
 
     ghost holds = { Kept };
 
-    ghost first = { publishing [] };
+    ghost first = { None };
 }
 
-/// A checker's load.
+/// A checker's entrance.
 pub struct Looks;
 
-impl Outcome<Row, View> for Looks {
-    ghost use Rattle.pmp_share.specs.Rule.{Loads};
+impl Outcome<Version, View> for Looks {
+    ghost use Rattle.pmp_share.specs.Rule.{Enters};
 
-    ghost then = { Loads };
+    ghost then = { Enters };
 }
 
-/// The batches that a store adds, which a proof picks.
-pub trait Sheet {
-    ghost next: { List (List Event) };
+/// The publisher's step.
+pub struct Shows;
+
+impl Outcome<Version, View> for Shows {
+    ghost use Rattle.pmp_share.specs.Rule.{Shown};
+
+    ghost then = { Shown };
 }
 
-impl Sheet for Brand {
-    ghost use Rattle.std.specs.Prelude.{[]};
-
-    ghost next = { [] };
-}
-
-/// The publisher's store.
-pub struct Shows<J> {
-    sheet: PhantomData<J>,
-}
-
-impl<J: Sheet> Outcome<Row, View> for Shows<J> {
-    ghost use Rattle.pmp_share.specs.Rule.{Stores};
-
-    ghost then = { Stores J.next };
-}
-
-/// A new checker, or a new notice.
+/// A new reader is told what the publisher knows.
 pub struct Tells;
 
 impl Split<View> for Tells {
-    ghost use Rattle.pmp_share.specs.Rule.{heard};
-
     ghost left = { λ view. view };
 
-    ghost right = { heard };
+    ghost right = { λ view. view };
 }
 
-/// A checker takes in a notice.
-pub struct Learns;
+/// It knew nothing before.
+pub struct Hears;
 
-impl Join<View> for Learns {
-    ghost use Rattle.std.specs.Prelude.{[]};
-    ghost use Rattle.pmp_share.specs.Rule.{with_told, holding};
+impl Join<View> for Hears {
+    ghost use Rattle.std.specs.Prelude.{None};
 
-    ghost both = { with_told };
+    ghost both = { λ _ told. told };
 
-    ghost spent = { holding [] };
+    ghost spent = { None };
 }

@@ -1,36 +1,46 @@
-use Rattle.std.proofs.Common.{◌≡◌, List, [], ◌∷◌, ◌++◌, rules, ap, subst, sym, ◌∙◌}
-use Rattle.pmp_share.specs.declared.view.View.{View}
-use Rattle.pmp_share.specs.Batches.{Batches, event_count}
-use Rattle.pmp_share.specs.Looks.{latest}
+use Rattle.std.proofs.Common.{◌≡◌, List, [], ◌∷◌, ◌++◌, ap, sym, ◌∙◌}
+use Rattle.pmp_share.specs.declared.view.Known.{Known}
+use Rattle.pmp_share.specs.Batches.{Batches}
 use Rattle.pmp_share.specs.Tokens.{CheckerToken}
 use Rattle.pmp_share.proofs.LookFacts.{latest_more, learns_bound}
-use Rattle.pmp_share.proofs.RuleFacts.{learns}
+use Rattle.pmp_share.proofs.CheckFacts.{learnt_later, learnt_earlier}
 use Rattle.pmp_share.proofs.checker.Checker.learn.Goals as goal
-use Rattle.pmp_share.proofs.checker.Checker.learn.Goals.{After-join_pass}
+use Rattle.pmp_share.proofs.checker.Checker.learn.Goals.{After-is_before}
 
-held_more : (c : After-join_pass) → c.join_pass.new.pass.me.0.client.held ≡ c.args.self.now.held
-    ++ c.args.notice.told ∷ []
-held_more c =
-    ap (λ (view : View). view.held) c.join_pass.ensures.1
-    ∙ (λ i. (ap (λ (token : CheckerToken). token.held) c.self.view_is i)
-    ++ (ap (λ (view : View). view.held) c.into_seat.ensures.shown i))
+held_more : (c : After-is_before) → c.with.result ≡ c.self.inside.held ++ c.into_stand-stand.result.list ∷ []
+held_more c = c.with.ensures ∙ ap (λ (told : Batches). c.self.inside.held ++ told ∷ []) c.digest.ensures
 
-pub join_pass-requires : goal.join_pass-requires
-join_pass-requires c = (
-  search rules,
-  (
-    search rules,
-    (
-      (search rules, search rules, search rules),
-      learns c.self.inside.seat.id _ c.into_seat.result.id _,
-    ),
-  ),
-)
+held_told : (c : After-is_before) → c.with.result ≡ c.args.self.now.held ++ c.args.notice.told ∷ []
+held_told c =
+    held_more c
+    ∙ (λ i. ap (λ (token : CheckerToken). token.held) c.self.view_is i
+    ++ ap (λ (stand : Known). stand.list) c.into_stand-stand.ensures i ∷ [])
 
-pub returns-clause-reached : goal.returns-clause-reached
-returns-clause-reached c =
-    let reached = latest_more c.args.self.now.held c.args.notice.told in
-    rw (held_more c) reached
+pub invariant_of-self : goal.invariant_of-self
+invariant_of-self c = learnt_later c.self.inside.stand c.into_stand-stand.result c.self.inside.held c.with.result
+    c.is_before.result c.self.invariant (held_more (goal.at.invariant_of-self c).After-is_before) c.is_before.ensures.late
+    c.is_before.ensures.begins c.if-is_before.true
 
-pub returns-clause-bound : goal.returns-clause-bound
-returns-clause-bound c = learns_bound c.args.self.now.held c.args.notice.told _ (held_more c)
+pub invariant_of-self-else-is_before : goal.invariant_of-self-else-is_before
+invariant_of-self-else-is_before c = learnt_earlier c.self.inside.stand c.into_stand-stand.result c.self.inside.held
+    c.with.result c.is_before.result c.self.invariant
+    (held_more (goal.at.invariant_of-self-else-is_before c).After-is_before) c.is_before.ensures.late
+    c.is_before.ensures.begins c.if-is_before.false
+
+pub returns-then-is_before-clause-reached : goal.returns-then-is_before-clause-reached
+returns-then-is_before-clause-reached c =
+    rw (held_told (goal.at.returns-then-is_before-clause-reached c).After-is_before)
+    (latest_more c.args.self.now.held c.args.notice.told)
+
+pub returns-then-is_before-clause-bound : goal.returns-then-is_before-clause-bound
+returns-then-is_before-clause-bound c = learns_bound c.args.self.now.held c.args.notice.told _
+    (held_told (goal.at.returns-then-is_before-clause-bound c).After-is_before)
+
+pub returns-else-is_before-clause-reached : goal.returns-else-is_before-clause-reached
+returns-else-is_before-clause-reached c =
+    rw (held_told (goal.at.returns-else-is_before-clause-reached c).After-is_before)
+    (latest_more c.args.self.now.held c.args.notice.told)
+
+pub returns-else-is_before-clause-bound : goal.returns-else-is_before-clause-bound
+returns-else-is_before-clause-bound c = learns_bound c.args.self.now.held c.args.notice.told _
+    (held_told (goal.at.returns-else-is_before-clause-bound c).After-is_before)

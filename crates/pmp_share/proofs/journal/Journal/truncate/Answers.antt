@@ -3,16 +3,9 @@ use Rattle.pmp_share.specs.Batches.{event_count}
 use Rattle.pmp_share.specs.Journals.{batches_of, IsCut}
 use Rattle.pmp_share.specs.Batches.{Batches}
 use Rattle.pmp_core.specs.declared.event.Event.{Event}
-use Rattle.pmp_share.proofs.JournalFacts.{Stands, take_stands, end_at, length_ends, stands_for, stands_cut}
+use Rattle.pmp_share.proofs.JournalFacts.{Stands, take_stands, end_is, length_ends, stands_for, stands_cut}
 use Rattle.pmp_share.proofs.journal.Journal.truncate.Goals as goal
 use Rattle.pmp_share.proofs.journal.Journal.truncate.Goals.{After-truncate-2}
-
--- the end that is asked for
-end_is : (ends : List ℕ) (events : List Event) → IsCut ends events → (batches end : ℕ) → batches < length ends
-    → (batches ≡ 0 → end ≡ 0) → ((k : ℕ) → batches ≡ k + 1 → end ≡ get_or ends k 0)
-    → end ≡ event_count (take batches (batches_of ends events))
-end_is ends events is zero end lt none last = none refl
-end_is ends events is (suc k) end lt none last = last k (omega arith) ∙ end_at ends events is k (omega arith)
 
 stands : (c : After-truncate-2) → Stands c.truncate-2.new.self.items c.truncate.new.self.items
     (take c.args.batches (batches_of c.self.inside.ends.items c.self.inside.events.items))
@@ -24,8 +17,8 @@ stands c =
     λ k e. c.end_of-events.ensures.last k e ∙ ap (λ (ends : List ℕ). get_or ends k 0) c.as_slice.ensures.value in
     rw (c.truncate-2.ensures.items, c.truncate.ensures.items)
     (take_stands inside.ends.items inside.events.items c.self.invariant c.args.batches c.end_of-events.result
-    (end_is inside.ends.items inside.events.items c.self.invariant c.args.batches c.end_of-events.result within
-    c.end_of-events.ensures.none last))
+    (end_is inside.ends.items inside.events.items c.self.invariant c.args.batches c.end_of-events.result
+    (omega (arith, within)) c.end_of-events.ensures.none last))
 
 pub end_of-events-requires : goal.end_of-events-requires
 end_of-events-requires c =

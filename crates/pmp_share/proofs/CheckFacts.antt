@@ -1,0 +1,63 @@
+-- What a checker holds.
+use Rattle.std.proofs.Common.{◌≡◌, ℕ, zero, suc, ◌<◌, ◌≤◌, Bool, true, false, List, [], ◌∷◌, ◌++◌, All, length, get_or, MatchBool}
+use Rattle.std.proofs.Common.{refl, ap, sym, subst, ◌∙◌, arith}
+use Rattle.std.proofs.lemmas.List.Elements.{All-push}
+use Rattle.pmp_share.specs.declared.view.Known.{Known}
+use Rattle.pmp_share.specs.Batches.{Batches, StartsWith, AllBegin}
+use Rattle.pmp_share.specs.Looks.{latest, is_as_late, Looked}
+use Rattle.pmp_share.specs.Checking.{IsChecker}
+use Rattle.pmp_share.proofs.LookFacts.{latest-one, latest_push, starts_alike, starts_on, looked_at}
+
+none_begin : (batches : Batches) → AllBegin batches []
+none_begin batches k d lt = absurd (omega arith)
+
+one_begins : (batches front : Batches) → StartsWith batches front → AllBegin batches (front ∷ [])
+one_begins batches front starts = All-push (StartsWith batches) [] front (none_begin batches) starts
+
+pub begin_on : (batches front : Batches) (fronts : List Batches) → StartsWith batches front → AllBegin front fronts
+    → AllBegin batches fronts
+begin_on batches front fronts starts all k d lt = starts_on batches front _ starts (all k d lt)
+
+-- a checker that holds just the list where it stands
+pub alone_checks : (stand : Known) (held : List Batches) → held ≡ stand.list ∷ [] → IsChecker stand held
+alone_checks stand held is = record {
+  latest_is = ap latest is ∙ latest-one stand.list;
+  begins = subst (AllBegin stand.list) (sym is) (one_begins stand.list stand.list (starts_alike stand.list));
+}
+
+-- a checker that learnt: where what was told is as late it stands there, and else where it stood
+module _ (stand told : Known) (held new : List Batches) (late : Bool) (is : IsChecker stand held)
+    (learnt : new ≡ held ++ told.list ∷ []) (test : late ≡ is_as_late stand.list told.list)
+    (begins : MatchBool late (StartsWith told.list stand.list) (StartsWith stand.list told.list)) where
+  begins_as : (b : Bool) → late ≡ b → MatchBool b (StartsWith told.list stand.list) (StartsWith stand.list told.list)
+  begins_as b e =
+      subst (λ (b : Bool). MatchBool b (StartsWith told.list stand.list) (StartsWith stand.list told.list)) e begins
+
+  pub learnt_later : late ≡ true → IsChecker told new
+  learnt_later e = record {
+    latest_is = ap latest learnt ∙ (latest_push held told.list stand.list is.latest_is).0 (sym test ∙ e);
+    begins = subst (AllBegin told.list) (sym learnt) (All-push (StartsWith told.list) held told.list
+        (begin_on told.list stand.list held (begins_as true e) is.begins) (starts_alike told.list));
+  }
+
+  pub learnt_earlier : late ≡ false → IsChecker stand new
+  learnt_earlier e = record {
+    latest_is = ap latest learnt ∙ (latest_push held told.list stand.list is.latest_is).1 (sym test ∙ e);
+    begins = subst (AllBegin stand.list) (sym learnt)
+        (All-push (StartsWith stand.list) held told.list is.begins (begins_as false e));
+  }
+
+-- a look: from one stand to another, which takes the place of all that was held
+module _ (stand after : Known) (held new : List Batches) (digest : Batches) (is : IsChecker stand held)
+    (alone : new ≡ digest ∷ []) (of : digest ≡ after.list) (begins : StartsWith after.list stand.list) where
+  new_is : new ≡ after.list ∷ []
+  new_is = alone ∙ ap (λ (b : Batches). b ∷ []) of
+
+  pub latest_new : latest new ≡ after.list
+  latest_new = ap latest new_is ∙ latest-one after.list
+
+  pub looked_checks : IsChecker after new
+  looked_checks = alone_checks after new new_is
+
+  pub looked : Looked held new
+  looked = looked_at held new after.list new_is (begin_on after.list stand.list held begins is.begins)

@@ -1,0 +1,44 @@
+use Rattle.std.proofs.Common.{◌≡◌, [], refl, ap, sym, ◌∙◌}
+use Rattle.pmp_share.specs.declared.version.Version.{Version}
+use Rattle.pmp_share.specs.Stages.{after, told_of}
+use Rattle.pmp_share.proofs.LookFacts.{starts_alike}
+use Rattle.pmp_share.proofs.RuleFacts.{shows_told}
+use Rattle.pmp_share.proofs.StageFacts.{turned, match_ok}
+use Rattle.pmp_share.proofs.stage.Stage.open.Goals as goal
+use Rattle.pmp_share.proofs.stage.Stage.open.Given.{Over}
+use Rattle.pmp_share.proofs.stage.Stage.open.Goals.{In_ok-writer}
+
+module _ (g : Over) (c : In_ok-writer g) where
+  -- the version that is made first has no batches
+  journal_is : c.in_ok-writer.writer.desk.shown.value.journal ≡ []
+  journal_is =
+      ap (λ (version : Version). version.journal) c.in_ok-writer.ensures.0 ∙ c.new-first.ensures.journal
+
+  noted : c.in_ok-writer.writer.desk.shown.value.past.log ≡ c.in_ok-writer.writer.desk.shown.value.journal
+  noted =
+      ap (λ (version : Version). version.past.log) c.in_ok-writer.ensures.0
+      ∙ ap (λ past. past.log) c.new-first.ensures.past
+      ∙ c.past.ensures.1
+      ∙ c.open-keeper.ensures
+      ∙ sym journal_is
+
+  book : c.in_ok-writer.writer.desk.shown.value.past.book ≡ c.open-keeper.result.book
+  book =
+      ap (λ (version : Version). version.past.book) c.in_ok-writer.ensures.0
+      ∙ ap (λ past. past.book) c.new-first.ensures.past
+      ∙ c.past.ensures.0
+
+pub publish_as-writer-requires : goal.publish_as-writer-requires
+publish_as-writer-requires g c next is =
+    let shown = c.in_ok-writer.writer.desk.shown.value in
+    shows_told _ _ shown (told_of shown) refl (noted g c) (starts_alike shown.journal) next
+        (is ∙ ap (after shown) c.in_ok-writer.ensures.1)
+
+pub invariant_of-result : goal.invariant_of-result
+invariant_of-result g c =
+    let shown = c.in_ok-writer.writer.desk.shown.value in
+    let made = (goal.at.invariant_of-result g c).In_ok-writer in
+    let values = match_ok c.publish_as-writer.result.1 _ _ _ c.in-Ok.is c.publish_as-writer.ensures.values in
+    turned c.open-keeper.result _ _ _ (told_of shown) _ (values.0 ∙ ap (after shown) c.in_ok-writer.ensures.1) values.1
+        (match_ok c.publish_as-writer.result.1 _ _ _ c.in-Ok.is c.publish_as-writer.ensures.rule) (book g made)
+        (noted g made) (λ _. c.open-keeper.ensures ∙ sym (journal_is g made))

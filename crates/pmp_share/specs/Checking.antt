@@ -1,0 +1,17 @@
+-- What a checker is made of.
+use Rattle.std.specs.Prelude.{◌≡◌, List}
+use Rattle.pmp_core.specs.declared.access.Access.{Access}
+use Rattle.pmp_core.specs.declared.decision.Decision.{Decision}
+use Rattle.pmp_share.specs.declared.view.Known.{Known}
+use Rattle.pmp_share.specs.Batches.{Batches, AllBegin}
+use Rattle.pmp_share.specs.Looks.{latest}
+use Rattle.pmp_share.specs.Object.{Decides}
+
+-- the manual's decision in the file that reset and these batches give
+unfoldable pub DecidesIn : Batches → Access → Decision → Type 0
+DecidesIn list access decision = Decides list access decision
+
+-- it stands at the latest list that it holds, which begins with all of them
+pub record IsChecker (stand : Known) (held : List Batches) : Type 0 where
+  pub latest_is : latest held ≡ stand.list
+  pub begins : AllBegin stand.list held

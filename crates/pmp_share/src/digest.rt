@@ -1,0 +1,96 @@
+//! What a list of batches comes to.
+
+ghost use Rattle.std.specs.Prelude.{◌≡◌, length};
+ghost use Rattle.pmp_core.specs.declared.register_file.TheConstants.{ENTRIES};
+ghost use Rattle.pmp_core.specs.Decision.{IsDecision};
+ghost use Rattle.pmp_core.specs.Histories.{file_after};
+ghost use Rattle.pmp_core.specs.Ranges.{decision_of};
+ghost use Rattle.pmp_share.specs.Batches.{event_count};
+ghost use Rattle.pmp_share.specs.Looks.{is_as_late};
+
+use crate::journal::Journal;
+use crate::version::Version;
+use pmp_core::{Access, Decision, RegFile};
+use std::marker::Model;
+use std::snapshot::Snapshot;
+
+/// The register file that batches give, and how many they are. A contract sees the batches.
+#[derive(Drop)]
+pub struct Digest {
+    file: RegFile,
+    events: u64,
+    batches: usize,
+    of: Snapshot<Journal>,
+}
+
+impl Model for Digest {
+    ghost use Rattle.pmp_share.specs.Batches.{Batches};
+
+    ghost Value = { Batches };
+
+    ghost use Rattle.pmp_share.specs.Digests.{IsDigest};
+
+    ghost view = { λ digest. digest.of.value };
+
+    ghost invariant = { λ digest. IsDigest digest.file digest.events digest.batches digest.of.value };
+}
+
+impl Digest {
+    ghost use Rattle.std.specs.Prelude.{◌≡◌};
+
+    /// The digest of a version's batches.
+    pub fn of(version: &Version) -> Digest
+        ensures { result ≡ version.now.journal }
+    {
+        let journal = version.journal();
+        Digest {
+            file: *version.file(),
+            events: journal.event_count(),
+            batches: journal.batches(),
+            of: Snapshot::of(journal),
+        }
+    }
+
+    /// Makes it that of a version.
+    pub fn refresh(&mut self, version: &Version)
+        ensures { self.new ≡ version.now.journal }
+    {
+        *self = Digest::of(version);
+    }
+
+    /// The register file.
+    pub fn file(&self) -> RegFile
+        ensures { result ≡ file_after ENTRIES self.now }
+    {
+        self.file
+    }
+
+    /// How many events they hold.
+    pub fn events(&self) -> u64
+        ensures { result ≡ event_count self.now }
+    {
+        self.events
+    }
+
+    /// How many batches there are.
+    pub fn batches(&self) -> usize
+        ensures { result ≡ length self.now }
+    {
+        self.batches
+    }
+
+    /// Whether the other's batches hold more events, or as many in no fewer batches.
+    pub fn is_as_late(&self, other: &Digest) -> bool
+        ensures { result ≡ is_as_late self.now other.now }
+    {
+        self.events < other.events || (self.events == other.events && self.batches <= other.batches)
+    }
+
+    /// Decides an access in the register file.
+    pub fn decide(&self, access: &Access) -> Decision
+        ensures by_bytes { IsDecision (file_after ENTRIES self.now) access.now result }
+        ensures computed { result ≡ decision_of (file_after ENTRIES self.now) access.now }
+    {
+        self.file.decide(access)
+    }
+}

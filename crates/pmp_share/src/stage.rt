@@ -1,0 +1,205 @@
+//! The two copies of a version, as the publisher has them.
+
+ghost use Rattle.std.specs.Prelude.{◌≡◌, true, false, [], ◌∷◌, ◌++◌, IfOk, IfErr, OnOk, OnErr};
+ghost use Rattle.pmp_share.specs.declared.fault.ShareFault.TheVariants.{Full, Memory};
+
+use crate::digest::Digest;
+use crate::entry::Entry;
+use crate::fault::ShareFault;
+use crate::journal::Journal;
+use crate::keeper::Keeper;
+use crate::rule::{Hears, OneHistory, Shows, Tells};
+use crate::stand::Stand;
+use crate::version::Version;
+use crate::view::View;
+use core::mem::replace_with;
+use left_right::writer::Writer;
+use pmp_core::Event;
+use std::alloc::Global;
+use std::marker::Model;
+use std::sync::Wait;
+
+/// How many checkers and notices of one unit there may be at once.
+pub const PLACES: usize = 32;
+
+type UnitWriter = Writer<Version, Entry, View, OneHistory>;
+
+/// The published version and the one that comes next. A contract sees the batches that are shown, those that the
+/// next publication shows, and the history.
+pub struct Stage {
+    alloc: Global,
+    writer: UnitWriter,
+    keeper: Keeper,
+    /// The history has one batch that isn't handed over.
+    ahead: bool,
+}
+
+impl Model for Stage {
+    ghost use Rattle.std.specs.Prelude.{drop};
+    ghost use Rattle.pmp_share.specs.Stages.{OnStage, after, told_of, IsStage};
+
+    ghost Value = { OnStage };
+
+    ghost view = { λ stage. record {
+      unit = stage.keeper.book;
+      shown = stage.writer.desk.shown.value.journal;
+      handed = (after stage.writer.desk.shown.value (drop stage.writer.behind stage.writer.log.items)).batches;
+      noted = stage.keeper.list;
+      ahead = stage.ahead;
+    } };
+
+    ghost invariant = { λ stage. IsStage stage.keeper stage.ahead stage.writer.desk.place.me.0.client
+        stage.writer.desk.shown.value
+        (after stage.writer.desk.shown.value (drop stage.writer.behind stage.writer.log.items)) };
+}
+
+impl Stage {
+    /// Two versions after reset.
+    pub fn open<R: Wait>(rt: &R, alloc: Global) -> Result<Stage, ShareFault>
+        ensures made { IfOk result (λ stage. (stage.shown ≡ []) × (stage.handed ≡ []) × (stage.ahead ≡ false)) }
+        ensures refused { IfErr result (λ fault. fault ≡ Memory) }
+    {
+        let keeper = Keeper::open();
+        let first = Version::new(alloc, keeper.past());
+        let second = Version::new(alloc, keeper.past());
+        let writer = Writer::new(alloc, first, second, PLACES)?;
+        let (writer, learnt) = writer.publish_as::<Shows, R>(rt);
+        match learnt {
+            Ok(()) => Ok(Stage {
+                alloc,
+                writer,
+                keeper,
+                ahead: false,
+            }),
+            Err(_) => {
+                drop(writer.take(rt));
+                Err(ShareFault::Memory)
+            }
+        }
+    }
+
+    /// What is published.
+    pub fn shown(&self) -> &Journal
+        ensures { result.now ≡ self.now.shown }
+    {
+        self.writer.published().journal()
+    }
+
+    /// Notes a batch in the history, if it isn't noted yet.
+    fn note(&mut self, batch: &Vec<Event>) -> Result<(), ShareFault>
+        requires ahead { self.old.ahead ≡ true → self.old.noted ≡ self.old.handed ++ batch.now.items ∷ [] }
+        ensures noted { OnOk result (self.new
+            ≡ record self.old { noted = self.old.handed ++ batch.now.items ∷ []; ahead = true }) }
+        ensures refused { OnErr result (self.new ≡ self.old) }
+        ensures memory { IfErr result (λ fault. fault ≡ Memory) }
+    {
+        if self.ahead {
+            return Ok(());
+        }
+        if !self.keeper.add(batch) {
+            return Err(ShareFault::Memory);
+        }
+        self.ahead = true;
+        Ok(())
+    }
+
+    /// Hands over one batch more, for the next publication.
+    pub fn hand(&mut self, batch: &[Event]) -> Result<(), ShareFault>
+        requires ahead { self.old.ahead ≡ true → self.old.noted ≡ self.old.handed ++ batch.now ∷ [] }
+        ensures unit { self.new.unit ≡ self.old.unit }
+        ensures shown { self.new.shown ≡ self.old.shown }
+        ensures handed { OnOk result (self.new.handed ≡ self.old.handed ++ batch.now ∷ []) }
+        ensures refused { OnErr result (self.new.handed ≡ self.old.handed) }
+        ensures done { OnOk result (self.new.ahead ≡ false) }
+        ensures ahead { OnErr result (self.new.ahead ≡ true → self.new.noted ≡ self.new.handed ++ batch.now ∷ []) }
+        ensures memory { IfErr result (λ fault. fault ≡ Memory) }
+    {
+        let mut events = Vec::new(self.alloc);
+        events.extend_from_slice(batch)?;
+        self.note(&events)?;
+        let past = self.keeper.past();
+        match self.writer.append(Entry { events, past }) {
+            Ok(()) => {
+                self.ahead = false;
+                Ok(())
+            }
+            Err(_entry) => Err(ShareFault::Memory),
+        }
+    }
+
+    /// Shows all that was handed over. It waits for checkers that still read the version before.
+    pub fn show<R: Wait>(&mut self, rt: &R) -> Result<(), ShareFault>
+        ensures unit { self.new.unit ≡ self.old.unit }
+        ensures history { (self.new.noted ≡ self.old.noted) × (self.new.ahead ≡ self.old.ahead) }
+        ensures handed { self.new.handed ≡ self.old.handed }
+        ensures shown { OnOk result (self.new.shown ≡ self.old.handed) }
+        ensures refused { OnErr result (self.new.shown ≡ self.old.shown) }
+        ensures memory { IfErr result (λ fault. fault ≡ Memory) }
+    {
+        replace_with(self, rt, |stage, rt| stage.turn(rt))
+    }
+
+    /// The stage after the publication, and its answer.
+    fn turn<R: Wait>(self, rt: &R) -> (Stage, Result<(), ShareFault>)
+        ensures unit { result.0.unit ≡ self.unit }
+        ensures history { (result.0.noted ≡ self.noted) × (result.0.ahead ≡ self.ahead) }
+        ensures handed { result.0.handed ≡ self.handed }
+        ensures shown { OnOk result.1 (result.0.shown ≡ self.handed) }
+        ensures refused { OnErr result.1 (result.0.shown ≡ self.shown) }
+        ensures memory { IfErr result.1 (λ fault. fault ≡ Memory) }
+    {
+        let Stage {
+            alloc,
+            writer,
+            keeper,
+            ahead,
+        } = self;
+        let (writer, shown) = writer.publish_as::<Shows, R>(rt);
+        match shown {
+            Ok(()) => {
+                let stage = Stage {
+                    alloc,
+                    writer,
+                    keeper,
+                    ahead,
+                };
+                (stage, Ok(()))
+            }
+            Err(_) => {
+                let stage = Stage {
+                    alloc,
+                    writer,
+                    keeper,
+                    ahead,
+                };
+                (stage, Err(ShareFault::Memory))
+            }
+        }
+    }
+
+    /// Where a checker or a notice stands that knows just what is published.
+    pub fn stand(&mut self) -> Result<Stand, ShareFault>
+        ensures same { self.new ≡ self.old }
+        ensures made { IfOk result (λ stand. stand ≡ record { book = self.old.unit; list = self.old.shown }) }
+        ensures refused { IfErr result (λ fault. ¬ (fault ≡ Full)) }
+    {
+        let Ok(mut reader) = self.writer.factory().reader() else {
+            return Err(ShareFault::NoPlace);
+        };
+        reader.learn::<Hears>(self.writer.tell::<Tells>());
+        let version = self.writer.published();
+        let digest = Box::new(self.alloc, Digest::of(version))?;
+        Ok(Stand::new(reader, digest, version.past()))
+    }
+
+    /// Ends both. It waits for checkers that read a version.
+    pub fn end<R: Wait>(self, rt: &R) {
+        let Stage {
+            alloc: _,
+            writer,
+            keeper: _keeper,
+            ahead: _,
+        } = self;
+        drop(writer.take(rt));
+    }
+}

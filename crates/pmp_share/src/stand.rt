@@ -1,0 +1,125 @@
+//! Where a checker or a notice stands.
+
+ghost use Rattle.std.specs.Prelude.{◌≡◌, MatchBool};
+ghost use Rattle.pmp_core.specs.declared.register_file.TheConstants.{ENTRIES};
+ghost use Rattle.pmp_core.specs.Histories.{file_after};
+ghost use Rattle.pmp_core.specs.Ranges.{decision_of};
+ghost use Rattle.pmp_share.specs.Batches.{StartsWith, event_count};
+ghost use Rattle.pmp_share.specs.Checking.{DecidesIn};
+ghost use Rattle.pmp_share.specs.Looks.{is_as_late};
+
+use crate::digest::Digest;
+use crate::past::Past;
+use crate::rule::{Looks, OneHistory};
+use crate::version::Version;
+use crate::view::View;
+use core::mem::replace_with;
+use left_right::reader::Reader;
+use pmp_core::{Access, Decision};
+use std::marker::Model;
+
+pub type UnitReader = Reader<Version, View, OneHistory>;
+
+/// A reader of the two copies, and the digest of the batches that it knows: it answers by that where it is given no
+/// entrance. A contract sees the batches, and whose history they begin.
+#[derive(Drop)]
+pub struct Stand {
+    reader: UnitReader,
+    digest: Box<Digest>,
+    past: Past,
+}
+
+impl Model for Stand {
+    ghost use Rattle.std.specs.Prelude.{◌≡◌, Some};
+    ghost use Rattle.pmp_share.specs.declared.view.Known.{Known};
+    ghost use Rattle.pmp_share.specs.Rule.{known};
+
+    ghost Value = { Known };
+
+    ghost view = { λ stand. known stand.past.book stand.past.log };
+
+    ghost invariant = { λ stand. (stand.reader.place.me.0.client ≡ Some (known stand.past.book stand.past.log))
+        × (stand.digest.value ≡ stand.past.log) };
+}
+
+impl Stand {
+    ghost use Rattle.std.specs.Prelude.{Some};
+    ghost use Rattle.left_right.specs.Sides.{view};
+    ghost use Rattle.pmp_share.specs.Rule.{known};
+
+    /// Where a reader stands that knows just what the digest is of.
+    pub fn new(reader: UnitReader, digest: Box<Digest>, past: Past) -> Stand
+        requires seat { view reader.place ≡ Some (known past.book past.log) }
+        requires digest { digest.value ≡ past.log }
+        ensures { result ≡ known past.book past.log }
+    {
+        Stand {
+            reader,
+            digest,
+            past,
+        }
+    }
+
+    /// The digest of the batches.
+    pub fn digest(&self) -> &Digest
+        ensures { result.now ≡ self.now.list }
+    {
+        &self.digest
+    }
+
+    /// Whether the other's batches hold more events, or as many in no fewer batches. Then these begin them, and
+    /// otherwise they begin these.
+    pub fn is_before(&self, other: &Stand) -> bool
+        requires unit { other.now.book ≡ self.now.book }
+        ensures late { result ≡ is_as_late self.now.list other.now.list }
+        ensures begins { MatchBool result (StartsWith other.now.list self.now.list)
+            (StartsWith self.now.list other.now.list) }
+    {
+        let mut both = self.past.again();
+        both.learn(&other.past);
+        self.digest.is_as_late(&other.digest)
+    }
+
+    /// Enters the published version and decides there, or where no entrance is given in the batches that it knows.
+    /// Answers how many events they hold, too.
+    pub fn look(&mut self, access: &Access) -> (Decision, u64)
+        ensures unit { self.new.book ≡ self.old.book }
+        ensures begins { StartsWith self.new.list self.old.list }
+        ensures decided { DecidesIn self.new.list access.now result.0 }
+        ensures computed { result.0 ≡ decision_of (file_after ENTRIES self.new.list) access.now }
+        ensures count { result.1 ≡ event_count self.new.list }
+    {
+        replace_with(self, access, |stand, access| stand.enter(access))
+    }
+
+    /// The stand after the look, and its answer.
+    fn enter(self, access: &Access) -> (Stand, (Decision, u64))
+        ensures unit { result.0.book ≡ self.book }
+        ensures begins { StartsWith result.0.list self.list }
+        ensures decided { DecidesIn result.0.list access.now result.1.0 }
+        ensures computed { result.1.0 ≡ decision_of (file_after ENTRIES result.0.list) access.now }
+        ensures count { result.1.1 ≡ event_count result.0.list }
+    {
+        let Stand {
+            reader,
+            mut digest,
+            past,
+        } = self;
+        match reader.enter_as::<Looks>() {
+            Ok(reading) => {
+                let version = reading.get();
+                let answer = (version.decide(access), version.journal().event_count());
+                if digest.batches() != version.journal().batches() {
+                    digest.refresh(version);
+                }
+                let past = version.past();
+                let reader = reading.leave();
+                (Stand::new(reader, digest, past), answer)
+            }
+            Err(reader) => {
+                let answer = (digest.decide(access), digest.events());
+                (Stand::new(reader, digest, past), answer)
+            }
+        }
+    }
+}

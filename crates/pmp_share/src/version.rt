@@ -1,0 +1,95 @@
+//! Versions of a unit: what a checker enters.
+
+ghost use Rattle.std.specs.Prelude.{◌≡◌, [], length};
+ghost use Rattle.pmp_core.specs.declared.register_file.TheConstants.{ENTRIES};
+ghost use Rattle.pmp_core.specs.Decision.{IsDecision};
+ghost use Rattle.pmp_core.specs.Histories.{file_after};
+ghost use Rattle.pmp_core.specs.Ranges.{decision_of};
+
+use crate::entry::Entry;
+use crate::growth::grow;
+use crate::journal::Journal;
+use crate::past::Past;
+use crate::told::Told;
+use left_right::Absorb;
+use pmp_core::{Access, Decision, RegFile};
+use pmp_map::RunMap;
+use std::alloc::{AllocError, Global};
+
+/// The published batches, the register file that they give, and its map.
+#[derive(Drop)]
+pub struct Version {
+    journal: Journal,
+    file: RegFile,
+    map: RunMap,
+    past: Past,
+    ghost replayed: { file ≡ file_after ENTRIES journal },
+    ghost mapped: { map ≡ file },
+}
+
+impl Absorb<Entry> for Version {
+    ghost use Rattle.pmp_share.specs.Versions.{applied};
+
+    type State = Told;
+
+    ghost state = { λ version. record { batches = version.journal; log = version.past.log; book = version.past.book } };
+
+    ghost applied = { applied };
+
+    fn absorb_first(&mut self, entry: &Entry, _other: &Version) -> Result<(), AllocError> {
+        let past = entry.past.again();
+        grow(
+            &mut self.journal,
+            &mut self.file,
+            &mut self.map,
+            entry.events.as_slice(),
+        )?;
+        self.past = past;
+        Ok(())
+    }
+}
+
+impl Version {
+    /// The version after reset.
+    pub fn new(alloc: Global, past: Past) -> Version
+        ensures journal { result.journal ≡ [] }
+        ensures past { result.past ≡ past }
+    {
+        let file = RegFile::reset();
+        Version {
+            journal: Journal::new(alloc),
+            file,
+            map: RunMap::build(&file),
+            past,
+        }
+    }
+
+    /// Its batches.
+    pub fn journal(&self) -> &Journal
+        ensures { result.now ≡ self.now.journal }
+    {
+        &self.journal
+    }
+
+    /// What its events give.
+    pub fn file(&self) -> &RegFile
+        ensures { result.now ≡ file_after ENTRIES self.now.journal }
+    {
+        &self.file
+    }
+
+    /// The history up to it.
+    pub fn past(&self) -> Past
+        ensures { result ≡ self.now.past }
+    {
+        self.past.again()
+    }
+
+    /// Decides an access by the map.
+    pub fn decide(&self, access: &Access) -> Decision
+        ensures by_bytes { IsDecision (file_after ENTRIES self.now.journal) access.now result }
+        ensures computed { result ≡ decision_of (file_after ENTRIES self.now.journal) access.now }
+    {
+        self.map.decide(&self.file, access)
+    }
+}
