@@ -5,3 +5,4 @@ pub mod Adding
 pub mod RuleFacts
 pub mod StageFacts
 pub mod CheckFacts
+pub mod Crossing

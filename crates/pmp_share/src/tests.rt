@@ -97,10 +97,10 @@ fn unit_of_two<R: Wait + Abort>(rt: &R, alloc: Global) -> (Publisher, Checker, C
 fn learnt_batches_are_decided_in_whole(rt: HostRuntime) {
     let access = page_load(&rt);
     let (mut publisher, mut first, mut second) = unit_of_two(&rt, rt.alloc());
-    assert_eq!(rt; first.decide(&rt, &access), (BY_NO_ENTRY, 0));
+    assert_eq!(rt; first.decide(&access), (BY_NO_ENTRY, 0));
     assert_eq!(rt; publish(&rt, &mut publisher, &ENTRY_ZERO), 2);
     first.learn(tell(&rt, &mut publisher));
-    assert_eq!(rt; first.decide(&rt, &access), (BY_ENTRY_ZERO, 2));
+    assert_eq!(rt; first.decide(&access), (BY_ENTRY_ZERO, 2));
     assert_eq!(rt; publish(&rt, &mut publisher, &ENTRY_ONE), 4);
     let notice = tell(&rt, &mut publisher);
     let mut file = RegFile::reset();
@@ -108,10 +108,10 @@ fn learnt_batches_are_decided_in_whole(rt: HostRuntime) {
     file.run_events(&ENTRY_ONE);
     assert_eq!(rt; (notice.len(), notice.file()), (4, file));
     second.learn(notice);
-    assert_eq!(rt; second.decide(&rt, &access), (BY_ENTRY_ONE, 4));
-    assert_eq!(rt; first.decide(&rt, &access), (BY_ENTRY_ONE, 4));
+    assert_eq!(rt; second.decide(&access), (BY_ENTRY_ONE, 4));
+    assert_eq!(rt; first.decide(&access), (BY_ENTRY_ONE, 4));
     publisher.end(&rt);
-    assert_eq!(rt; second.decide(&rt, &access), (BY_ENTRY_ONE, 4));
+    assert_eq!(rt; second.decide(&access), (BY_ENTRY_ONE, 4));
 }
 
 /// A checker that looked at nothing but what it learnt would answer in 0 and in 2 events.
@@ -123,10 +123,10 @@ fn a_checker_looks_without_a_notice(rt: HostRuntime) {
     let notice = tell(&rt, &mut publisher);
     let len = notice.len();
     second.learn(notice);
-    assert_eq!(rt; first.decide(&rt, &access), (BY_ENTRY_ZERO, 2));
+    assert_eq!(rt; first.decide(&access), (BY_ENTRY_ZERO, 2));
     publish(&rt, &mut publisher, &ENTRY_ONE);
-    assert_eq!(rt; first.decide(&rt, &access), (BY_ENTRY_ONE, 4));
-    assert_eq!(rt; second.decide_at(&rt, len, &access), Err(Moved { seen: 4 }));
+    assert_eq!(rt; first.decide(&access), (BY_ENTRY_ONE, 4));
+    assert_eq!(rt; second.decide_at(len, &access), Err(Moved { seen: 4 }));
     publisher.end(&rt);
 }
 
@@ -139,7 +139,7 @@ fn an_empty_batch_moves_nothing(rt: HostRuntime) {
     let len = notice.len();
     assert_eq!(rt; publish(&rt, &mut publisher, &[]), 2);
     first.learn(notice);
-    assert_eq!(rt; first.decide_at(&rt, len, &access), Ok(BY_ENTRY_ZERO));
+    assert_eq!(rt; first.decide_at(len, &access), Ok(BY_ENTRY_ZERO));
     publisher.end(&rt);
 }
 
@@ -150,11 +150,11 @@ fn submitted_batches_are_withdrawn_unseen(rt: HostRuntime) {
     publish(&rt, &mut publisher, &ENTRY_ZERO);
     submit(&rt, &mut publisher, &ENTRY_ONE);
     assert_eq!(rt; (publisher.journal_len(), publisher.pending_len()), (2, 2));
-    assert_eq!(rt; first.decide(&rt, &access), (BY_ENTRY_ZERO, 2));
+    assert_eq!(rt; first.decide(&access), (BY_ENTRY_ZERO, 2));
     publisher.withdraw();
     assert_eq!(rt; publisher.pending_len(), 0);
     assert_eq!(rt; publisher.publish(&rt), Ok(2));
-    assert_eq!(rt; first.decide(&rt, &access), (BY_ENTRY_ZERO, 2));
+    assert_eq!(rt; first.decide(&access), (BY_ENTRY_ZERO, 2));
     publisher.end(&rt);
 }
 
@@ -164,11 +164,11 @@ fn units_beside_each_other_stay_apart(rt: HostRuntime) {
     let (mut left, mut on_left, _other_left) = unit_of_two(&rt, rt.alloc());
     let (mut right, mut on_right, _other_right) = unit_of_two(&rt, rt.alloc());
     publish(&rt, &mut left, &ENTRY_ZERO);
-    assert_eq!(rt; on_right.decide(&rt, &access), (BY_NO_ENTRY, 0));
+    assert_eq!(rt; on_right.decide(&access), (BY_NO_ENTRY, 0));
     publish(&rt, &mut right, &ENTRY_ZERO);
     publish(&rt, &mut right, &ENTRY_ONE);
-    assert_eq!(rt; on_left.decide(&rt, &access), (BY_ENTRY_ZERO, 2));
-    assert_eq!(rt; on_right.decide(&rt, &access), (BY_ENTRY_ONE, 4));
+    assert_eq!(rt; on_left.decide(&access), (BY_ENTRY_ZERO, 2));
+    assert_eq!(rt; on_right.decide(&access), (BY_ENTRY_ONE, 4));
     left.end(&rt);
     right.end(&rt);
 }

@@ -8,15 +8,9 @@ use crate::checker::{Checker, Moved};
 use crate::laws::law_same_events;
 use crate::notice::Notice;
 use pmp_core::{Access, Decision};
-use std::sync::Wait;
 
 /// Decides an access in just the batches that the notice tells of, if no more events are published.
-fn ask<R: Wait>(
-    rt: &R,
-    checker: &mut Checker,
-    notice: Notice,
-    access: &Access,
-) -> Result<Decision, Moved>
+fn ask(checker: &mut Checker, notice: Notice, access: &Access) -> Result<Decision, Moved>
     requires { notice.unit ≡ checker.old.unit }
     ensures unit { checker.new.unit ≡ checker.old.unit }
     ensures decided { IfOk result (λ decision. Decides notice.told access.now decision) }
@@ -24,7 +18,7 @@ fn ask<R: Wait>(
     let len = notice.len();
     checker.learn(notice);
     law_same_events();
-    checker.decide_at(rt, len, access)
+    checker.decide_at(len, access)
 }
 
 #[test]
@@ -34,10 +28,10 @@ fn a_worker_decides_in_what_it_was_told(rt: HostRuntime) {
     publish(&rt, &mut publisher, &ENTRY_ZERO);
     let notice = tell(&rt, &mut publisher);
     let late = tell(&rt, &mut publisher);
-    assert_eq!(rt; ask(&rt, &mut first, notice, &access), Ok(BY_ENTRY_ZERO));
+    assert_eq!(rt; ask(&mut first, notice, &access), Ok(BY_ENTRY_ZERO));
     publish(&rt, &mut publisher, &ENTRY_ONE);
     assert_eq!(rt;
-        ask(&rt, &mut second, late, &access),
+        ask(&mut second, late, &access),
         Err(Moved { seen: 4 })
     );
     publisher.end(&rt);

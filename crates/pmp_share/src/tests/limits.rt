@@ -36,7 +36,7 @@ fn a_unit_holds_so_many_events(rt: HostRuntime) {
     assert_eq!(rt; publish(&rt, &mut publisher, &[]), 1_048_576);
     let notice = tell(&rt, &mut publisher);
     assert_eq!(rt; notice.len(), 1_048_576);
-    assert_eq!(rt; checker.decide(&rt, &page_load(&rt)).1, 1_048_576);
+    assert_eq!(rt; checker.decide(&page_load(&rt)).1, 1_048_576);
     publisher.end(&rt);
 }
 
@@ -51,6 +51,6 @@ fn a_unit_holds_so_many_batches(rt: HostRuntime) {
     assert_eq!(rt; publisher.submit(&none), Err(ShareFault::Full));
     assert_eq!(rt; publisher.publish(&rt), Ok(2));
     assert_eq!(rt; publisher.submit(&none), Err(ShareFault::Full));
-    assert_eq!(rt; checker.decide(&rt, &page_load(&rt)), (BY_ENTRY_ZERO, 2));
+    assert_eq!(rt; checker.decide(&page_load(&rt)), (BY_ENTRY_ZERO, 2));
     publisher.end(&rt);
 }

@@ -42,7 +42,7 @@ fn watch<R: Wait + Abort>(rt: &R, mut checker: Checker, notice: Notice, decision
     let mut least = notice.len();
     checker.learn(notice);
     for asked in 0..decisions {
-        let (decision, count) = checker.decide(rt, &access);
+        let (decision, count) = checker.decide(&access);
         assert!(rt; least <= count, "the list went back to {count} events");
         assert!(rt;
             is_of_round(&decision, count),
@@ -83,8 +83,8 @@ fn swaps_are_seen_whole(rt: HostRuntime) {
     let mut second = second.join(&rt);
     first.learn(tell(&rt, &mut publisher));
     let access = page_load(&rt);
-    assert_eq!(rt; first.decide(&rt, &access), (BY_ENTRY_ZERO, 1002));
-    assert_eq!(rt; second.decide(&rt, &access), (BY_ENTRY_ZERO, 1002));
+    assert_eq!(rt; first.decide(&access), (BY_ENTRY_ZERO, 1002));
+    assert_eq!(rt; second.decide(&access), (BY_ENTRY_ZERO, 1002));
     publisher.end(&rt);
 }
 
@@ -99,6 +99,6 @@ fn a_dropped_checker_stops_no_publication(rt: HostRuntime) {
     swap_entries(&rt, &mut publisher);
     gone.join(&rt);
     assert_eq!(rt; publish(&rt, &mut publisher, &[]), 1002);
-    assert_eq!(rt; second.decide(&rt, &page_load(&rt)), (BY_ENTRY_ZERO, 1002));
+    assert_eq!(rt; second.decide(&page_load(&rt)), (BY_ENTRY_ZERO, 1002));
     publisher.end(&rt);
 }

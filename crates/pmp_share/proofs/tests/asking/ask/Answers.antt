@@ -25,7 +25,7 @@ begins_last held new told looked =
     (looked.begins (length held) told (omega (arith, length-append held (told ∷ []))))
 
 pub returns-clause-decided : goal.returns-clause-decided
-returns-clause-decided g c =
+returns-clause-decided c =
     let new = c.decide_at.new.self.held in
     let told = c.args.notice.told in
     let looked = subst (λ (held : List Batches). Looked held new) c.learn.ensures.held c.decide_at.ensures.looked in

@@ -3,6 +3,9 @@ use denote.Param.Send.{sendable}
 use Rattle.pmp_share.proofs.Crossing.{checker_send, notice_send}
 use Rattle.pmp_share.proofs.tests.swapping.swaps_are_seen_whole.Goals as goal
 
+pub spawn_with-requires-send-T : goal.spawn_with-requires-send-T
+spawn_with-requires-send-T g c κs = search (checker_send, sendable) depth 6
+
 pub spawn_with-requires-send-F : goal.spawn_with-requires-send-F
 spawn_with-requires-send-F g c κs = search (checker_send, notice_send, crosses, sendable) depth 20
 

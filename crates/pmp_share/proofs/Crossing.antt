@@ -1,0 +1,165 @@
+-- Checkers and notices may move into threads.
+use denote.Param.Send.{IsSend, IsSync, sendable, struct_send, struct_sync, recorded_send, recorded_sync}
+use denote.Param.SendFields.{declared_send, declared_sync, as_row_send, as_row_sync}
+use denote.Struct.Declared.{shape}
+use Rattle.std.proofs.Crossing.{crosses, send, sync, frees}
+use Rattle.std.specs.contracts.impls.GlobalAllocator.TheImpl as heap
+use Rattle.core.proofs.Crossing as core
+use Rattle.pmp_core.specs.contracts.register_file.RegFile as file
+use Rattle.pmp_core.specs.contracts.register_file.RegFile.TheInside as file_inside
+use Rattle.pmp_core.specs.contracts.entry.Entry as entry
+use Rattle.pmp_core.specs.contracts.range.ByteRange as range
+use Rattle.pmp_core.specs.contracts.mseccfg.MseccfgFields as mseccfg
+use Rattle.pmp_map.specs.contracts.answers.Answers as answers
+use Rattle.pmp_map.specs.contracts.run.Run as run
+use Rattle.pmp_map.specs.contracts.run_map.RunMap as run_map
+use Rattle.pmp_map.specs.contracts.run_map.RunMap.TheInside as map_inside
+use Rattle.pmp_share.specs.contracts.journal.Journal as journal
+use Rattle.pmp_share.specs.contracts.version.Version as version
+use Rattle.pmp_share.specs.contracts.digest.Digest as digest
+use Rattle.pmp_share.specs.contracts.digest.Digest.TheInside as digest_inside
+use Rattle.pmp_share.specs.contracts.stand.Stand as stand
+use Rattle.pmp_share.specs.contracts.stand.Stand.TheInside as stand_inside
+use Rattle.pmp_share.specs.contracts.held.Held as held
+use Rattle.pmp_share.specs.contracts.checker.Checker as checker
+use Rattle.pmp_share.specs.contracts.checker.Checker.TheInside as checker_inside
+use Rattle.pmp_share.specs.contracts.notice.Notice as notice
+use Rattle.pmp_share.specs.contracts.notice.Notice.TheInside as notice_inside
+use Rattle.pmp_share.specs.contracts.past.LawRuleLinkedListEventU64.TheImpl as law
+use Rattle.pmp_share.specs.contracts.rule.OneHistoryProtocolVersionView.TheImpl as rule
+use Rattle.logbook.proofs.tokens.Seen.TheSendSync as seen
+use Rattle.left_right.specs.contracts.reader.Reader as reader_of
+use Rattle.core.specs.contracts.option.Option as option
+use Rattle.std.specs.contracts.alloc.Global as global
+use Rattle.pmp_share.specs.contracts.view.Known as known
+use Rattle.pmp_share.specs.contracts.rule.OneHistory as history
+use Rattle.left_right.proofs.reader.Reader.TheSendSync as reader
+
+entry_send : IsSend (entry.the_field).row
+entry_send = search (crosses, sendable) depth 14
+
+range_send : IsSend (range.the_field).row
+range_send = search (crosses, sendable) depth 14
+
+mseccfg_send : IsSend (mseccfg.the_field).row
+mseccfg_send = search (crosses, sendable) depth 14
+
+file_fields_send : IsSend file_inside.the_row
+file_fields_send = search (entry_send, range_send, mseccfg_send, crosses, sendable) depth 14
+
+file_send : IsSend (file.the_field).row
+file_send = search (file_fields_send, sendable) depth 14
+
+journal_send : IsSend (journal.the_field).row
+journal_send = search (crosses, sendable) depth 14
+
+entry_sync : IsSync (entry.the_field).row
+entry_sync = search (crosses, sendable) depth 14
+
+range_sync : IsSync (range.the_field).row
+range_sync = search (crosses, sendable) depth 14
+
+mseccfg_sync : IsSync (mseccfg.the_field).row
+mseccfg_sync = search (crosses, sendable) depth 14
+
+file_fields_sync : IsSync file_inside.the_row
+file_fields_sync = search (entry_sync, range_sync, mseccfg_sync, crosses, sendable) depth 14
+
+file_sync : IsSync (file.the_field).row
+file_sync = search (file_fields_sync, sendable) depth 14
+
+journal_sync : IsSync (journal.the_field).row
+journal_sync = search (crosses, sendable) depth 14
+
+run_send : IsSend run.the_row
+run_send = search (crosses, sendable) depth 14
+
+run_sync : IsSync run.the_row
+run_sync = search (crosses, sendable) depth 14
+
+answers_send : IsSend answers.the_row
+answers_send = search (crosses, sendable) depth 14
+
+answers_sync : IsSync answers.the_row
+answers_sync = search (crosses, sendable) depth 14
+
+map_inside_send : IsSend map_inside.the_row
+map_inside_send = declared_send map_inside.the_type (
+  search (core.crosses, sendable) depth 12,
+  (
+    search (run_send, crosses, sendable) depth 12,
+    (search sendable depth 12, (search (answers_send, sendable) depth 12, tt)),
+  ),
+)
+
+map_send : IsSend (run_map.the_field).row
+map_send = search (map_inside_send, sendable) depth 6
+
+map_inside_sync : IsSync map_inside.the_row
+map_inside_sync = declared_sync map_inside.the_type (
+  search (core.crosses, sendable) depth 12,
+  (
+    search (run_sync, crosses, sendable) depth 12,
+    (search sendable depth 12, (search (answers_sync, sendable) depth 12, tt)),
+  ),
+)
+
+map_sync : IsSync (run_map.the_field).row
+map_sync = search (map_inside_sync, sendable) depth 6
+
+version_send : IsSend version.the_row
+version_send = declared_send version.the_type (
+  as_row_send journal.the_field journal_send,
+  (as_row_send file.the_field file_send, (as_row_send run_map.the_field map_send, (seen.the_send _ _ _ law.ghosts, tt))),
+)
+
+version_sync : IsSync version.the_row
+version_sync = declared_sync version.the_type (
+  as_row_sync journal.the_field journal_sync,
+  (as_row_sync file.the_field file_sync, (as_row_sync run_map.the_field map_sync, (seen.the_sync _ _ _ law.ghosts, tt))),
+)
+
+digest_inside_send : IsSend digest_inside.the_row
+digest_inside_send = declared_send digest_inside.the_type (
+  as_row_send file.the_field file_send,
+  (
+    search (as_row_send, sendable) depth 6,
+    (
+      search (as_row_send, sendable) depth 6,
+      (search (core.crosses, sendable) depth 12, tt),
+    ),
+  ),
+)
+
+digest_send : IsSend digest.the_row
+digest_send = search (digest_inside_send, sendable) depth 6
+
+held_send : IsSend held.the_row
+held_send = search (seen.the_send, sendable) depth 10
+
+reader_send : IsSend (reader_of.the_field version.the_row (option.the_row known.the_row) history.the_row global.the_row
+    rule.ghosts heap.ghosts).row
+reader_send = reader.the_field_send version.the_row (option.the_row known.the_row) history.the_row global.the_row
+    rule.ghosts heap.ghosts send version_sync sync frees
+
+stand_inside_send : IsSend stand_inside.the_row
+stand_inside_send = declared_send stand_inside.the_type (
+  as_row_send (reader_of.the_field version.the_row (option.the_row known.the_row) history.the_row global.the_row
+      rule.ghosts heap.ghosts) reader_send,
+  (search (digest_send, crosses, sendable) depth 12, (seen.the_send _ _ _ law.ghosts, tt)),
+)
+
+stand_send : IsSend stand.the_row
+stand_send = search (stand_inside_send, sendable) depth 6
+
+checker_inside_send : IsSend checker_inside.the_row
+checker_inside_send = declared_send checker_inside.the_type (stand_send, (held_send, tt))
+
+pub checker_send : IsSend checker.the_row
+checker_send = search (checker_inside_send, sendable) depth 6
+
+notice_inside_send : IsSend notice_inside.the_row
+notice_inside_send = declared_send notice_inside.the_type (stand_send, tt)
+
+pub notice_send : IsSend notice.the_row
+notice_send = search (notice_inside_send, sendable) depth 6
