@@ -4,6 +4,7 @@ use super::{BY_ENTRY_ZERO, batch_of, page_load, publish, tell, unit_of_two};
 use crate::batch::{Batch, BatchFull};
 use crate::fault::ShareFault;
 use crate::room::HISTORY_LIMIT;
+use crate::stage::PLACES;
 use pmp_core::{BATCH_EVENTS, Csr, Event};
 
 #[test]
@@ -52,5 +53,26 @@ fn a_unit_holds_so_many_batches(rt: HostRuntime) {
     assert_eq!(rt; publisher.publish(&rt), Ok(2));
     assert_eq!(rt; publisher.submit(&none), Err(ShareFault::Full));
     assert_eq!(rt; checker.decide(&page_load(&rt)), (BY_ENTRY_ZERO, 2));
+    publisher.end(&rt);
+}
+
+#[test]
+fn so_many_notices_are_out_at_once(rt: HostRuntime) {
+    let (mut publisher, _first, _second) = unit_of_two(&rt, rt.alloc());
+    let mut notices = Vec::new(rt.alloc());
+    for _ in 2..PLACES {
+        let notice = tell(&rt, &mut publisher);
+        notices.push(notice).ok().expect(&rt, "memory");
+    }
+    assert_eq!(rt; publisher.tell().err(), Some(ShareFault::NoPlace));
+    drop(notices.pop());
+    notices
+        .push(tell(&rt, &mut publisher))
+        .ok()
+        .expect(&rt, "memory");
+    assert_eq!(rt; publisher.tell().err(), Some(ShareFault::NoPlace));
+    assert_eq!(rt; publish(&rt, &mut publisher, &super::ENTRY_ZERO), 2);
+    drop(notices);
+    assert_eq!(rt; tell(&rt, &mut publisher).len(), 2);
     publisher.end(&rt);
 }
