@@ -1,3 +1,4 @@
+pub mod Dealing
 pub mod DecidedAccess
 pub mod Lists
 pub mod OneReport

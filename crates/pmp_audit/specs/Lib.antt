@@ -10,3 +10,5 @@ pub mod Fault
 -- The rest, which only private contracts cite.
 pub mod Replay
 pub mod Report
+pub mod Working
+pub mod Rounds

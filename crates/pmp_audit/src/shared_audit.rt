@@ -6,6 +6,12 @@ ghost use Rattle.pmp_audit.specs.Answers.{IsWritten, IsRefused};
 ghost use Rattle.pmp_audit.specs.SharedAudit.{SharedAuditRefuses};
 ghost use Rattle.pmp_audit.specs.TraceAudit.{AuditSays};
 
+mod hand;
+mod job;
+mod merging;
+mod row_decision;
+mod working;
+
 use crate::fault::AuditFault;
 use crate::gate::Gate;
 use crate::trace_audit::{Summary, audit};

@@ -1,0 +1,18 @@
+use Rattle.std.proofs.Common.{◌≡◌, All, map}
+use Rattle.std.specs.List.{enumerate_from}
+use Rattle.pmp_core.specs.declared.register_file.TheConstants.{ENTRIES}
+use Rattle.pmp_core.specs.Histories.{file_after}
+use Rattle.pmp_audit.specs.Working.{HasLearnt, row_of}
+use Rattle.pmp_audit.proofs.Dealing.{IsDealtSoFar}
+use Rattle.pmp_audit.proofs.shared_audit.working.work.Given as goal
+
+-- what the notice tells of is learnt, and the turns so far are decided in it
+abbrev pub invariant-loop-turn : goal.invariant-loop-turn
+invariant-loop-turn g l = record {
+  same_unit : l.checker.unit ≡ l.fn.checker.unit;
+  learnt : HasLearnt l.checker.held l.count l.file;
+  file_is : l.file ≡ file_after ENTRIES l.fn.notice.told;
+  dealt : IsDealtSoFar l.hand.worker l.hand.workers (enumerate_from l.hand.first l.hand.rows.now) l.turn
+      (map row_of l.decisions.items);
+  in_file : All (λ decision. decision.file.value ≡ l.file) l.decisions.items;
+}

@@ -1,0 +1,37 @@
+-- What a worker of a shared audit knows and does.
+use Rattle.std.specs.Prelude.{◌≡◌, ℕ, ◌≤◌, ◌%◌, ◌/◌, List, All, map, slice_get}
+use Rattle.std.specs.List.{enumerate_from}
+use Rattle.atomic_table.specs.Seated.{TableId}
+use Rattle.pmp_core.specs.declared.register_file.TheConstants.{ENTRIES}
+use Rattle.pmp_core.specs.Histories.{file_after}
+use Rattle.pmp_core.specs.RegisterFile.{RegisterFile}
+use Rattle.pmp_share.specs.Batches.{Batches, event_count}
+use Rattle.pmp_share.specs.Looks.{latest, Bound}
+use Rattle.pmp_text.specs.declared.trace.Row.{Row}
+use Rattle.pmp_audit.specs.declared.shared_audit.job.Done.{Done}
+use Rattle.pmp_audit.specs.declared.shared_audit.row_decision.RowDecision.{RowDecision}
+
+-- a worker has those whose place modulo the number of workers is its own, in their order
+abbrev pub IsDealt : {A : Type 0} → (worker workers : ℕ) → (all hand : List A) → Type 0
+IsDealt worker workers all hand =
+    (place : ℕ) → place % workers ≡ worker → slice_get hand (place / workers) ≡ slice_get all place
+
+-- some batches are bound that hold so many events and give this file
+pub record HasLearnt (held : List Batches) (count : ℕ) (file : RegisterFile) : Type 0 where
+  pub told : Batches
+  pub bound : Bound held told
+  pub counted : count ≡ event_count told
+  pub replayed : file ≡ file_after ENTRIES told
+  pub reached : count ≤ event_count (latest held)
+
+-- what a decision is of: the number of its row, and the row
+abbrev pub row_of : RowDecision → ℕ × Row
+row_of decision = (decision.number, decision.row.value)
+
+-- a worker's checker is of the same unit, and there is a decision in this file for each of the worker's rows, of which
+-- the first of all has this number
+pub record IsDone (unit : TableId) (file : RegisterFile) (worker workers first : ℕ) (rows : List Row) (done : Done)
+    : Type 0 where
+  pub same_unit : done.checker.unit ≡ unit
+  pub dealt : IsDealt worker workers (enumerate_from first rows) (map row_of done.decisions.items)
+  pub in_file : All (λ decision. decision.file.value ≡ file) done.decisions.items

@@ -1,0 +1,23 @@
+//! What a worker is given for one round, and what it brings back.
+
+ghost use Rattle.std.specs.Prelude.{◌≡◌};
+
+use super::row_decision::RowDecision;
+use pmp_share::{Checker, Notice};
+
+/// A worker's checker, and a notice of what is published.
+#[derive(Drop)]
+pub(crate) struct Job {
+    /// From 0.
+    pub worker: u8,
+    pub checker: Checker,
+    pub notice: Notice,
+    pub ghost same_unit: { notice.unit ≡ checker.unit },
+}
+
+/// The checker again, and the decisions of the worker's rows, in their order.
+#[derive(Drop)]
+pub(crate) struct Done {
+    pub checker: Checker,
+    pub decisions: Vec<RowDecision>,
+}

@@ -1,0 +1,76 @@
+//! A worker: it decides its rows of one round, in just what its notice tells of.
+
+ghost use Rattle.std.specs.Prelude.{◌≡◌, OnOk, IfOk, IfErr};
+ghost use Rattle.pmp_core.specs.declared.register_file.TheConstants.{ENTRIES};
+ghost use Rattle.pmp_core.specs.Histories.{file_after};
+ghost use Rattle.pmp_audit.specs.SharedAudit.{MayStop};
+ghost use Rattle.pmp_audit.specs.Working.{HasLearnt, IsDone, row_of};
+
+use super::hand::Hand;
+use super::job::Done;
+use super::row_decision::RowDecision;
+use crate::fault::AuditFault;
+use crate::gate::Gate;
+use pmp_core::RegFile;
+use pmp_share::laws::law_same_events;
+use pmp_share::{Checker, Moved, Notice};
+use pmp_text::Row;
+use std::alloc::Global;
+use std::snapshot::Snapshot;
+use std::sync::Wait;
+
+/// Decides the row with this number in this file, which `count` events that the checker learnt of give, if no more
+/// events are published.
+fn ask<R: Wait>(
+    rt: &R,
+    checker: &mut Checker,
+    count: u64,
+    file: &RegFile,
+    number: u64,
+    row: &Row,
+) -> Result<RowDecision, Moved>
+    requires { HasLearnt checker.old.held count file.now }
+    ensures unit { checker.new.unit ≡ checker.old.unit }
+    ensures learnt { OnOk result (HasLearnt checker.new.held count file.now) }
+    ensures row { IfOk result (λ decision. row_of decision ≡ (number, row.now)) }
+    ensures file { IfOk result (λ decision. decision.file.value ≡ file.now) }
+{
+    law_same_events();
+    let decision = checker.decide_at(rt, count, &row.access)?;
+    Ok(RowDecision {
+        number,
+        decision,
+        row: Snapshot::of(row),
+        file: Snapshot::of(file),
+    })
+}
+
+/// Learns the notice and decides the worker's rows in what it tells of. After each row it passes the gate.
+///
+/// The refusals are `Moved`, where more is published than that, and `Memory`.
+pub(crate) fn work<R: Wait, G: Gate>(
+    rt: &R,
+    alloc: Global,
+    mut checker: Checker,
+    notice: Notice,
+    hand: Hand,
+    gate: &G,
+) -> Result<Done, AuditFault>
+    requires { notice.unit ≡ checker.unit }
+    ensures done { IfOk result (IsDone checker.unit (file_after ENTRIES notice.told) hand.entry.worker
+        hand.entry.workers hand.entry.first hand.entry.rows.now) }
+    ensures refused { IfErr result MayStop }
+{
+    let count = notice.len();
+    let file = notice.file();
+    checker.learn(notice);
+    let mut decisions = Vec::new(alloc);
+    for turn in 0..hand.count() {
+        let place = hand.place(turn);
+        let number = hand.first + place as u64;
+        let decision = ask(rt, &mut checker, count, &file, number, &hand.rows[place])?;
+        decisions.push(decision)?;
+        gate.pass(hand.worker, number);
+    }
+    Ok(Done { checker, decisions })
+}
