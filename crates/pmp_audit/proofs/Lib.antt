@@ -1,3 +1,6 @@
+pub mod Crossing
+pub mod Merging
+pub mod Asking
 pub mod Dealing
 pub mod DecidedAccess
 pub mod Lists

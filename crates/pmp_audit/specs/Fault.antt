@@ -8,7 +8,9 @@ use Rattle.pmp_text.specs.declared.trace.TraceFault.{TraceFault}
 use Rattle.pmp_text.specs.declared.trace.TraceKind.{TraceKind}
 use Rattle.pmp_text.specs.declared.trace.TraceKind.TheVariants as trace
 use Rattle.pmp_audit.specs.declared.fault.AuditFault.{AuditFault}
-use Rattle.pmp_audit.specs.declared.fault.AuditFault.TheVariants.{Script, Trace, Share, Memory}
+use Rattle.pmp_audit.specs.declared.fault.AuditFault.TheVariants.{Script, Trace, Share, Moved, Memory}
+use Rattle.pmp_audit.specs.declared.shared_audit.work_fault.WorkFault.{WorkFault}
+use Rattle.pmp_audit.specs.declared.shared_audit.work_fault.WorkFault.TheVariants as work
 
 -- want of memory is the same in every layer
 abbrev pub script_fault_as : ScriptKind → ScriptFault → AuditFault
@@ -28,3 +30,7 @@ fault_of_trace fault = trace_fault_as fault.kind fault
 abbrev pub fault_of_share : ShareFault → AuditFault
 fault_of_share share.Memory = Memory
 fault_of_share fault = Share fault
+
+abbrev pub fault_of_work : WorkFault → AuditFault
+fault_of_work (work.Moved moved) = Moved moved
+fault_of_work work.Memory = Memory

@@ -1,20 +1,23 @@
 -- What is decided between two publications of a shared audit.
-use Rattle.std.specs.Prelude.{◌≡◌, ℕ, ◌==◌, ◌≤◌, ◌<◌, List, length, map, take, drop, take_while, slice_get, Some}
+use Rattle.std.specs.Prelude.{◌≡◌, ℕ, ◌==◌, ◌≤◌, List, [], ◌∷◌, All, length, map, take, drop, slice_get, Some, if◌then◌else◌}
 use Rattle.atomic_table.specs.Seated.{TableId}
 use Rattle.pmp_core.specs.declared.decision.Decision.{Decision}
 use Rattle.pmp_core.specs.declared.event.Event.{Event}
 use Rattle.pmp_core.specs.Ranges.{decision_of}
 use Rattle.pmp_core.specs.RegisterFile.{RegisterFile}
+use Rattle.pmp_share.specs.Tokens.{PublisherToken, CheckerToken}
 use Rattle.pmp_text.specs.declared.trace.Row.{Row}
 use Rattle.pmp_text.specs.TraceFaults.{IsInOrder, afters}
 use Rattle.pmp_text.specs.Traces.{row_fields}
+use Rattle.pmp_audit.specs.declared.shared_audit.job.Job.{Job}
 use Rattle.pmp_audit.specs.declared.shared_audit.job.Done.{Done}
 use Rattle.pmp_audit.specs.TraceAudit.{file_of_row}
-use Rattle.pmp_audit.specs.Working.{IsDone}
+use Rattle.pmp_audit.specs.Working.{IsDealt}
 
 -- the rows at the front that ask for just so many publications
 abbrev pub asking : (after : ℕ) → List Row → List Row
-asking after rows = take_while (λ row. row.after == after) rows
+asking after [] = []
+asking after (row ∷ rows) = if row.after == after then row ∷ asking after rows else []
 
 -- the decisions of rows in one file
 abbrev pub decided_in : RegisterFile → List Row → List Decision
@@ -25,13 +28,34 @@ abbrev pub decision_for : List (List Event) → Row → Decision
 decision_for batches row = decision_of (file_of_row batches row) row.access
 
 -- the rows so far are decided, and those that are left ask for no fewer publications than these
-pub record IsDecidedSoFar (batches : List (List Event)) (rows : List Row) (after : ℕ) (decided : List Decision)
+pub record AreDecidedSoFar (batches : List (List Event)) (rows : List Row) (after : ℕ) (decided : List Decision)
     : Type 0 where
   pub within : length decided ≤ length rows
   pub decisions : decided ≡ map (decision_for batches) (take (length decided) rows)
   pub order : IsInOrder (length batches) after (afters (map row_fields (drop (length decided) rows)))
 
--- each worker is done, and they are numbered in order
-abbrev pub AreDone : (unit : TableId) → (file : RegisterFile) → (first : ℕ) → List Row → List Done → Type 0
-AreDone unit file first rows all =
-    (worker : ℕ) (done : Done) → slice_get all worker ≡ Some done → IsDone unit file worker (length all) first rows done
+-- so many checkers, all of one unit
+pub record AreCheckersOf (unit : TableId) (count : ℕ) (checkers : List CheckerToken) : Type 0 where
+  pub many : length checkers ≡ count
+  pub same_unit : All (λ checker. checker.unit ≡ unit) checkers
+
+-- a checker of the publisher's unit, and a notice of all that is published
+pub record IsJob (publisher : PublisherToken) (worker : ℕ) (job : Job) : Type 0 where
+  pub numbered : job.worker ≡ worker
+  pub same_unit : job.checker.unit ≡ publisher.unit
+  pub notice : job.notice ≡ record { unit = publisher.unit; told = publisher.published }
+
+-- so many jobs, one for each worker
+pub record AreJobs (publisher : PublisherToken) (count : ℕ) (jobs : List Job) : Type 0 where
+  pub many : length jobs ≡ count
+  pub each : (worker : ℕ) (job : Job) → slice_get jobs worker ≡ Some job → IsJob publisher worker job
+
+-- each worker has decided its rows
+abbrev pub AreDealt : List Row → List Done → Type 0
+AreDealt rows all = (worker : ℕ) (done : Done) → slice_get all worker ≡ Some done
+    → IsDealt worker (length all) rows (map (λ decision. decision.row.value) done.decisions.items)
+
+-- all were decided in this file
+abbrev pub AreInFile : RegisterFile → List Done → Type 0
+AreInFile file all = (worker : ℕ) (done : Done) → slice_get all worker ≡ Some done
+    → All (λ decision. decision.file.value ≡ file) done.decisions.items

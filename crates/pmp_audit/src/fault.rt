@@ -2,11 +2,11 @@
 
 ghost use Rattle.std.specs.Prelude.{◌≡◌};
 ghost use Rattle.pmp_audit.specs.Fault.{fault_of_script, fault_of_trace, fault_of_share};
-ghost use Rattle.pmp_audit.specs.declared.fault.AuditFault.TheVariants.{Moved, Memory, Output};
+ghost use Rattle.pmp_audit.specs.declared.fault.AuditFault.TheVariants.{Memory, Output};
 
-use pmp_share::ShareFault;
+use pmp_share::{Moved, ShareFault};
 use pmp_text::{NoMemory, OutputFault, ScriptFault, ScriptKind, TraceFault, TraceKind};
-use std::alloc::{AllocError, AllocFailed};
+use std::alloc::AllocError;
 use thiserror::Error;
 
 /// Why a script, or a script and a trace, get no answer.
@@ -23,7 +23,7 @@ pub enum AuditFault {
     Share(ShareFault),
     /// More events were published than a worker was told of.
     #[error("more events were published than a worker was told of")]
-    Moved(pmp_share::Moved),
+    Moved(Moved),
     /// The script has fewer publications than were asked for.
     #[error("the script has fewer publications than were asked for")]
     BadAfter,
@@ -68,26 +68,10 @@ impl From<ShareFault> for AuditFault {
     }
 }
 
-impl From<pmp_share::Moved> for AuditFault {
-    ghost from_gives = { λ moved answer. answer ≡ Moved moved };
-
-    fn from(moved: pmp_share::Moved) -> AuditFault {
-        AuditFault::Moved(moved)
-    }
-}
-
 impl From<AllocError> for AuditFault {
     ghost from_gives = { λ _ answer. answer ≡ Memory };
 
     fn from(_error: AllocError) -> AuditFault {
-        AuditFault::Memory
-    }
-}
-
-impl<T: Drop> From<AllocFailed<T>> for AuditFault {
-    ghost from_gives = { λ _ answer. answer ≡ Memory };
-
-    fn from(_failed: AllocFailed<T>) -> AuditFault {
         AuditFault::Memory
     }
 }

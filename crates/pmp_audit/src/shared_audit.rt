@@ -6,21 +6,33 @@ ghost use Rattle.pmp_audit.specs.Answers.{IsWritten, IsRefused};
 ghost use Rattle.pmp_audit.specs.SharedAudit.{SharedAuditRefuses};
 ghost use Rattle.pmp_audit.specs.TraceAudit.{AuditSays};
 
+mod asking;
+mod deciding;
 mod hand;
 mod job;
+mod listing;
 mod merging;
+mod publishing;
+mod rounds;
 mod row_decision;
+mod work_fault;
 mod working;
 
+use crate::answer::write_answer;
 use crate::fault::AuditFault;
 use crate::gate::Gate;
-use crate::trace_audit::{Summary, audit};
+use crate::trace_audit::Summary;
+use deciding::decide_shared;
+use listing::list_decisions;
+use pmp_core::laws::{law_decided_by_ranges, law_legal};
+use pmp_text::laws::law_script_size;
+use pmp_text::{read_script, read_trace};
 use std::alloc::Global;
 use std::io::Write;
 use std::sync::Wait;
 use std::thread::Threads;
 
-/// Answers as [`audit`] does, by `k` workers, each with a checker of one unit and mostly a thread of its own.
+/// Answers as [`audit`](crate::audit) does, by `k` workers, each with a checker of one unit and mostly a thread of its own.
 ///
 /// The script's publications are done one at a time, and after each, and before the first, the rows that ask for just
 /// these go to the workers: of those with one `after`, worker `w` takes the rows whose place, from 0, modulo `k` is
@@ -45,8 +57,13 @@ pub fn audit_shared<R: Threads + Wait + Sync, G: Gate + Sync, W: Write>(
         (IsRefused (AuditSays script.now trace.now) (W.contents writer.old) (W.contents writer.new)
         (SharedAuditRefuses script.now trace.now)) }
 {
-    let _ = rt;
-    let _ = gate;
-    let _ = k;
-    audit(alloc, script, trace, writer)
+    let script = read_script(alloc, script)?;
+    let rows = read_trace(alloc, trace, script.batches())?;
+    law_script_size();
+    let decisions = decide_shared(rt, alloc, gate, k, &script, &rows)?;
+    law_legal();
+    law_decided_by_ranges();
+    let mut report = Vec::new(alloc);
+    let summary = list_decisions(&mut report, &rows, &decisions)?;
+    write_answer(writer, &report, summary)
 }

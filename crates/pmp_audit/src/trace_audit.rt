@@ -65,7 +65,7 @@ fn write_report(report: &mut Vec<u8>, script: &Script, rows: &[Row]) -> Result<S
 
 impl Summary {
     /// One more row, which was decided so.
-    fn count(&mut self, decision: Decision)
+    pub(crate) fn count(&mut self, decision: Decision)
         requires rows { self.old.rows + 1 < 2 ^ 64 }
         requires faults { self.old.faults ≤ self.old.rows }
         ensures rows { self.new.rows ≡ self.old.rows + 1 }

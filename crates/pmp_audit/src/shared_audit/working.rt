@@ -1,15 +1,14 @@
 //! A worker: it decides its rows of one round, in just what its notice tells of.
 
-ghost use Rattle.std.specs.Prelude.{◌≡◌, OnOk, IfOk, IfErr};
+ghost use Rattle.std.specs.Prelude.{◌≡◌, OnOk, IfOk};
 ghost use Rattle.pmp_core.specs.declared.register_file.TheConstants.{ENTRIES};
 ghost use Rattle.pmp_core.specs.Histories.{file_after};
-ghost use Rattle.pmp_audit.specs.SharedAudit.{MayStop};
 ghost use Rattle.pmp_audit.specs.Working.{HasLearnt, IsDone, row_of};
 
 use super::hand::Hand;
 use super::job::Done;
 use super::row_decision::RowDecision;
-use crate::fault::AuditFault;
+use super::work_fault::WorkFault;
 use crate::gate::Gate;
 use pmp_core::RegFile;
 use pmp_share::laws::law_same_events;
@@ -46,8 +45,6 @@ fn ask<R: Wait>(
 }
 
 /// Learns the notice and decides the worker's rows in what it tells of. After each row it passes the gate.
-///
-/// The refusals are `Moved`, where more is published than that, and `Memory`.
 pub(crate) fn work<R: Wait, G: Gate>(
     rt: &R,
     alloc: Global,
@@ -55,11 +52,10 @@ pub(crate) fn work<R: Wait, G: Gate>(
     notice: Notice,
     hand: Hand,
     gate: &G,
-) -> Result<Done, AuditFault>
+) -> Result<Done, WorkFault>
     requires { notice.unit ≡ checker.unit }
-    ensures done { IfOk result (IsDone checker.unit (file_after ENTRIES notice.told) hand.entry.worker
+    ensures { IfOk result (IsDone checker.unit (file_after ENTRIES notice.told) hand.entry.worker
         hand.entry.workers hand.entry.first hand.entry.rows.now) }
-    ensures refused { IfErr result MayStop }
 {
     let count = notice.len();
     let file = notice.file();

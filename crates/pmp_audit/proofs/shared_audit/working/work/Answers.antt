@@ -41,8 +41,8 @@ loop-turn-preserved g c =
       in_file = rw pushed (All-push (λ (d : RowDecision). d.file.value ≡ c.file-file.result) decisions decision c.loop-turn.invariant.in_file c.in_ok-decision.ensures.file);
     }
 
-pub returns-clause-done : goal.returns-clause-done
-returns-clause-done g c =
+pub returns : goal.returns
+returns g c =
     let hand = c.args.hand in
     let all = enumerate_from hand.first hand.rows.now in
     let decisions = c.loop-turn.decisions.items in

@@ -1,0 +1,206 @@
+-- What workers bring back, in the order of the rows.
+use Rattle.std.proofs.Common.{◌≡◌, ℕ, ◌+◌, ◌<◌, ◌≤◌, ◌/◌, ◌%◌, ◌⊎◌, inl, inr, List, [], ◌∷◌, ◌++◌, length, map, All}
+use Rattle.std.proofs.Common.{Option, Some, None, Result, Ok, IfOk, refl, sym, ap, ◌∙◌, arith, subst, get_or, take, append_assoc}
+use Rattle.std.specs.Prelude.{slice_get}
+use Rattle.std.specs.List.{enumerate_from}
+use Rattle.std.specs.Option.{option_map}
+use Rattle.std.proofs.lemmas.List.{map_more, length-append, length_push, get_or_at, length-map, get_or-map}
+use Rattle.std.proofs.lemmas.Bool.{cases_lt}
+use Rattle.std.proofs.lemmas.Option.{slice_get-map, slice_get_within, slice_get_cases, get_or_from_slice_get}
+use Rattle.std.proofs.lemmas.Option.{same_Some, some_pair_parts, slice_get_past, slice_get-get_or}
+use Rattle.pmp_core.specs.declared.decision.Decision.{Decision}
+use Rattle.pmp_core.specs.declared.register_file.TheConstants.{ENTRIES}
+use Rattle.pmp_core.specs.Histories.{file_after}
+use Rattle.pmp_core.specs.Ranges.{decision_of}
+use Rattle.pmp_core.specs.RegisterFile.{RegisterFile}
+use Rattle.atomic_table.specs.Seated.{TableId}
+use Rattle.pmp_share.specs.Batches.{Batches}
+use Rattle.pmp_share.specs.Tokens.{PublisherToken, CheckerToken, NoticeToken}
+use Rattle.pmp_text.specs.declared.trace.Row.{Row}
+use Rattle.pmp_audit.specs.declared.shared_audit.work_fault.WorkFault.{WorkFault}
+use Rattle.pmp_audit.specs.declared.shared_audit.job.Done.{Done}
+use Rattle.pmp_audit.specs.declared.shared_audit.job.Job.{Job}
+use Rattle.pmp_audit.specs.declared.shared_audit.row_decision.RowDecision.{RowDecision}
+use Rattle.pmp_audit.specs.Rounds.{AreCheckersOf, AreDealt, AreInFile, AreJobs, IsJob, decided_in}
+use Rattle.pmp_audit.specs.Working.{IsDealt, IsDone, row_of}
+use Rattle.pmp_audit.proofs.Dealing.{slice_get-push_old, slice_get-push_new, slice_get-enumerate_from}
+use Rattle.pmp_audit.proofs.Dealing.{length-enumerate_from}
+
+-- ---- one decision more
+
+abbrev pub row_at : RowDecision → Row
+row_at decision = decision.row.value
+
+module _ (rows : List Row) (all : List Done) (place : ℕ) (done : Done)
+    (dealt : AreDealt rows all) (at_done : slice_get all (place % length all) ≡ Some done) where
+  same_row : slice_get (map row_at done.decisions.items) (place / length all) ≡ slice_get rows place
+  same_row = dealt (place % length all) done at_done place refl
+
+  pub is_decided : place < length rows → place / length all < length done.decisions.items
+  is_decided inside = elim ((slice_get_cases rows place).1) [
+    | inl (row, _, at, _) ↦
+        let within = slice_get_within (map row_at done.decisions.items) (place / length all) row (same_row ∙ at) in
+        omega (arith, length-map done.decisions.items row_at)
+    | inr (past, _) ↦ absurd (omega arith)
+  ]
+
+  module _ (decision : RowDecision) (at : slice_get done.decisions.items (place / length all) ≡ Some decision) where
+    own_row : slice_get rows place ≡ Some (row_at decision)
+    own_row = sym same_row ∙ slice_get-map row_at done.decisions.items (place / length all) ∙ ap (option_map row_at) at
+
+    pub merged : (file : RegisterFile) (old held new : List Decision) → AreInFile file all → place < length rows
+        → held ≡ old ++ decided_in file (take place rows) → new ≡ held ++ decision.decision ∷ []
+        → new ≡ old ++ decided_in file (take (place + 1) rows)
+    merged file old held new in_file inside so_far pushed =
+        let turn = place / length all in
+        let items = done.decisions.items in
+        let file_is : decision.file.value ≡ file =
+        subst (λ (d : RowDecision). d.file.value ≡ file) (get_or_from_slice_get items turn decision decision at)
+        (in_file (place % length all) done at_done turn decision (slice_get_within items turn decision at)) in
+        let row_is : get_or rows place (row_at decision) ≡ row_at decision =
+        get_or_from_slice_get rows place (row_at decision) (row_at decision) own_row in
+        let decided : decision.decision ≡ decision_of file (row_at decision).access =
+        decision.decided ∙ ap (λ (f : RegisterFile). decision_of f (row_at decision).access) file_is in
+        let before = decided_in file (take place rows) in
+        let step : decided_in file (take (place + 1) rows) ≡ before ++ decision.decision ∷ [] =
+        map_more (λ (row : Row). decision_of file row.access) rows place (row_at decision) inside
+        ∙ ap (λ (row : Row). before ++ decision_of file row.access ∷ []) row_is
+        ∙ ap (λ (d : Decision). before ++ d ∷ []) (sym decided) in
+        pushed ∙ ap (λ (l : List Decision). l ++ decision.decision ∷ []) so_far
+        ∙ append_assoc old before (decision.decision ∷ []) ∙ ap (λ (l : List Decision). old ++ l) (sym step)
+
+-- ---- one job more
+
+pub all_at : {A : Type 0} (P : A → Type 0) (xs : List A) (x : A) (ys all : List A)
+    → xs ++ (x ∷ ys) ≡ all → All P all → P x
+all_at P xs x ys all whole each =
+    let inside : length xs < length all = omega (arith, ap (λ (l : List _). length l) whole, length-append xs (x ∷ ys)) in
+    subst P (ap (λ (l : List _). get_or l (length xs) x) (sym whole) ∙ get_or_at xs x ys x (length xs) refl)
+    (each (length xs) x inside)
+
+pub no_jobs : (publisher : PublisherToken) → AreJobs publisher 0 []
+no_jobs publisher = record { many = refl; each = λ worker job none. absurd cc }
+
+pub one_job : (publisher : PublisherToken) (count : ℕ) (jobs new : List Job) (job : Job)
+    → AreJobs publisher count jobs → IsJob publisher count job → new ≡ jobs ++ job ∷ [] → AreJobs publisher (count + 1) new
+one_job publisher count jobs new job so_far is pushed =
+    let many : length new ≡ count + 1 =
+    ap (λ (l : List Job). length l) pushed ∙ length_push jobs job ∙ ap (λ (n : ℕ). n + 1) so_far.many in
+    record {
+      many = many;
+      each = λ worker other at.
+          let own : slice_get (jobs ++ job ∷ []) worker ≡ Some other =
+          ap (λ (l : List Job). slice_get l worker) (sym pushed) ∙ at in
+          let within = slice_get_within new worker other at in
+          elim (cases_lt worker count) [
+            | inl before ↦ so_far.each worker other
+                (sym (slice_get-push_old jobs job worker (omega (arith, so_far.many))) ∙ own)
+            | inr after ↦
+                let last : length jobs ≡ worker = omega (arith, so_far.many, many) in
+                let here : slice_get (jobs ++ job ∷ []) worker ≡ Some job =
+                subst (λ (n : ℕ). slice_get (jobs ++ job ∷ []) n ≡ Some job) last (slice_get-push_new jobs job) in
+                let same : job ≡ other = same_Some job other (sym here ∙ own) in
+                let number : count ≡ worker = omega (arith, so_far.many) in
+                subst (IsJob publisher worker) same (subst (λ (n : ℕ). IsJob publisher n job) number is)
+          ];
+    }
+
+-- ---- rows without their numbers
+
+row_of_some : (decision : Option RowDecision) (number : ℕ) (row : Row)
+    → option_map row_of decision ≡ Some (number, row) → option_map row_at decision ≡ Some row
+row_of_some None number row is = absurd cc
+row_of_some (Some decision) number row is = ap Some (some_pair_parts decision.number number (row_at decision) row is).1
+
+row_of_none : (decision : Option RowDecision) → option_map row_of decision ≡ None → option_map row_at decision ≡ None
+row_of_none None is = refl
+row_of_none (Some decision) is = absurd cc
+
+pub unnumbered : (worker workers first : ℕ) (rows : List Row) (decisions : List RowDecision)
+    → IsDealt worker workers (enumerate_from first rows) (map row_of decisions)
+    → IsDealt worker workers rows (map row_at decisions)
+unnumbered worker workers first rows decisions dealt place own =
+    let turn = place / workers in
+    let numbered : option_map row_of (slice_get decisions turn) ≡ slice_get (enumerate_from first rows) place =
+    sym (slice_get-map row_of decisions turn) ∙ dealt place own in
+    slice_get-map row_at decisions turn ∙ elim ((slice_get_cases rows place).1) [
+      | inl (row, _, at, _) ↦
+          row_of_some (slice_get decisions turn) (first + place) row
+          (numbered ∙ slice_get-enumerate_from first rows place row at) ∙ sym at
+      | inr (past, none) ↦
+          let beyond : length (enumerate_from first rows) ≤ place = omega (arith, length-enumerate_from first rows) in
+          row_of_none (slice_get decisions turn) (numbered ∙ slice_get_past (enumerate_from first rows) place beyond)
+          ∙ sym none
+    ]
+
+-- ---- what all workers bring back
+
+done_at : (results : List (Result Done WorkFault)) (all : List Done) (worker : ℕ) (done : Done)
+    → results ≡ map Ok all → slice_get all worker ≡ Some done → get_or results worker (Ok done) ≡ Ok done
+done_at results all worker done same at =
+    ap (λ (l : List (Result Done WorkFault)). get_or l worker (Ok done)) same
+    ∙ get_or-map Ok all worker done (Ok done) (slice_get_within all worker done at)
+    ∙ ap Ok (get_or_from_slice_get all worker done done at)
+
+-- what a call of `work` says of its job
+abbrev pub IsDoneAs : (workers first : ℕ) → List Row → Job → Result Done WorkFault → Type 0
+IsDoneAs workers first rows job result =
+    IfOk result (IsDone job.checker.unit (file_after ENTRIES job.notice.told) job.worker workers first rows)
+
+module _ (publisher : PublisherToken) (count workers first : ℕ) (rows : List Row) (jobs : List Job)
+    (results : List (Result Done WorkFault)) (all : List Done)
+    (are : AreJobs publisher count jobs) (as_many : workers ≡ count) (same : results ≡ map Ok all)
+    (each : (i : ℕ) (d : Result Done WorkFault) → i < length jobs
+        → (job : Job) × ((e : Job) → get_or jobs i e ≡ job) × IsDoneAs workers first rows job (get_or results i d))
+    (length_is : length results ≡ count) where
+  abbrev file : RegisterFile
+  file = file_after ENTRIES publisher.published
+
+  all_many : length all ≡ count
+  all_many = sym (length-map all Ok) ∙ sym (ap (λ (l : List (Result Done WorkFault)). length l) same) ∙ length_is
+
+  pub all_met : (worker : ℕ) (done : Done) → slice_get all worker ≡ Some done
+      → IsDone publisher.unit file worker (length all) first rows done
+  all_met worker done at =
+      let inside : worker < length jobs =
+          let within = slice_get_within all worker done at in omega (arith, all_many, are.many) in
+      let (job, job_is, is) = each worker (Ok done) inside in
+      let at_job : slice_get jobs worker ≡ Some job = slice_get-get_or jobs worker job inside ∙ ap Some (job_is job) in
+      let own : IsDone job.checker.unit (file_after ENTRIES job.notice.told) job.worker workers first rows done =
+      subst (IsDoneAs workers first rows job) (done_at results all worker done same at) is in
+      let j : IsJob publisher worker job = are.each worker job at_job in
+      let told : job.notice.told ≡ publisher.published = ap (λ (n : NoticeToken). n.told) j.notice in
+      let number : workers ≡ length all = as_many ∙ sym all_many in
+      let Own : TableId → Batches → ℕ → ℕ → Type 0 = λ unit told worker workers.
+      IsDone unit (file_after ENTRIES told) worker workers first rows done in
+      let by_unit : Own publisher.unit job.notice.told job.worker workers =
+      subst (λ (u : TableId). Own u job.notice.told job.worker workers) j.same_unit own in
+      let by_told : Own publisher.unit publisher.published job.worker workers =
+      subst (λ (t : Batches). Own publisher.unit t job.worker workers) told by_unit in
+      let by_worker : Own publisher.unit publisher.published worker workers =
+      subst (λ (n : ℕ). Own publisher.unit publisher.published n workers) j.numbered by_told in
+      subst (λ (n : ℕ). Own publisher.unit publisher.published worker n) number by_worker
+
+  pub all_dealt_out : AreDealt rows all
+  all_dealt_out worker done at =
+      unnumbered worker (length all) first rows done.decisions.items (all_met worker done at).dealt
+
+  pub all_in_file : AreInFile file all
+  all_in_file worker done at = (all_met worker done at).in_file
+
+  pub all_checkers : (checkers : List CheckerToken)
+      → checkers ≡ map (λ done. done.checker) all → AreCheckersOf publisher.unit count checkers
+  all_checkers checkers is = record {
+    many = ap (λ (l : List CheckerToken). length l) is ∙ length-map all (λ (done : Done). done.checker) ∙ all_many;
+    same_unit = λ i d inside.
+        let of : Done → CheckerToken = λ done. done.checker in
+        let many = ap (λ (l : List CheckerToken). length l) is ∙ length-map all of in
+        elim ((slice_get_cases all i).1) [
+          | inl (done, within, at, _) ↦
+              let here : get_or checkers i d ≡ done.checker =
+              ap (λ (l : List CheckerToken). get_or l i d) is ∙ get_or-map of all i done d within
+              ∙ ap of (get_or_from_slice_get all i done done at) in
+              ap (λ (c : CheckerToken). c.unit) here ∙ (all_met i done at).same_unit
+          | inr (past, _) ↦ absurd (omega (arith, many))
+        ];
+  }

@@ -1,0 +1,73 @@
+//! All rows of a trace, decided while the script's publications are done.
+
+ghost use Rattle.std.specs.Prelude.{◌≡◌, ◌<◌, ◌≤◌, [], IfOk, IfErr, All, length, map};
+ghost use Rattle.pmp_share.specs.declared.opening.TheConstants.{CHECKERS};
+ghost use Rattle.pmp_share.specs.declared.room.TheConstants.{HISTORY_LIMIT};
+ghost use Rattle.pmp_share.specs.Object.{no_batches};
+ghost use Rattle.pmp_text.specs.Sizes.{script_size};
+ghost use Rattle.pmp_text.specs.TraceFaults.{IsInOrder, afters};
+ghost use Rattle.pmp_text.specs.Traces.{row_fields};
+ghost use Rattle.pmp_audit.specs.Rounds.{decision_for};
+ghost use Rattle.pmp_audit.specs.SharedAudit.{MayStop};
+
+use super::publishing::publish;
+use super::rounds::decide_asking;
+use crate::fault::AuditFault;
+use crate::gate::Gate;
+use pmp_core::Decision;
+use pmp_share::{Checker, Publisher, start};
+use pmp_text::{Row, Script};
+use std::alloc::Global;
+use std::sync::Wait;
+use std::thread::Threads;
+
+/// Decides the rows, each after the publications that it asks for, by a publisher and checkers of a new unit.
+fn decide_rows<R: Threads + Wait + Sync, G: Gate + Sync>(
+    rt: &R,
+    alloc: Global,
+    gate: &G,
+    publisher: &mut Publisher,
+    checkers: Vec<Checker>,
+    script: &Script,
+    rows: &[Row],
+) -> Result<Vec<Decision>, AuditFault>
+    requires some { 0 < length checkers.items }
+    requires few { length checkers.items ≤ CHECKERS }
+    requires same_unit { All (λ checker. checker.unit ≡ publisher.old.unit) checkers.items }
+    requires published { publisher.old.published ≡ no_batches }
+    requires pending { publisher.old.pending ≡ [] }
+    requires size { script_size script.now ≤ HISTORY_LIMIT }
+    requires order { IsInOrder (length script.now) 0 (afters (map row_fields rows.now)) }
+    ensures decided { IfOk result (λ decided. decided.items ≡ map (decision_for script.now) rows.now) }
+    ensures refused { IfErr result MayStop }
+{
+    let mut decided = Vec::new(alloc);
+    let mut checkers = decide_asking(rt, alloc, gate, publisher, checkers, 0, rows, &mut decided)?;
+    for index in 0..script.batches() {
+        publish(rt, publisher, script.batch(index))?;
+        checkers =
+            decide_asking(rt, alloc, gate, publisher, checkers, index + 1, rows, &mut decided)?;
+    }
+    Ok(decided)
+}
+
+/// Decides the rows by `k` workers that share a unit, which has ended when the call answers.
+pub(crate) fn decide_shared<R: Threads + Wait + Sync, G: Gate + Sync>(
+    rt: &R,
+    alloc: Global,
+    gate: &G,
+    k: u8,
+    script: &Script,
+    rows: &[Row],
+) -> Result<Vec<Decision>, AuditFault>
+    requires workers { (1 ≤ k) × (k ≤ CHECKERS) }
+    requires size { script_size script.now ≤ HISTORY_LIMIT }
+    requires order { IsInOrder (length script.now) 0 (afters (map row_fields rows.now)) }
+    ensures decided { IfOk result (λ decided. decided.items ≡ map (decision_for script.now) rows.now) }
+    ensures refused { IfErr result MayStop }
+{
+    let (mut publisher, checkers) = start(rt, alloc, k)?;
+    let decided = decide_rows(rt, alloc, gate, &mut publisher, checkers, script, rows);
+    publisher.end(rt);
+    decided
+}

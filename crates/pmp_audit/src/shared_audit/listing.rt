@@ -1,0 +1,27 @@
+//! A report of decisions that are made.
+
+ghost use Rattle.std.specs.Prelude.{◌≡◌, ◌++◌, IfOk, OnOk, length};
+ghost use Rattle.pmp_audit.specs.TraceAudit.{report_text, summary_of};
+
+use crate::trace_audit::Summary;
+use pmp_core::Decision;
+use pmp_text::{NoMemory, Row, write_row};
+
+/// Appends a report row for each row and its decision, numbered from 1.
+pub(crate) fn list_decisions(
+    report: &mut Vec<u8>,
+    rows: &[Row],
+    decisions: &[Decision],
+) -> Result<Summary, NoMemory>
+    requires { length decisions.now ≡ length rows.now }
+    ensures report { OnOk result (report.new.items ≡ report.old.items ++ report_text rows.now decisions.now) }
+    ensures summary { IfOk result (λ summary. summary ≡ summary_of decisions.now) }
+{
+    let mut summary = Summary::default();
+    for place in 0..rows.len() {
+        let decision = decisions[place];
+        summary.count(decision);
+        write_row(report, summary.rows, &rows[place].access, &decision)?;
+    }
+    Ok(summary)
+}

@@ -1,0 +1,119 @@
+//! One round: the rows that ask for just what is published, decided by all workers.
+
+ghost use Rattle.std.specs.Prelude.{◌≡◌, ◌+◌, ◌^◌, ◌<◌, ◌≤◌, ◌++◌, IfOk, IfErr, OnOk, All, length, drop};
+ghost use Rattle.pmp_core.specs.declared.register_file.TheConstants.{ENTRIES};
+ghost use Rattle.pmp_core.specs.Histories.{file_after};
+ghost use Rattle.pmp_share.specs.declared.fault.ShareFault.TheVariants.{Full};
+ghost use Rattle.pmp_share.specs.declared.opening.TheConstants.{CHECKERS};
+ghost use Rattle.pmp_audit.specs.Rounds.{AreCheckersOf, AreJobs, decided_in, asking};
+ghost use Rattle.pmp_audit.specs.SharedAudit.{MayStop};
+ghost use Rattle.pmp_audit.specs.Working.{IsDone};
+
+use super::asking::asking;
+use super::hand::Hand;
+use super::job::{Done, Job};
+use super::merging::{all_done, checkers_of, merge};
+use super::work_fault::WorkFault;
+use super::working::work;
+use crate::fault::AuditFault;
+use crate::gate::Gate;
+use pmp_core::Decision;
+use pmp_share::{Checker, Publisher, ShareFault};
+use pmp_text::Row;
+use std::alloc::Global;
+use std::sync::Wait;
+use std::thread;
+use std::thread::Threads;
+
+/// A job for each checker, with a notice of what is published. The workers are numbered in the checkers' order.
+fn jobs_of(
+    alloc: Global,
+    publisher: &mut Publisher,
+    checkers: Vec<Checker>,
+) -> Result<Vec<Job>, ShareFault>
+    requires few { length checkers.items ≤ CHECKERS }
+    requires same_unit { All (λ checker. checker.unit ≡ publisher.old.unit) checkers.items }
+    ensures same { publisher.new ≡ publisher.old }
+    ensures jobs { IfOk result (λ jobs. AreJobs publisher.old (length checkers.items) jobs.items) }
+    ensures refused { IfErr result (λ fault. ¬ (fault ≡ Full)) }
+{
+    let mut jobs = Vec::new(alloc);
+    for checker in checkers {
+        let worker = jobs.len() as u8;
+        let notice = publisher.tell()?;
+        jobs.push(Job {
+            worker,
+            checker,
+            notice,
+        })?;
+    }
+    Ok(jobs)
+}
+
+/// Lets all workers decide these rows in what is published, adds the decisions in the order of the rows, and gives the
+/// checkers back. All workers have ended then.
+fn round<R: Threads + Wait + Sync, G: Gate + Sync>(
+    rt: &R,
+    alloc: Global,
+    gate: &G,
+    publisher: &mut Publisher,
+    checkers: Vec<Checker>,
+    rows: &[Row],
+    decided: &mut Vec<Decision>,
+) -> Result<Vec<Checker>, AuditFault>
+    requires some { 0 < length checkers.items }
+    requires few { length checkers.items ≤ CHECKERS }
+    requires same_unit { All (λ checker. checker.unit ≡ publisher.old.unit) checkers.items }
+    requires room { length decided.old.items + length rows.now + 1 ≤ 2 ^ 64 }
+    ensures same { publisher.new ≡ publisher.old }
+    ensures checkers { IfOk result (λ all. AreCheckersOf publisher.old.unit (length checkers.items) all.items) }
+    ensures decided { OnOk result (decided.new.items
+        ≡ decided.old.items ++ decided_in (file_after ENTRIES publisher.old.published) rows.now) }
+    ensures refused { IfErr result MayStop }
+{
+    let first = decided.len() as u64 + 1;
+    let jobs = jobs_of(alloc, publisher, checkers)?;
+    let workers = jobs.len() as u8;
+    let results = thread::map_vec(rt, jobs, &|job: Job| -> Result<Done, WorkFault>
+        requires { (0 < workers) × (first + length rows.now ≤ 2 ^ 64) }
+        ensures { IfOk result (IsDone job.checker.unit (file_after ENTRIES job.notice.told) job.worker workers first
+            rows.entry.now) }
+    {
+        let Job { worker, checker, notice } = job;
+        let hand = Hand { rows, first, worker, workers };
+        work(rt, alloc, checker, notice, hand, gate)
+    })?;
+    let all = all_done(alloc, results)?;
+    merge(decided, &all, rows)?;
+    Ok(checkers_of(alloc, all)?)
+}
+
+/// Decides the next rows, as far as they ask for just `after` publications, which are done. Where there is none, no
+/// worker starts.
+pub(crate) fn decide_asking<R: Threads + Wait + Sync, G: Gate + Sync>(
+    rt: &R,
+    alloc: Global,
+    gate: &G,
+    publisher: &mut Publisher,
+    checkers: Vec<Checker>,
+    after: u64,
+    rows: &[Row],
+    decided: &mut Vec<Decision>,
+) -> Result<Vec<Checker>, AuditFault>
+    requires some { 0 < length checkers.items }
+    requires few { length checkers.items ≤ CHECKERS }
+    requires same_unit { All (λ checker. checker.unit ≡ publisher.old.unit) checkers.items }
+    requires within { length decided.old.items ≤ length rows.now }
+    ensures same { publisher.new ≡ publisher.old }
+    ensures checkers { IfOk result (λ all. AreCheckersOf publisher.old.unit (length checkers.items) all.items) }
+    ensures decided { OnOk result (decided.new.items ≡ decided.old.items
+        ++ decided_in (file_after ENTRIES publisher.old.published)
+        (asking after (drop (length decided.old.items) rows.now))) }
+    ensures refused { IfErr result MayStop }
+{
+    let next = asking(&rows[decided.len()..], after);
+    if next.is_empty() {
+        return Ok(checkers);
+    }
+    round(rt, alloc, gate, publisher, checkers, next, decided)
+}
