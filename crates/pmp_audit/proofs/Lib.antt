@@ -1,3 +1,4 @@
+pub mod DecidedRows
 pub mod Crossing
 pub mod Merging
 pub mod Asking

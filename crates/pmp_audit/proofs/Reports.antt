@@ -145,3 +145,56 @@ audit_says script trace batches rows before after text summary script_means trac
   report = same ∙ reported.report ∙ ap (λ front. front ++ report_text rows reported.decisions) empty;
   counted = reported.counted;
 }
+
+-- ---- a report of decisions that are made
+
+pub none_listed : (held : List ℕ) → held ≡ held ++ report_text [] []
+unfolding report_text
+none_listed held = sym (append-nil held)
+
+pub none_counted : (summary : Summary) → summary.rows ≡ 0 → summary.faults ≡ 0 → summary ≡ summary_of []
+none_counted summary rows faults = same_summary summary (summary_of []) rows faults
+
+module _ (rows : List Row) (decisions : List Decision) (place : ℕ) (row : Row) (decision : Decision)
+    (one_each : length decisions ≡ length rows) (inside : place < length rows)
+    (row_is : row ≡ get_or rows place row) (decision_is : decision ≡ get_or decisions place decision) where
+  so_many_rows : length (take place rows) ≡ place
+  so_many_rows = simp length-take (omega arith)
+
+  so_many_decisions : length (take place decisions) ≡ place
+  so_many_decisions = simp length-take (omega arith)
+
+  next_row : take (place + 1) rows ≡ take place rows ++ row ∷ []
+  next_row = take_more rows place row inside ∙ ap (λ (r : Row). take place rows ++ r ∷ []) (sym row_is)
+
+  next_decision : take (place + 1) decisions ≡ take place decisions ++ decision ∷ []
+  next_decision = take_more decisions place decision (omega arith)
+      ∙ ap (λ (d : Decision). take place decisions ++ d ∷ []) (sym decision_is)
+
+  pub one_listed : (old held new : List ℕ) (number : ℕ)
+      → held ≡ old ++ report_text (take place rows) (take place decisions)
+      → new ≡ held ++ report_row number row.access decision → number ≡ place + 1
+      → new ≡ old ++ report_text (take (place + 1) rows) (take (place + 1) decisions)
+  one_listed old held new number so_far written number_is =
+      let last = report_row number row.access decision in
+      let text = report_text (take place rows) (take place decisions) in
+      let count : number ≡ length (take place rows) + 1 = number_is ∙ ap (λ (n : ℕ). n + 1) (sym so_many_rows) in
+      written ∙ ap (λ (l : List ℕ). l ++ last) so_far ∙ append_assoc old text last
+      ∙ ap (λ (n : ℕ). old ++ (text ++ report_row n row.access decision)) count
+      ∙ ap (λ (l : List ℕ). old ++ l) (sym (report_text-push (take place rows) (take place decisions) row decision
+      (so_many_decisions ∙ sym so_many_rows)))
+      ∙ ap (λ (l : List Row). old ++ report_text l (take place decisions ++ decision ∷ [])) (sym next_row)
+      ∙ ap (λ (l : List Decision). old ++ report_text (take (place + 1) rows) l) (sym next_decision)
+
+  pub one_counted : (summary more : Summary) → summary ≡ summary_of (take place decisions)
+      → more.rows ≡ summary.rows + 1 → more.faults ≡ summary.faults + cond decision.allowed 0 1
+      → more ≡ summary_of (take (place + 1) decisions)
+  one_counted summary more so_far one_row refused =
+      let front = take place decisions in
+      let many : more.rows ≡ length (front ++ decision ∷ []) =
+      one_row ∙ ap (λ (s : Summary). s.rows + 1) so_far ∙ sym (length-append front (decision ∷ [])) in
+      let faults : more.faults ≡ count_by is_refused (front ++ decision ∷ []) =
+      refused ∙ ap (λ (s : Summary). s.faults + cond decision.allowed 0 1) so_far
+      ∙ sym (refused-push front decision) in
+      same_summary more (summary_of (front ++ decision ∷ [])) many faults
+      ∙ ap summary_of (sym next_decision)

@@ -4,7 +4,7 @@ use Rattle.pmp_audit.proofs.shared_audit.deciding.decide_rows.Given as goal
 
 -- the publications so far are done, and the rows that ask for no more are decided
 abbrev pub invariant-loop-index : goal.invariant-loop-index
-invariant-loop-index l = record {
+invariant-loop-index g l = record {
   published : l.publisher.published ≡ take l.index l.script;
   pending : l.publisher.pending ≡ [];
   unit : l.publisher.unit ≡ l.fn.publisher.unit;

@@ -1,0 +1,56 @@
+use Rattle.std.proofs.Common.{◌≡◌, ◌+◌, ◌++◌, [], ◌∷◌, List, length, take, ap, ◌∙◌, arith, refl, sym}
+use Rattle.std.proofs.lemmas.List.{take_more}
+use Rattle.pmp_core.specs.declared.event.Event.{Event}
+use Rattle.pmp_share.specs.Batches.{Batches}
+use Rattle.pmp_share.specs.Tokens.{PublisherToken}
+use Rattle.pmp_audit.specs.Rounds.{AreCheckersOf, AreDecidedSoFar}
+use Rattle.pmp_audit.proofs.DecidedRows.{none_decided, decided_next, all_decided, room_for}
+use Rattle.pmp_audit.proofs.shared_audit.deciding.decide_rows.Goals as goal
+
+pub loop-index-init : goal.loop-index-init
+loop-index-init g c =
+    let script = c.args.script.now in
+    let rows = c.args.rows.now in
+    let same = c.decide_asking.ensures.same in
+    let start = none_decided script rows c.requires.order in
+    record {
+      published = ap (λ (p : PublisherToken). p.published) same ∙ c.requires.published;
+      pending = ap (λ (p : PublisherToken). p.pending) same ∙ c.requires.pending;
+      unit = ap (λ (p : PublisherToken). p.unit) same;
+      checkers = c.in_ok-checkers.ensures.checkers;
+      decided = decided_next script rows 0 c.args.publisher.now.published [] c.decide_asking.new.decided.items start
+          c.requires.published (rw c.new-decided.ensures.items at c.in_ok-checkers.ensures.decided);
+    }
+
+pub publish-requires-clause-room : goal.publish-requires-clause-room
+publish-requires-clause-room g c =
+    room_for c.args.script.now c.loop-index.index c.loop-index.publisher.published c.batch.result.now c.requires.size
+    (omega (arith, c.batches-index-end.ensures)) c.loop-index.invariant.published c.batch.ensures.events
+
+pub loop-index-preserved : goal.loop-index-preserved
+loop-index-preserved g c =
+    let script = c.args.script.now in
+    let rows = c.args.rows.now in
+    let at = c.loop-index in
+    let same = c.decide_asking-in-loop-index.ensures.same in
+    let batch = c.batch.result.now in
+    let done : c.publish.new.publisher.published ≡ take (at.index + 1) script =
+    c.in_ok-publish.ensures.published ∙ ap (λ (p : Batches). p ++ batch ∷ []) at.invariant.published
+    ∙ ap (λ (b : List Event). take at.index script ++ b ∷ []) c.batch.ensures.events
+    ∙ sym (take_more script at.index [] (omega (arith, c.batches-index-end.ensures))) in
+    let unit : c.publish.new.publisher.unit ≡ c.args.publisher.now.unit = c.publish.ensures.unit ∙ at.invariant.unit in
+    let checkers = c.in_ok-checkers-2.ensures.checkers in
+    record {
+      published = ap (λ (p : PublisherToken). p.published) same ∙ done;
+      pending = ap (λ (p : PublisherToken). p.pending) same ∙ c.in_ok-publish.ensures.alone;
+      unit = ap (λ (p : PublisherToken). p.unit) same ∙ unit;
+      checkers = rw (unit, at.invariant.checkers.many) at checkers;
+      decided = decided_next script rows (at.index + 1) c.publish.new.publisher.published at.decided.items
+          c.decide_asking-in-loop-index.new.decided.items at.invariant.decided done
+          c.in_ok-checkers-2.ensures.decided;
+    }
+
+pub returns-clause-decided : goal.returns-clause-decided
+returns-clause-decided g c =
+    all_decided c.args.script.now c.args.rows.now (c.loop-index.index + 1) c.loop-index.decided.items
+    (omega (arith, c.batches-index-end.ensures)) c.loop-index.invariant.decided

@@ -1,0 +1,30 @@
+use Rattle.std.proofs.Common.{◌≡◌, ◌+◌, ◌<◌, length, take, ap, ◌∙◌, arith, refl, sym}
+use Rattle.std.proofs.lemmas.List.{get_or_default, length-take-le}
+use Rattle.pmp_audit.specs.declared.trace_audit.Summary.{Summary}
+use Rattle.pmp_audit.proofs.Reports.{none_listed, none_counted, one_listed, one_counted}
+use Rattle.pmp_audit.proofs.shared_audit.listing.list_decisions.Goals as goal
+
+pub loop-place-init : goal.loop-place-init
+loop-place-init c = record {
+  report = none_listed c.args.report.now.items;
+  counted = none_counted c.default-summary.result c.default-summary.ensures.0 c.default-summary.ensures.1;
+}
+
+pub loop-place-preserved : goal.loop-place-preserved
+loop-place-preserved c =
+    let rows = c.args.rows.now in
+    let decisions = c.args.decisions.now in
+    let place = c.loop-place.place in
+    let row = c.index-rows-place.result in
+    let inside : place < length decisions = omega arith in
+    let so_many : c.loop-place.summary.rows ≡ place =
+    ap (λ (s : Summary). s.rows) c.loop-place.invariant.counted ∙ length-take-le place decisions (omega arith) in
+    let number : c.count.new.self.rows ≡ place + 1 = c.count.ensures.rows ∙ ap (λ n. n + 1) so_many in
+    record {
+      report = one_listed rows decisions place row _ c.requires c.loop-place-test.true c.index-rows-place.is
+          (get_or_default decisions place _ _ inside) c.args.report.now.items c.loop-place.report.items
+          c.write_row.new.out.items c.count.new.self.rows c.loop-place.invariant.report ? number;
+      counted = one_counted rows decisions place row _ c.requires c.loop-place-test.true c.index-rows-place.is
+          (get_or_default decisions place _ _ inside) c.loop-place.summary c.count.new.self c.loop-place.invariant.counted
+          c.count.ensures.rows c.count.ensures.faults;
+    }
