@@ -7,11 +7,14 @@ use Rattle.std.proofs.lemmas.List.{append-nil, drop-drop, drop-take, length-appe
 use Rattle.std.proofs.lemmas.List.{length-take-le, take-append-drop, take-take, take_all}
 use Rattle.std.proofs.lemmas.List.Concat.{length-flat_map}
 use Rattle.std.proofs.lemmas.List.Sums.{sum_by_more_le}
+use Rattle.pmp_core.specs.declared.access.Access.{Access}
 use Rattle.pmp_core.specs.declared.decision.Decision.{Decision}
 use Rattle.pmp_core.specs.declared.event.Event.{Event}
 use Rattle.pmp_core.specs.declared.register_file.TheConstants.{ENTRIES}
-use Rattle.pmp_core.specs.Histories.{file_after}
+use Rattle.pmp_core.specs.Decision.{IsDecision}
+use Rattle.pmp_core.specs.Histories.{LegalLaw, file_after, joined}
 use Rattle.pmp_core.specs.Ranges.{decision_of}
+use Rattle.pmp_core.specs.RegisterFile.{HasAddresses, RegisterFile}
 use Rattle.pmp_share.specs.declared.room.TheConstants.{HISTORY_LIMIT}
 use Rattle.pmp_share.specs.Batches.{Batches, event_count}
 use Rattle.pmp_share.specs.Room.{has_room}
@@ -19,6 +22,7 @@ use Rattle.pmp_text.specs.declared.trace.Row.{Row}
 use Rattle.pmp_text.specs.Sizes.{script_size}
 use Rattle.pmp_text.specs.TraceFaults.{IsInOrder, afters}
 use Rattle.pmp_text.specs.Traces.{row_fields}
+use Rattle.pmp_audit.specs.TraceAudit.{AreDecided, file_of_row}
 use Rattle.pmp_audit.specs.Rounds.{AreDecidedSoFar, asking, decided_in, decision_for}
 
 module _ (batches : List (List Event)) where
@@ -127,3 +131,18 @@ module _ (batches : List (List Event)) where
       let events_fit : event_count published + 0 + length batch ≤ HISTORY_LIMIT = omega arith in
       let batches_fit : length published + 0 + 1 ≤ HISTORY_LIMIT = omega arith in
       grind (arith, nat_tests)
+
+-- ---- each decision is the manual's
+
+-- what is computed from an entry's ranges is the manual's decision
+abbrev pub ByRanges : Type 0
+ByRanges = (file : RegisterFile) (access : Access) → HasAddresses file.entries
+    → IsDecision file access (decision_of file access)
+
+pub are_decided : LegalLaw → ByRanges → (batches : List (List Event)) (rows : List Row)
+    → AreDecided batches rows (map (decision_for batches) rows)
+are_decided legal by_ranges batches [] = tt
+are_decided legal by_ranges batches (row ∷ rows) = (
+  by_ranges (file_of_row batches row) row.access (legal ENTRIES (joined (take row.after batches))).addresses,
+  are_decided legal by_ranges batches rows,
+)

@@ -1,5 +1,9 @@
-use Rattle.std.proofs.Common.{◌≡◌, ◌+◌, ◌<◌, length, take, ap, ◌∙◌, arith, refl, sym}
+use Rattle.std.proofs.Common.{◌≡◌, ◌+◌, ◌++◌, ◌<◌, false, get_or, length, take, ap, ◌∙◌, arith, refl, sym}
 use Rattle.std.proofs.lemmas.List.{get_or_default, length-take-le}
+use Rattle.pmp_core.specs.declared.decision.Cause.TheVariants.{Rule}
+use Rattle.pmp_core.specs.declared.decision.Decision.{Decision}
+use Rattle.pmp_text.specs.declared.trace.Row.{Row}
+use Rattle.pmp_text.specs.Reports.{report_row}
 use Rattle.pmp_audit.specs.declared.trace_audit.Summary.{Summary}
 use Rattle.pmp_audit.proofs.Reports.{none_listed, none_counted, one_listed, one_counted}
 use Rattle.pmp_audit.proofs.shared_audit.listing.list_decisions.Goals as goal
@@ -16,15 +20,21 @@ loop-place-preserved c =
     let decisions = c.args.decisions.now in
     let place = c.loop-place.place in
     let row = c.index-rows-place.result in
+    let default : Decision = record { allowed = false; cause = Rule 0 } in
+    let decision = get_or decisions place default in
+    let written : c.write_row.new.out.items
+        ≡ c.loop-place.report.items ++ report_row c.count.new.self.rows row.access decision =
+    c.in_ok-write_row.ensures.ok ∙ ap (λ (r : Row). c.loop-place.report.items
+    ++ report_row c.count.new.self.rows r.access decision) (sym c.index-rows-place.is) in
     let inside : place < length decisions = omega arith in
     let so_many : c.loop-place.summary.rows ≡ place =
     ap (λ (s : Summary). s.rows) c.loop-place.invariant.counted ∙ length-take-le place decisions (omega arith) in
     let number : c.count.new.self.rows ≡ place + 1 = c.count.ensures.rows ∙ ap (λ n. n + 1) so_many in
     record {
-      report = one_listed rows decisions place row _ c.requires c.loop-place-test.true c.index-rows-place.is
-          (get_or_default decisions place _ _ inside) c.args.report.now.items c.loop-place.report.items
-          c.write_row.new.out.items c.count.new.self.rows c.loop-place.invariant.report ? number;
-      counted = one_counted rows decisions place row _ c.requires c.loop-place-test.true c.index-rows-place.is
-          (get_or_default decisions place _ _ inside) c.loop-place.summary c.count.new.self c.loop-place.invariant.counted
+      report = one_listed rows decisions place row decision c.requires c.loop-place-test.true c.index-rows-place.is
+          (get_or_default decisions place default decision inside) c.args.report.now.items c.loop-place.report.items
+          c.write_row.new.out.items c.count.new.self.rows c.loop-place.invariant.report written number;
+      counted = one_counted rows decisions place row decision c.requires c.loop-place-test.true c.index-rows-place.is
+          (get_or_default decisions place default decision inside) c.loop-place.summary c.count.new.self c.loop-place.invariant.counted
           c.count.ensures.rows c.count.ensures.faults;
     }

@@ -1,0 +1,44 @@
+use Rattle.std.proofs.Common.{◌≡◌, ◌∙◌, length, map, ap, sym, subst, Ok}
+use Rattle.pmp_core.specs.declared.decision.Decision.{Decision}
+use Rattle.pmp_text.specs.Traces.{row_fields, trace_meaning}
+use Rattle.pmp_audit.specs.Report.{IsReported}
+use Rattle.pmp_audit.specs.Rounds.{decision_for}
+use Rattle.pmp_audit.specs.SharedAudit.{SharedAuditRefuses}
+use Rattle.pmp_audit.specs.TraceAudit.{AreDecided, AuditSays}
+use Rattle.pmp_audit.proofs.DecidedRows.{are_decided}
+use Rattle.pmp_audit.proofs.Reports.{audit_says}
+use Rattle.pmp_audit.proofs.WrittenAnswers.{answered, cut_short}
+use Rattle.pmp_audit.proofs.shared_audit.audit_shared.Goals as goal
+use Rattle.pmp_audit.proofs.shared_audit.audit_shared.Goals.{After-write_answer}
+
+says : (g : _) (c : After-write_answer g)
+    → AuditSays c.args.script.now c.args.trace.now c.in_ok-summary.summary c.deref-4.result.now
+says g c =
+    let script = c.in_ok-script.script in
+    let rows = c.in_ok-rows.rows.items in
+    let decisions = c.in_ok-decisions.decisions.items in
+    let trace_means : trace_meaning (length script) c.args.trace.now ≡ Ok (map row_fields rows) =
+    rw (← c.batches.ensures) c.in_ok-rows.ensures.given in
+    let made : decisions ≡ map (decision_for script) rows =
+    c.in_ok-decisions.ensures.decided ∙ ap (map (decision_for script)) c.deref.ensures.value in
+    let decided : AreDecided script rows decisions =
+    subst (AreDecided script rows) (sym made) (are_decided c.law_legal.ensures c.law_decided_by_ranges.ensures script rows) in
+    let reported : IsReported script rows c.new-report.result.items c.list_decisions.new.report.items c.in_ok-summary.summary = record {
+      decisions = decisions;
+      decided = decided;
+      report = rw (c.deref-2.ensures.value, c.deref-3.ensures.value) at c.in_ok-summary.ensures.report;
+      counted = rw c.deref-3.ensures.value at c.in_ok-summary.ensures.summary;
+    } in
+    audit_says c.args.script.now c.args.trace.now script rows _ _ c.deref-4.result.now c.in_ok-summary.summary
+    c.in_ok-script.ensures trace_means reported c.new-report.ensures.items c.deref-4.ensures.value
+
+pub returns-clause-ok : goal.returns-clause-ok
+returns-clause-ok g c =
+    answered (AuditSays c.args.script.now c.args.trace.now) _ _ c.in_ok-summary.summary c.deref-4.result.now
+    (says g (goal.at.returns-clause-ok g c).After-write_answer) c.write_answer.result c.write_answer.ensures.ok
+
+pub returns-clause-err : goal.returns-clause-err
+returns-clause-err g c =
+    cut_short (AuditSays c.args.script.now c.args.trace.now) _ _ c.in_ok-summary.summary c.deref-4.result.now
+    (says g (goal.at.returns-clause-err g c).After-write_answer) c.write_answer.result
+    (SharedAuditRefuses c.args.script.now c.args.trace.now) c.write_answer.ensures.err
