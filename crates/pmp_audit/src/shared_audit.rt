@@ -8,15 +8,15 @@ ghost use Rattle.pmp_audit.specs.TraceAudit.{AuditSays};
 
 mod asking;
 mod deciding;
-mod hand;
+pub(crate) mod hand;
 mod job;
 mod listing;
 mod merging;
 mod publishing;
 mod rounds;
 mod row_decision;
-mod work_fault;
-mod working;
+pub(crate) mod work_fault;
+pub(crate) mod working;
 
 use crate::answer::write_answer;
 use crate::fault::AuditFault;

@@ -2,6 +2,7 @@
 
 mod firmware;
 mod maps;
+mod sharing;
 
 use crate::access_check::check;
 use crate::fault::AuditFault;

@@ -1,8 +1,11 @@
 //! What OpenSBI 1.1 writes while it boots on QEMU's virt machine, audited at the ends of each range.
 
 use super::maps::assert_map;
+use super::sharing::assert_shared;
 use super::*;
 use std::process::Abort;
+use std::sync::Wait;
+use std::thread::Threads;
 
 /// How many address registers firmware probes.
 const PROBED: usize = 16;
@@ -59,8 +62,9 @@ fn boot(alloc: Global, publications: &[(&str, &str)]) -> Result<String, AllocErr
     Ok(script)
 }
 
-/// Asserts the rest of the row that follows each access, audited behind the probing and these publications.
-fn assert_accesses<R: Abort + AllocGlobal>(
+/// Asserts the rest of the row that follows each access, audited behind the probing and these publications, on one
+/// thread and by one to eight workers.
+fn assert_accesses<R: Threads + Wait + Sync + Abort + AllocGlobal>(
     rt: &R,
     publications: &[(&str, &str)],
     accesses: &[(&str, &str)],
@@ -84,6 +88,7 @@ fn assert_accesses<R: Abort + AllocGlobal>(
         answer.map(|summary| summary.rows),
         Ok(accesses.len() as u64)
     );
+    assert_shared(rt, alloc, script.as_bytes(), trace.as_bytes());
     Ok(())
 }
 
