@@ -7,4 +7,3 @@ pub mod Decisions
 pub mod Legal
 pub mod Flags
 pub mod Locks
-pub mod WordFacts

@@ -13,6 +13,5 @@ pub mod RegisterWrite
 pub mod RegisterValue
 pub mod Histories
 pub mod LockLaw
-pub mod Words
 -- How decisions are computed: a law says that they are the same.
 pub mod Ranges

@@ -20,7 +20,6 @@ mod register_file;
 mod register_value;
 mod register_write;
 mod rights;
-mod words;
 
 pub use access::{ADDRESS_LIMIT, Access, AccessFault, Kind, Mode};
 pub use csr::{Csr, CsrFault};
@@ -30,4 +29,3 @@ pub use mseccfg::Mseccfg;
 pub use perms::Perms;
 pub use range::ByteRange;
 pub use register_file::{ENTRIES, RegFile};
-pub use words::WORDS;

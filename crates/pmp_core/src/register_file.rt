@@ -1,14 +1,13 @@
 //! The register file.
 
 ghost use Rattle.std.specs.Prelude.{◌≡◌, ◌<◌, ◌^◌, ◌↔◌, IsTrue, length, fold};
-ghost use Rattle.pmp_core.specs.RegisterFile.{RegisterFile, IsLegal, reset_file, is_frozen};
+ghost use Rattle.pmp_core.specs.RegisterFile.{IsLegal, reset_file, is_frozen};
 ghost use Rattle.pmp_core.specs.Matching.{Matches};
 ghost use Rattle.pmp_core.specs.Decision.{IsDecision};
 ghost use Rattle.pmp_core.specs.Rights.{perms_of, rights, default_rights};
 ghost use Rattle.pmp_core.specs.RegisterWrite.{step};
 ghost use Rattle.pmp_core.specs.RegisterValue.{register_value};
 ghost use Rattle.pmp_core.specs.Ranges.{AreRanges, decision_of};
-ghost use Rattle.pmp_core.specs.Words.{words_of, AreWordsOf};
 
 use crate::access::{Access, Mode};
 use crate::csr::Csr;
@@ -20,7 +19,6 @@ use crate::perms::Perms;
 use crate::range::ByteRange;
 use crate::ranges::decode_ranges;
 use crate::rights::{default_rights_by, rule_rights};
-use crate::words::{WORDS, entries_of, register_at};
 use crate::{decision_by_ranges, register_value, register_write};
 use std::marker::Model;
 
@@ -170,30 +168,5 @@ impl RegFile {
         ensures legal { IsLegal self.now }
     {
         &self.ranges
-    }
-    /// Its registers as a row of words, for threads that share a row of words. It lives only as long as that row does.
-    pub fn to_words(&self) -> [u64; WORDS]
-        ensures { result ≡ words_of self.now }
-    {
-        let mut words = [0; WORDS];
-        for place in 0..WORDS {
-            words[place] = self.read(register_at(place as u8));
-        }
-        words
-    }
-
-    /// The file whose words these are. It lives only as long as the row of words does.
-    pub fn from_words(words: &[u64; WORDS]) -> RegFile
-        requires { (file : RegisterFile) × AreWordsOf file words.now }
-        ensures { (file : RegisterFile) → AreWordsOf file words.entry.now → result ≡ file }
-    {
-        let entries = entries_of(words);
-        let mut ranges = [ByteRange::EMPTY; ENTRIES];
-        decode_ranges(&entries, &mut ranges);
-        RegFile {
-            entries,
-            mseccfg: MseccfgFields::from_value(words[WORDS - 1]),
-            ranges,
-        }
     }
 }

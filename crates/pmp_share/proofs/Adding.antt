@@ -1,6 +1,7 @@
 -- The exchange that adds a batch keeps the history's rule.
-use Rattle.std.proofs.Common.{◌≡◌, ℕ, ◌+◌, ◌<◌, ◌==◌, Bool, true, false, List, [], ◌∷◌, ◌++◌, length, refl, ap, sym, subst}
-use Rattle.std.proofs.Common.{arith, inl, length-append, None, ◌∙◌}
+use Rattle.std.proofs.Common.{◌≡◌, ℕ, ◌+◌, ◌<◌, ◌==◌, Bool, true, false, List, [], ◌∷◌, ◌++◌, length, refl, ap, sym}
+use Rattle.std.proofs.Common.{subst}
+use Rattle.std.proofs.Common.{arith, inl, length-append, None}
 use Rattle.std.proofs.lemmas.List.{append-nil}
 use Rattle.std.proofs.lemmas.Bool.Decides.{nat_tests}
 use mathlib.Core.List.{IsPrefix}
@@ -17,8 +18,8 @@ shown log = []
 abbrev pub moved : Batches → Batches → ℕ → Type 0
 moved xs ys n = Unit {0}
 
-adds_goes : (log seen : Batches) (batch : List Event) (old new : ℕ) → length seen ≡ old → new ≡ old + 1 → IsPrefix seen log
-    → (b : Bool) → (length log == old) ≡ b
+adds_goes : (log seen : Batches) (batch : List Event) (old new : ℕ) → length seen ≡ old → new ≡ old + 1
+    → IsPrefix seen log → (b : Bool) → (length log == old) ≡ b
     → Goes IsCounted shown moved 0 (seen, (no_nib, None)) (λ n. either (n == old) new n)
     (Added (step 0 old new batch) (seen, (no_nib, None))) ((length log, true) ∷ (0, true) ∷ []) log
 adds_goes log seen batch old new len next pre true is =
@@ -35,7 +36,8 @@ adds_goes log seen batch old new len next pre true is =
       rw is (ap (λ (w : Batches). w ++ batch ∷ []) (sym same)),
     )
 adds_goes log seen batch old new len next pre false is =
-    let n : either (length log == old) new (length log) ≡ length (log ++ []) = rw is (ap length (sym (append-nil log))) in (
+    let n : either (length log == old) new (length log) ≡ length (log ++ []) =
+    rw is (ap length (sym (append-nil log))) in (
       keeps,
       [],
       None,

@@ -1,7 +1,6 @@
 -- Checkers and notices may move into threads.
-use denote.Param.Send.{IsSend, IsSync, sendable, struct_send, struct_sync, recorded_send, recorded_sync}
+use denote.Param.Send.{IsSend, IsSync, sendable}
 use denote.Param.SendFields.{declared_send, declared_sync, as_row_send, as_row_sync}
-use denote.Struct.Declared.{shape}
 use Rattle.std.proofs.Crossing.{crosses, send, sync, frees}
 use Rattle.std.specs.contracts.impls.GlobalAllocator.TheImpl as heap
 use Rattle.core.proofs.Crossing as core
@@ -110,13 +109,19 @@ map_sync = search (map_inside_sync, sendable) depth 6
 version_send : IsSend version.the_row
 version_send = declared_send version.the_type (
   as_row_send journal.the_field journal_send,
-  (as_row_send file.the_field file_send, (as_row_send run_map.the_field map_send, (seen.the_send _ _ _ law.ghosts, tt))),
+  (
+    as_row_send file.the_field file_send,
+    (as_row_send run_map.the_field map_send, (seen.the_send _ _ _ law.ghosts, tt)),
+  ),
 )
 
 version_sync : IsSync version.the_row
 version_sync = declared_sync version.the_type (
   as_row_sync journal.the_field journal_sync,
-  (as_row_sync file.the_field file_sync, (as_row_sync run_map.the_field map_sync, (seen.the_sync _ _ _ law.ghosts, tt))),
+  (
+    as_row_sync file.the_field file_sync,
+    (as_row_sync run_map.the_field map_sync, (seen.the_sync _ _ _ law.ghosts, tt)),
+  ),
 )
 
 digest_inside_send : IsSend digest_inside.the_row

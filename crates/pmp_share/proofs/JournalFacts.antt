@@ -1,9 +1,9 @@
 -- What ends and events stand for.
-use Rattle.std.proofs.Common.{◌≡◌, ℕ, zero, suc, ◌+◌, ◌-◌, ◌<◌, ◌≤◌, List, [], ◌∷◌, ◌++◌, length, map, take, drop}
+use Rattle.std.proofs.Common.{◌≡◌, ℕ, zero, suc, ◌+◌, ◌-◌, ◌<◌, ◌≤◌, List, [], ◌∷◌, ◌++◌, length, take, drop}
 use Rattle.std.proofs.Common.{get_or, refl, ap, sym}
 use Rattle.std.proofs.Common.{zero-add, ◌∙◌, arith, length-append, append-nil}
 use Rattle.std.proofs.Math.Seq.{drop-append-add}
-use Rattle.std.proofs.lemmas.List.{take_at, drop_at, take-append-drop, nil_from_length}
+use Rattle.std.proofs.lemmas.List.{take_at, drop_at, take-append-drop}
 use Rattle.std.proofs.lemmas.Grind.{flat_map-append}
 use Rattle.pmp_core.specs.declared.event.Event.{Event}
 use Rattle.pmp_core.specs.Histories.{joined}
@@ -82,7 +82,8 @@ batch_between (suc k) (b ∷ bs) lt =
     length-append b (joined (take (suc k) bs)) in
     let size : event_count (take (suc (suc k)) (b ∷ bs)) - event_count (take (suc k) (b ∷ bs))
     ≡ event_count (take (suc k) bs) - event_count (take k bs) = omega (arith, before, up_to) in
-    let rest : drop (event_count (take (suc k) (b ∷ bs))) (b ++ joined bs) ≡ drop (event_count (take k bs)) (joined bs) =
+    let rest : drop (event_count (take (suc k) (b ∷ bs))) (b ++ joined bs)
+    ≡ drop (event_count (take k bs)) (joined bs) =
     rw before (drop-append-add b (joined bs) (event_count (take k bs))) in
     ap (λ (x : Batches). b ∷ x) (batch_between k bs (omega arith))
     ∙ (λ i. b ∷ (take k bs ++ take (sym size i) (sym rest i) ∷ []))

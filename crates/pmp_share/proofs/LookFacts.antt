@@ -1,7 +1,7 @@
 -- What a look tells of what was held.
-use Rattle.std.proofs.Common.{◌≡◌, ℕ, zero, suc, ◌+◌, ◌<◌, ◌≤◌, Bool, true, false, cond, ◌&&◌, ◌||◌, nat_lt, nat_le}
+use Rattle.std.proofs.Common.{◌≡◌, ℕ, suc, ◌≤◌, Bool, true, false, cond, ◌&&◌, ◌||◌, nat_lt, nat_le}
 use Rattle.std.proofs.Common.{◌==◌, List, [], ◌∷◌, ◌++◌}
-use Rattle.std.proofs.Common.{fold, All, Contains, get_or, length, refl, ap, sym, subst, ◌∙◌, arith, le_refl}
+use Rattle.std.proofs.Common.{fold, All, Contains, length, refl, ap, sym, subst, ◌∙◌, arith, le_refl}
 use Rattle.std.proofs.Common.{append-nil, append_assoc, length-append, MatchBool}
 use Rattle.std.proofs.lemmas.Bool.Decides.{nat_tests}
 use Rattle.std.proofs.lemmas.Grind.{fold-append}
@@ -32,12 +32,6 @@ pub starts_on : (batches front first : Batches) → StartsWith batches front →
     → StartsWith batches first
 starts_on batches front first (rest, e) (more, f) =
     (more ++ rest, e ∙ ap (λ (b : Batches). b ++ rest) f ∙ append_assoc first more rest)
-
--- as many batches are the same batches
-pub starts_whole : (batches front : Batches) → StartsWith batches front → length batches ≡ length front → front ≡ batches
-starts_whole batches front (rest, e) same =
-    let none : rest ≡ [] = nil_from_length rest (omega (arith, ap length e, length-append front rest)) in
-    sym (e ∙ ap (λ (b : Batches). front ++ b) none ∙ append-nil front)
 
 le_true : (m n : ℕ) → nat_le m n ≡ true → m ≤ n
 le_true m n e = grind (arith, nat_tests)
@@ -132,8 +126,11 @@ pub latest_push : (held : List Batches) (told best : Batches) → latest held �
     → (is_as_late best told ≡ true → latest (held ++ told ∷ []) ≡ told)
     × (is_as_late best told ≡ false → latest (held ++ told ∷ []) ≡ best)
 unfolding latest
-latest_push [] told best is = (λ late. refl, λ late. never_early (event_count told) (length told)
-    (subst (λ (b : Batches). is_as_late b told ≡ false) (sym is) late))
+latest_push [] told best is = (
+  λ late. refl,
+  λ late. never_early (event_count told) (length told)
+      (subst (λ (b : Batches). is_as_late b told ≡ false) (sym is) late),
+)
 latest_push (x ∷ xs) told best is = rw (fold-append later_of x xs (told ∷ []), is)
     ((λ late. rw late refl), (λ late. rw late refl))
 

@@ -1,6 +1,6 @@
 -- Each step keeps the running rule.
-use Rattle.std.proofs.Common.{◌≡◌, ◌≢◌, ℕ, List, [], ◌∷◌, ◌++◌, Option, Some, None, set, refl, ap, sym, subst, ◌∙◌, ⊎_elim}
-use Rattle.std.proofs.Common.{append_assoc}
+use Rattle.std.proofs.Common.{◌≡◌, ◌≢◌, ℕ, List, [], ◌∷◌, ◌++◌, Option, Some, None, set, refl, ap, sym, subst, ◌∙◌}
+use Rattle.std.proofs.Common.{⊎_elim}
 use mathlib.Core.Option.{some}
 use lib.ListN.{get_elem?}
 use Rattle.atomic_table.proofs.Lists.{at_set, at_snoc, set_again, set_else}
@@ -9,7 +9,7 @@ use Rattle.pmp_share.specs.declared.view.Known.{Known}
 use Rattle.pmp_share.specs.declared.told.Told.{Told}
 use Rattle.pmp_share.specs.declared.version.Version.{Version}
 use Rattle.pmp_share.specs.Batches.{Batches, StartsWith}
-use Rattle.pmp_share.specs.Rule.{known, known_of, Fits, Kept, Enters, Shown}
+use Rattle.pmp_share.specs.Rule.{known_of, Fits, Kept, Enters, Shown}
 use Rattle.pmp_share.specs.Stages.{told_of}
 use Rattle.pmp_share.proofs.LookFacts.{starts_alike, starts_on}
 
@@ -41,7 +41,8 @@ looks seat view version views kept at = (
   Some (known_of version),
   record {
     noted = kept.noted;
-    fits = set_fits version seat views (Some (known_of version)) (all_fits version) (λ j v other there. kept.fits j v there);
+    fits = set_fits version seat views (Some (known_of version)) (all_fits version)
+        (λ j v other there. kept.fits j v there);
   },
   (kept.fits seat view at, kept.noted, refl),
 )

@@ -1,11 +1,11 @@
 -- What the publisher's side keeps.
-use Rattle.std.proofs.Common.{◌≡◌, Bool, true, false, List, [], ◌∷◌, ◌++◌, Option, Some, Result, Ok, MatchResult, refl, ap, sym, subst, ◌∙◌}
+use Rattle.std.proofs.Common.{◌≡◌, Bool, true, false, List, [], ◌∷◌, ◌++◌, Option, Some, Result, Ok, MatchResult, ap}
+use Rattle.std.proofs.Common.{sym, subst, ◌∙◌}
 use Rattle.std.proofs.lemmas.List.Sums.{fold-append}
 use Rattle.pmp_share.specs.declared.entry.Entry.{Entry}
 use Rattle.pmp_share.specs.declared.told.Told.{Told}
 use Rattle.pmp_share.specs.declared.version.Version.{Version}
 use Rattle.pmp_share.specs.declared.view.Known.{Known}
-use Rattle.pmp_share.specs.Batches.{Batches, StartsWith}
 use Rattle.pmp_share.specs.Rule.{known, known_of}
 use Rattle.pmp_share.specs.Stages.{told_of, after, IsStage}
 use Rattle.pmp_share.specs.Versions.{applied}
@@ -17,8 +17,8 @@ pub match_ok : {A E : Type 0} (result : Result A E) (P : A → Type 0) (Q : E �
 match_ok result P Q value is said = subst (λ (r : Result _ _). MatchResult r P Q) is said
 
 -- after a publication, with nothing handed over
-pub turned : (keeper : Known) (ahead : Bool) (view : Option Known) (shown : Version) (next : Told) (entries : List Entry)
-    → told_of shown ≡ next → entries ≡ [] → view ≡ Some (known_of shown) → next.book ≡ keeper.book
+pub turned : (keeper : Known) (ahead : Bool) (view : Option Known) (shown : Version) (next : Told)
+    (entries : List Entry) → told_of shown ≡ next → entries ≡ [] → view ≡ Some (known_of shown) → next.book ≡ keeper.book
     → next.log ≡ next.batches → (ahead ≡ false → keeper.list ≡ next.batches)
     → IsStage keeper ahead view shown (after shown entries)
 turned keeper ahead view shown next entries is none seen book noted history =
@@ -39,7 +39,7 @@ pub hands : (keeper : Known) (view : Option Known) (shown : Version) (entries mo
     → more ≡ entries ++ entry ∷ [] → IsStage keeper false view shown (after shown more)
 hands keeper view shown entries more entry is book log noted grown =
     subst (λ (told : Told). IsStage keeper false view shown told)
-        (sym (ap (after shown) grown ∙ fold-append applied (told_of shown) entries (entry ∷ []))) record {
+    (sym (ap (after shown) grown ∙ fold-append applied (told_of shown) entries (entry ∷ []))) record {
       seated = is.seated;
       book = is.book;
       noted = is.noted;

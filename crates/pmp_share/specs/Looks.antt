@@ -1,8 +1,7 @@
 -- What a checker knows: the lists of batches that it holds, each of which it looked at or learnt of.
-use Rattle.std.specs.Prelude.{◌≡◌, ℕ, ◌==◌, nat_lt, nat_le, Bool, ◌&&◌, ◌||◌, if◌then◌else◌, List, [], ◌∷◌, fold}
+use Rattle.std.specs.Prelude.{◌≡◌, ◌==◌, nat_lt, nat_le, Bool, ◌&&◌, ◌||◌, if◌then◌else◌, List, [], ◌∷◌, fold}
 use Rattle.std.specs.Prelude.{length}
 use Rattle.std.specs.Prelude.{Contains}
-use Rattle.pmp_core.specs.Histories.{joined}
 use Rattle.pmp_share.specs.Batches.{Batches, StartsWith, AllBegin, event_count}
 
 -- the second has more events, or as many and no fewer batches

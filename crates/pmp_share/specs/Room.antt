@@ -1,5 +1,5 @@
 -- How much one unit holds.
-use Rattle.std.specs.Prelude.{ℕ, ◌+◌, nat_le, Bool, ◌&&◌, List, length}
+use Rattle.std.specs.Prelude.{◌+◌, nat_le, Bool, ◌&&◌, List, length}
 use Rattle.pmp_core.specs.declared.event.Event.{Event}
 use Rattle.pmp_share.specs.declared.room.TheConstants.{HISTORY_LIMIT}
 use Rattle.pmp_share.specs.Batches.{Batches, event_count}

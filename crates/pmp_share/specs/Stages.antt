@@ -1,5 +1,5 @@
 -- What the publisher's side is made of.
-use Rattle.std.specs.Prelude.{◌≡◌, Bool, true, false, List, [], ◌∷◌, ◌++◌, fold, Option, Some}
+use Rattle.std.specs.Prelude.{◌≡◌, Bool, false, List, fold, Option, Some}
 use Rattle.logbook.specs.Pages.{Book}
 use Rattle.pmp_share.specs.declared.entry.Entry.{Entry}
 use Rattle.pmp_share.specs.declared.told.Told.{Told}

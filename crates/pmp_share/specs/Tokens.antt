@@ -3,19 +3,23 @@ use Rattle.std.specs.Prelude.{ℕ, List}
 use Rattle.logbook.specs.Pages.{Book}
 use Rattle.pmp_share.specs.Batches.{Batches}
 
+-- which unit
+abbrev pub UnitId : Type 0
+UnitId = Book
+
 -- the batches that are published, those that wait, and how many of these the last publication left waiting
 pub record PublisherToken : Type 0 where
-  pub unit : Book
+  pub unit : UnitId
   pub published : Batches
   pub pending : Batches
   pub tried : ℕ
 
 -- the batches that it tells of
 pub record NoticeToken : Type 0 where
-  pub unit : Book
+  pub unit : UnitId
   pub told : Batches
 
 -- the lists of batches that it looked at or learnt of
 pub record CheckerToken : Type 0 where
-  pub unit : Book
+  pub unit : UnitId
   pub held : List Batches

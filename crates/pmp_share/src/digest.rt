@@ -51,7 +51,9 @@ impl Digest {
         }
     }
 
-    /// Makes it that of a version.
+    /// Makes it that of a version. A look calls it seldom, so it stands out of line.
+    #[cold]
+    #[inline(never)]
     pub fn refresh(&mut self, version: &Version)
         ensures { self.new ≡ version.now.journal }
     {

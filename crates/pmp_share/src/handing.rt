@@ -8,11 +8,7 @@ use crate::journal::Journal;
 use crate::stage::Stage;
 
 /// Hands over what isn't handed over of the pending batches.
-pub fn hand_over(
-    stage: &mut Stage,
-    pending: &Journal,
-    handed: &mut usize,
-) -> Result<(), ShareFault>
+pub fn hand_over(stage: &mut Stage, pending: &Journal, handed: &mut usize) -> Result<(), ShareFault>
     requires within { handed.old ≤ length pending.now }
     requires handed { stage.old.handed ≡ stage.old.shown ++ take handed.old pending.now }
     requires ahead { stage.old.ahead ≡ true → (handed.old < length pending.now)

@@ -59,8 +59,11 @@ impl Keeper {
             return false;
         };
         let mut past = self.past.again();
-        let mut offer: Offer<LinkedList<Event>, u64, Law, Nothing> = past
-            .plain::<Nothing, Vec<Event>, Adds>(batch);
+        let mut offer: Offer<LinkedList<Event>, u64, Law, Nothing> = past.plain::<
+            Nothing,
+            Vec<Event>,
+            Adds,
+        >(batch);
         let mut pen = past.no_pen();
         let found = self
             .head

@@ -124,7 +124,8 @@ impl Publisher {
         stage.end(rt);
     }
 
-    /// A notice of all that is published.
+    /// A notice of all that is published. `NoPlace` where 32 checkers and notices are there; a place is free again once
+    /// one is dropped or learnt.
     pub fn tell(&mut self) -> Result<Notice, ShareFault>
         ensures same { self.new ≡ self.old }
         ensures told { IfOk result (λ notice.

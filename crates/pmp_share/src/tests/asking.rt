@@ -30,9 +30,6 @@ fn a_worker_decides_in_what_it_was_told(rt: HostRuntime) {
     let late = tell(&rt, &mut publisher);
     assert_eq!(rt; ask(&mut first, notice, &access), Ok(BY_ENTRY_ZERO));
     publish(&rt, &mut publisher, &ENTRY_ONE);
-    assert_eq!(rt;
-        ask(&mut second, late, &access),
-        Err(Moved { seen: 4 })
-    );
+    assert_eq!(rt; ask(&mut second, late, &access), Err(Moved { seen: 4 }));
     publisher.end(&rt);
 }

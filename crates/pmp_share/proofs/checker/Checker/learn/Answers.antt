@@ -1,4 +1,4 @@
-use Rattle.std.proofs.Common.{◌≡◌, List, [], ◌∷◌, ◌++◌, ap, sym, ◌∙◌}
+use Rattle.std.proofs.Common.{◌≡◌, [], ◌∷◌, ◌++◌, ap, ◌∙◌}
 use Rattle.pmp_share.specs.declared.view.Known.{Known}
 use Rattle.pmp_share.specs.Batches.{Batches}
 use Rattle.pmp_share.specs.Tokens.{CheckerToken}
@@ -18,8 +18,8 @@ held_told c =
 
 pub invariant_of-self : goal.invariant_of-self
 invariant_of-self c = learnt_later c.self.inside.stand c.into_stand-stand.result c.self.inside.held c.with.result
-    c.is_before.result c.self.invariant (held_more (goal.at.invariant_of-self c).After-is_before) c.is_before.ensures.late
-    c.is_before.ensures.begins c.if-is_before.true
+    c.is_before.result c.self.invariant (held_more (goal.at.invariant_of-self c).After-is_before)
+    c.is_before.ensures.late c.is_before.ensures.begins c.if-is_before.true
 
 pub invariant_of-self-else-is_before : goal.invariant_of-self-else-is_before
 invariant_of-self-else-is_before c = learnt_earlier c.self.inside.stand c.into_stand-stand.result c.self.inside.held

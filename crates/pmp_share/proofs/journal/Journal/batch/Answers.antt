@@ -26,8 +26,8 @@ start_is : (c : After-own_end) → c.end_of.result
 start_is c =
     let lt = below _ _ _ c.args.index c.self.invariant c.self.view_is c.requires in
     end_is c.self.inside.ends.items c.self.inside.events.items c.self.invariant c.args.index c.end_of.result
-        (omega (arith, lt)) c.end_of.ensures.none
-        (λ k e. c.end_of.ensures.last k e ∙ ap (λ (ends : List ℕ). get_or ends k 0) c.as_slice-ends.ensures.value)
+    (omega (arith, lt)) c.end_of.ensures.none
+    (λ k e. c.end_of.ensures.last k e ∙ ap (λ (ends : List ℕ). get_or ends k 0) c.as_slice-ends.ensures.value)
 
 end_is_at : (c : After-own_end) → c.own_end.result
     ≡ event_count (take (suc c.args.index) (batches_of c.self.inside.ends.items c.self.inside.events.items))
@@ -39,8 +39,8 @@ end_is_at c =
 pub part_of-requires : goal.part_of-requires
 part_of-requires c =
     let bounds = batch_bounds c.self.inside.ends.items c.self.inside.events.items c.self.invariant c.args.index
-        c.end_of.result c.own_end.result (below _ _ _ c.args.index c.self.invariant c.self.view_is c.requires)
-        (start_is (goal.at.part_of-requires c).After-own_end) (end_is_at (goal.at.part_of-requires c).After-own_end) in
+    c.end_of.result c.own_end.result (below _ _ _ c.args.index c.self.invariant c.self.view_is c.requires)
+    (start_is (goal.at.part_of-requires c).After-own_end) (end_is_at (goal.at.part_of-requires c).After-own_end) in
     (bounds.0, rw c.as_slice.ensures.value bounds.1)
 
 pub returns : goal.returns
@@ -51,9 +51,9 @@ returns c =
     ∙ ap (λ (es : List Event). take (c.own_end.result - c.end_of.result) (drop c.end_of.result es))
     c.as_slice.ensures.value in
     let main = batch_is ends events c.self.invariant c.args.index c.end_of.result c.own_end.result
-        (below _ _ _ c.args.index c.self.invariant c.self.view_is c.requires)
-        (start_is (goal.at.returns c).After-own_end) (end_is_at (goal.at.returns c).After-own_end) in
+    (below _ _ _ c.args.index c.self.invariant c.self.view_is c.requires)
+    (start_is (goal.at.returns c).After-own_end) (end_is_at (goal.at.returns c).After-own_end) in
     let next : c.args.index + 1 ≡ suc c.args.index = omega arith in
     ap (λ (n : ℕ). take n c.args.self.now) next
-    ∙ subst (λ (b : Batches). take (suc c.args.index) b ≡ take c.args.index b ++ c.part_of.result.now ∷ []) c.self.view_is
-    (main ∙ ap (λ (es : List Event). take c.args.index (batches_of ends events) ++ es ∷ []) (sym part))
+    ∙ subst (λ (b : Batches). take (suc c.args.index) b ≡ take c.args.index b ++ c.part_of.result.now ∷ [])
+    c.self.view_is (main ∙ ap (λ (es : List Event). take c.args.index (batches_of ends events) ++ es ∷ []) (sym part))

@@ -1,4 +1,4 @@
-use Rattle.std.proofs.Common.{◌≡◌, List, [], ◌∷◌, ◌++◌, length, ap, ◌∙◌}
+use Rattle.std.proofs.Common.{[], ◌∷◌, ◌++◌, length, ap, ◌∙◌}
 use Rattle.pmp_share.specs.Batches.{Batches}
 use Rattle.pmp_share.specs.Journals.{batches_of}
 use Rattle.pmp_share.proofs.JournalFacts.{Stands, push_stands, stands_for, stands_cut}

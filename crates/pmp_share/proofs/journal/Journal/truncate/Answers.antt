@@ -1,8 +1,6 @@
-use Rattle.std.proofs.Common.{◌≡◌, ℕ, zero, suc, ◌+◌, ◌<◌, List, take, length, get_or, ap, sym, refl, ◌∙◌, arith}
-use Rattle.pmp_share.specs.Batches.{event_count}
-use Rattle.pmp_share.specs.Journals.{batches_of, IsCut}
+use Rattle.std.proofs.Common.{◌≡◌, ℕ, ◌+◌, ◌<◌, List, take, length, get_or, ap, ◌∙◌, arith}
+use Rattle.pmp_share.specs.Journals.{batches_of}
 use Rattle.pmp_share.specs.Batches.{Batches}
-use Rattle.pmp_core.specs.declared.event.Event.{Event}
 use Rattle.pmp_share.proofs.JournalFacts.{Stands, take_stands, end_is, length_ends, stands_for, stands_cut}
 use Rattle.pmp_share.proofs.journal.Journal.truncate.Goals as goal
 use Rattle.pmp_share.proofs.journal.Journal.truncate.Goals.{After-truncate-2}

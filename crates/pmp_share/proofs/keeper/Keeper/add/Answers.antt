@@ -1,5 +1,4 @@
-use Rattle.std.proofs.Common.{◌≡◌, ℕ, ◌+◌, sym, ◌∙◌, ap, length, arith}
-use Rattle.pmp_share.specs.Batches.{Batches}
+use Rattle.std.proofs.Common.{◌≡◌, sym, ◌∙◌, ap, length}
 use Rattle.pmp_share.proofs.Adding.{adds_moves}
 use Rattle.pmp_share.proofs.keeper.Keeper.add.Goals as goal
 
@@ -16,5 +15,6 @@ compare_exchange-found-requires c =
       pen.0 ∙ (ap (λ past. past.book) past ∙ sym (ap (λ w. w.book) head)),
       offer.0,
       rw (ap (λ w. w.key) head, pen.1, offer.1, offer.3)
-          (adds_moves c.again-past.result.log c.args.batch.now.items c.self.inside.count c.in-Some.next counted c.in-Some.ensures.1),
+          (adds_moves c.again-past.result.log c.args.batch.now.items c.self.inside.count c.in-Some.next
+          counted c.in-Some.ensures.1),
     )

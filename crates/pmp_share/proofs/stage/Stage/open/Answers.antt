@@ -32,7 +32,7 @@ pub publish_as-writer-requires : goal.publish_as-writer-requires
 publish_as-writer-requires g c next is =
     let shown = c.in_ok-writer.writer.desk.shown.value in
     shows_told _ _ shown (told_of shown) refl (noted g c) (starts_alike shown.journal) next
-        (is ∙ ap (after shown) c.in_ok-writer.ensures.1)
+    (is ∙ ap (after shown) c.in_ok-writer.ensures.1)
 
 pub invariant_of-result : goal.invariant_of-result
 invariant_of-result g c =
@@ -40,5 +40,5 @@ invariant_of-result g c =
     let made = (goal.at.invariant_of-result g c).In_ok-writer in
     let values = match_ok c.publish_as-writer.result.1 _ _ _ c.in-Ok.is c.publish_as-writer.ensures.values in
     turned c.open-keeper.result _ _ _ (told_of shown) _ (values.0 ∙ ap (after shown) c.in_ok-writer.ensures.1) values.1
-        (match_ok c.publish_as-writer.result.1 _ _ _ c.in-Ok.is c.publish_as-writer.ensures.rule) (book g made)
-        (noted g made) (λ _. c.open-keeper.ensures ∙ sym (journal_is g made))
+    (match_ok c.publish_as-writer.result.1 _ _ _ c.in-Ok.is c.publish_as-writer.ensures.rule) (book g made)
+    (noted g made) (λ _. c.open-keeper.ensures ∙ sym (journal_is g made))

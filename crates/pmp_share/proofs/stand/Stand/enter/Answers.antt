@@ -1,4 +1,4 @@
-use Rattle.std.proofs.Common.{◌≡◌, Option, Some, subst, sym, ap, ◌∙◌}
+use Rattle.std.proofs.Common.{◌≡◌, Some, subst, sym, ap, ◌∙◌}
 use Rattle.pmp_core.specs.declared.register_file.TheConstants.{ENTRIES}
 use Rattle.pmp_core.specs.Decision.{IsDecision}
 use Rattle.pmp_core.specs.Histories.{file_after}
@@ -17,11 +17,11 @@ enter_as-requires c = looks c.self.inside.reader.place.id _
 -- it stands at the version's batches
 list_is : (c : After-drop-past) → c.in-Ok.reading.part.value.journal ≡ c.new.result.list
 list_is c = sym (
-  ap (λ (stand : Known). stand.list) c.new.ensures
-  ∙ ap (λ past. past.log) c.past-past.ensures
-  ∙ ap (λ (version : Version). version.past.log) c.get-version.ensures
-  ∙ c.in-Ok.ensures.1.1
-)
+    ap (λ (stand : Known). stand.list) c.new.ensures
+    ∙ ap (λ past. past.log) c.past-past.ensures
+    ∙ ap (λ (version : Version). version.past.log) c.get-version.ensures
+    ∙ c.in-Ok.ensures.1.1
+    )
 
 pub returns-after-batches-clause-begins : goal.returns-after-batches-clause-begins
 returns-after-batches-clause-begins c =
@@ -33,11 +33,11 @@ pub returns-after-batches-clause-decided : goal.returns-after-batches-clause-dec
 unfolding DecidesIn
 returns-after-batches-clause-decided c =
     subst (λ (b : Batches). IsDecision (file_after ENTRIES b) c.args.access.now c.decide.result)
-        (ap (λ (version : Version). version.journal) c.get-version.ensures ∙ list_is c) c.decide.ensures.by_bytes
+    (ap (λ (version : Version). version.journal) c.get-version.ensures ∙ list_is c) c.decide.ensures.by_bytes
 
 pub returns-in-Err-clause-decided : goal.returns-in-Err-clause-decided
 unfolding DecidesIn
 returns-in-Err-clause-decided c =
     subst (λ (b : Batches). IsDecision (file_after ENTRIES b) c.args.access.now c.decide-in-Err.result)
-        (c.deref-in-Err.ensures ∙ c.self.invariant.1 ∙ sym (ap (λ (stand : Known). stand.list) c.new-in-Err.ensures))
-        c.decide-in-Err.ensures.by_bytes
+    (c.deref-in-Err.ensures ∙ c.self.invariant.1 ∙ sym (ap (λ (stand : Known). stand.list) c.new-in-Err.ensures))
+    c.decide-in-Err.ensures.by_bytes

@@ -12,7 +12,7 @@ returns-clause-begins c =
     let own : c.self.inside.past.log ≡ c.args.self.now.list = ap (λ (stand : Known). stand.list) c.self.view_is in
     let others : c.other.inside.past.log ≡ c.args.other.now.list = ap (λ (stand : Known). stand.list) c.other.view_is in
     later_begins c.args.self.now.list c.args.other.now.list both
-        (subst (λ (b : Batches). IsPrefix b both) (ap (λ past. past.log) c.again-both.ensures ∙ own) c.learn.ensures.2)
-        (subst (λ (b : Batches). IsPrefix b both) others c.learn.ensures.3) c.is_as_late.result
-        (sym (c.is_as_late.ensures ∙ (λ i. is_as_late ((c.deref.ensures ∙ c.self.invariant.1 ∙ own) i)
-        ((c.deref-2.ensures ∙ c.other.invariant.1 ∙ others) i))))
+    (subst (λ (b : Batches). IsPrefix b both) (ap (λ past. past.log) c.again-both.ensures ∙ own) c.learn.ensures.2)
+    (subst (λ (b : Batches). IsPrefix b both) others c.learn.ensures.3) c.is_as_late.result
+    (sym (c.is_as_late.ensures ∙ (λ i. is_as_late ((c.deref.ensures ∙ c.self.invariant.1 ∙ own) i)
+    ((c.deref-2.ensures ∙ c.other.invariant.1 ∙ others) i))))

@@ -1,4 +1,4 @@
-use Rattle.std.proofs.Common.{◌≡◌, ◌∙◌, List, [], ◌∷◌, ◌++◌, length, Result, Ok, Err, OnOk, IfOk, subst, sym, refl}
+use Rattle.std.proofs.Common.{◌∙◌, List, [], ◌∷◌, ◌++◌, length, Result, Ok, Err, OnOk, IfOk, subst, refl}
 use Rattle.std.proofs.Common.{arith}
 use Rattle.std.proofs.Common.{length-append}
 use Rattle.std.proofs.lemmas.List.{get_or_push}
@@ -6,9 +6,9 @@ use Rattle.pmp_core.specs.declared.decision.Decision.{Decision}
 use Rattle.pmp_core.specs.declared.register_file.TheConstants.{ENTRIES}
 use Rattle.pmp_core.specs.declared.event.Event.{Event}
 use Rattle.pmp_core.specs.Decision.{IsDecision}
-use Rattle.pmp_core.specs.Histories.{joined, replay}
+use Rattle.pmp_core.specs.Histories.{replay}
 use Rattle.pmp_share.specs.declared.checker.Moved.{Moved}
-use Rattle.pmp_share.specs.Batches.{Batches, StartsWith, event_count}
+use Rattle.pmp_share.specs.Batches.{Batches, StartsWith}
 use Rattle.pmp_share.specs.Looks.{latest, Looked}
 use Rattle.pmp_share.proofs.tests.asking.ask.Goals as goal
 
