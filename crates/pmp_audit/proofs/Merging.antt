@@ -13,9 +13,8 @@ use Rattle.pmp_core.specs.declared.register_file.TheConstants.{ENTRIES}
 use Rattle.pmp_core.specs.Histories.{file_after}
 use Rattle.pmp_core.specs.Ranges.{decision_of}
 use Rattle.pmp_core.specs.RegisterFile.{RegisterFile}
-use Rattle.atomic_table.specs.Seated.{TableId}
 use Rattle.pmp_share.specs.Batches.{Batches}
-use Rattle.pmp_share.specs.Tokens.{PublisherToken, CheckerToken, NoticeToken}
+use Rattle.pmp_share.specs.Tokens.{PublisherToken, CheckerToken, NoticeToken, UnitId}
 use Rattle.pmp_text.specs.declared.trace.Row.{Row}
 use Rattle.pmp_audit.specs.declared.shared_audit.work_fault.WorkFault.{WorkFault}
 use Rattle.pmp_audit.specs.declared.shared_audit.job.Done.{Done}
@@ -171,10 +170,10 @@ module _ (publisher : PublisherToken) (count workers first : ℕ) (rows : List R
       let j : IsJob publisher worker job = are.each worker job at_job in
       let told : job.notice.told ≡ publisher.published = ap (λ (n : NoticeToken). n.told) j.notice in
       let number : workers ≡ length all = as_many ∙ sym all_many in
-      let Own : TableId → Batches → ℕ → ℕ → Type 0 = λ unit told worker workers.
+      let Own : UnitId → Batches → ℕ → ℕ → Type 0 = λ unit told worker workers.
       IsDone unit (file_after ENTRIES told) worker workers first rows done in
       let by_unit : Own publisher.unit job.notice.told job.worker workers =
-      subst (λ (u : TableId). Own u job.notice.told job.worker workers) j.same_unit own in
+      subst (λ (u : UnitId). Own u job.notice.told job.worker workers) j.same_unit own in
       let by_told : Own publisher.unit publisher.published job.worker workers =
       subst (λ (t : Batches). Own publisher.unit t job.worker workers) told by_unit in
       let by_worker : Own publisher.unit publisher.published worker workers =

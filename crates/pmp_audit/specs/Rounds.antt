@@ -1,11 +1,10 @@
 -- What is decided between two publications of a shared audit.
 use Rattle.std.specs.Prelude.{◌≡◌, ℕ, ◌==◌, ◌≤◌, List, [], ◌∷◌, All, length, map, take, drop, slice_get, Some, if◌then◌else◌}
-use Rattle.atomic_table.specs.Seated.{TableId}
 use Rattle.pmp_core.specs.declared.decision.Decision.{Decision}
 use Rattle.pmp_core.specs.declared.event.Event.{Event}
 use Rattle.pmp_core.specs.Ranges.{decision_of}
 use Rattle.pmp_core.specs.RegisterFile.{RegisterFile}
-use Rattle.pmp_share.specs.Tokens.{PublisherToken, CheckerToken}
+use Rattle.pmp_share.specs.Tokens.{PublisherToken, CheckerToken, UnitId}
 use Rattle.pmp_text.specs.declared.trace.Row.{Row}
 use Rattle.pmp_text.specs.TraceFaults.{IsInOrder, afters}
 use Rattle.pmp_text.specs.Traces.{row_fields}
@@ -35,7 +34,7 @@ pub record AreDecidedSoFar (batches : List (List Event)) (rows : List Row) (afte
   pub order : IsInOrder (length batches) after (afters (map row_fields (drop (length decided) rows)))
 
 -- so many checkers, all of one unit
-pub record AreCheckersOf (unit : TableId) (count : ℕ) (checkers : List CheckerToken) : Type 0 where
+pub record AreCheckersOf (unit : UnitId) (count : ℕ) (checkers : List CheckerToken) : Type 0 where
   pub many : length checkers ≡ count
   pub same_unit : All (λ checker. checker.unit ≡ unit) checkers
 

@@ -1,7 +1,7 @@
 -- What a worker of a shared audit knows and does.
 use Rattle.std.specs.Prelude.{◌≡◌, ℕ, ◌≤◌, ◌%◌, ◌/◌, List, All, map, slice_get}
 use Rattle.std.specs.List.{enumerate_from}
-use Rattle.atomic_table.specs.Seated.{TableId}
+use Rattle.pmp_share.specs.Tokens.{UnitId}
 use Rattle.pmp_core.specs.declared.register_file.TheConstants.{ENTRIES}
 use Rattle.pmp_core.specs.Histories.{file_after}
 use Rattle.pmp_core.specs.RegisterFile.{RegisterFile}
@@ -30,7 +30,7 @@ row_of decision = (decision.number, decision.row.value)
 
 -- a worker's checker is of the same unit, and there is a decision in this file for each of the worker's rows, of which
 -- the first of all has this number
-pub record IsDone (unit : TableId) (file : RegisterFile) (worker workers first : ℕ) (rows : List Row) (done : Done)
+pub record IsDone (unit : UnitId) (file : RegisterFile) (worker workers first : ℕ) (rows : List Row) (done : Done)
     : Type 0 where
   pub same_unit : done.checker.unit ≡ unit
   pub dealt : IsDealt worker workers (enumerate_from first rows) (map row_of done.decisions.items)

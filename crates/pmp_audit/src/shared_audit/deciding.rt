@@ -36,9 +36,9 @@ fn decide_rows<R: Threads + Wait + Sync, G: Gate + Sync>(
     requires same_unit { All (λ checker. checker.unit ≡ publisher.old.unit) checkers.items }
     requires published { publisher.old.published ≡ no_batches }
     requires pending { publisher.old.pending ≡ [] }
-    requires size { script_size script.now ≤ HISTORY_LIMIT }
-    requires order { IsInOrder (length script.now) 0 (afters (map row_fields rows.now)) }
-    ensures decided { IfOk result (λ decided. decided.items ≡ map (decision_for script.now) rows.now) }
+    requires size { script_size script.now.batches ≤ HISTORY_LIMIT }
+    requires order { IsInOrder (length script.now.batches) 0 (afters (map row_fields rows.now)) }
+    ensures decided { IfOk result (λ decided. decided.items ≡ map (decision_for script.now.batches) rows.now) }
     ensures refused { IfErr result MayStop }
 {
     let mut decided = Vec::new(alloc);
@@ -61,9 +61,9 @@ pub(crate) fn decide_shared<R: Threads + Wait + Sync, G: Gate + Sync>(
     rows: &[Row],
 ) -> Result<Vec<Decision>, AuditFault>
     requires workers { (1 ≤ k) × (k ≤ CHECKERS) }
-    requires size { script_size script.now ≤ HISTORY_LIMIT }
-    requires order { IsInOrder (length script.now) 0 (afters (map row_fields rows.now)) }
-    ensures decided { IfOk result (λ decided. decided.items ≡ map (decision_for script.now) rows.now) }
+    requires size { script_size script.now.batches ≤ HISTORY_LIMIT }
+    requires order { IsInOrder (length script.now.batches) 0 (afters (map row_fields rows.now)) }
+    ensures decided { IfOk result (λ decided. decided.items ≡ map (decision_for script.now.batches) rows.now) }
     ensures refused { IfErr result MayStop }
 {
     let (mut publisher, checkers) = start(rt, alloc, k)?;

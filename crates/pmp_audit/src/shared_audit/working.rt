@@ -35,7 +35,7 @@ fn ask<R: Wait>(
     ensures file { IfOk result (λ decision. decision.file.value ≡ file.now) }
 {
     law_same_events();
-    let decision = checker.decide_at(rt, count, &row.access)?;
+    let decision = checker.decide_at(count, &row.access)?;
     Ok(RowDecision {
         number,
         decision,

@@ -14,7 +14,7 @@ use Rattle.pmp_audit.proofs.shared_audit.audit_shared.Goals.{After-write_answer}
 says : (g : _) (c : After-write_answer g)
     → AuditSays c.args.script.now c.args.trace.now c.in_ok-summary.summary c.deref-4.result.now
 says g c =
-    let script = c.in_ok-script.script in
+    let script = c.in_ok-script.script.batches in
     let rows = c.in_ok-rows.rows.items in
     let decisions = c.in_ok-decisions.decisions.items in
     let trace_means : trace_meaning (length script) c.args.trace.now ≡ Ok (map row_fields rows) =
