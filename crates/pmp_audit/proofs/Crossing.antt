@@ -14,8 +14,10 @@ job_send = declared_send job.the_type (search (as_row_send, sendable) depth 6, (
 decision_send : IsSend decision.the_row
 decision_send = declared_send decision.the_type (
   search (as_row_send, sendable) depth 6,
-  (search (as_row_send, crosses, sendable) depth 12,
-  (search (crosses, sendable) depth 12, (search (crosses, sendable) depth 12, tt))),
+  (
+    search (as_row_send, crosses, sendable) depth 12,
+    (search (crosses, sendable) depth 12, (search (crosses, sendable) depth 12, tt)),
+  ),
 )
 
 pub done_send : IsSend done.the_row

@@ -44,9 +44,9 @@ module _ {A : Type 0} (worker workers : ℕ) (all : List A) where
   past_all : {turn turns place : ℕ} → (worker + turn * workers < length all → turn < turns) → turns ≤ turn
       → worker + turn * workers ≡ place → length all ≤ place
   past_all {turn} {turns} {place} within past is = elim (cases_lt (worker + turn * workers) (length all)) [
-        | inl inside ↦ let no = within inside in absurd (omega arith)
-        | inr beyond ↦ omega arith
-      ]
+    | inl inside ↦ let no = within inside in absurd (omega arith)
+    | inr beyond ↦ omega arith
+  ]
 
   -- after so many turns
   pub record IsDealtSoFar (turns : ℕ) (hand : List A) : Type 0 where

@@ -113,7 +113,7 @@ module _ (batches : List (List Event)) where
     all_decided after decided last so_far =
         let none : drop (length decided) rows ≡ [] = none_left (drop (length decided) rows) (rw last at so_far.order) in
         let left : length rows ≤ length decided =
-            let nil = ap (λ (l : List Row). length l) none in omega (arith, length-drop (length decided) rows) in
+        let nil = ap (λ (l : List Row). length l) none in omega (arith, length-drop (length decided) rows) in
         so_far.decisions ∙ ap (map (decision_for batches)) (take_all (length decided) rows left)
 
   -- ---- a script's publications have room

@@ -150,7 +150,7 @@ module _ (publisher : PublisherToken) (count workers first : ℕ) (rows : List R
     (results : List (Result Done WorkFault)) (all : List Done)
     (are : AreJobs publisher count jobs) (as_many : workers ≡ count) (same : results ≡ map Ok all)
     (each : (i : ℕ) (d : Result Done WorkFault) → i < length jobs
-        → (job : Job) × ((e : Job) → get_or jobs i e ≡ job) × IsDoneAs workers first rows job (get_or results i d))
+    → (job : Job) × ((e : Job) → get_or jobs i e ≡ job) × IsDoneAs workers first rows job (get_or results i d))
     (length_is : length results ≡ count) where
   abbrev file : RegisterFile
   file = file_after ENTRIES publisher.published
@@ -162,7 +162,7 @@ module _ (publisher : PublisherToken) (count workers first : ℕ) (rows : List R
       → IsDone publisher.unit file worker (length all) first rows done
   all_met worker done at =
       let inside : worker < length jobs =
-          let within = slice_get_within all worker done at in omega (arith, all_many, are.many) in
+      let within = slice_get_within all worker done at in omega (arith, all_many, are.many) in
       let (job, job_is, is) = each worker (Ok done) inside in
       let at_job : slice_get jobs worker ≡ Some job = slice_get-get_or jobs worker job inside ∙ ap Some (job_is job) in
       let own : IsDone job.checker.unit (file_after ENTRIES job.notice.told) job.worker workers first rows done =

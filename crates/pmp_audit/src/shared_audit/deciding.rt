@@ -45,8 +45,16 @@ fn decide_rows<R: Threads + Wait + Sync, G: Gate + Sync>(
     let mut checkers = decide_asking(rt, alloc, gate, publisher, checkers, 0, rows, &mut decided)?;
     for index in 0..script.batches() {
         publish(rt, publisher, script.batch(index))?;
-        checkers =
-            decide_asking(rt, alloc, gate, publisher, checkers, index + 1, rows, &mut decided)?;
+        checkers = decide_asking(
+            rt,
+            alloc,
+            gate,
+            publisher,
+            checkers,
+            index + 1,
+            rows,
+            &mut decided,
+        )?;
     }
     Ok(decided)
 }

@@ -74,15 +74,28 @@ fn round<R: Threads + Wait + Sync, G: Gate + Sync>(
     let first = decided.len() as u64 + 1;
     let jobs = jobs_of(alloc, publisher, checkers)?;
     let workers = jobs.len() as u8;
-    let results = thread::map_vec(rt, jobs, &|job: Job| -> Result<Done, WorkFault>
-        requires { (0 < workers) × (first + length rows.now ≤ 2 ^ 64) }
-        ensures { IfOk result (IsDone job.checker.unit (file_after ENTRIES job.notice.told) job.worker workers first
-            rows.entry.now) }
-    {
-        let Job { worker, checker, notice } = job;
-        let hand = Hand { rows, first, worker, workers };
-        work(rt, alloc, checker, notice, hand, gate)
-    })?;
+    let results = thread::map_vec(
+        rt,
+        jobs,
+        &|job: Job| -> Result<Done, WorkFault>
+            requires { (0 < workers) × (first + length rows.now ≤ 2 ^ 64) }
+            ensures { IfOk result (IsDone job.checker.unit (file_after ENTRIES job.notice.told) job.worker workers first
+                rows.entry.now) }
+        {
+            let Job {
+                worker,
+                checker,
+                notice,
+            } = job;
+            let hand = Hand {
+                rows,
+                first,
+                worker,
+                workers,
+            };
+            work(alloc, checker, notice, hand, gate)
+        },
+    )?;
     let all = all_done(alloc, results)?;
     merge(decided, &all, rows)?;
     Ok(checkers_of(alloc, all)?)

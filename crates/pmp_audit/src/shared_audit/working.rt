@@ -16,12 +16,10 @@ use pmp_share::{Checker, Moved, Notice};
 use pmp_text::Row;
 use std::alloc::Global;
 use std::snapshot::Snapshot;
-use std::sync::Wait;
 
 /// Decides the row with this number in this file, which `count` events that the checker learnt of give, if no more
 /// events are published.
-fn ask<R: Wait>(
-    rt: &R,
+fn ask(
     checker: &mut Checker,
     count: u64,
     file: &RegFile,
@@ -45,8 +43,7 @@ fn ask<R: Wait>(
 }
 
 /// Learns the notice and decides the worker's rows in what it tells of. After each row it passes the gate.
-pub(crate) fn work<R: Wait, G: Gate>(
-    rt: &R,
+pub(crate) fn work<G: Gate>(
     alloc: Global,
     mut checker: Checker,
     notice: Notice,
@@ -64,7 +61,7 @@ pub(crate) fn work<R: Wait, G: Gate>(
     for turn in 0..hand.count() {
         let place = hand.place(turn);
         let number = hand.first + place as u64;
-        let decision = ask(rt, &mut checker, count, &file, number, &hand.rows[place])?;
+        let decision = ask(&mut checker, count, &file, number, &hand.rows[place])?;
         decisions.push(decision)?;
         gate.pass(hand.worker, number);
     }

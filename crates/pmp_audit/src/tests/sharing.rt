@@ -4,10 +4,10 @@ ghost use Rattle.std.specs.Prelude.{◌≡◌};
 
 use super::*;
 use crate::gate::{Gate, OpenGate};
+use crate::shared_audit::audit_shared;
 use crate::shared_audit::hand::Hand;
 use crate::shared_audit::work_fault::WorkFault;
 use crate::shared_audit::working::work;
-use crate::shared_audit::audit_shared;
 use pmp_core::{Csr, Event};
 use pmp_share::{Batch, Checker, Moved, Publisher, start};
 use pmp_text::{Row, ScriptFault, ScriptKind, TraceFault, TraceKind};
@@ -69,12 +69,24 @@ fn trace_fault(kind: TraceKind, row: u64) -> Result<Summary, AuditFault> {
 fn workers_refuse_what_one_thread_refuses(rt: HostRuntime) {
     let alloc = rt.alloc();
     let falling = b"after,mode,kind,start,length\n1,U,load,0x0,4\n0,U,load,0x0,4\n";
-    assert_eq!(rt; refusal(&rt, alloc, SCRIPT, falling), trace_fault(TraceKind::Order, 2));
+    assert_eq!(rt;
+        refusal(&rt, alloc, SCRIPT, falling),
+        trace_fault(TraceKind::Order, 2)
+    );
     let beyond = b"after,mode,kind,start,length\n3,U,load,0x0,4\n";
-    assert_eq!(rt; refusal(&rt, alloc, SCRIPT, beyond), trace_fault(TraceKind::BadAfter, 1));
+    assert_eq!(rt;
+        refusal(&rt, alloc, SCRIPT, beyond),
+        trace_fault(TraceKind::BadAfter, 1)
+    );
     let header = b"after,mode,kind,start,length\n";
-    assert_eq!(rt; refusal(&rt, alloc, SCRIPT, header), Ok(Summary { rows: 0, faults: 0 }));
-    assert_eq!(rt; refusal(&rt, alloc, SCRIPT, b""), trace_fault(TraceKind::BadHeader, 0));
+    assert_eq!(rt;
+        refusal(&rt, alloc, SCRIPT, header),
+        Ok(Summary { rows: 0, faults: 0 })
+    );
+    assert_eq!(rt;
+        refusal(&rt, alloc, SCRIPT, b""),
+        trace_fault(TraceKind::BadHeader, 0)
+    );
     let unpublished = ScriptFault {
         kind: ScriptKind::Unpublished,
         line: 2,
@@ -142,8 +154,14 @@ fn workers_overlap(rt: HostRuntime) {
         audit_shared(&rt, rt.alloc(), &gate, 2, SCRIPT, trace, &mut report),
         Ok(Summary { rows: 2, faults: 1 })
     );
-    assert!(rt; !gate.missed.load(Ordering::SeqCst), "a worker waited in vain");
-    assert_eq!(rt; report.as_slice(), b"1,allow,,rule,0\n2,fault,7,rule,0\n".as_slice());
+    assert!(rt;
+        !gate.missed.load(Ordering::SeqCst),
+        "a worker waited in vain"
+    );
+    assert_eq!(rt;
+        report.as_slice(),
+        b"1,allow,,rule,0\n2,fault,7,rule,0\n".as_slice()
+    );
 }
 
 /// Counts the calls for each row, in a byte of each worker's own.
@@ -179,10 +197,16 @@ fn each_row_passes_the_gate_once(rt: HostRuntime) -> Result<(), Fail> {
     let answer = audit_shared(&rt, alloc, &gate, 3, SCRIPT, trace.as_bytes(), &mut report);
     assert_eq!(rt; answer, Ok(Summary { rows: 8, faults: 3 }));
     for (row, worker) in [0, 1, 2, 0, 0, 1, 2, 0].iter().enumerate() {
-        let calls = gate.rows.get(row + 1).map(|calls| calls.load(Ordering::SeqCst));
+        let calls = gate
+            .rows
+            .get(row + 1)
+            .map(|calls| calls.load(Ordering::SeqCst));
         assert_eq!(rt; calls, Some(1 << (8 * *worker)), "row {row}");
     }
-    assert_eq!(rt; gate.rows.first().map(|calls| calls.load(Ordering::SeqCst)), Some(0));
+    assert_eq!(rt;
+        gate.rows.first().map(|calls| calls.load(Ordering::SeqCst)),
+        Some(0)
+    );
     Ok(())
 }
 
@@ -207,7 +231,11 @@ fn uneven_workers_write_the_report_of_one_thread(rt: HostRuntime) -> Result<(), 
     for after in 0..3 {
         for row in 0..64 {
             let row = format!(in alloc; "{after},U,load,0x{row:x},{row}\n")?;
-            let row = if row.as_str().ends_with(",0\n") { format!(in alloc; "{after},S,store,0x80000000,4\n")? } else { row };
+            let row = if row.as_str().ends_with(",0\n") {
+                format!(in alloc; "{after},S,store,0x80000000,4\n")?
+            } else {
+                row
+            };
             trace.push_str(row.as_str())?;
         }
     }
@@ -216,10 +244,70 @@ fn uneven_workers_write_the_report_of_one_thread(rt: HostRuntime) -> Result<(), 
     assert_eq!(rt; answer.map(|summary| summary.rows), Ok(192));
     let mut shared = Vec::new(alloc);
     assert_eq!(rt;
-        audit_shared(&rt, alloc, &Uneven, 8, SCRIPT, trace.as_bytes(), &mut shared),
+        audit_shared(
+            &rt,
+            alloc,
+            &Uneven,
+            8,
+            SCRIPT,
+            trace.as_bytes(),
+            &mut shared
+        ),
         answer
     );
     assert_eq!(rt; shared.as_slice(), report.as_slice());
     assert_shared(&rt, alloc, SCRIPT, trace.as_bytes());
+    Ok(())
+}
+
+fn publish<R: Wait + Abort>(rt: &R, publisher: &mut Publisher, events: &[Event])
+    ensures { publisher.new.unit ≡ publisher.old.unit }
+{
+    let mut batch = Batch::new();
+    for event in events {
+        batch.push(*event).expect(rt, "room in the batch");
+    }
+    publisher.submit(&batch).expect(rt, "memory");
+    publisher.publish(rt).expect(rt, "memory");
+}
+
+/// A publisher and a checker of one unit.
+fn unit_of_one<R: Wait + Abort>(rt: &R, alloc: Global) -> (Publisher, Checker)
+    ensures { result.1.unit ≡ result.0.unit }
+{
+    let (publisher, mut checkers) = start(rt, alloc, 1).expect(rt, "memory");
+    let checker = checkers.pop().expect(rt, "a checker");
+    (publisher, checker)
+}
+
+/// A worker that doesn't ask its checker is refused here: it would decide the row after two events.
+#[test]
+fn a_worker_asks_its_checker(rt: HostRuntime) -> Result<(), Fail> {
+    let access = Access::new(Mode::U, Kind::Load, 0x8000_0000, 4)?;
+    let (mut publisher, mut checker) = unit_of_one(&rt, rt.alloc());
+    let page = Event::Write(Csr::Addr(0), 0x2000_01ff);
+    publish(
+        &rt,
+        &mut publisher,
+        &[page, Event::Write(Csr::Cfg(0), 0x19)],
+    );
+    let notice = publisher.tell().expect(&rt, "a notice");
+    let other_page = Event::Write(Csr::Addr(1), 0x2000_01ff);
+    publish(
+        &rt,
+        &mut publisher,
+        &[Event::Write(Csr::Cfg(0), 0x1900), other_page],
+    );
+    assert_eq!(rt; checker.decide(&access).1, 4);
+    let rows = [Row { after: 1, access }];
+    let hand = Hand {
+        rows: &rows,
+        first: 1,
+        worker: 0,
+        workers: 1,
+    };
+    let answer = work(rt.alloc(), checker, notice, hand, &OpenGate);
+    assert_eq!(rt; answer.err(), Some(WorkFault::Moved(Moved { seen: 4 })));
+    publisher.end(&rt);
     Ok(())
 }

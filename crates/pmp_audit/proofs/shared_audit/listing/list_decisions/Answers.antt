@@ -23,7 +23,7 @@ loop-place-preserved c =
     let default : Decision = record { allowed = false; cause = Rule 0 } in
     let decision = get_or decisions place default in
     let written : c.write_row.new.out.items
-        ≡ c.loop-place.report.items ++ report_row c.count.new.self.rows row.access decision =
+    ≡ c.loop-place.report.items ++ report_row c.count.new.self.rows row.access decision =
     c.in_ok-write_row.ensures.ok ∙ ap (λ (r : Row). c.loop-place.report.items
     ++ report_row c.count.new.self.rows r.access decision) (sym c.index-rows-place.is) in
     let inside : place < length decisions = omega arith in

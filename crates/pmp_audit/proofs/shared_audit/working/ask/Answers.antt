@@ -7,7 +7,7 @@ use Rattle.pmp_audit.specs.Working.{HasLearnt}
 use Rattle.pmp_audit.proofs.shared_audit.working.ask.Goals as goal
 
 pub invariant_of-result : goal.invariant_of-result
-invariant_of-result g c =
+invariant_of-result c =
     let told = c.requires.told in
     let new = latest c.decide_at.new.self.held in
     let begins : StartsWith new told = (c.decide_at.ensures.bound told c.requires.bound).0 in
@@ -16,7 +16,7 @@ invariant_of-result g c =
     record { decided = rw (c.of-2.ensures, c.of.ensures, c.requires.replayed, ← same) c.in_ok-decision.ensures.computed }
 
 pub returns-clause-learnt : goal.returns-clause-learnt
-returns-clause-learnt g c = record {
+returns-clause-learnt c = record {
   told = c.requires.told;
   bound = (c.decide_at.ensures.bound c.requires.told c.requires.bound).1;
   counted = c.requires.counted;
