@@ -1,6 +1,7 @@
 -- What workers bring back, in the order of the rows.
 use Rattle.std.proofs.Common.{◌≡◌, ℕ, ◌+◌, ◌<◌, ◌≤◌, ◌/◌, ◌%◌, ◌⊎◌, inl, inr, List, [], ◌∷◌, ◌++◌, length, map, All}
-use Rattle.std.proofs.Common.{Option, Some, None, Result, Ok, IfOk, refl, sym, ap, ◌∙◌, arith, subst, get_or, take, append_assoc}
+use Rattle.std.proofs.Common.{Option, Some, None, Result, Ok, IfOk, refl, sym, ap, ◌∙◌, arith, subst, get_or, take}
+use Rattle.std.proofs.Common.{append_assoc}
 use Rattle.std.specs.Prelude.{slice_get}
 use Rattle.std.specs.List.{enumerate_from}
 use Rattle.std.specs.Option.{option_map}
@@ -25,15 +26,45 @@ use Rattle.pmp_audit.specs.Working.{IsDealt, IsDone, row_of}
 use Rattle.pmp_audit.proofs.Dealing.{slice_get-push_old, slice_get-push_new, slice_get-enumerate_from}
 use Rattle.pmp_audit.proofs.Dealing.{length-enumerate_from}
 
--- ---- one decision more
-
 abbrev pub row_at : RowDecision → Row
 row_at decision = decision.row.value
 
-module _ (rows : List Row) (all : List Done) (place : ℕ) (done : Done)
-    (dealt : AreDealt rows all) (at_done : slice_get all (place % length all) ≡ Some done) where
+-- ---- rows without their numbers
+
+row_of_some : (decision : Option RowDecision) (number : ℕ) (row : Row)
+    → option_map row_of decision ≡ Some (number, row) → option_map row_at decision ≡ Some row
+row_of_some None number row is = absurd cc
+row_of_some (Some decision) number row is = ap Some (some_pair_parts decision.number number (row_at decision) row is).1
+
+row_of_none : (decision : Option RowDecision) → option_map row_of decision ≡ None → option_map row_at decision ≡ None
+row_of_none None is = refl
+row_of_none (Some decision) is = absurd cc
+
+pub unnumbered : (worker workers first : ℕ) (rows : List Row) (decisions : List RowDecision)
+    → IsDealt worker workers (enumerate_from first rows) (map row_of decisions)
+    → IsDealt worker workers rows (map row_at decisions)
+unnumbered worker workers first rows decisions dealt place own =
+    let turn = place / workers in
+    let numbered : option_map row_of (slice_get decisions turn) ≡ slice_get (enumerate_from first rows) place =
+    sym (slice_get-map row_of decisions turn) ∙ dealt place own in
+    slice_get-map row_at decisions turn ∙ elim ((slice_get_cases rows place).1) [
+      | inl (row, _, at, _) ↦
+          row_of_some (slice_get decisions turn) (first + place) row
+          (numbered ∙ slice_get-enumerate_from first rows place row at) ∙ sym at
+      | inr (past, none) ↦
+          let beyond : length (enumerate_from first rows) ≤ place = omega (arith, length-enumerate_from first rows) in
+          row_of_none (slice_get decisions turn) (numbered ∙ slice_get_past (enumerate_from first rows) place beyond)
+          ∙ sym none
+    ]
+
+-- ---- one decision more
+
+module _ (first : ℕ) (rows : List Row) (all : List Done) (place : ℕ) (done : Done)
+    (dealt : AreDealt first rows all) (at_done : slice_get all (place % length all) ≡ Some done) where
   same_row : slice_get (map row_at done.decisions.items) (place / length all) ≡ slice_get rows place
-  same_row = dealt (place % length all) done at_done place refl
+  same_row =
+      unnumbered (place % length all) (length all) first rows done.decisions.items
+      (dealt (place % length all) done at_done) place refl
 
   pub is_decided : place < length rows → place / length all < length done.decisions.items
   is_decided inside = elim ((slice_get_cases rows place).1) [
@@ -73,7 +104,8 @@ module _ (rows : List Row) (all : List Done) (place : ℕ) (done : Done)
 pub all_at : {A : Type 0} (P : A → Type 0) (xs : List A) (x : A) (ys all : List A)
     → xs ++ (x ∷ ys) ≡ all → All P all → P x
 all_at P xs x ys all whole each =
-    let inside : length xs < length all = omega (arith, ap (λ (l : List _). length l) whole, length-append xs (x ∷ ys)) in
+    let many = ap (λ (l : List _). length l) whole in
+    let inside : length xs < length all = omega (arith, many, length-append xs (x ∷ ys)) in
     subst P (ap (λ (l : List _). get_or l (length xs) x) (sym whole) ∙ get_or_at xs x ys x (length xs) refl)
     (each (length xs) x inside)
 
@@ -81,7 +113,8 @@ pub no_jobs : (publisher : PublisherToken) → AreJobs publisher 0 []
 no_jobs publisher = record { many = refl; each = λ worker job none. absurd cc }
 
 pub one_job : (publisher : PublisherToken) (count : ℕ) (jobs new : List Job) (job : Job)
-    → AreJobs publisher count jobs → IsJob publisher count job → new ≡ jobs ++ job ∷ [] → AreJobs publisher (count + 1) new
+    → AreJobs publisher count jobs → IsJob publisher count job → new ≡ jobs ++ job ∷ []
+    → AreJobs publisher (count + 1) new
 one_job publisher count jobs new job so_far is pushed =
     let many : length new ≡ count + 1 =
     ap (λ (l : List Job). length l) pushed ∙ length_push jobs job ∙ ap (λ (n : ℕ). n + 1) so_far.many in
@@ -103,34 +136,6 @@ one_job publisher count jobs new job so_far is pushed =
                 subst (IsJob publisher worker) same (subst (λ (n : ℕ). IsJob publisher n job) number is)
           ];
     }
-
--- ---- rows without their numbers
-
-row_of_some : (decision : Option RowDecision) (number : ℕ) (row : Row)
-    → option_map row_of decision ≡ Some (number, row) → option_map row_at decision ≡ Some row
-row_of_some None number row is = absurd cc
-row_of_some (Some decision) number row is = ap Some (some_pair_parts decision.number number (row_at decision) row is).1
-
-row_of_none : (decision : Option RowDecision) → option_map row_of decision ≡ None → option_map row_at decision ≡ None
-row_of_none None is = refl
-row_of_none (Some decision) is = absurd cc
-
-pub unnumbered : (worker workers first : ℕ) (rows : List Row) (decisions : List RowDecision)
-    → IsDealt worker workers (enumerate_from first rows) (map row_of decisions)
-    → IsDealt worker workers rows (map row_at decisions)
-unnumbered worker workers first rows decisions dealt place own =
-    let turn = place / workers in
-    let numbered : option_map row_of (slice_get decisions turn) ≡ slice_get (enumerate_from first rows) place =
-    sym (slice_get-map row_of decisions turn) ∙ dealt place own in
-    slice_get-map row_at decisions turn ∙ elim ((slice_get_cases rows place).1) [
-      | inl (row, _, at, _) ↦
-          row_of_some (slice_get decisions turn) (first + place) row
-          (numbered ∙ slice_get-enumerate_from first rows place row at) ∙ sym at
-      | inr (past, none) ↦
-          let beyond : length (enumerate_from first rows) ≤ place = omega (arith, length-enumerate_from first rows) in
-          row_of_none (slice_get decisions turn) (numbered ∙ slice_get_past (enumerate_from first rows) place beyond)
-          ∙ sym none
-    ]
 
 -- ---- what all workers bring back
 
@@ -180,9 +185,8 @@ module _ (publisher : PublisherToken) (count workers first : ℕ) (rows : List R
       subst (λ (n : ℕ). Own publisher.unit publisher.published n workers) j.numbered by_told in
       subst (λ (n : ℕ). Own publisher.unit publisher.published worker n) number by_worker
 
-  pub all_dealt_out : AreDealt rows all
-  all_dealt_out worker done at =
-      unnumbered worker (length all) first rows done.decisions.items (all_met worker done at).dealt
+  pub all_dealt_out : AreDealt first rows all
+  all_dealt_out worker done at = (all_met worker done at).dealt
 
   pub all_in_file : AreInFile file all
   all_in_file worker done at = (all_met worker done at).in_file

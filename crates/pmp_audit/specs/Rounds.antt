@@ -1,5 +1,7 @@
 -- What is decided between two publications of a shared audit.
-use Rattle.std.specs.Prelude.{◌≡◌, ℕ, ◌==◌, ◌≤◌, List, [], ◌∷◌, All, length, map, take, drop, slice_get, Some, if◌then◌else◌}
+use Rattle.std.specs.Prelude.{◌≡◌, ℕ, ◌==◌, ◌≤◌, List, [], ◌∷◌, All, length, map, take, drop, slice_get, Some}
+use Rattle.std.specs.Prelude.{if◌then◌else◌}
+use Rattle.std.specs.List.{enumerate_from}
 use Rattle.pmp_core.specs.declared.decision.Decision.{Decision}
 use Rattle.pmp_core.specs.declared.event.Event.{Event}
 use Rattle.pmp_core.specs.Ranges.{decision_of}
@@ -11,7 +13,7 @@ use Rattle.pmp_text.specs.Traces.{row_fields}
 use Rattle.pmp_audit.specs.declared.shared_audit.job.Job.{Job}
 use Rattle.pmp_audit.specs.declared.shared_audit.job.Done.{Done}
 use Rattle.pmp_audit.specs.TraceAudit.{file_of_row}
-use Rattle.pmp_audit.specs.Working.{IsDealt}
+use Rattle.pmp_audit.specs.Working.{IsDealt, row_of}
 
 -- the rows at the front that ask for just so many publications
 abbrev pub asking : (after : ℕ) → List Row → List Row
@@ -49,10 +51,10 @@ pub record AreJobs (publisher : PublisherToken) (count : ℕ) (jobs : List Job) 
   pub many : length jobs ≡ count
   pub each : (worker : ℕ) (job : Job) → slice_get jobs worker ≡ Some job → IsJob publisher worker job
 
--- each worker has decided its rows
-abbrev pub AreDealt : List Row → List Done → Type 0
-AreDealt rows all = (worker : ℕ) (done : Done) → slice_get all worker ≡ Some done
-    → IsDealt worker (length all) rows (map (λ decision. decision.row.value) done.decisions.items)
+-- each worker has decided its rows, of which the first of all has this number
+abbrev pub AreDealt : (first : ℕ) → List Row → List Done → Type 0
+AreDealt first rows all = (worker : ℕ) (done : Done) → slice_get all worker ≡ Some done
+    → IsDealt worker (length all) (enumerate_from first rows) (map row_of done.decisions.items)
 
 -- all were decided in this file
 abbrev pub AreInFile : RegisterFile → List Done → Type 0

@@ -34,7 +34,8 @@ impl<'a> Model for Replay<'a> {
     ghost view = { λ r. record { batches = r.script.now.batches; done = r.done } };
 
     ghost invariant = { λ r. (r.done ≤ length r.script.now.batches)
-        × (r.file ≡ file_at (record { batches = r.script.now.batches; done = r.done })) × IfSome r.map (λ map. map ≡ r.file) };
+        × (r.file ≡ file_at (record { batches = r.script.now.batches; done = r.done }))
+        × IfSome r.map (λ map. map ≡ r.file) };
 }
 
 impl<'a> Replay<'a> {

@@ -32,7 +32,8 @@ use std::io::Write;
 use std::sync::Wait;
 use std::thread::Threads;
 
-/// Answers as [`audit`](crate::audit) does, by `k` workers, each with a checker of one unit and mostly a thread of its own.
+/// Answers as [`audit`](crate::audit) does, by `k` workers, each with a checker of one unit and mostly a thread of its
+/// own.
 ///
 /// The script's publications are done one at a time, and after each, and before the first, the rows that ask for just
 /// these go to the workers: of those with one `after`, worker `w` takes the rows whose place, from 0, modulo `k` is

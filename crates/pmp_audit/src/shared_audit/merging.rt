@@ -1,6 +1,6 @@
 //! What workers bring back, put together again.
 
-ghost use Rattle.std.specs.Prelude.{◌≡◌, ◌<◌, ◌++◌, ◌⊎◌, IfOk, IfErr, OnOk, Ok, Err, Contains, length, map};
+ghost use Rattle.std.specs.Prelude.{◌≡◌, ◌+◌, ◌<◌, ◌++◌, ◌⊎◌, IfOk, IfErr, OnOk, Ok, Err, Contains, length, map};
 ghost use Rattle.pmp_core.specs.RegisterFile.{RegisterFile};
 ghost use Rattle.pmp_audit.specs.declared.shared_audit.work_fault.WorkFault.TheVariants.{Memory};
 ghost use Rattle.pmp_audit.specs.Rounds.{AreDealt, AreInFile, decided_in};
@@ -38,14 +38,14 @@ pub(crate) fn checkers_of(alloc: Global, all: Vec<Done>) -> Result<Vec<Checker>,
     Ok(checkers)
 }
 
-/// Adds the decisions of one round's rows, in the order of the rows.
+/// Adds the decisions of one round's rows, in the order of the rows, which are numbered behind those that are there.
 pub(crate) fn merge(
     decided: &mut Vec<Decision>,
     all: &[Done],
     rows: &[Row],
 ) -> Result<(), AllocError>
     requires some { 0 < length all.now }
-    requires dealt { AreDealt rows.now all.now }
+    requires dealt { AreDealt (length decided.old.items + 1) rows.now all.now }
     ensures { OnOk result ((file : RegisterFile) → AreInFile file all.now
         → decided.new.items ≡ decided.old.items ++ decided_in file rows.now) }
 {

@@ -22,8 +22,10 @@ says g c =
     let made : decisions ≡ map (decision_for script) rows =
     c.in_ok-decisions.ensures.decided ∙ ap (map (decision_for script)) c.deref.ensures.value in
     let decided : AreDecided script rows decisions =
-    subst (AreDecided script rows) (sym made) (are_decided c.law_legal.ensures c.law_decided_by_ranges.ensures script rows) in
-    let reported : IsReported script rows c.new-report.result.items c.list_decisions.new.report.items c.in_ok-summary.summary = record {
+    subst (AreDecided script rows) (sym made)
+    (are_decided c.law_legal.ensures c.law_decided_by_ranges.ensures script rows) in
+    let after = c.list_decisions.new.report.items in
+    let reported : IsReported script rows c.new-report.result.items after c.in_ok-summary.summary = record {
       decisions = decisions;
       decided = decided;
       report = rw (c.deref-2.ensures.value, c.deref-3.ensures.value) at c.in_ok-summary.ensures.report;

@@ -20,4 +20,5 @@ returns-in-None c =
     let none = IsFirst-from_position _ _ _ (λ (row : Row). row.after ≢ c.args.after)
     (λ (row : Row). row.after ≡ c.args.after) c.in-None.ensures.ran (YieldsList-from_slice rows c.iter.ensures.rest)
     (λ x q k. search (rules, tests)) (λ x q k. search (rules, tests)) in
-    sym (take-length rows) ∙ asking_is c.args.after rows (length rows) (omega arith) none (λ inside. absurd (omega arith))
+    sym (take-length rows)
+    ∙ asking_is c.args.after rows (length rows) (omega arith) none (λ inside. absurd (omega arith))

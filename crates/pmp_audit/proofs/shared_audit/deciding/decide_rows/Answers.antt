@@ -24,8 +24,8 @@ loop-index-init g c =
 
 pub publish-requires-clause-room : goal.publish-requires-clause-room
 publish-requires-clause-room g c =
-    room_for c.args.script.now.batches c.loop-index.index c.loop-index.publisher.published c.batch.result.now c.requires.size
-    (omega (arith, c.batches-index-end.ensures)) c.loop-index.invariant.published c.batch.ensures.events
+    room_for c.args.script.now.batches c.loop-index.index c.loop-index.publisher.published c.batch.result.now
+    c.requires.size (omega (arith, c.batches-index-end.ensures)) c.loop-index.invariant.published c.batch.ensures.events
 
 pub loop-index-preserved : goal.loop-index-preserved
 loop-index-preserved g c =

@@ -35,6 +35,6 @@ loop-place-preserved c =
           (get_or_default decisions place default decision inside) c.args.report.now.items c.loop-place.report.items
           c.write_row.new.out.items c.count.new.self.rows c.loop-place.invariant.report written number;
       counted = one_counted rows decisions place row decision c.requires c.loop-place-test.true c.index-rows-place.is
-          (get_or_default decisions place default decision inside) c.loop-place.summary c.count.new.self c.loop-place.invariant.counted
-          c.count.ensures.rows c.count.ensures.faults;
+          (get_or_default decisions place default decision inside) c.loop-place.summary c.count.new.self
+          c.loop-place.invariant.counted c.count.ensures.rows c.count.ensures.faults;
     }

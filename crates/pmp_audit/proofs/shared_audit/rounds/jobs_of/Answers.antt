@@ -1,4 +1,4 @@
-use Rattle.std.proofs.Common.{◌≡◌, ◌∙◌, ◌∷◌, [], ◌++◌, ◌+◌, length, refl, sym, ap, arith, append_assoc, length-append}
+use Rattle.std.proofs.Common.{◌≡◌, ◌∙◌, ◌∷◌, [], ◌++◌, length, sym, ap, arith, append_assoc}
 use Rattle.std.specs.Vec.Iter.{into_iter_items}
 use Rattle.std.proofs.lemmas.List.{length_push}
 use Rattle.pmp_share.specs.Tokens.{CheckerToken, PublisherToken, NoticeToken}
@@ -9,35 +9,45 @@ use Rattle.pmp_audit.proofs.shared_audit.rounds.jobs_of.Goals as goal
 pub invariant_of-push : goal.invariant_of-push
 invariant_of-push c =
     let at = c.loop-checker in
-    let steps : into_iter_items at.checker-iterator ≡ c.in-Some.checker ∷ into_iter_items c.next.new.self = c.in-Some.ensures.steps.0 in
-    let whole : at.yielded ++ (c.in-Some.checker ∷ into_iter_items c.next.new.self) ≡ c.args.checkers.items =
+    let x = c.in-Some.checker in
+    let unit = c.args.publisher.now.unit in
+    let rest = into_iter_items c.next.new.self in
+    let steps : into_iter_items at.checker-iterator ≡ x ∷ rest = c.in-Some.ensures.steps.0 in
+    let whole : at.yielded ++ (x ∷ rest) ≡ c.args.checkers.items =
     ap (λ l. at.yielded ++ l) (sym steps) ∙ at.invariant.whole in
-    let unit : c.in-Some.checker.unit ≡ c.args.publisher.now.unit =
-    all_at (λ (checker : CheckerToken). checker.unit ≡ c.args.publisher.now.unit) at.yielded c.in-Some.checker _ c.args.checkers.items whole c.requires.same_unit in
-    record { same_unit = ap (λ (n : NoticeToken). n.unit) c.in_ok-notice.ensures.told ∙ ap (λ (p : PublisherToken). p.unit) at.invariant.same ∙ sym unit }
+    let own : x.unit ≡ unit =
+    all_at (λ (checker : CheckerToken). checker.unit ≡ unit) at.yielded x rest c.args.checkers.items whole
+    c.requires.same_unit in
+    record {
+      same_unit = ap (λ (n : NoticeToken). n.unit) c.in_ok-notice.ensures.told
+          ∙ ap (λ (p : PublisherToken). p.unit) at.invariant.same ∙ sym own;
+    }
 
 pub loop-checker-preserved : goal.loop-checker-preserved
 loop-checker-preserved c =
     let at = c.loop-checker in
     let x = c.in-Some.checker in
-    let steps : into_iter_items at.checker-iterator ≡ x ∷ into_iter_items c.next.new.self = c.in-Some.ensures.steps.0 in
-    let told : c.in_ok-notice.notice ≡ record { unit = at.publisher.unit; told = at.publisher.published } = c.in_ok-notice.ensures.told in
-    let whole : at.yielded ++ (x ∷ into_iter_items c.next.new.self) ≡ c.args.checkers.items =
+    let unit = c.args.publisher.now.unit in
+    let rest = into_iter_items c.next.new.self in
+    let steps : into_iter_items at.checker-iterator ≡ x ∷ rest = c.in-Some.ensures.steps.0 in
+    let whole : at.yielded ++ (x ∷ rest) ≡ c.args.checkers.items =
     ap (λ l. at.yielded ++ l) (sym steps) ∙ at.invariant.whole in
-    let unit : x.unit ≡ c.args.publisher.now.unit =
-    all_at (λ (checker : CheckerToken). checker.unit ≡ c.args.publisher.now.unit) at.yielded x _ c.args.checkers.items whole c.requires.same_unit in
+    let own : x.unit ≡ unit =
+    all_at (λ (checker : CheckerToken). checker.unit ≡ unit) at.yielded x rest c.args.checkers.items whole
+    c.requires.same_unit in
     let job : IsJob at.publisher (length at.yielded) _ = record {
       numbered = omega (arith, at.invariant.jobs.many, at.jobs.ok.0);
-      same_unit = unit ∙ sym (ap (λ (p : PublisherToken). p.unit) at.invariant.same);
-      notice = told;
+      same_unit = own ∙ sym (ap (λ (p : PublisherToken). p.unit) at.invariant.same);
+      notice = c.in_ok-notice.ensures.told;
     } in
     record {
-      whole = append_assoc at.yielded (x ∷ []) _ ∙ rw (← steps) at.invariant.whole;
+      whole = append_assoc at.yielded (x ∷ []) rest ∙ whole;
       left =
           let was = at.invariant.left in
           let gone = c.in-Some.ensures.steps.1 in
           let short = ap length steps in
           omega arith;
       same = c.tell.ensures.same ∙ at.invariant.same;
-      jobs = rw (c.tell.ensures.same, length_push) (one_job at.publisher (length at.yielded) at.jobs.items c.push.new.self.items _ at.invariant.jobs job c.in_ok-push.ensures.items);
+      jobs = rw (c.tell.ensures.same, length_push) (one_job at.publisher (length at.yielded) at.jobs.items
+          c.push.new.self.items _ at.invariant.jobs job c.in_ok-push.ensures.items);
     }

@@ -21,7 +21,14 @@ module _ (g : _) (c : After-deref g) where
   as_many = omega (arith, c.in_ok-jobs.ensures.jobs.many, c.in_ok-jobs.jobs.ok.0)
 
   length_is : length c.in_ok-results.results.items ≡ length c.args.checkers.items
-  length_is = omega (arith, c.in_ok-jobs.ensures.jobs.many, c.in_ok-jobs.jobs.ok.0, c.in_ok-results.results.ok.0, c.in_ok-results.ensures.len)
+  length_is =
+      omega (
+        arith,
+        c.in_ok-jobs.ensures.jobs.many,
+        c.in_ok-jobs.jobs.ok.0,
+        c.in_ok-results.results.ok.0,
+        c.in_ok-results.ensures.len,
+      )
 
   each : (i : ℕ) (d : Result Done WorkFault) → i < length c.in_ok-jobs.jobs.items
       → (job : Job) × ((e : Job) → get_or c.in_ok-jobs.jobs.items i e ≡ job)
@@ -32,9 +39,11 @@ module _ (g : _) (c : After-deref g) where
 
 pub merge-requires-clause-dealt : goal.merge-requires-clause-dealt
 merge-requires-clause-dealt g c =
-    rw c.deref.ensures.value (all_dealt_out c.args.publisher.now (length c.args.checkers.items) c.len-2.result
-    (c.len.result + 1) c.args.rows.now c.in_ok-jobs.jobs.items c.in_ok-results.results.items c.in_ok-all.all.items
-    c.in_ok-jobs.ensures.jobs (as_many g c) c.in_ok-all.ensures.done (each g c) (length_is g c))
+    let first : c.len.result + 1 ≡ length c.args.decided.now.items + 1 =
+    omega (arith, c.len.ensures, c.args.decided.now.ok.0) in
+    rw (c.deref.ensures.value, ← first) (all_dealt_out c.args.publisher.now (length c.args.checkers.items)
+    c.len-2.result (c.len.result + 1) c.args.rows.now c.in_ok-jobs.jobs.items c.in_ok-results.results.items
+    c.in_ok-all.all.items c.in_ok-jobs.ensures.jobs (as_many g c) c.in_ok-all.ensures.done (each g c) (length_is g c))
 
 pub returns-clause-checkers : goal.returns-clause-checkers
 returns-clause-checkers g c =

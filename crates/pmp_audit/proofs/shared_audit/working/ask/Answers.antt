@@ -13,7 +13,9 @@ invariant_of-result c =
     let begins : StartsWith new told = (c.decide_at.ensures.bound told c.requires.bound).0 in
     let count : event_count new ≡ event_count told = c.in_ok-decision.ensures.at_len.0 ∙ c.requires.counted in
     let same : joined new ≡ joined told = c.law_same_events.ensures new told begins count in
-    record { decided = rw (c.of-2.ensures, c.of.ensures, c.requires.replayed, ← same) c.in_ok-decision.ensures.computed }
+    record {
+      decided = rw (c.of-2.ensures, c.of.ensures, c.requires.replayed, ← same) c.in_ok-decision.ensures.computed;
+    }
 
 pub returns-clause-learnt : goal.returns-clause-learnt
 returns-clause-learnt c = record {

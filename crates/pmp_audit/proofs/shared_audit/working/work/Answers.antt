@@ -1,5 +1,4 @@
-use Rattle.std.proofs.Common.{◌≡◌, ◌∙◌, ◌++◌, ◌+◌, ◌*◌, ◌<◌, ◌≤◌, ◌↔◌, [], ◌∷◌, List, map, Some, ap, sym, refl, length, ℕ}
-use Rattle.std.proofs.Common.{arith, subst}
+use Rattle.std.proofs.Common.{◌≡◌, ◌∙◌, ◌++◌, ◌+◌, ◌*◌, ◌<◌, ◌≤◌, [], ◌∷◌, map, Some, ap, sym, refl, length, arith}
 use Rattle.std.specs.Prelude.{slice_get}
 use Rattle.std.specs.List.{enumerate_from}
 use Rattle.std.proofs.lemmas.List.{map_push}
@@ -25,12 +24,15 @@ loop-turn-preserved g c =
     let row = c.index-hand-place.result in
     let place = c.place-place.result in
     let turn = c.loop-turn.turn in
-    let inside : place < length rows = rw c.place-place.ensures ((c.count-turn-end.ensures turn).0 c.loop-turn-test.true) in
-    let at : slice_get rows place ≡ Some row = slice_get_read rows (length rows) place row refl inside c.index-hand-place.is in
+    let inside : place < length rows =
+    rw c.place-place.ensures ((c.count-turn-end.ensures turn).0 c.loop-turn-test.true) in
+    let at : slice_get rows place ≡ Some row =
+    slice_get_read rows (length rows) place row refl inside c.index-hand-place.is in
     let numbered = slice_get-enumerate_from hand.first rows place row at in
     let own : slice_get all (hand.worker + turn * hand.workers) ≡ Some (row_of decision) =
     ap (slice_get all) (sym c.place-place.ensures) ∙ numbered
-    ∙ ap (λ (r : Row). Some (hand.first + place, r)) c.index-hand-place.is ∙ ap Some (sym c.in_ok-decision.ensures.row) in
+    ∙ ap (λ (r : Row). Some (hand.first + place, r)) c.index-hand-place.is
+    ∙ ap Some (sym c.in_ok-decision.ensures.row) in
     let pushed : c.push.new.self.items ≡ decisions ++ decision ∷ [] = c.in_ok-push.ensures.items in
     record {
       same_unit = c.ask.ensures.unit ∙ c.loop-turn.invariant.same_unit;
@@ -38,7 +40,8 @@ loop-turn-preserved g c =
       file_is = c.loop-turn.invariant.file_is;
       dealt = rw (pushed, map_push) (one_dealt hand.worker hand.workers all turn (map row_of decisions)
           (row_of decision) c.loop-turn.invariant.dealt own);
-      in_file = rw pushed (All-push (λ (d : RowDecision). d.file.value ≡ c.file-file.result) decisions decision c.loop-turn.invariant.in_file c.in_ok-decision.ensures.file);
+      in_file = rw pushed (All-push (λ (d : RowDecision). d.file.value ≡ c.file-file.result) decisions decision
+          c.loop-turn.invariant.in_file c.in_ok-decision.ensures.file);
     }
 
 pub returns : goal.returns
