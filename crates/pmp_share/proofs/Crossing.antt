@@ -49,9 +49,6 @@ file_fields_send = search (entry_send, range_send, mseccfg_send, crosses, sendab
 file_send : IsSend (file.the_field).row
 file_send = search (file_fields_send, sendable) depth 14
 
-journal_send : IsSend (journal.the_field).row
-journal_send = search (crosses, sendable) depth 14
-
 entry_sync : IsSync (entry.the_field).row
 entry_sync = search (crosses, sendable) depth 14
 
@@ -70,29 +67,11 @@ file_sync = search (file_fields_sync, sendable) depth 14
 journal_sync : IsSync (journal.the_field).row
 journal_sync = search (crosses, sendable) depth 14
 
-run_send : IsSend run.the_row
-run_send = search (crosses, sendable) depth 14
-
 run_sync : IsSync run.the_row
 run_sync = search (crosses, sendable) depth 14
 
-answers_send : IsSend answers.the_row
-answers_send = search (crosses, sendable) depth 14
-
 answers_sync : IsSync answers.the_row
 answers_sync = search (crosses, sendable) depth 14
-
-map_inside_send : IsSend map_inside.the_row
-map_inside_send = declared_send map_inside.the_type (
-  search (core.crosses, sendable) depth 12,
-  (
-    search (run_send, crosses, sendable) depth 12,
-    (search sendable depth 12, (search (answers_send, sendable) depth 12, tt)),
-  ),
-)
-
-map_send : IsSend (run_map.the_field).row
-map_send = search (map_inside_send, sendable) depth 6
 
 map_inside_sync : IsSync map_inside.the_row
 map_inside_sync = declared_sync map_inside.the_type (
@@ -105,15 +84,6 @@ map_inside_sync = declared_sync map_inside.the_type (
 
 map_sync : IsSync (run_map.the_field).row
 map_sync = search (map_inside_sync, sendable) depth 6
-
-version_send : IsSend version.the_row
-version_send = declared_send version.the_type (
-  as_row_send journal.the_field journal_send,
-  (
-    as_row_send file.the_field file_send,
-    (as_row_send run_map.the_field map_send, (seen.the_send _ _ _ law.ghosts, tt)),
-  ),
-)
 
 version_sync : IsSync version.the_row
 version_sync = declared_sync version.the_type (

@@ -95,9 +95,6 @@ pub record Stands (ends : List ℕ) (events : List Event) (batches : Batches) : 
   pub ended : ends ≡ ends_from 0 batches
 
 module _ (ends : List ℕ) (events : List Event) where
-  pub cut_stands : IsCut ends events → Stands ends events (batches_of ends events)
-  cut_stands is = record { joined_up = sym is.whole; ended = sym is.cut }
-
   pub length_ends : IsCut ends events → length (batches_of ends events) ≡ length ends
   length_ends is = sym (length-ends_from 0 (batches_of ends events)) ∙ ap length is.cut
 

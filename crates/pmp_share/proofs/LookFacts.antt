@@ -23,10 +23,6 @@ latest-one one = refl
 pub starts_alike : (batches : Batches) → StartsWith batches batches
 starts_alike batches = ([], sym (append-nil batches))
 
-pub starts_longer : (batches more front : Batches) → StartsWith batches front → StartsWith (batches ++ more) front
-starts_longer batches more front (rest, e) =
-    (rest ++ more, ap (λ (b : Batches). b ++ more) e ∙ append_assoc front rest more)
-
 -- what begins a beginning begins the whole
 pub starts_on : (batches front first : Batches) → StartsWith batches front → StartsWith front first
     → StartsWith batches first

@@ -5,12 +5,13 @@ use mathlib.Core.Option.{some}
 use lib.ListN.{get_elem?}
 use Rattle.atomic_table.proofs.Lists.{at_set, at_snoc, set_again, set_else}
 use Rattle.left_right.specs.Register.{Admits, Turns, TurnsAt, Forks, Merges}
+use Rattle.pmp_share.specs.declared.entry.Entry.{Entry}
 use Rattle.pmp_share.specs.declared.view.Known.{Known}
 use Rattle.pmp_share.specs.declared.told.Told.{Told}
 use Rattle.pmp_share.specs.declared.version.Version.{Version}
 use Rattle.pmp_share.specs.Batches.{Batches, StartsWith}
 use Rattle.pmp_share.specs.Rule.{known_of, Fits, Kept, Enters, Shown}
-use Rattle.pmp_share.specs.Stages.{told_of}
+use Rattle.pmp_share.specs.Stages.{told_of, after}
 use Rattle.pmp_share.proofs.LookFacts.{starts_alike, starts_on}
 
 -- what is all of a version fits it
@@ -73,6 +74,13 @@ pub shows_told : (seat : ℕ) (view : Option Known) (now : Version) (told : Told
 shows_told seat view now told book noted begins next is = shows seat view now next (ap (λ t. t.book) is ∙ book)
     (ap (λ t. t.log) is ∙ noted ∙ sym (ap (λ t. t.batches) is))
     (subst (λ (b : Batches). StartsWith b now.journal) (sym (ap (λ t. t.batches) is)) begins)
+
+-- nothing was handed over
+pub shows_none : (seat : ℕ) (view : Option Known) (now : Version) (entries : List Entry) → entries ≡ []
+    → now.past.log ≡ now.journal → (next : Version) → told_of next ≡ after now entries
+    → TurnsAt Kept seat view now next Shown
+shows_none seat view now entries none noted next is = shows_told seat view now (told_of now) refl noted
+    (starts_alike now.journal) next (is ∙ ap (after now) none)
 
 pub tells : (seat : ℕ) (view : Option Known) → Forks Kept seat view view view
 tells seat view version views kept at = record {

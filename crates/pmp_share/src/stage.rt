@@ -15,7 +15,7 @@ use crate::view::View;
 use core::mem::replace_with;
 use left_right::writer::Writer;
 use pmp_core::Event;
-use std::alloc::Global;
+use std::alloc::{AllocError, Global};
 use std::marker::Model;
 use std::sync::Wait;
 
@@ -136,17 +136,17 @@ impl Stage {
         ensures refused { OnErr result (self.new.shown ≡ self.old.shown) }
         ensures memory { IfErr result (λ fault. fault ≡ Memory) }
     {
-        replace_with(self, rt, |stage, rt| stage.turn(rt))
+        replace_with(self, rt, |stage, rt| stage.turn(rt))?;
+        Ok(())
     }
 
     /// The stage after the publication, and its answer.
-    fn turn<R: Wait>(self, rt: &R) -> (Stage, Result<(), ShareFault>)
+    fn turn<R: Wait>(self, rt: &R) -> (Stage, Result<(), AllocError>)
         ensures unit { result.0.unit ≡ self.unit }
         ensures history { (result.0.noted ≡ self.noted) × (result.0.ahead ≡ self.ahead) }
         ensures handed { result.0.handed ≡ self.handed }
         ensures shown { OnOk result.1 (result.0.shown ≡ self.handed) }
         ensures refused { OnErr result.1 (result.0.shown ≡ self.shown) }
-        ensures memory { IfErr result.1 (λ fault. fault ≡ Memory) }
     {
         let Stage {
             alloc,
@@ -155,26 +155,13 @@ impl Stage {
             ahead,
         } = self;
         let (writer, shown) = writer.publish_as::<Shows, R>(rt);
-        match shown {
-            Ok(()) => {
-                let stage = Stage {
-                    alloc,
-                    writer,
-                    keeper,
-                    ahead,
-                };
-                (stage, Ok(()))
-            }
-            Err(_) => {
-                let stage = Stage {
-                    alloc,
-                    writer,
-                    keeper,
-                    ahead,
-                };
-                (stage, Err(ShareFault::Memory))
-            }
-        }
+        let stage = Stage {
+            alloc,
+            writer,
+            keeper,
+            ahead,
+        };
+        (stage, shown)
     }
 
     /// Where a checker or a notice stands that knows just what is published.

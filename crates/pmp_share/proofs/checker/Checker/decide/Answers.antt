@@ -18,7 +18,8 @@ last c = latest_new c.self.inside.stand c.look-answer.new.self c.self.inside.hel
 
 look : (c : After-drop-self-inside) → Looked c.args.self.now.held c.alone.result
 look c = subst (λ (held : List Batches). Looked held c.alone.result)
-    (ap (λ (token : CheckerToken). token.held) c.self.view_is) (looked c.self.inside.stand c.look-answer.new.self c.self.inside.held c.alone.result c.digest.result.now
+    (ap (λ (token : CheckerToken). token.held) c.self.view_is)
+    (looked c.self.inside.stand c.look-answer.new.self c.self.inside.held c.alone.result c.digest.result.now
     c.self.invariant c.alone.ensures c.digest.ensures c.look-answer.ensures.begins)
 
 pub invariant_of-self : goal.invariant_of-self

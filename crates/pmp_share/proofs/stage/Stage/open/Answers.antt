@@ -1,8 +1,7 @@
-use Rattle.std.proofs.Common.{◌≡◌, [], refl, ap, sym, ◌∙◌}
+use Rattle.std.proofs.Common.{◌≡◌, [], ap, sym, ◌∙◌}
 use Rattle.pmp_share.specs.declared.version.Version.{Version}
 use Rattle.pmp_share.specs.Stages.{after, told_of}
-use Rattle.pmp_share.proofs.LookFacts.{starts_alike}
-use Rattle.pmp_share.proofs.RuleFacts.{shows_told}
+use Rattle.pmp_share.proofs.RuleFacts.{shows_none}
 use Rattle.pmp_share.proofs.StageFacts.{turned, match_ok}
 use Rattle.pmp_share.proofs.stage.Stage.open.Goals as goal
 use Rattle.pmp_share.proofs.stage.Stage.open.Given.{Over}
@@ -30,9 +29,7 @@ module _ (g : Over) (c : In_ok-writer g) where
 
 pub publish_as-writer-requires : goal.publish_as-writer-requires
 publish_as-writer-requires g c next is =
-    let shown = c.in_ok-writer.writer.desk.shown.value in
-    shows_told _ _ shown (told_of shown) refl (noted g c) (starts_alike shown.journal) next
-    (is ∙ ap (after shown) c.in_ok-writer.ensures.1)
+    shows_none _ _ c.in_ok-writer.writer.desk.shown.value _ c.in_ok-writer.ensures.1 (noted g c) next is
 
 pub invariant_of-result : goal.invariant_of-result
 invariant_of-result g c =
