@@ -31,8 +31,9 @@ turned keeper ahead view shown next entries is none seen book noted history =
     }
 
 -- after a publication, or where it was refused
-pub turned_or_not : {A E : Type 0} (result : Result A E) (keeper : Known) (ahead : Bool) (view after_view : Option Known)
-    (shown next : Version) (entries rest : List Entry) → IsStage keeper ahead view shown (after shown entries)
+pub turned_or_not : {A E : Type 0} (result : Result A E) (keeper : Known) (ahead : Bool)
+    (view after_view : Option Known) (shown next : Version) (entries rest : List Entry)
+    → IsStage keeper ahead view shown (after shown entries)
     → MatchResult result (λ _. (told_of next ≡ after shown entries) × (rest ≡ []))
     (λ _. (next ≡ shown) × (rest ≡ entries))
     → MatchResult result (λ _. after_view ≡ Some (known_of next)) (λ _. after_view ≡ view)
