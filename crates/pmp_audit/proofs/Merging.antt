@@ -1,5 +1,5 @@
 -- What workers bring back, in the order of the rows.
-use Rattle.std.proofs.Common.{◌≡◌, ℕ, ◌+◌, ◌<◌, ◌≤◌, ◌/◌, ◌%◌, ◌⊎◌, inl, inr, List, [], ◌∷◌, ◌++◌, length, map, All}
+use Rattle.std.proofs.Common.{◌≡◌, ℕ, ◌+◌, ◌<◌, ◌≤◌, ◌/◌, ◌%◌, inl, inr, List, [], ◌∷◌, ◌++◌, length, map, All}
 use Rattle.std.proofs.Common.{Option, Some, None, Result, Ok, IfOk, refl, sym, ap, ◌∙◌, arith, subst, get_or, take}
 use Rattle.std.proofs.Common.{append_assoc}
 use Rattle.std.specs.Prelude.{slice_get}

@@ -1,5 +1,4 @@
 use Rattle.std.proofs.Common.{◌≡◌, ◌∙◌, length, map, ap, sym, subst, Ok}
-use Rattle.pmp_core.specs.declared.decision.Decision.{Decision}
 use Rattle.pmp_text.specs.Traces.{row_fields, trace_meaning}
 use Rattle.pmp_audit.specs.Report.{IsReported}
 use Rattle.pmp_audit.specs.Rounds.{decision_for}

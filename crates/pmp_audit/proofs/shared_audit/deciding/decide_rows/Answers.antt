@@ -1,9 +1,8 @@
-use Rattle.std.proofs.Common.{◌≡◌, ◌+◌, ◌++◌, [], ◌∷◌, List, length, take, ap, ◌∙◌, arith, refl, sym}
+use Rattle.std.proofs.Common.{◌≡◌, ◌+◌, ◌++◌, [], ◌∷◌, List, take, ap, ◌∙◌, arith, sym}
 use Rattle.std.proofs.lemmas.List.{take_more}
 use Rattle.pmp_core.specs.declared.event.Event.{Event}
 use Rattle.pmp_share.specs.Batches.{Batches}
 use Rattle.pmp_share.specs.Tokens.{PublisherToken}
-use Rattle.pmp_audit.specs.Rounds.{AreCheckersOf, AreDecidedSoFar}
 use Rattle.pmp_audit.proofs.DecidedRows.{none_decided, decided_next, all_decided, room_for}
 use Rattle.pmp_audit.proofs.shared_audit.deciding.decide_rows.Goals as goal
 

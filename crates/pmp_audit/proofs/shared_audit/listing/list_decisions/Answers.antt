@@ -1,4 +1,4 @@
-use Rattle.std.proofs.Common.{◌≡◌, ◌+◌, ◌++◌, ◌<◌, false, get_or, length, take, ap, ◌∙◌, arith, refl, sym}
+use Rattle.std.proofs.Common.{◌≡◌, ◌+◌, ◌++◌, ◌<◌, false, get_or, length, ap, ◌∙◌, arith, sym}
 use Rattle.std.proofs.lemmas.List.{get_or_default, length-take-le}
 use Rattle.pmp_core.specs.declared.decision.Cause.TheVariants.{Rule}
 use Rattle.pmp_core.specs.declared.decision.Decision.{Decision}

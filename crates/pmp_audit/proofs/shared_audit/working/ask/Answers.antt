@@ -1,9 +1,7 @@
-use Rattle.std.proofs.Common.{◌≡◌, ◌∙◌, ap, sym, refl, Result, Ok, Err, IfOk, OnOk, ℕ, ◌≤◌, arith, subst, rules}
-use Rattle.pmp_core.specs.declared.register_file.TheConstants.{ENTRIES}
-use Rattle.pmp_core.specs.Histories.{file_after, joined, replay}
-use Rattle.pmp_share.specs.Batches.{Batches, StartsWith, event_count}
+use Rattle.std.proofs.Common.{◌≡◌, ◌∙◌, arith}
+use Rattle.pmp_core.specs.Histories.{joined}
+use Rattle.pmp_share.specs.Batches.{StartsWith, event_count}
 use Rattle.pmp_share.specs.Looks.{latest}
-use Rattle.pmp_audit.specs.Working.{HasLearnt}
 use Rattle.pmp_audit.proofs.shared_audit.working.ask.Goals as goal
 
 pub invariant_of-result : goal.invariant_of-result
