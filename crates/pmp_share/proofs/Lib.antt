@@ -5,4 +5,5 @@ pub mod Adding
 pub mod RuleFacts
 pub mod StageFacts
 pub mod CheckFacts
+pub mod GroupFacts
 pub mod Crossing

@@ -9,6 +9,10 @@ unfoldable pub ends_from : ℕ → Batches → List ℕ
 ends_from before [] = []
 ends_from before (batch ∷ batches) = (before + length batch) ∷ ends_from (before + length batch) batches
 
+-- how many events stand once each batch is added
+abbrev pub ends_of : Batches → List ℕ
+ends_of batches = ends_from 0 batches
+
 -- the events behind the first `before`, cut at these ends
 unfoldable pub cut_from : ℕ → List ℕ → List Event → Batches
 cut_from before [] events = []
@@ -21,4 +25,4 @@ batches_of ends events = cut_from 0 ends events
 -- the ends cut all the events
 pub record IsCut (ends : List ℕ) (events : List Event) : Type 0 where
   pub whole : joined (batches_of ends events) ≡ events
-  pub cut : ends_from 0 (batches_of ends events) ≡ ends
+  pub cut : ends_of (batches_of ends events) ≡ ends

@@ -1,16 +1,24 @@
 //! Checkers: they decide accesses while the publisher publishes.
 
-ghost use Rattle.std.specs.Prelude.{◌≡◌, ◌<◌, ◌≤◌, [], ◌∷◌, ◌++◌, IfOk, IfErr, OnOk};
+ghost use Rattle.std.specs.Prelude.{◌≡◌, ◌<◌, ◌≤◌, [], ◌∷◌, ◌++◌, length, map, IfOk, IfErr, OnOk};
+ghost use Rattle.std.specs.List.{AllZip};
 ghost use Rattle.pmp_core.specs.declared.register_file.TheConstants.{ENTRIES};
 ghost use Rattle.pmp_core.specs.Histories.{joined, file_after};
 ghost use Rattle.pmp_core.specs.Ranges.{decision_of};
+ghost use Rattle.pmp_share.specs.declared.fault.ShareFault.TheVariants.{Full};
+ghost use Rattle.pmp_share.specs.declared.group.TheConstants.{GROUP_ACCESSES};
 ghost use Rattle.pmp_share.specs.Batches.{event_count};
 ghost use Rattle.pmp_share.specs.Looks.{latest, Looked, KeepsBound, LearnsBound};
 ghost use Rattle.pmp_share.specs.Object.{Decides};
 
+use crate::fault::ShareFault;
+use crate::group::GROUP_ACCESSES;
 use crate::held::Held;
+use crate::journal::Journal;
 use crate::notice::Notice;
 use crate::stand::Stand;
+use arrayvec::ArrayVec;
+use pmp_core::laws::{law_decided_by_ranges, law_legal};
 use pmp_core::{Access, Decision};
 use std::marker::Model;
 
@@ -97,5 +105,39 @@ impl Checker {
             return Err(Moved { seen });
         }
         Ok(decision)
+    }
+
+    /// Decides a group of accesses, all in the same batches of what is published, and answers the decisions in the
+    /// order of the accesses, and how many events that is. It waits for nobody. An emulator takes a group for a page walk
+    /// or for the elements of a vector access, between which no publication may come.
+    pub fn decide_group(&mut self, accesses: &[Access]) -> (ArrayVec<Decision, GROUP_ACCESSES>, u64)
+        requires { length accesses.now ≤ GROUP_ACCESSES }
+        ensures unit { self.new.unit ≡ self.old.unit }
+        ensures looked { Looked self.old.held self.new.held }
+        ensures decided { AllZip (Decides (latest self.new.held)) accesses.now result.0.items }
+        ensures computed { result.0.items
+            ≡ map (decision_of (file_after ENTRIES (latest self.new.held))) accesses.now }
+        ensures count { result.1 ≡ event_count (latest self.new.held) }
+        ensures bound { KeepsBound self.old.held self.new.held }
+    {
+        law_legal();
+        law_decided_by_ranges();
+        let decided = self.stand.look_at_group(accesses);
+        self.held = Held::alone(self.stand.digest());
+        decided
+    }
+
+    /// A copy of what is published. Where memory is refused it answers `Memory`, and where no entrance is given, as
+    /// after the end of the publisher, `NoPlace`; it may be called again.
+    pub fn copy_journal(&mut self) -> Result<Journal, ShareFault>
+        ensures unit { self.new.unit ≡ self.old.unit }
+        ensures looked { Looked self.old.held self.new.held }
+        ensures copied { IfOk result (λ journal. journal ≡ latest self.new.held) }
+        ensures refused { IfErr result (λ fault. ¬ (fault ≡ Full)) }
+        ensures bound { KeepsBound self.old.held self.new.held }
+    {
+        let copied = self.stand.copy_journal();
+        self.held = Held::alone(self.stand.digest());
+        copied
     }
 }

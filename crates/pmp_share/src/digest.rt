@@ -1,15 +1,18 @@
 //! What a list of batches comes to.
 
-ghost use Rattle.std.specs.Prelude.{◌≡◌, length};
+ghost use Rattle.std.specs.Prelude.{◌≡◌, ◌≤◌, length, map};
 ghost use Rattle.pmp_core.specs.declared.register_file.TheConstants.{ENTRIES};
 ghost use Rattle.pmp_core.specs.Decision.{IsDecision};
 ghost use Rattle.pmp_core.specs.Histories.{file_after};
 ghost use Rattle.pmp_core.specs.Ranges.{decision_of};
+ghost use Rattle.pmp_share.specs.declared.group.TheConstants.{GROUP_ACCESSES};
 ghost use Rattle.pmp_share.specs.Batches.{event_count};
 ghost use Rattle.pmp_share.specs.Looks.{is_as_late};
 
+use crate::group::{Decisions, GROUP_ACCESSES};
 use crate::journal::Journal;
 use crate::version::Version;
+use arrayvec::ArrayVec;
 use pmp_core::{Access, Decision, RegFile};
 use std::marker::Model;
 use std::snapshot::Snapshot;
@@ -94,5 +97,17 @@ impl Digest {
         ensures computed { result ≡ decision_of (file_after ENTRIES self.now) access.now }
     {
         self.file.decide(access)
+    }
+
+    /// Decides a group of accesses, in order, in the register file.
+    pub fn decide_group(&self, accesses: &[Access]) -> Decisions
+        requires { length accesses.now ≤ GROUP_ACCESSES }
+        ensures { result.items ≡ map (decision_of (file_after ENTRIES self.now)) accesses.now }
+    {
+        let mut decisions = ArrayVec::new();
+        for access in accesses {
+            decisions.push(self.decide(access));
+        }
+        decisions
     }
 }

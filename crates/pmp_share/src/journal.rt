@@ -1,20 +1,20 @@
-//! Lists of batches as events and ends side by side.
+//! Journals: lists of batches as events and ends side by side.
 
 ghost use Rattle.std.specs.Prelude.{◌≡◌, ℕ, ◌+◌, ◌-◌, ◌<◌, ◌≤◌, [], ◌∷◌, ◌++◌, length, take, drop, OnOk, OnErr};
-ghost use Rattle.std.specs.Prelude.{slice_index};
+ghost use Rattle.std.specs.Prelude.{slice_index, IfOk};
 ghost use Rattle.pmp_core.specs.Histories.{joined};
 ghost use Rattle.pmp_share.specs.Batches.{Batches, event_count};
-ghost use Rattle.pmp_share.specs.Journals.{batches_of, IsCut};
+ghost use Rattle.pmp_share.specs.Journals.{batches_of, ends_of, IsCut};
 
 use pmp_core::Event;
 use std::alloc::{AllocError, Global};
 use std::marker::Model;
 
-/// A list of batches, as a contract sees it.
+/// Batches, kept as their events and, for each batch, how many events stood once it was added. A contract sees the list of
+/// the batches.
 #[derive(Drop)]
 pub struct Journal {
     events: Vec<Event>,
-    /// How many events stood once each batch was added.
     ends: Vec<u64>,
 }
 
@@ -56,7 +56,7 @@ fn part_of(events: &[Event], start: u64, end: u64) -> &[Event]
 
 impl Journal {
     /// A list of no batches.
-    pub fn new(alloc: Global) -> Journal
+    pub(crate) fn new(alloc: Global) -> Journal
         ensures { result ≡ [] }
     {
         Journal {
@@ -66,29 +66,48 @@ impl Journal {
     }
 
     /// How many batches it has.
-    pub fn batches(&self) -> usize
+    pub(crate) fn batches(&self) -> usize
         ensures { result ≡ length self.now }
     {
         let ends = self.ends.as_slice();
         ends.len()
     }
 
-    /// All their events.
+    /// The events of all batches, in order.
     pub fn events(&self) -> &[Event]
         ensures { result.now ≡ joined self.now }
     {
         self.events.as_slice()
     }
 
+    /// How many events stood once each batch was added, in order. The last is how many events there are; an empty batch
+    /// repeats the number before it.
+    pub fn ends(&self) -> &[u64]
+        ensures { result.now ≡ ends_of self.now }
+    {
+        self.ends.as_slice()
+    }
+
+    /// A copy of it, with memory of its own.
+    pub(crate) fn copy(&self) -> Result<Journal, AllocError>
+        ensures { IfOk result (λ journal. journal ≡ self.now) }
+    {
+        let mut events = Vec::new(*self.events.allocator());
+        events.extend_from_slice(self.events.as_slice())?;
+        let mut ends = Vec::new(*self.ends.allocator());
+        ends.extend_from_slice(self.ends.as_slice())?;
+        Ok(Journal { events, ends })
+    }
+
     /// How many events they hold.
-    pub fn event_count(&self) -> u64
+    pub(crate) fn event_count(&self) -> u64
         ensures { result ≡ event_count self.now }
     {
         self.events.len() as u64
     }
 
     /// Adds a batch behind the others.
-    pub fn push(&mut self, batch: &[Event]) -> Result<(), AllocError>
+    pub(crate) fn push(&mut self, batch: &[Event]) -> Result<(), AllocError>
         ensures added { OnOk result (self.new ≡ self.old ++ batch.now ∷ []) }
         ensures refused { OnErr result (self.new ≡ self.old) }
     {
@@ -100,7 +119,7 @@ impl Journal {
     }
 
     /// The events of one batch.
-    pub fn batch(&self, index: usize) -> &[Event]
+    pub(crate) fn batch(&self, index: usize) -> &[Event]
         requires { index < length self.now }
         ensures { take (index + 1) self.now ≡ take index self.now ++ result.now ∷ [] }
     {
@@ -113,7 +132,7 @@ impl Journal {
     }
 
     /// Keeps the first batches, so many of them, or all if there are fewer.
-    pub fn truncate(&mut self, batches: usize)
+    pub(crate) fn truncate(&mut self, batches: usize)
         ensures { self.new ≡ take batches self.old }
     {
         if batches >= self.batches() {
@@ -125,7 +144,7 @@ impl Journal {
     }
 
     /// Takes all batches away.
-    pub fn clear(&mut self)
+    pub(crate) fn clear(&mut self)
         ensures { self.new ≡ [] }
     {
         self.events.clear();

@@ -1,24 +1,31 @@
 //! Where a checker or a notice stands.
 
-ghost use Rattle.std.specs.Prelude.{◌≡◌, MatchBool};
+ghost use Rattle.std.specs.Prelude.{◌≡◌, ◌≤◌, length, map, MatchBool, IfOk, IfErr};
 ghost use Rattle.pmp_core.specs.declared.register_file.TheConstants.{ENTRIES};
 ghost use Rattle.pmp_core.specs.Histories.{file_after};
 ghost use Rattle.pmp_core.specs.Ranges.{decision_of};
+ghost use Rattle.pmp_share.specs.declared.fault.ShareFault.TheVariants.{Full};
+ghost use Rattle.pmp_share.specs.declared.group.TheConstants.{GROUP_ACCESSES};
 ghost use Rattle.pmp_share.specs.Batches.{StartsWith, event_count};
 ghost use Rattle.pmp_share.specs.Checking.{DecidesIn};
 ghost use Rattle.pmp_share.specs.Looks.{is_as_late};
 
 use crate::digest::Digest;
+use crate::fault::ShareFault;
+use crate::group::{Decisions, GROUP_ACCESSES};
+use crate::journal::Journal;
 use crate::past::Past;
 use crate::rule::{Looks, OneHistory};
 use crate::version::Version;
 use crate::view::View;
 use core::mem::replace_with;
-use left_right::reader::Reader;
+use left_right::reader::{Reader, Reading};
 use pmp_core::{Access, Decision};
 use std::marker::Model;
 
 pub type UnitReader = Reader<Version, View, OneHistory>;
+
+type UnitReading = Reading<Version, View, OneHistory>;
 
 /// A reader of the two copies, and the digest of the batches that it knows: it answers by that where it is given no
 /// entrance. A contract sees the batches, and whose history they begin.
@@ -45,7 +52,7 @@ impl Model for Stand {
 impl Stand {
     ghost use Rattle.std.specs.Prelude.{Some};
     ghost use Rattle.left_right.specs.Sides.{view};
-    ghost use Rattle.pmp_share.specs.Rule.{known};
+    ghost use Rattle.pmp_share.specs.Rule.{known, known_of};
 
     /// Where a reader stands that knows just what the digest is of.
     pub fn new(reader: UnitReader, digest: Box<Digest>, past: Past) -> Stand
@@ -58,6 +65,22 @@ impl Stand {
             digest,
             past,
         }
+    }
+
+    /// Where the reader stands once it leaves a version, all of whose batches it knows.
+    #[inline]
+    fn leave(reading: UnitReading, mut digest: Box<Digest>) -> Stand
+        requires seat { view reading.place ≡ Some (known_of reading.part.value) }
+        requires noted { reading.part.value.past.log ≡ reading.part.value.journal }
+        requires begins { StartsWith reading.part.value.journal digest.value }
+        ensures { result ≡ known_of reading.part.value }
+    {
+        let version = reading.get();
+        if digest.batches() != version.journal().batches() {
+            digest.refresh(version);
+        }
+        let past = version.past();
+        Stand::new(reading.leave(), digest, past)
     }
 
     /// The digest of the batches.
@@ -102,24 +125,94 @@ impl Stand {
     {
         let Stand {
             reader,
-            mut digest,
+            digest,
             past,
         } = self;
         match reader.enter_as::<Looks>() {
             Ok(reading) => {
                 let version = reading.get();
                 let answer = (version.decide(access), version.journal().event_count());
-                if digest.batches() != version.journal().batches() {
-                    digest.refresh(version);
-                }
-                let past = version.past();
-                let reader = reading.leave();
-                (Stand::new(reader, digest, past), answer)
+                (Stand::leave(reading, digest), answer)
             }
             Err(reader) => {
                 let answer = (digest.decide(access), digest.events());
                 (Stand::new(reader, digest, past), answer)
             }
+        }
+    }
+
+    /// As `look`, for a group of accesses.
+    pub fn look_at_group(&mut self, accesses: &[Access]) -> (Decisions, u64)
+        requires { length accesses.now ≤ GROUP_ACCESSES }
+        ensures unit { self.new.book ≡ self.old.book }
+        ensures begins { StartsWith self.new.list self.old.list }
+        ensures computed { result.0.items ≡ map (decision_of (file_after ENTRIES self.new.list)) accesses.now }
+        ensures count { result.1 ≡ event_count self.new.list }
+    {
+        replace_with(
+            self,
+            accesses,
+            |stand, accesses| stand.enter_with_group(accesses),
+        )
+    }
+
+    /// The stand after that look, and its answer.
+    fn enter_with_group(self, accesses: &[Access]) -> (Stand, (Decisions, u64))
+        requires { length accesses.now ≤ GROUP_ACCESSES }
+        ensures unit { result.0.book ≡ self.book }
+        ensures begins { StartsWith result.0.list self.list }
+        ensures computed { result.1.0.items ≡ map (decision_of (file_after ENTRIES result.0.list)) accesses.now }
+        ensures count { result.1.1 ≡ event_count result.0.list }
+    {
+        let Stand {
+            reader,
+            digest,
+            past,
+        } = self;
+        match reader.enter_as::<Looks>() {
+            Ok(reading) => {
+                let version = reading.get();
+                let answer = (
+                    version.decide_group(accesses),
+                    version.journal().event_count(),
+                );
+                (Stand::leave(reading, digest), answer)
+            }
+            Err(reader) => {
+                let answer = (digest.decide_group(accesses), digest.events());
+                (Stand::new(reader, digest, past), answer)
+            }
+        }
+    }
+
+    /// Enters the published version and copies its batches.
+    pub fn copy_journal(&mut self) -> Result<Journal, ShareFault>
+        ensures unit { self.new.book ≡ self.old.book }
+        ensures begins { StartsWith self.new.list self.old.list }
+        ensures copied { IfOk result (λ journal. journal ≡ self.new.list) }
+        ensures refused { IfErr result (λ fault. ¬ (fault ≡ Full)) }
+    {
+        replace_with(self, (), |stand, ()| stand.enter_to_copy())
+    }
+
+    /// The stand after that, and the copy.
+    fn enter_to_copy(self) -> (Stand, Result<Journal, ShareFault>)
+        ensures unit { result.0.book ≡ self.book }
+        ensures begins { StartsWith result.0.list self.list }
+        ensures copied { IfOk result.1 (λ journal. journal ≡ result.0.list) }
+        ensures refused { IfErr result.1 (λ fault. ¬ (fault ≡ Full)) }
+    {
+        let Stand {
+            reader,
+            digest,
+            past,
+        } = self;
+        match reader.enter_as::<Looks>() {
+            Ok(reading) => {
+                let copied = reading.get().journal().copy().map_err(ShareFault::from);
+                (Stand::leave(reading, digest), copied)
+            }
+            Err(reader) => (Stand::new(reader, digest, past), Err(ShareFault::NoPlace)),
         }
     }
 }

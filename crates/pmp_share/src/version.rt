@@ -1,16 +1,19 @@
 //! Versions of a unit: what a checker enters.
 
-ghost use Rattle.std.specs.Prelude.{◌≡◌, [], length};
+ghost use Rattle.std.specs.Prelude.{◌≡◌, ◌≤◌, [], length, map};
 ghost use Rattle.pmp_core.specs.declared.register_file.TheConstants.{ENTRIES};
 ghost use Rattle.pmp_core.specs.Decision.{IsDecision};
 ghost use Rattle.pmp_core.specs.Histories.{file_after};
 ghost use Rattle.pmp_core.specs.Ranges.{decision_of};
+ghost use Rattle.pmp_share.specs.declared.group.TheConstants.{GROUP_ACCESSES};
 
 use crate::entry::Entry;
+use crate::group::{Decisions, GROUP_ACCESSES};
 use crate::growth::grow;
 use crate::journal::Journal;
 use crate::past::Past;
 use crate::told::Told;
+use arrayvec::ArrayVec;
 use left_right::Absorb;
 use pmp_core::{Access, Decision, RegFile};
 use pmp_map::RunMap;
@@ -91,5 +94,17 @@ impl Version {
         ensures computed { result ≡ decision_of (file_after ENTRIES self.now.journal) access.now }
     {
         self.map.decide(&self.file, access)
+    }
+
+    /// Decides a group of accesses, in order, by the map.
+    pub fn decide_group(&self, accesses: &[Access]) -> Decisions
+        requires { length accesses.now ≤ GROUP_ACCESSES }
+        ensures { result.items ≡ map (decision_of (file_after ENTRIES self.now.journal)) accesses.now }
+    {
+        let mut decisions = ArrayVec::new();
+        for access in accesses {
+            decisions.push(self.decide(access));
+        }
+        decisions
     }
 }
