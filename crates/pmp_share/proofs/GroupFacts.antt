@@ -11,7 +11,8 @@ use Rattle.pmp_core.specs.RegisterFile.{RegisterFile, HasAddresses}
 use Rattle.pmp_share.specs.Batches.{Batches}
 use Rattle.pmp_share.specs.Object.{Decides}
 
-zip_map : {A B : Type 0} (R : A → B → Type 0) (f : A → B) → ((x : A) → R x (f x)) → (xs : List A) → AllZip R xs (map f xs)
+zip_map : {A B : Type 0} (R : A → B → Type 0) (f : A → B) → ((x : A) → R x (f x)) → (xs : List A)
+    → AllZip R xs (map f xs)
 zip_map R f each [] = tt
 zip_map R f each (x ∷ xs) = (each x, zip_map R f each xs)
 

@@ -22,7 +22,7 @@ length-ends_from before [] = refl
 length-ends_from before (b ∷ bs) = ap suc (length-ends_from (before + length b) bs)
 
 -- a list cut at its own ends is that list
-cut_from-ends_from : (n : ℕ) (bs : Batches) → cut_from n (ends_from n bs) (joined bs) ≡ bs
+pub cut_from-ends_from : (n : ℕ) (bs : Batches) → cut_from n (ends_from n bs) (joined bs) ≡ bs
 unfolding ends_from cut_from
 cut_from-ends_from n [] = refl
 cut_from-ends_from n (b ∷ bs) =

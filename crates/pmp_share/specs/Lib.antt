@@ -4,9 +4,9 @@ pub mod Object
 pub mod Tokens
 pub mod Looks
 pub mod Room
+pub mod Journals
 pub mod Laws
 -- How the crate keeps them
-pub mod Journals
 pub mod History
 pub mod Versions
 pub mod Rule

@@ -107,9 +107,9 @@ impl Checker {
         Ok(decision)
     }
 
-    /// Decides a group of accesses, all in the same batches of what is published, and answers the decisions in the
-    /// order of the accesses, and how many events that is. It waits for nobody. An emulator takes a group for a page walk
-    /// or for the elements of a vector access, between which no publication may come.
+    /// Decides a group of accesses in what is published, all in the same batches, and answers the decisions in the order
+    /// of the accesses, and how many events that is. It waits for nobody and takes no memory. An emulator takes a group
+    /// for a page walk or for the elements of a vector access, between which no publication may come.
     pub fn decide_group(&mut self, accesses: &[Access]) -> (ArrayVec<Decision, GROUP_ACCESSES>, u64)
         requires { length accesses.now ≤ GROUP_ACCESSES }
         ensures unit { self.new.unit ≡ self.old.unit }
@@ -127,8 +127,8 @@ impl Checker {
         decided
     }
 
-    /// A copy of what is published. Where memory is refused it answers `Memory`, and where no entrance is given, as
-    /// after the end of the publisher, `NoPlace`; it may be called again.
+    /// A copy of what is published, which waits for nobody. It answers `Memory` where memory is refused, and `NoPlace`
+    /// where no entrance is given, as after the end of the publisher.
     pub fn copy_journal(&mut self) -> Result<Journal, ShareFault>
         ensures unit { self.new.unit ≡ self.old.unit }
         ensures looked { Looked self.old.held self.new.held }

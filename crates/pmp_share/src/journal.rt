@@ -10,8 +10,8 @@ use pmp_core::Event;
 use std::alloc::{AllocError, Global};
 use std::marker::Model;
 
-/// Batches, kept as their events and, for each batch, how many events stood once it was added. A contract sees the list of
-/// the batches.
+/// Batches, kept as their events and, for each batch, how many events stood once it was added. A contract sees the list
+/// of the batches.
 #[derive(Drop)]
 pub struct Journal {
     events: Vec<Event>,

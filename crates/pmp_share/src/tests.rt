@@ -3,7 +3,9 @@
 ghost use Rattle.std.specs.Prelude.{◌≡◌};
 
 mod asking;
+mod copying;
 mod ending;
+mod groups;
 mod limits;
 mod swapping;
 
@@ -92,6 +94,17 @@ fn unit_of_two<R: Wait + Abort>(rt: &R, alloc: Global) -> (Publisher, Checker, C
     let second = checkers.pop().expect(rt, "two checkers");
     let first = checkers.pop().expect(rt, "two checkers");
     (publisher, first, second)
+}
+
+/// As `unit_of_two`, with a third checker.
+fn unit_of_three<R: Wait + Abort>(rt: &R, alloc: Global) -> (Publisher, Checker, Checker, Checker)
+    ensures { (result.1.unit ≡ result.0.unit) × (result.2.unit ≡ result.0.unit) × (result.3.unit ≡ result.0.unit) }
+{
+    let (publisher, mut checkers) = start(rt, alloc, 3).expect(rt, "memory");
+    let third = checkers.pop().expect(rt, "three checkers");
+    let second = checkers.pop().expect(rt, "three checkers");
+    let first = checkers.pop().expect(rt, "three checkers");
+    (publisher, first, second, third)
 }
 
 #[test]

@@ -3,9 +3,11 @@
 ghost use Rattle.std.specs.Prelude.{◌≡◌};
 
 use super::{
-    BY_ENTRY_ZERO, ENTRY_ONE, ENTRY_ZERO, ENTRY_ZERO_AGAIN, page_load, publish, tell, unit_of_two,
+    BY_ENTRY_ZERO, ENTRY_ONE, ENTRY_ZERO, ENTRY_ZERO_AGAIN, page_load, publish, tell,
+    unit_of_three, unit_of_two,
 };
 use crate::checker::Checker;
+use crate::group::GROUP_ACCESSES;
 use crate::notice::Notice;
 use crate::publisher::Publisher;
 use pmp_core::{Cause, Decision};
@@ -53,6 +55,28 @@ fn watch<R: Wait + Abort>(rt: &R, mut checker: Checker, notice: Notice, decision
     checker
 }
 
+/// Learns a notice and decides so many groups of equal accesses, each of which is decided alike.
+fn watch_groups<R: Wait + Abort>(rt: &R, mut checker: Checker, notice: Notice, groups: u32) -> Checker
+    requires { notice.unit ≡ checker.unit }
+    ensures { result.unit ≡ checker.unit }
+{
+    let group = [page_load(rt); GROUP_ACCESSES];
+    let mut least = notice.len();
+    checker.learn(notice);
+    for asked in 0..groups {
+        let (decisions, count) = checker.decide_group(&group);
+        assert!(rt; least <= count, "the list went back to {count} events");
+        let decision = *decisions.as_slice().first().expect(rt, "a decision");
+        assert_eq!(rt; decisions.as_slice(), [decision; GROUP_ACCESSES].as_slice());
+        assert!(rt;
+            is_of_round(&decision, count),
+            "a group that doesn't fit {count} events"
+        );
+        least = count;
+    }
+    checker
+}
+
 /// Publishes both swaps 200 times, each by itself.
 fn swap_entries<R: Wait + Abort>(rt: &R, publisher: &mut Publisher)
     ensures { publisher.new.unit ≡ publisher.old.unit }
@@ -65,9 +89,10 @@ fn swap_entries<R: Wait + Abort>(rt: &R, publisher: &mut Publisher)
 
 #[test]
 fn swaps_are_seen_whole(rt: HostRuntime) {
-    let (mut publisher, first, second) = unit_of_two(&rt, rt.alloc());
+    let (mut publisher, first, second, third) = unit_of_three(&rt, rt.alloc());
     publish(&rt, &mut publisher, &ENTRY_ZERO);
     let (to_first, to_second) = (tell(&rt, &mut publisher), tell(&rt, &mut publisher));
+    let to_third = tell(&rt, &mut publisher);
     let first = thread::spawn_with(&rt, SameUnit(Snapshot::of(&first)), move || {
         watch(&rt, first, to_first, 10_000)
     })
@@ -78,13 +103,20 @@ fn swaps_are_seen_whole(rt: HostRuntime) {
     })
     .ok()
     .expect(&rt, "a thread");
+    let third = thread::spawn_with(&rt, SameUnit(Snapshot::of(&third)), move || {
+        watch_groups(&rt, third, to_third, 1_000)
+    })
+    .ok()
+    .expect(&rt, "a thread");
     swap_entries(&rt, &mut publisher);
     let mut first = first.join(&rt);
     let mut second = second.join(&rt);
+    let mut third = third.join(&rt);
     first.learn(tell(&rt, &mut publisher));
     let access = page_load(&rt);
     assert_eq!(rt; first.decide(&access), (BY_ENTRY_ZERO, 1002));
     assert_eq!(rt; second.decide(&access), (BY_ENTRY_ZERO, 1002));
+    assert_eq!(rt; third.decide(&access), (BY_ENTRY_ZERO, 1002));
     publisher.end(&rt);
 }
 

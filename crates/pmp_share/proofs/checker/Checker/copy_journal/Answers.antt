@@ -8,8 +8,8 @@ use Rattle.pmp_share.proofs.checker.Checker.copy_journal.Goals as goal
 use Rattle.pmp_share.proofs.checker.Checker.copy_journal.Goals.{After-drop-self-inside}
 
 last : (c : After-drop-self-inside) → latest c.alone.result ≡ c.copy_journal-copied.new.self.list
-last c = latest_new c.self.inside.stand c.copy_journal-copied.new.self c.self.inside.held c.alone.result c.digest.result.now
-    c.self.invariant c.alone.ensures c.digest.ensures c.copy_journal-copied.ensures.begins
+last c = latest_new c.self.inside.stand c.copy_journal-copied.new.self c.self.inside.held c.alone.result
+    c.digest.result.now c.self.invariant c.alone.ensures c.digest.ensures c.copy_journal-copied.ensures.begins
 
 look : (c : After-drop-self-inside) → Looked c.args.self.now.held c.alone.result
 look c = subst (λ (held : List Batches). Looked held c.alone.result) (ap (λ (token : CheckerToken). token.held) c.self.view_is)

@@ -12,8 +12,8 @@ use Rattle.pmp_share.proofs.checker.Checker.decide_group.Goals as goal
 use Rattle.pmp_share.proofs.checker.Checker.decide_group.Goals.{After-drop-self-inside}
 
 last : (c : After-drop-self-inside) → latest c.alone.result ≡ c.look_at_group-decided.new.self.list
-last c = latest_new c.self.inside.stand c.look_at_group-decided.new.self c.self.inside.held c.alone.result c.digest.result.now
-    c.self.invariant c.alone.ensures c.digest.ensures c.look_at_group-decided.ensures.begins
+last c = latest_new c.self.inside.stand c.look_at_group-decided.new.self c.self.inside.held c.alone.result
+    c.digest.result.now c.self.invariant c.alone.ensures c.digest.ensures c.look_at_group-decided.ensures.begins
 
 look : (c : After-drop-self-inside) → Looked c.args.self.now.held c.alone.result
 look c = subst (λ (held : List Batches). Looked held c.alone.result) (ap (λ (token : CheckerToken). token.held) c.self.view_is)

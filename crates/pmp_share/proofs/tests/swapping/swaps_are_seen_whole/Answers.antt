@@ -11,3 +11,6 @@ spawn_with-requires-send-F g c κs = search (checker_send, notice_send, crosses,
 
 pub spawn_with-requires-2-send-F : goal.spawn_with-requires-2-send-F
 spawn_with-requires-2-send-F g c κs = search (checker_send, notice_send, crosses, sendable) depth 20
+
+pub spawn_with-requires-3-send-F : goal.spawn_with-requires-3-send-F
+spawn_with-requires-3-send-F g c κs = search (checker_send, notice_send, crosses, sendable) depth 20
