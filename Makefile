@@ -7,7 +7,7 @@ BIN = $(DESTDIR)$(PREFIX)/bin
 DOC = $(DESTDIR)$(PREFIX)/share/doc/pmp
 MAN = $(DESTDIR)$(PREFIX)/share/man/man1
 
-.PHONY: build test install uninstall bench bench-decide bench-audit
+.PHONY: build test install uninstall bench bench-decide bench-threads bench-audit
 
 # The launcher builds the program, and then the program says its version.
 build:
@@ -31,7 +31,7 @@ uninstall:
 	@rmdir "$(DOC)" 2>/dev/null || true
 
 # Proves and builds the library and the program, and compares their times with plain C.
-bench: bench-decide bench-audit
+bench: bench-decide bench-threads bench-audit
 
 bench-decide:
 	@mkdir -p bench/out
@@ -39,6 +39,14 @@ bench-decide:
 	@(cd crates/pmp_bench && rt lib --jobs 2) >bench/out/library.log 2>&1 || { cat bench/out/library.log >&2; exit 1; }
 	gcc -O2 -std=c11 -Wall -Wextra bench/decide.c crates/pmp_bench/out/libpmp_bench.a -o bench/out/decide
 	bench/out/decide
+
+bench-threads:
+	@mkdir -p bench/out
+	@echo "proving and building the program; the log is bench/out/threads.log"
+	@(cd crates/pmp_bench_threads && rt run --jobs 2) >bench/out/threads.log 2>&1 || { cat bench/out/threads.log >&2; exit 1; }
+	gcc -O2 -std=c11 -Wall -Wextra -pthread bench/threads.c -o bench/out/threads
+	crates/pmp_bench_threads/out/pmp_bench_threads run
+	bench/out/threads
 
 bench-audit: build
 	@mkdir -p bench/out

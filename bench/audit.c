@@ -1,4 +1,4 @@
-/* Times `pmp audit` on a long trace beside a plain C audit that reads the same files. */
+/* Times `pmp audit` on a long trace, with and without checkers, and a plain C audit that reads the same files. */
 #define _GNU_SOURCE
 #include "plain_unit.h"
 #include <fcntl.h>
@@ -188,22 +188,50 @@ static struct run run(char *const words[], const char *output) {
     return (struct run){seconds() - before, usage.ru_maxrss / 1024.0};
 }
 
-static struct run best_of_rounds(char *const words[], const char *output) {
-    struct run best = {1e18, 0};
+/* What is timed: an audit by a command, its report, and its best run. */
+struct subject {
+    const char *name;
+    char *words[7];
+    const char *report;
+    struct run best;
+};
+
+/* Each round runs all of them in turn, so that a busy machine slows none alone. */
+static void run_rounds(struct subject *subjects, size_t count) {
+    for (size_t i = 0; i < count; i++)
+        subjects[i].best = (struct run){1e18, 0};
     for (unsigned round = 0; round < ROUNDS; round++) {
-        struct run one = run(words, output);
-        if (one.seconds < best.seconds)
-            best.seconds = one.seconds;
-        if (one.mebibytes > best.mebibytes)
-            best.mebibytes = one.mebibytes;
+        for (size_t i = 0; i < count; i++) {
+            struct run one = run(subjects[i].words, subjects[i].report), *best = &subjects[i].best;
+            if (one.seconds < best->seconds)
+                best->seconds = one.seconds;
+            if (one.mebibytes > best->mebibytes)
+                best->mebibytes = one.mebibytes;
+        }
     }
-    return best;
 }
 
-static void tell(const char *name, struct run run, size_t rows) {
-    double trace = MAX_TRACE / 1048576.0;
-    printf("%-10s %6.3f s %12.0f rows/s %7.1f MiB, %.1f times the trace\n", name, run.seconds, rows / run.seconds, run.mebibytes,
-           run.mebibytes / trace);
+/* The plain audit writes its report by itself, and nothing to its output. */
+static size_t compare(const struct subject *subjects, size_t count) {
+    size_t wanted_size, size;
+    char *wanted = read_all(PLAIN_REPORT, &wanted_size);
+    for (size_t i = 1; i < count; i++) {
+        char *report = read_all(subjects[i].report, &size);
+        if (size != wanted_size || memcmp(report, wanted, size) != 0) {
+            fprintf(stderr, "the reports of %s and %s differ\n", subjects[i].name, subjects[0].name);
+            exit(1);
+        }
+        free(report);
+    }
+    free(wanted);
+    return wanted_size;
+}
+
+static void tell(const struct subject *subject, double plain, size_t rows) {
+    struct run run = subject->best;
+    printf("%-12s %6.3f s %6.2f times plain C %12.0f rows/s %7.1f MiB, %.1f times the trace\n", subject->name,
+           run.seconds, run.seconds / plain, rows / run.seconds, run.mebibytes,
+           run.mebibytes * 1048576.0 / MAX_TRACE);
 }
 
 int main(int count, char **words) {
@@ -215,18 +243,21 @@ int main(int count, char **words) {
         plain_audit();
         return 0;
     }
+    char *pmp = words[1];
+    struct subject subjects[] = {
+        {.name = "plain C", .words = {words[0], "plain"}, .report = "/dev/null"},
+        {.name = "proved", .words = {pmp, "audit", SCRIPT, TRACE}, .report = PROVED_REPORT},
+        {.name = "1 checker", .words = {pmp, "audit", SCRIPT, TRACE, "--checkers", "1"}, .report = PROVED_REPORT "1"},
+        {.name = "2 checkers", .words = {pmp, "audit", SCRIPT, TRACE, "--checkers", "2"}, .report = PROVED_REPORT "2"},
+        {.name = "4 checkers", .words = {pmp, "audit", SCRIPT, TRACE, "--checkers", "4"}, .report = PROVED_REPORT "4"},
+    };
+    enum { SUBJECTS = sizeof subjects / sizeof *subjects };
     write_script();
-    size_t rows = write_trace(), proved_size, plain_size;
-    struct run proved = best_of_rounds((char *const[]){words[1], "audit", SCRIPT, TRACE, NULL}, PROVED_REPORT);
-    struct run plain = best_of_rounds((char *const[]){words[0], "plain", NULL}, "/dev/null");
-    char *one = read_all(PROVED_REPORT, &proved_size), *other = read_all(PLAIN_REPORT, &plain_size);
-    if (proved_size != plain_size || memcmp(one, other, plain_size) != 0) {
-        fprintf(stderr, "the reports differ\n");
-        return 1;
-    }
-    printf("%zu rows, %d publications, the same report of %zu bytes\n", rows, PUBLICATIONS, plain_size);
-    tell("proved", proved, rows);
-    tell("plain C", plain, rows);
-    printf("ratio      %6.2f\n", proved.seconds / plain.seconds);
+    size_t rows = write_trace();
+    run_rounds(subjects, SUBJECTS);
+    size_t size = compare(subjects, SUBJECTS);
+    printf("%zu rows, %d publications, the same report of %zu bytes\n", rows, PUBLICATIONS, size);
+    for (unsigned i = 0; i < SUBJECTS; i++)
+        tell(&subjects[i], subjects[0].best.seconds, rows);
     return 0;
 }

@@ -137,7 +137,7 @@ static uint64_t next_random(void) {
     return state * UINT64_C(0x2545f4914f6cdd1d) >> 16;
 }
 
-static uint64_t below(uint64_t limit) {
+static inline uint64_t below(uint64_t limit) {
     return next_random() % limit;
 }
 

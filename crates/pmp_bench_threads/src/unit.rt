@@ -1,0 +1,104 @@
+//! What is timed: a unit with sixteen regions, and loads from each of them.
+
+ghost use Rattle.std.specs.Prelude.{◌≡◌, IfOk};
+
+use crate::failure::Failure;
+use pmp_core::{Access, Csr, Event, Kind, Mode, RegFile};
+use pmp_share::{Batch, Checker, Publisher, start};
+use std::alloc::Global;
+use std::sync::Wait;
+
+const REGIONS: usize = 16;
+
+/// All sixteen are readable and writable.
+const RULES: u64 = 0x1b1b_1b1b_1b1b_1b1b;
+
+/// A write that changes no decision.
+pub const WRITE: Event = Event::Write(Csr::Addr(0), 0x2000_01ff);
+
+pub type Loads = [Access; REGIONS];
+
+/// The first byte of a region of 4 KiB.
+fn region(entry: u8) -> u64 {
+    0x8000_0000 + 0x1_0000 * u64::from(entry)
+}
+
+/// The writes that set sixteen regions.
+fn regions() -> [Event; REGIONS + 2] {
+    let mut events = [Event::Write(Csr::Cfg(0), RULES); REGIONS + 2];
+    for entry in 0..16u8 {
+        events[usize::from(entry)] = Event::Write(Csr::Addr(entry), (region(entry) >> 2) | 0x1ff);
+    }
+    events[REGIONS] = Event::Write(Csr::Cfg(2), RULES);
+    events
+}
+
+/// A load of eight bytes from each region, by user mode.
+pub fn loads() -> Result<Loads, Failure> {
+    let mut loads = [Access::new(Mode::U, Kind::Load, region(0), 8)?; REGIONS];
+    for entry in 0..16u8 {
+        loads[usize::from(entry)] = Access::new(Mode::U, Kind::Load, region(entry), 8)?;
+    }
+    Ok(loads)
+}
+
+/// The register file with sixteen regions.
+pub fn file() -> RegFile {
+    let mut file = RegFile::reset();
+    file.run_events(&regions());
+    file
+}
+
+pub fn batch_of(events: &[Event]) -> Result<Batch, Failure> {
+    let mut batch = Batch::new();
+    for event in events {
+        batch.push(*event)?;
+    }
+    Ok(batch)
+}
+
+pub fn publish<R: Wait>(rt: &R, publisher: &mut Publisher, batch: &Batch) -> Result<(), Failure>
+    ensures { publisher.new.unit ≡ publisher.old.unit }
+{
+    publisher.submit(batch)?;
+    publisher.publish(rt)?;
+    Ok(())
+}
+
+/// Publishes the sixteen regions.
+fn publish_regions<R: Wait>(rt: &R, publisher: &mut Publisher) -> Result<(), Failure>
+    ensures { publisher.new.unit ≡ publisher.old.unit }
+{
+    publish(rt, publisher, &batch_of(&regions())?)
+}
+
+/// A unit with sixteen regions published, and one to eight checkers of it.
+pub fn shared<R: Wait>(
+    rt: &R,
+    alloc: Global,
+    checkers: u8,
+) -> Result<(Publisher, Vec<Checker>), Failure> {
+    let (mut publisher, checkers) = start(rt, alloc, checkers.clamp(1, 8))?;
+    match publish_regions(rt, &mut publisher) {
+        Ok(()) => Ok((publisher, checkers)),
+        Err(failure) => {
+            publisher.end(rt);
+            Err(failure)
+        }
+    }
+}
+
+/// The same with one checker.
+pub fn pair<R: Wait>(rt: &R, alloc: Global) -> Result<(Publisher, Checker), Failure>
+    ensures { IfOk result (λ made. made.1.unit ≡ made.0.unit) }
+{
+    let (mut publisher, mut checkers) = start(rt, alloc, 1)?;
+    let published = publish_regions(rt, &mut publisher);
+    match (checkers.pop(), published) {
+        (Some(checker), Ok(())) => Ok((publisher, checker)),
+        (_, published) => {
+            publisher.end(rt);
+            Err(published.err().unwrap_or(Failure::Memory))
+        }
+    }
+}
