@@ -142,26 +142,22 @@ impl Stand {
     }
 
     /// As `look`, for a group of accesses.
-    pub fn look_at_group(&mut self, accesses: &[Access]) -> (Decisions, u64)
-        requires { length accesses.now ≤ GROUP_ACCESSES }
+    pub fn look_at_group(&mut self, group: &[Access]) -> (Decisions, u64)
+        requires { length group.now ≤ GROUP_ACCESSES }
         ensures unit { self.new.book ≡ self.old.book }
         ensures begins { StartsWith self.new.list self.old.list }
-        ensures computed { result.0.items ≡ map (decision_of (file_after ENTRIES self.new.list)) accesses.now }
+        ensures computed { result.0.items ≡ map (decision_of (file_after ENTRIES self.new.list)) group.now }
         ensures count { result.1 ≡ event_count self.new.list }
     {
-        replace_with(
-            self,
-            accesses,
-            |stand, accesses| stand.enter_with_group(accesses),
-        )
+        replace_with(self, group, |stand, group| stand.enter_all(group))
     }
 
     /// The stand after that look, and its answer.
-    fn enter_with_group(self, accesses: &[Access]) -> (Stand, (Decisions, u64))
-        requires { length accesses.now ≤ GROUP_ACCESSES }
+    fn enter_all(self, group: &[Access]) -> (Stand, (Decisions, u64))
+        requires { length group.now ≤ GROUP_ACCESSES }
         ensures unit { result.0.book ≡ self.book }
         ensures begins { StartsWith result.0.list self.list }
-        ensures computed { result.1.0.items ≡ map (decision_of (file_after ENTRIES result.0.list)) accesses.now }
+        ensures computed { result.1.0.items ≡ map (decision_of (file_after ENTRIES result.0.list)) group.now }
         ensures count { result.1.1 ≡ event_count result.0.list }
     {
         let Stand {
@@ -172,14 +168,12 @@ impl Stand {
         match reader.enter_as::<Looks>() {
             Ok(reading) => {
                 let version = reading.get();
-                let answer = (
-                    version.decide_group(accesses),
-                    version.journal().event_count(),
-                );
+                let decisions = version.decide_group(group);
+                let answer = (decisions, version.journal().event_count());
                 (Stand::leave(reading, digest), answer)
             }
             Err(reader) => {
-                let answer = (digest.decide_group(accesses), digest.events());
+                let answer = (digest.decide_group(group), digest.events());
                 (Stand::new(reader, digest, past), answer)
             }
         }

@@ -1,5 +1,5 @@
 use Rattle.pmp_share.proofs.RuleFacts.{looks}
-use Rattle.pmp_share.proofs.stand.Stand.enter_with_group.Goals as goal
+use Rattle.pmp_share.proofs.stand.Stand.enter_all.Goals as goal
 
 pub enter_as-requires : goal.enter_as-requires
 enter_as-requires c = looks c.self.inside.reader.place.id _
