@@ -1,0 +1,31 @@
+//! What firmware writes.
+
+ghost use Rattle.std.specs.Prelude.{◌≡◌};
+
+use pmp_core::{Csr, Event};
+use pmp_share::{Batch, Publisher, ShareFault};
+use std::sync::Wait;
+
+/// Entry 0 lets every mode read a page.
+pub const OPEN_PAGE: [Event; 2] = [
+    Event::Write(Csr::Addr(0), 0x200001ff),
+    Event::Write(Csr::Cfg(0), 0x19),
+];
+
+/// Entry 1 does so in its place. After the first write alone no entry would.
+pub const MOVE_RULE: [Event; 2] = [
+    Event::Write(Csr::Cfg(0), 0x1900),
+    Event::Write(Csr::Addr(1), 0x200001ff),
+];
+
+/// Publishes these writes in one step: no hart decides between two of them.
+pub fn program<R: Wait>(rt: &R, publisher: &mut Publisher, writes: &[Event]) -> Result<u64, ShareFault>
+    ensures { publisher.new.unit ≡ publisher.old.unit }
+{
+    let mut batch = Batch::new();
+    for write in writes {
+        batch.push(*write).map_err(|_| ShareFault::Full)?;
+    }
+    publisher.submit(&batch)?;
+    publisher.publish(rt)
+}

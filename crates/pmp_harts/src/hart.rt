@@ -1,0 +1,58 @@
+//! What a hart does with its checker.
+
+ghost use Rattle.std.specs.Prelude.{◌≡◌, ◌≤◌, length};
+ghost use Rattle.std.specs.List.{AllZip};
+ghost use Rattle.pmp_share.specs.declared.group.TheConstants.{GROUP_ACCESSES};
+ghost use Rattle.pmp_share.specs.Batches.{StartsWith};
+ghost use Rattle.pmp_share.specs.Looks.{latest};
+ghost use Rattle.pmp_share.specs.Object.{Decides};
+
+use arrayvec::ArrayVec;
+use pmp_core::{Access, Decision, Kind, Mode};
+use pmp_share::{Checker, GROUP_ACCESSES, Notice};
+use std::snapshot::Snapshot;
+use std::thread::Promise;
+
+/// The decisions on a group, and how many events had been published.
+pub type Answers = (ArrayVec<Decision, GROUP_ACCESSES>, u64);
+
+/// The checker that comes back from a thread is of the unit that it was of.
+#[derive(Drop)]
+pub struct SameUnit(pub Snapshot<Checker>);
+
+impl Promise<Checker> for SameUnit {
+    ghost kept_by = { λ promise checker. checker.unit ≡ promise.0.value.unit };
+}
+
+/// Three loads by user mode, as of a page walk.
+pub fn page_walk() -> Option<[Access; 3]> {
+    let first = Access::new(Mode::U, Kind::Load, 0x80000000, 8).ok()?;
+    let second = Access::new(Mode::U, Kind::Load, 0x80000008, 8).ok()?;
+    let third = Access::new(Mode::U, Kind::Load, 0x80000ff8, 8).ok()?;
+    Some([first, second, third])
+}
+
+/// Takes in a notice and then decides the accesses, all in one list of publications that begins with what was told.
+pub fn decide_after(
+    checker: &mut Checker,
+    notice: Notice,
+    accesses: &[Access],
+) -> Answers
+    requires unit { notice.unit ≡ checker.old.unit }
+    requires limit { length accesses.now ≤ GROUP_ACCESSES }
+    ensures unit { checker.new.unit ≡ checker.old.unit }
+    ensures told { StartsWith (latest checker.new.held) notice.told }
+    ensures decided { AllZip (Decides (latest checker.new.held)) accesses.now result.0.items }
+{
+    checker.learn(notice);
+    checker.decide_group(accesses)
+}
+
+/// What hart 1 does in its thread.
+pub fn walk(mut checker: Checker, opened: Notice, accesses: [Access; 3]) -> Checker
+    requires { opened.unit ≡ checker.unit }
+    ensures { result.unit ≡ checker.unit }
+{
+    let _ = decide_after(&mut checker, opened, &accesses);
+    checker
+}
