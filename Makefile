@@ -19,6 +19,7 @@ test:
 	checks/program $(PROGRAM)
 	checks/launcher
 	checks/documents $(PROGRAM)
+	checks/hostile $(PROGRAM)
 
 install: build
 	@install -d "$(BIN)" "$(DOC)" "$(MAN)"
