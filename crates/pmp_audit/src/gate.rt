@@ -3,7 +3,7 @@
 /// Called by the workers of a shared audit, which share it. It may wait, and the audit then waits too.
 pub trait Gate {
     /// A worker, of those numbered from 0, has decided the row with this number of the report, counted from 1. It goes
-    /// on once the call returns. There is one call for each row.
+    /// on once the call returns. No row has more than one call, and where the audit answers, each row had one.
     fn pass(&self, worker: u8, row: u64);
 }
 
