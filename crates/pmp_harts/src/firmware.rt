@@ -19,7 +19,11 @@ pub const MOVE_RULE: [Event; 2] = [
 ];
 
 /// Publishes these writes in one step: no hart decides between two of them.
-pub fn program<R: Wait>(rt: &R, publisher: &mut Publisher, writes: &[Event]) -> Result<u64, ShareFault>
+pub fn program<R: Wait>(
+    rt: &R,
+    publisher: &mut Publisher,
+    writes: &[Event],
+) -> Result<u64, ShareFault>
     ensures { publisher.new.unit ≡ publisher.old.unit }
 {
     let mut batch = Batch::new();

@@ -33,11 +33,7 @@ pub fn page_walk() -> Option<[Access; 3]> {
 }
 
 /// Takes in a notice and then decides the accesses, all in one list of publications that begins with what was told.
-pub fn decide_after(
-    checker: &mut Checker,
-    notice: Notice,
-    accesses: &[Access],
-) -> Answers
+pub fn decide_after(checker: &mut Checker, notice: Notice, accesses: &[Access]) -> Answers
     requires unit { notice.unit ≡ checker.old.unit }
     requires limit { length accesses.now ≤ GROUP_ACCESSES }
     ensures unit { checker.new.unit ≡ checker.old.unit }

@@ -39,7 +39,11 @@ fn run<R: Threads + Wait>(rt: &R, alloc: Global) -> Result<Answers, ShareFault> 
 }
 
 /// Hart 0 opens a page and then moves its rule, while hart 1 walks it. Answers what hart 1 may do in the end.
-fn both_harts<R: Threads + Wait>(rt: &R, publisher: &mut Publisher, checker: Checker) -> Result<Answers, ShareFault>
+fn both_harts<R: Threads + Wait>(
+    rt: &R,
+    publisher: &mut Publisher,
+    checker: Checker,
+) -> Result<Answers, ShareFault>
     requires { checker.unit ≡ publisher.old.unit }
 {
     let accesses = page_walk().ok_or(ShareFault::NoPlace)?;

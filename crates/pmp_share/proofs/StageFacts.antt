@@ -40,6 +40,6 @@ pub turned_or_not : {A E : Type 0} (result : Result A E) (keeper : Known) (ahead
     → IsStage keeper ahead after_view next (after next rest)
 turned_or_not (Ok _) keeper ahead view after_view shown next entries rest was values seen =
     turned keeper ahead after_view next (after shown entries) rest values.0 values.1 seen was.next_book was.next_noted
-        was.history
+    was.history
 turned_or_not (Err _) keeper ahead view after_view shown next entries rest was values seen =
     rw (seen, values.0, values.1) was

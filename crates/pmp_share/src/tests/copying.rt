@@ -17,7 +17,10 @@ fn a_journal_has_the_published_events(rt: HostRuntime) {
     publish(&rt, &mut publisher, &[]);
     submit(&rt, &mut publisher, &ENTRY_ZERO);
     let journal = first.copy_journal().expect(&rt, "memory");
-    assert_eq!(rt; (journal.events(), journal.ends()), (&all[..], &[2, 4, 4][..]));
+    assert_eq!(rt;
+        (journal.events(), journal.ends()),
+        (&all[..], &[2, 4, 4][..])
+    );
     assert_eq!(rt; first.decide(&page_load(&rt)), (BY_ENTRY_ONE, 4));
     publisher.end(&rt);
 }

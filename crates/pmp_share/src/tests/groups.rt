@@ -1,6 +1,9 @@
 //! Groups of accesses: one list of batches decides them all.
 
-use super::{BY_ENTRY_ONE, BY_ENTRY_ZERO, BY_NO_ENTRY, ENTRY_ONE, ENTRY_ZERO, page_load, publish, unit_of_two};
+use super::{
+    BY_ENTRY_ONE, BY_ENTRY_ZERO, BY_NO_ENTRY, ENTRY_ONE, ENTRY_ZERO, page_load, publish,
+    unit_of_two,
+};
 use crate::checker::Checker;
 use crate::group::GROUP_ACCESSES;
 use pmp_core::{Access, Decision, Kind, Mode};

@@ -56,7 +56,12 @@ fn watch<R: Wait + Abort>(rt: &R, mut checker: Checker, notice: Notice, decision
 }
 
 /// Learns a notice and decides so many groups of equal accesses, each of which is decided alike.
-fn watch_groups<R: Wait + Abort>(rt: &R, mut checker: Checker, notice: Notice, groups: u32) -> Checker
+fn watch_groups<R: Wait + Abort>(
+    rt: &R,
+    mut checker: Checker,
+    notice: Notice,
+    groups: u32,
+) -> Checker
     requires { notice.unit ≡ checker.unit }
     ensures { result.unit ≡ checker.unit }
 {
