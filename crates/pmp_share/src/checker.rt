@@ -107,9 +107,9 @@ impl Checker {
         Ok(decision)
     }
 
-    /// Decides a group of accesses in what is published, all in the same batches, and answers the decisions in the order
-    /// of the accesses, and how many events that is. It waits for nobody and takes no memory. An emulator takes a group
-    /// for a page walk or for the elements of a vector access, between which no publication may come.
+    /// Decides a group of accesses in what is published, all in the same batches, and answers the decisions in the
+    /// order of the accesses, and how many events that is. It waits for nobody and takes no memory. An emulator takes
+    /// a group for a page walk or for the elements of a vector access, between which no publication may come.
     pub fn decide_group(&mut self, accesses: &[Access]) -> (ArrayVec<Decision, GROUP_ACCESSES>, u64)
         requires { length accesses.now ≤ GROUP_ACCESSES }
         ensures unit { self.new.unit ≡ self.old.unit }
