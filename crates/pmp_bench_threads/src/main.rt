@@ -3,6 +3,7 @@
 
 mod alone;
 mod failure;
+mod groups;
 mod meeting;
 mod publishing;
 mod round;
@@ -11,6 +12,7 @@ mod unit;
 
 use alone::{decision_by_checker, decision_by_map};
 use failure::Failure;
+use groups::decision_in_group;
 use publishing::{notice_alone, publication_alone};
 use round::decisions_at_once;
 use std::env;
@@ -31,6 +33,10 @@ fn main(rt: HostRuntime) -> Result<(), Failure> {
     println!(rt;
         "proved: a decision by one checker {}",
         decision_by_checker(&rt, alloc)?
+    )?;
+    println!(rt;
+        "proved: a decision of a group of 16 {}",
+        decision_in_group(&rt, alloc)?
     )?;
     println!(rt;
         "proved: a publication with no checker that decides {}",
