@@ -6,8 +6,8 @@ use crate::alone::ROUNDS;
 use crate::failure::Failure;
 use crate::meeting::Meeting;
 use crate::time::{Span, Time};
-use crate::unit::{WRITE, batch_of, pair, publish};
-use pmp_share::{Checker, Publisher};
+use crate::unit::{WRITE, pair, publish};
+use pmp_share::{Batch, Checker, Publisher};
 use std::alloc::Global;
 use std::sync::Wait;
 use std::time::{Clock, Instant};
@@ -26,7 +26,7 @@ pub fn publish_meanwhile<R: Clock + Wait>(
     publisher: &mut Publisher,
     meeting: &Meeting,
 ) -> Result<Time, Failure> {
-    let batch = batch_of(&[WRITE])?;
+    let batch = Batch::of(&[WRITE])?;
     meeting.begin(rt);
     let since = Instant::now(rt)?;
     for published in 0..MOST_PUBLICATIONS {
@@ -39,7 +39,7 @@ pub fn publish_meanwhile<R: Clock + Wait>(
 }
 
 fn time_publications<R: Clock + Wait>(rt: &R, publisher: &mut Publisher) -> Result<Time, Failure> {
-    let batch = batch_of(&[WRITE])?;
+    let batch = Batch::of(&[WRITE])?;
     let since = Instant::now(rt)?;
     for _ in 0..PUBLICATIONS {
         publish(rt, publisher, &batch)?;

@@ -49,14 +49,6 @@ pub fn file() -> RegFile {
     file
 }
 
-pub fn batch_of(events: &[Event]) -> Result<Batch, Failure> {
-    let mut batch = Batch::new();
-    for event in events {
-        batch.push(*event)?;
-    }
-    Ok(batch)
-}
-
 pub fn publish<R: Wait>(rt: &R, publisher: &mut Publisher, batch: &Batch) -> Result<(), Failure>
     ensures { publisher.new.unit ≡ publisher.old.unit }
 {
@@ -69,7 +61,7 @@ pub fn publish<R: Wait>(rt: &R, publisher: &mut Publisher, batch: &Batch) -> Res
 fn publish_regions<R: Wait>(rt: &R, publisher: &mut Publisher) -> Result<(), Failure>
     ensures { publisher.new.unit ≡ publisher.old.unit }
 {
-    publish(rt, publisher, &batch_of(&regions())?)
+    publish(rt, publisher, &Batch::of(&regions())?)
 }
 
 /// A unit with sixteen regions published, and one to eight checkers of it.

@@ -1,6 +1,6 @@
 //! Batches: what is published whole.
 
-ghost use Rattle.std.specs.Prelude.{◌≡◌, ◌≤◌, ◌↔◌, [], ◌∷◌, ◌++◌, List, length, Err, OnOk, OnErr};
+ghost use Rattle.std.specs.Prelude.{◌≡◌, ◌<◌, ◌≤◌, ◌↔◌, [], ◌∷◌, ◌++◌, List, length, Err, IfOk, OnOk, OnErr};
 ghost use Rattle.pmp_core.specs.declared.event.Event.{Event};
 ghost use Rattle.pmp_core.specs.declared.event.TheConstants.{BATCH_EVENTS};
 
@@ -31,6 +31,17 @@ impl Batch {
     {
         Batch {
             events: ArrayVec::new(),
+        }
+    }
+
+    /// A batch of these events.
+    pub fn of(events: &[Event]) -> Result<Batch, BatchFull>
+        ensures made { IfOk result (λ batch. batch ≡ events.now) }
+        ensures full { (result ≡ Err (record {})) ↔ (BATCH_EVENTS < length events.now) }
+    {
+        match ArrayVec::try_from(events) {
+            Ok(events) => Ok(Batch { events }),
+            Err(_) => Err(BatchFull),
         }
     }
 

@@ -9,18 +9,6 @@ use pmp_core::Event;
 use pmp_share::{Batch, Publisher, ShareFault};
 use std::sync::Wait;
 
-/// A batch of these events.
-fn batch_of(events: &[Event]) -> Batch
-    requires { length events.now ≤ BATCH_EVENTS }
-    ensures { result ≡ events.now }
-{
-    let mut batch = Batch::new();
-    for event in events {
-        batch.push(*event).unwrap();
-    }
-    batch
-}
-
 /// Publishes these events as one batch. It may wait.
 pub(crate) fn publish<R: Wait>(
     rt: &R,
@@ -35,7 +23,7 @@ pub(crate) fn publish<R: Wait>(
     ensures alone { OnOk result (publisher.new.pending ≡ []) }
     ensures refused { IfErr result (λ fault. fault ≡ Memory) }
 {
-    publisher.submit(&batch_of(events))?;
+    publisher.submit(&Batch::of(events).unwrap())?;
     publisher.publish(rt)?;
     Ok(())
 }
