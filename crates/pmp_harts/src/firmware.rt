@@ -1,6 +1,6 @@
 //! What firmware writes.
 
-ghost use Rattle.std.specs.Prelude.{◌≡◌};
+ghost use Rattle.std.specs.Prelude.{◌≡◌, [], ◌∷◌, ◌++◌, OnOk};
 
 use pmp_core::{Csr, Event};
 use pmp_share::{Batch, Publisher, ShareFault};
@@ -18,18 +18,18 @@ pub const MOVE_RULE: [Event; 2] = [
     Event::Write(Csr::Addr(1), 0x200001ff),
 ];
 
-/// Publishes these writes in one step: no hart decides between two of them.
+/// Publishes these writes in one step, behind what was pending: no hart decides between two of them. More writes than a
+/// batch holds are `Full`.
 pub fn program<R: Wait>(
     rt: &R,
     publisher: &mut Publisher,
     writes: &[Event],
 ) -> Result<u64, ShareFault>
-    ensures { publisher.new.unit ≡ publisher.old.unit }
+    ensures unit { publisher.new.unit ≡ publisher.old.unit }
+    ensures one_batch { OnOk result (publisher.new.published
+        ≡ publisher.old.published ++ publisher.old.pending ++ writes.now ∷ []) }
 {
-    let mut batch = Batch::new();
-    for write in writes {
-        batch.push(*write).map_err(|_| ShareFault::Full)?;
-    }
+    let batch = Batch::of(writes).map_err(|_| ShareFault::Full)?;
     publisher.submit(&batch)?;
     publisher.publish(rt)
 }

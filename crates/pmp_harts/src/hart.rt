@@ -8,7 +8,7 @@ ghost use Rattle.pmp_share.specs.Looks.{latest};
 ghost use Rattle.pmp_share.specs.Object.{Decides};
 
 use arrayvec::ArrayVec;
-use pmp_core::{Access, Decision, Kind, Mode};
+use pmp_core::{Access, Decision};
 use pmp_share::{Checker, GROUP_ACCESSES, Notice};
 use std::snapshot::Snapshot;
 use std::thread::Promise;
@@ -24,14 +24,6 @@ impl Promise<Checker> for SameUnit {
     ghost kept_by = { λ promise checker. checker.unit ≡ promise.0.value.unit };
 }
 
-/// Three loads by user mode, as of a page walk.
-pub fn page_walk() -> Option<[Access; 3]> {
-    let first = Access::new(Mode::U, Kind::Load, 0x80000000, 8).ok()?;
-    let second = Access::new(Mode::U, Kind::Load, 0x80000008, 8).ok()?;
-    let third = Access::new(Mode::U, Kind::Load, 0x80000ff8, 8).ok()?;
-    Some([first, second, third])
-}
-
 /// Takes in a notice and then decides the accesses, all in one list of publications that begins with what was told.
 pub fn decide_after(checker: &mut Checker, notice: Notice, accesses: &[Access]) -> Answers
     requires unit { notice.unit ≡ checker.old.unit }
@@ -42,13 +34,4 @@ pub fn decide_after(checker: &mut Checker, notice: Notice, accesses: &[Access]) 
 {
     checker.learn(notice);
     checker.decide_group(accesses)
-}
-
-/// What hart 1 does in its thread.
-pub fn walk(mut checker: Checker, opened: Notice, accesses: [Access; 3]) -> Checker
-    requires { opened.unit ≡ checker.unit }
-    ensures { result.unit ≡ checker.unit }
-{
-    let _ = decide_after(&mut checker, opened, &accesses);
-    checker
 }

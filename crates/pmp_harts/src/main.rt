@@ -8,8 +8,9 @@ mod firmware;
 mod hart;
 
 use firmware::{MOVE_RULE, OPEN_PAGE, program};
-use hart::{Answers, SameUnit, decide_after, page_walk, walk};
-use pmp_share::{Checker, Publisher, ShareFault, start};
+use hart::{Answers, SameUnit, decide_after};
+use pmp_core::{Access, Kind, Mode};
+use pmp_share::{Checker, Notice, Publisher, ShareFault, start};
 use std::alloc::Global;
 use std::process::ExitCode;
 use std::snapshot::Snapshot;
@@ -36,6 +37,23 @@ fn run<R: Threads + Wait>(rt: &R, alloc: Global) -> Result<Answers, ShareFault> 
     };
     publisher.end(rt);
     answers
+}
+
+/// Three loads by user mode, as of a page walk.
+fn page_walk() -> Option<[Access; 3]> {
+    let first = Access::new(Mode::U, Kind::Load, 0x80000000, 8).ok()?;
+    let second = Access::new(Mode::U, Kind::Load, 0x80000008, 8).ok()?;
+    let third = Access::new(Mode::U, Kind::Load, 0x80000ff8, 8).ok()?;
+    Some([first, second, third])
+}
+
+/// What hart 1 does in its thread.
+fn walk(mut checker: Checker, opened: Notice, accesses: [Access; 3]) -> Checker
+    requires { opened.unit ≡ checker.unit }
+    ensures { result.unit ≡ checker.unit }
+{
+    let _ = decide_after(&mut checker, opened, &accesses);
+    checker
 }
 
 /// Hart 0 opens a page and then moves its rule, while hart 1 walks it. Answers what hart 1 may do in the end.
