@@ -48,10 +48,17 @@ module _ (stand told : Known) (held new : List Batches) (late : Bool) (is : IsCh
   }
 
 -- a look: from one stand to another, which takes the place of all that was held
-module _ (stand after : Known) (held new : List Batches) (digest : Batches) (is : IsChecker stand held)
-    (alone : new ≡ digest ∷ []) (of : digest ≡ after.list) (begins : StartsWith after.list stand.list) where
+pub record Look (stand after : Known) (seen held new : List Batches) (digest : Batches) : Type 0 where
+  pub seen_is : held ≡ seen
+  pub before : IsChecker stand held
+  pub alone : new ≡ digest ∷ []
+  pub digest_is : digest ≡ after.list
+  pub begins : StartsWith after.list stand.list
+
+module _ {stand after : Known} {seen held new : List Batches} {digest : Batches}
+    (look : Look stand after seen held new digest) where
   new_is : new ≡ after.list ∷ []
-  new_is = alone ∙ ap (λ (b : Batches). b ∷ []) of
+  new_is = look.alone ∙ ap (λ (b : Batches). b ∷ []) look.digest_is
 
   pub latest_new : latest new ≡ after.list
   latest_new = ap latest new_is ∙ latest-one after.list
@@ -59,5 +66,6 @@ module _ (stand after : Known) (held new : List Batches) (digest : Batches) (is 
   pub looked_checks : IsChecker after new
   looked_checks = alone_checks after new new_is
 
-  pub looked : Looked held new
-  looked = looked_at held new after.list new_is (begin_on after.list stand.list held begins is.begins)
+  pub looked : Looked seen new
+  looked = subst (λ (b : List Batches). Looked b new) look.seen_is
+      (looked_at held new after.list new_is (begin_on after.list stand.list held look.begins look.before.begins))

@@ -7,7 +7,8 @@ pub loop-index-preserved : goal.loop-index-preserved
 unfolding range_of
 loop-index-preserved c =
     let loop = c.loop-index in
-    let new : c.range_by.result ≡ range_of c.args.entries.now loop.index = rw (← loop.invariant.0) c.range_by.ensures in (
+    let new : c.range_by.result ≡ range_of c.args.entries.now loop.index =
+    rw (← loop.invariant.0) c.range_by.ensures in (
       sym (low_address-next c.args.entries.now loop.index),
       simp length-set loop.invariant.1,
       decoded_more c.args.entries.now loop.ranges loop.index _ (omega (

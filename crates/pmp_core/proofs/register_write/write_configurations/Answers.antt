@@ -4,7 +4,9 @@ use Rattle.pmp_core.proofs.Places.{entries_by}
 use Rattle.pmp_core.proofs.Configuring.{configured_next, configured_more, all_configured, kept_odd, kept_below}
 use Rattle.pmp_core.proofs.register_write.write_configurations.Goals as goal
 use Rattle.pmp_core.proofs.register_write.write_configurations.Goals.{then-register-eq1-via-then-register-eq1}
-use Rattle.pmp_core.proofs.register_write.write_configurations.Goals.{then-register-eq1-via-else-register-eq1+then-first-entries}
+use Rattle.pmp_core.proofs.register_write.write_configurations.Goals.{
+  then-register-eq1-via-else-register-eq1+then-first-entries,
+}
 
 pub returns-then-register-eq1 : goal.returns-then-register-eq1
 returns-then-register-eq1 c =

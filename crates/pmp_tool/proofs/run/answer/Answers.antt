@@ -46,8 +46,10 @@ returns-in_err-audit_by-in-Audit-clause-err g c =
     let refused =
     rw (c.deref-in-Audit.ensures.value, c.deref-in-Audit-2.ensures.value) at c.in_err-audit_by-in-Audit.ensures.err in
     rw (p.1, p.2)
-    (not_answered _ _ c.args.command script c.in_ok-script.ensures.read (Audit c.in-Audit.trace c.in-Audit.checkers) c.in-Audit.is _ _
-    Audited (AuditSays script trace) (λ summary text says. (trace, read, says)) (AuditByRefuses c.in-Audit.checkers script trace)
+    (not_answered _ _ c.args.command script c.in_ok-script.ensures.read
+    (Audit c.in-Audit.trace c.in-Audit.checkers) c.in-Audit.is _ _
+    Audited (AuditSays script trace) (λ summary text says. (trace, read, says))
+    (AuditByRefuses c.in-Audit.checkers script trace)
     (λ fault refuses. (trace, read, refuses)) c.in_err-audit_by-in-Audit.field-0.0 refused)
 
 pub returns-in_err-dump-in-Dump-clause-err : goal.returns-in_err-dump-in-Dump-clause-err

@@ -1,45 +1,43 @@
-use Rattle.std.proofs.Common.{◌≡◌, List, subst, sym, ap, ◌∙◌}
+use Rattle.std.proofs.Common.{subst, sym, ap, ◌∙◌}
 use Rattle.pmp_core.specs.declared.register_file.TheConstants.{ENTRIES}
 use Rattle.pmp_core.specs.Histories.{file_after}
 use Rattle.pmp_core.specs.Ranges.{decision_of}
 use Rattle.pmp_share.specs.Batches.{Batches, event_count}
-use Rattle.pmp_share.specs.Looks.{Looked, latest}
 use Rattle.pmp_share.specs.Checking.{DecidesIn}
 use Rattle.pmp_share.specs.Object.{Decides}
 use Rattle.pmp_share.specs.Tokens.{CheckerToken}
 use Rattle.pmp_share.proofs.LookFacts.{keeps_bound}
-use Rattle.pmp_share.proofs.CheckFacts.{latest_new, looked_checks, looked}
+use Rattle.pmp_share.proofs.CheckFacts.{Look, latest_new, looked_checks, looked}
 use Rattle.pmp_share.proofs.checker.Checker.decide.Goals as goal
 use Rattle.pmp_share.proofs.checker.Checker.decide.Goals.{After-drop-self-inside}
 
-last : (c : After-drop-self-inside) → latest c.alone.result ≡ c.look-answer.new.self.list
-last c = latest_new c.self.inside.stand c.look-answer.new.self c.self.inside.held c.alone.result c.digest.result.now
-    c.self.invariant c.alone.ensures c.digest.ensures c.look-answer.ensures.begins
-
-look : (c : After-drop-self-inside) → Looked c.args.self.now.held c.alone.result
-look c = subst (λ (held : List Batches). Looked held c.alone.result)
-    (ap (λ (token : CheckerToken). token.held) c.self.view_is)
-    (looked c.self.inside.stand c.look-answer.new.self c.self.inside.held c.alone.result c.digest.result.now
-    c.self.invariant c.alone.ensures c.digest.ensures c.look-answer.ensures.begins)
+look : (c : After-drop-self-inside) → Look c.self.inside.stand c.look-answer.new.self c.args.self.now.held
+    c.self.inside.held c.alone.result c.digest.result.now
+look c = record {
+  seen_is = ap (λ (token : CheckerToken). token.held) c.self.view_is;
+  before = c.self.invariant;
+  alone = c.alone.ensures;
+  digest_is = c.digest.ensures;
+  begins = c.look-answer.ensures.begins;
+}
 
 pub invariant_of-self : goal.invariant_of-self
-invariant_of-self c = looked_checks c.self.inside.stand c.look-answer.new.self c.self.inside.held c.alone.result
-    c.digest.result.now c.self.invariant c.alone.ensures c.digest.ensures c.look-answer.ensures.begins
+invariant_of-self c = looked_checks (look c)
 
 pub returns-clause-looked : goal.returns-clause-looked
-returns-clause-looked c = look c
+returns-clause-looked c = looked (look c)
 
 pub returns-clause-decided : goal.returns-clause-decided
 unfolding DecidesIn
-returns-clause-decided c = subst (λ (b : Batches). Decides b c.args.access.now c.look-answer.result.0) (sym (last c))
-    c.look-answer.ensures.decided
+returns-clause-decided c = subst (λ (b : Batches). Decides b c.args.access.now c.look-answer.result.0)
+    (sym (latest_new (look c))) c.look-answer.ensures.decided
 
 pub returns-clause-computed : goal.returns-clause-computed
 returns-clause-computed c = c.look-answer.ensures.computed
-    ∙ ap (λ (b : Batches). decision_of (file_after ENTRIES b) c.args.access.now) (sym (last c))
+    ∙ ap (λ (b : Batches). decision_of (file_after ENTRIES b) c.args.access.now) (sym (latest_new (look c)))
 
 pub returns-clause-count : goal.returns-clause-count
-returns-clause-count c = c.look-answer.ensures.count ∙ ap event_count (sym (last c))
+returns-clause-count c = c.look-answer.ensures.count ∙ ap event_count (sym (latest_new (look c)))
 
 pub returns-clause-bound : goal.returns-clause-bound
-returns-clause-bound c = keeps_bound _ _ (look c)
+returns-clause-bound c = keeps_bound _ _ (looked (look c))
