@@ -3,6 +3,7 @@
 # make test                 proves and tests everything, then tries the program, the launcher and the documents
 PREFIX ?= /usr/local
 PROGRAM = crates/pmp_tool/out/pmp_tool
+GROWTHS = crates/pmp_growths/out/pmp_growths
 BIN = $(DESTDIR)$(PREFIX)/bin
 DOC = $(DESTDIR)$(PREFIX)/share/doc/pmp
 MAN = $(DESTDIR)$(PREFIX)/share/man/man1
@@ -20,6 +21,7 @@ test:
 	checks/launcher
 	checks/documents $(PROGRAM)
 	checks/hostile $(PROGRAM)
+	checks/growths $(GROWTHS)
 
 install: build
 	@install -d "$(BIN)" "$(DOC)" "$(MAN)"

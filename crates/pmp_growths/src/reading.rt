@@ -1,0 +1,109 @@
+//! The calls that read texts.
+
+use crate::count::{begin, end};
+use crate::outcome::{Outcome, Tried, Wrong, answered_if};
+use crate::texts::{SCRIPT, TRACE};
+use crate::worked::writes;
+use pmp_core::{Access, AccessFault, Kind, Mode};
+use pmp_text::{
+    InputFault, Row, ScriptFault, ScriptKind, TraceFault, TraceKind, read_bytes, read_script,
+    read_trace,
+};
+use std::alloc::Global;
+use std::io;
+use std::io::Read;
+
+/// Which call is tried.
+#[derive(Clone, Copy)]
+pub enum Reading {
+    Bytes,
+    Script,
+    Trace,
+}
+
+/// Gives the bytes that are left of a text, at most sixteen at a read.
+#[derive(Drop)]
+struct Slow<'a> {
+    left: &'a [u8],
+}
+
+impl Read for Slow<'_> {
+    fn read(&mut self, buf: &mut [u8]) -> io::Result<usize> {
+        let count = self.left.len().min(buf.len()).min(16);
+        buf[..count].copy_from_slice(&self.left[..count]);
+        self.left = &self.left[count..];
+        Ok(count)
+    }
+}
+
+/// What was taken from the reader stays taken.
+fn reads_bytes(alloc: Global) -> Tried {
+    let mut reader = Slow { left: SCRIPT };
+    begin(alloc)?;
+    let answer = read_bytes(alloc, &mut reader, 1 << 20);
+    end(alloc)?;
+    match answer {
+        Ok(bytes) => answered_if(
+            bytes.as_slice() == SCRIPT && reader.left.is_empty(),
+            "the bytes",
+        ),
+        Err(InputFault::Memory) if SCRIPT.ends_with(reader.left) => Ok(Outcome::Refused),
+        Err(_) => Err(Wrong("another answer")),
+    }
+}
+
+fn reads_script(alloc: Global) -> Tried {
+    begin(alloc)?;
+    let answer = read_script(alloc, SCRIPT);
+    end(alloc)?;
+    match answer {
+        Ok(script) => answered_if(
+            script.batches() == 2
+                && script.batch(0) == writes(0).as_slice()
+                && script.batch(1) == writes(1).as_slice(),
+            "the publications",
+        ),
+        Err(
+            ScriptFault {
+                kind: ScriptKind::Memory,
+                line: 0,
+            },
+        ) => Ok(Outcome::Refused),
+        Err(_) => Err(Wrong("another answer")),
+    }
+}
+
+fn row(after: u64, kind: Kind) -> Result<Row, AccessFault> {
+    let access = Access::new(Mode::U, kind, 0x80000000, 4)?;
+    Ok(Row { after, access })
+}
+
+fn reads_trace(alloc: Global) -> Tried {
+    let wanted = [
+        row(0, Kind::Load)?,
+        row(1, Kind::Load)?,
+        row(1, Kind::Store)?,
+        row(2, Kind::Load)?,
+    ];
+    begin(alloc)?;
+    let answer = read_trace(alloc, TRACE, 2);
+    end(alloc)?;
+    match answer {
+        Ok(rows) => answered_if(rows.as_slice() == wanted.as_slice(), "the rows"),
+        Err(
+            TraceFault {
+                kind: TraceKind::Memory,
+                row: 0,
+            },
+        ) => Ok(Outcome::Refused),
+        Err(_) => Err(Wrong("another answer")),
+    }
+}
+
+pub fn reads(alloc: Global, case: Reading) -> Tried {
+    match case {
+        Reading::Bytes => reads_bytes(alloc),
+        Reading::Script => reads_script(alloc),
+        Reading::Trace => reads_trace(alloc),
+    }
+}

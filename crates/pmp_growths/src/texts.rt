@@ -1,0 +1,52 @@
+//! A script and a trace, and the texts that answer them.
+
+/// The first two batches.
+pub const SCRIPT: &[u8] = b"pmp 1
+write pmpaddr0 0x200001ff
+write pmpcfg0 0x19
+publish
+write pmpcfg0 0x1900
+write pmpaddr1 0x200001ff
+publish
+";
+
+pub const TRACE: &[u8] = b"after,mode,kind,start,length
+0,U,load,0x80000000,4
+1,U,load,0x80000000,4
+1,U,store,0x80000000,4
+2,U,load,0x80000000,4
+";
+
+/// The audit of the trace.
+pub const REPORT: &[u8] = b"1,fault,5,none,\n2,allow,,rule,0\n3,fault,7,rule,0\n4,allow,,rule,1\n";
+
+/// The check of the load after both publications.
+pub const LAST_ROW: &[u8] = b"1,allow,,rule,1\n";
+
+/// The runs after the first publication.
+pub const RUNS: &[u8] = b"00000000000000,0000007fffffff,-,rwx,---
+00000080000000,00000080000fff,0,rwx,r--
+00000080001000,ffffffffffffff,-,rwx,---
+";
+
+/// The registers after the first publication.
+pub const REGISTERS: &[u8] = b"pmpcfg0 0x0000000000000019
+pmpcfg2 0x0000000000000000
+pmpaddr0 0x00000000200001ff
+pmpaddr1 0x0000000000000000
+pmpaddr2 0x0000000000000000
+pmpaddr3 0x0000000000000000
+pmpaddr4 0x0000000000000000
+pmpaddr5 0x0000000000000000
+pmpaddr6 0x0000000000000000
+pmpaddr7 0x0000000000000000
+pmpaddr8 0x0000000000000000
+pmpaddr9 0x0000000000000000
+pmpaddr10 0x0000000000000000
+pmpaddr11 0x0000000000000000
+pmpaddr12 0x0000000000000000
+pmpaddr13 0x0000000000000000
+pmpaddr14 0x0000000000000000
+pmpaddr15 0x0000000000000000
+mseccfg 0x0000000000000000
+";

@@ -1,0 +1,78 @@
+//! What is published in turn, and what follows from it.
+
+use pmp_core::{Access, AccessFault, Cause, Csr, Decision, Event, Kind, Mode, RegFile};
+use pmp_share::{Batch, BatchFull, Journal};
+
+/// Entry 0 lets every mode read a page, and entry 1 nothing.
+const OPEN_PAGE: [Event; 2] = [
+    Event::Write(Csr::Addr(0), 0x200001ff),
+    Event::Write(Csr::Cfg(0), 0x19),
+];
+
+/// Entry 1 lets it in the place of entry 0.
+const MOVE_RULE: [Event; 2] = [
+    Event::Write(Csr::Cfg(0), 0x1900),
+    Event::Write(Csr::Addr(1), 0x200001ff),
+];
+
+/// What the batch at this place has, from 0.
+pub fn writes(place: u8) -> [Event; 2] {
+    if place % 2 == 0 { OPEN_PAGE } else { MOVE_RULE }
+}
+
+pub fn batch(place: u8) -> Result<Batch, BatchFull> {
+    let mut batch = Batch::new();
+    for event in writes(place) {
+        batch.push(event)?;
+    }
+    Ok(batch)
+}
+
+/// How many events the first batches have.
+pub fn events(batches: u8) -> u64 {
+    2 * u64::from(batches)
+}
+
+pub fn file_after(batches: u8) -> RegFile {
+    let mut file = RegFile::reset();
+    for place in 0..batches {
+        file.run_events(&writes(place));
+    }
+    file
+}
+
+/// A load from the page by user mode.
+pub fn page_load() -> Result<Access, AccessFault> {
+    Access::new(Mode::U, Kind::Load, 0x80000000, 4)
+}
+
+/// What that load comes to.
+pub fn decision_after(batches: u8) -> Decision {
+    let cause = match (batches, batches % 2) {
+        (0, _) => Cause::NoMatch,
+        (_, 0) => Cause::Rule(1),
+        _ => Cause::Rule(0),
+    };
+    Decision {
+        allowed: batches != 0,
+        cause,
+    }
+}
+
+/// Whether the journal is of just the first batches.
+pub fn is_journal_of(journal: &Journal, batches: u8) -> bool {
+    let mut events_left = journal.events();
+    let mut ends_left = journal.ends();
+    for place in 0..batches {
+        let ([first, second, later_events @ ..], [end, later_ends @ ..]) = (events_left, ends_left)
+        else {
+            return false;
+        };
+        if [*first, *second] != writes(place) || *end != 2 * (u64::from(place) + 1) {
+            return false;
+        }
+        events_left = later_events;
+        ends_left = later_ends;
+    }
+    events_left.is_empty() && ends_left.is_empty()
+}
