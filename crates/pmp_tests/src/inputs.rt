@@ -29,16 +29,18 @@ impl Read for Endless {
 
 #[test]
 fn takes_one_byte_above_the_limit_and_no_more(rt: HostRuntime) {
-    let endless = || Endless {
-        at_once: 1000,
+    let endless = |at_once| Endless {
+        at_once,
         taken: 0,
         fails_at: None,
     };
-    let mut script = endless();
-    let answer = read_script_bytes(rt.alloc(), &mut script);
-    assert_eq!(rt; answer.err(), Some(InputFault::TooLong));
-    assert_eq!(rt; script.taken, 1_048_577);
-    let mut trace = endless();
+    for at_once in [1, 1000] {
+        let mut script = endless(at_once);
+        let answer = read_script_bytes(rt.alloc(), &mut script);
+        assert_eq!(rt; answer.err(), Some(InputFault::TooLong));
+        assert_eq!(rt; script.taken, 1_048_577);
+    }
+    let mut trace = endless(1000);
     let answer = read_trace_bytes(rt.alloc(), &mut trace);
     assert_eq!(rt; answer.err(), Some(InputFault::TooLong));
     assert_eq!(rt; trace.taken, 16_777_217);
