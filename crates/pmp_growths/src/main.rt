@@ -1,5 +1,5 @@
-//! Calls that need memory, each in a case of its own, for `checks/growths` to refuse their requests one by one. With the
-//! word of a case it tries that one, and without a word all of them.
+//! Calls that need memory, each in a case of its own, for `checks/growths` to refuse their requests one by one. With
+//! the word of a case it tries that one, and without a word all of them.
 #![tactic(auto)]
 
 mod answering;
@@ -32,19 +32,22 @@ fn main(rt: HostRuntime) -> ExitCode {
     }
 }
 
-/// Tries the case of this word, or all without one, and writes what came of each. Whether nothing was wrong.
+/// Tries the case of this word, or all without one, and writes what came of each. Whether there was one and nothing was
+/// wrong.
 fn try_asked<R: Threads + Wait + Sync, W: Write>(
     rt: &R,
     alloc: Global,
     asked: Option<String>,
     out: &mut W,
 ) -> io::Result<bool> {
+    let mut found = false;
     let mut well = true;
     for case in CASES {
         let word = case.word();
         if asked.as_ref().is_some_and(|asked| asked.as_str() != word) {
             continue;
         }
+        found = true;
         match case.try_once(rt, alloc) {
             Ok(outcome) => writeln!(out, "{word}: {}", outcome.word())?,
             Err(Wrong(what)) => {
@@ -53,5 +56,5 @@ fn try_asked<R: Threads + Wait + Sync, W: Write>(
             }
         }
     }
-    Ok(well)
+    Ok(found && well)
 }

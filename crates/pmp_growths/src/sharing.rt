@@ -4,7 +4,7 @@ ghost use Rattle.std.specs.Prelude.{◌≡◌};
 
 use crate::count::{begin, end};
 use crate::deciding::{Deciding, answers_without_memory};
-use crate::outcome::{Outcome, Tried, Wrong, require};
+use crate::outcome::{Outcome, Tried, Wrong, answered_if, require};
 use crate::worked::{batch, decision_after, events, file_after, is_journal_of, page_load, writes};
 use pmp_share::{Checker, Publisher, ShareFault, start};
 use std::alloc::Global;
@@ -21,7 +21,7 @@ pub enum Sharing {
     Decide(Deciding),
 }
 
-/// Whether it answered or was refused by 40, and nothing else.
+/// Whether it answered or was refused by `Memory`.
 fn by_memory(refusal: Option<ShareFault>) -> Tried {
     match refusal {
         None => Ok(Outcome::Answered),
@@ -30,7 +30,7 @@ fn by_memory(refusal: Option<ShareFault>) -> Tried {
     }
 }
 
-/// The same, where 30 may stand for 40.
+/// The same of a call that may be refused by `NoPlace` in its place.
 fn by_memory_or_place(refusal: Option<ShareFault>) -> Tried {
     match refusal {
         Some(ShareFault::NoPlace) => Ok(Outcome::Refused),
@@ -122,11 +122,13 @@ fn publishes<R: Wait>(
     let answer = publisher.publish(rt);
     end(alloc)?;
     let outcome = by_memory(answer.as_ref().err().copied())?;
-    if outcome == Outcome::Refused {
-        stands(publisher, checker, 0, 2)?;
-        publishes_all(rt, publisher, checker, 2)?;
+    match outcome {
+        Outcome::Answered => require(answer == Ok(events(2)), "how many events")?,
+        Outcome::Refused => {
+            stands(publisher, checker, 0, 2)?;
+            require(publisher.publish(rt) == Ok(events(2)), "publish again")?;
+        }
     }
-    require(answer.unwrap_or(4) == 4, "how many events")?;
     stands(publisher, checker, 2, 0)?;
     Ok(outcome)
 }
@@ -151,7 +153,7 @@ fn tells<R: Wait>(
     end(alloc)?;
     let outcome = by_memory_or_place(answer.as_ref().err().copied())?;
     if let Ok(notice) = answer {
-        require(notice.len() == 4, "how many events")?;
+        require(notice.len() == events(2), "how many events")?;
         require(notice.file() == file_after(2), "which registers")?;
     }
     stands(publisher, checker, 2, 1)?;
@@ -208,8 +210,8 @@ pub fn starts<R: Wait>(rt: &R, alloc: Global) -> Tried {
         Ok(started) => started,
         Err(refusal) => return by_memory_or_place(Some(refusal)),
     };
+    let counts = (publisher.journal_len(), publisher.pending_len());
     publisher.end(rt);
     ended?;
-    require(checkers.len() == 2, "how many checkers")?;
-    Ok(Outcome::Answered)
+    answered_if(checkers.len() == 2 && counts == (0, 0), "the unit")
 }
