@@ -7,3 +7,4 @@ pub mod Decisions
 pub mod Legal
 pub mod Flags
 pub mod Locks
+pub mod Sizes

@@ -28,7 +28,7 @@ record Held (before after : RegisterFile) (i : ℕ) : Type 0 where
       → low_address after.entries i ≡ low_address before.entries i
   pub bypass : after.mseccfg.rlb ≡ false
 
-both : (a b : Bool) → (a && b) ≡ true → (a ≡ true) × (b ≡ true)
+pub both : (a b : Bool) → (a && b) ≡ true → (a ≡ true) × (b ≡ true)
 both true b h = (refl, h)
 both false b h = absurd (false≢true h)
 
@@ -57,7 +57,7 @@ configured_address file q value k =
     ≡ entry.address) [ true ↦ refl | false ↦ refl ]
 
 -- a write to another address register
-other_address : (file : RegisterFile) (j value k : ℕ) → k ≢ j
+pub other_address : (file : RegisterFile) (j value k : ℕ) → k ≢ j
     → entry_at (address_written file j value) k ≡ entry_at file.entries k
 other_address file j value k other =
     let new = set file.entries j (record (entry_at file.entries j) { address = value % 2 ^ 54 }) in
@@ -70,7 +70,7 @@ frozen_address : (file : RegisterFile) (j value k : ℕ) → is_address_frozen f
     → entry_at (address_written file j value) k ≡ entry_at file.entries k
 frozen_address file j value k kept = rw kept refl
 
-low_kept : (before after : List Entry) (i : ℕ)
+pub low_kept : (before after : List Entry) (i : ℕ)
     → ((k : ℕ) → suc k ≡ i → (entry_at after k).address ≡ (entry_at before k).address)
     → low_address after i ≡ low_address before i
 low_kept before after zero h = refl

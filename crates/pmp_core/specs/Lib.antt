@@ -15,3 +15,4 @@ pub mod Histories
 pub mod LockLaw
 -- How decisions are computed: a law says that they are the same.
 pub mod Ranges
+pub mod SizeLaw

@@ -10,6 +10,7 @@ ghost use Rattle.pmp_core.specs.Decision.{IsOwner, IsDecider, IsDecision};
 ghost use Rattle.pmp_core.specs.Rights.{BarredRulesLaw, StoreLaw};
 ghost use Rattle.pmp_core.specs.Histories.{LegalLaw};
 ghost use Rattle.pmp_core.specs.LockLaw.{LockLaw};
+ghost use Rattle.pmp_core.specs.SizeLaw.{SizeLaw};
 ghost use Rattle.pmp_core.specs.Ranges.{decision_of};
 
 /// What is computed from the entries' ranges is the manual's decision.
@@ -56,4 +57,10 @@ pub fn law_frozen()
 /// So an AMO that is decided as a store needs no second test.
 pub fn law_store_load()
     ensures { StoreLaw }
+{}
+
+/// The size law: after writes to the registers of sixteen entries, and resets, a unit of sixty-four entries decides
+/// every access as a unit of sixteen does.
+pub fn law_sizes()
+    ensures { SizeLaw }
 {}
