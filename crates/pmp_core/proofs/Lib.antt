@@ -8,3 +8,5 @@ pub mod Legal
 pub mod Flags
 pub mod Locks
 pub mod Sizes
+pub mod Changes
+pub mod Stored

@@ -48,7 +48,7 @@ list_any_at p (x ∷ xs) (suc i) d inside h = or_true (p x) (list_any p xs) (lis
 
 -- ---- one write
 
-configured_address : (file : RegisterFile) (q value k : ℕ)
+pub configured_address : (file : RegisterFile) (q value k : ℕ)
     → (configured file q value k).address ≡ (entry_at file.entries k).address
 configured_address file q value k =
     let entry = entry_at file.entries k in

@@ -1,7 +1,6 @@
 -- Lists of entries and of ranges, place by place.
-use Rattle.std.proofs.Common.{◌≡◌, ◌≢◌, get_or-set_other, get_or-set_same, below_more, ℕ, zero, suc, ◌+◌, ◌^◌, ◌<◌}
-use Rattle.std.proofs.Common.{List, length, map, slice_index_or, refl, arith, add-one}
-use Rattle.std.proofs.Math.ListN.{set}
+use Rattle.std.proofs.Common.{◌≡◌, ℕ, zero, suc, ◌^◌, ◌<◌}
+use Rattle.std.proofs.Common.{List, length, map, slice_index_or, refl, arith}
 use Rattle.std.specs.List.{range_with_len}
 use Rattle.std.proofs.lemmas.List.FromFn.{fill_by_all, length-map-range_with_len, get_or-map-range_with_len}
 use Rattle.pmp_core.specs.declared.entry.Entry.{Entry}
@@ -21,9 +20,6 @@ pub all_decoded : (entries : List Entry) (ranges : List ByteRange) → length ra
     → Decoded entries ranges (length entries) → ranges ≡ ranges_of entries
 all_decoded entries ranges len done = fill_by_all (range_of entries) ranges (length entries) no_range len done
 
-pub low_address-next : (entries : List Entry) (i : ℕ) → low_address entries (i + 1) ≡ (entry_at entries i).address
-low_address-next entries i = rw add-one refl
-
 pub low_address_below : (entries : List Entry) (i : ℕ) → HasAddresses entries → low_address entries i < 2 ^ 54
 low_address_below entries zero h = omega arith
 low_address_below entries (suc i) h = h i
@@ -35,12 +31,6 @@ length-ranges_of entries = length-map-range_with_len (range_of entries) 0 (lengt
 pub entries_by : (entries : List Entry) (f : ℕ → Entry) → ((k : ℕ) → k < length entries → entry_at entries k ≡ f k)
     → entries ≡ map f (range_with_len 0 (length entries))
 entries_by entries f h = fill_by_all f entries (length entries) reset_entry refl h
-
-pub decoded_more : (entries : List Entry) (ranges : List ByteRange) (i : ℕ) (range : ByteRange) → i < length ranges
-    → Decoded entries ranges i → range ≡ range_of entries i → Decoded entries (set ranges i range) (i + 1)
-decoded_more entries ranges i range inside done new = below_more _ _
-    (λ k h. let other : k ≢ i = omega arith in rw get_or-set_other (done k h))
-    (rw get_or-set_same new)
 
 pub range_at : (entries : List Entry) (i : ℕ) → i < length entries
     → slice_index_or (ranges_of entries) i no_range ≡ range_of entries i

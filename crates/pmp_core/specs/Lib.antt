@@ -16,3 +16,4 @@ pub mod LockLaw
 -- How decisions are computed: a law says that they are the same.
 pub mod Ranges
 pub mod SizeLaw
+pub mod Size

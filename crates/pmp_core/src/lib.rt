@@ -20,6 +20,8 @@ mod register_file;
 mod register_value;
 mod register_write;
 mod rights;
+mod size;
+mod storage;
 
 pub use access::{ADDRESS_LIMIT, Access, AccessFault, Kind, Mode};
 pub use csr::{Csr, CsrFault};
@@ -29,3 +31,4 @@ pub use mseccfg::Mseccfg;
 pub use perms::Perms;
 pub use range::ByteRange;
 pub use register_file::{ENTRIES, RegFile};
+pub use size::{MAX_ENTRIES, Size};

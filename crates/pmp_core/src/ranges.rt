@@ -1,22 +1,57 @@
 //! The ranges of all entries.
 
-ghost use Rattle.std.specs.Prelude.{◌≡◌, ◌<◌, ◌^◌, length};
-ghost use Rattle.pmp_core.specs.RegisterFile.{HasAddresses};
-ghost use Rattle.pmp_core.specs.Ranges.{ranges_of};
+ghost use Rattle.std.specs.Prelude.{◌≡◌, ◌<◌, ◌≤◌, ◌^◌, ℕ, length};
+ghost use Rattle.pmp_core.specs.RegisterFile.{RegisterFile, HasAddresses};
+ghost use Rattle.pmp_core.specs.Matching.{low_address};
+ghost use Rattle.pmp_core.specs.Ranges.{range_in, range_of, ranges_of};
+ghost use Rattle.pmp_core.specs.RegisterWrite.{written};
 
+use crate::csr::Csr;
 use crate::entry::Entry;
 use crate::range::{ByteRange, range_by};
+use crate::register_write::ENTRIES_PER_CFG;
+use std::ops::Range;
 
-/// Writes the range of each entry at its place.
-pub fn decode_ranges(entries: &[Entry], ranges: &mut [ByteRange])
+/// The address register before the entry's own, and 0 for the first entry.
+fn low_address(entries: &[Entry], index: usize) -> u64
+    requires { index ≤ length entries.now }
+    ensures { result ≡ low_address entries.now index }
+{
+    match index.checked_sub(1) {
+        Some(before) => entries[before].address,
+        None => 0,
+    }
+}
+
+/// The entries whose ranges a write to the register can change, as far as there are any. An address is also the low end
+/// of the next entry's range.
+pub fn changed_by(csr: Csr) -> Range<usize>
+    ensures { (file : RegisterFile) (value k : ℕ) → k < length file.entries → (result.start ≤ k → result.end ≤ k)
+        → range_of (written file csr value).entries k ≡ range_of file.entries k }
+{
+    match csr {
+        Csr::Cfg(register) => {
+            let first = 4 * usize::from(register);
+            first..first + ENTRIES_PER_CFG
+        }
+        Csr::Addr(register) => {
+            let index = usize::from(register);
+            index..index + 2
+        }
+        Csr::Mseccfg => 0..0,
+    }
+}
+
+/// Writes the ranges of these entries, as far as there are any, where all others stand.
+pub fn decode_ranges(entries: &[Entry], ranges: &mut [ByteRange], changed: Range<usize>)
     requires addresses { HasAddresses entries.now }
     requires places { length ranges.old ≡ length entries.now }
+    requires others { (k : ℕ) → k < length entries.now → (changed.start ≤ k → changed.end ≤ k)
+        → range_in ranges.old k ≡ range_of entries.now k }
     ensures { ranges.new ≡ ranges_of entries.now }
 {
-    let mut low = 0;
-    for index in 0..ranges.len() {
-        let entry = &entries[index];
-        ranges[index] = range_by(low, entry);
-        low = entry.address;
+    let end = changed.end.min(ranges.len());
+    for index in changed.start..end {
+        ranges[index] = range_by(low_address(entries, index), &entries[index]);
     }
 }

@@ -1,13 +1,14 @@
 //! The register file.
 
-ghost use Rattle.std.specs.Prelude.{◌≡◌, ◌<◌, ◌^◌, ◌↔◌, IsTrue, length, fold};
+ghost use Rattle.std.specs.Prelude.{◌≡◌, ◌<◌, ◌≤◌, ◌^◌, ◌↔◌, IsTrue, length, fold};
 ghost use Rattle.pmp_core.specs.RegisterFile.{IsLegal, reset_file, is_frozen};
 ghost use Rattle.pmp_core.specs.Matching.{Matches};
 ghost use Rattle.pmp_core.specs.Decision.{IsDecision};
 ghost use Rattle.pmp_core.specs.Rights.{perms_of, rights, default_rights};
 ghost use Rattle.pmp_core.specs.RegisterWrite.{step};
 ghost use Rattle.pmp_core.specs.RegisterValue.{register_value};
-ghost use Rattle.pmp_core.specs.Ranges.{AreRanges, decision_of};
+ghost use Rattle.pmp_core.specs.Ranges.{AreRanges, ranges_of, decision_of};
+ghost use Rattle.pmp_core.specs.Size.{count_of};
 
 use crate::access::{Access, Mode};
 use crate::csr::Csr;
@@ -17,83 +18,143 @@ use crate::event::Event;
 use crate::mseccfg::MseccfgFields;
 use crate::perms::Perms;
 use crate::range::ByteRange;
-use crate::ranges::decode_ranges;
 use crate::rights::{default_rights_by, rule_rights};
-use crate::{decision_by_ranges, register_value, register_write};
+use crate::size::{MAX_ENTRIES, Size};
+use crate::{decision_by_ranges, register_value, storage};
 use std::marker::Model;
 
-/// How many entries the unit has.
+/// How many entries a unit of `Size::Sixteen` has.
 pub const ENTRIES: usize = 16;
 
 /// The registers of one unit. A contract sees them as a `RegisterFile` of `specs/`.
 #[derive(Clone, Copy, Debug, PartialEq, Eq)]
 pub struct RegFile {
-    entries: [Entry; ENTRIES],
+    size: Size,
+    /// As many as the size says are in use; the others are as after reset.
+    entries: [Entry; MAX_ENTRIES],
     mseccfg: MseccfgFields,
     /// Where each entry matches, decoded when a register is written.
-    ranges: [ByteRange; ENTRIES],
+    ranges: [ByteRange; MAX_ENTRIES],
 }
 
 impl Model for RegFile {
     ghost use Rattle.std.specs.Prelude.{◌≡◌, length};
-    ghost use Rattle.std.proofs.Common.{sym, ap};
-    ghost use Rattle.pmp_core.specs.declared.register_file.TheConstants.{ENTRIES};
-    ghost use Rattle.pmp_core.specs.RegisterFile.{RegisterFile, file_of, IsLegal};
+    ghost use Rattle.std.proofs.Common.{sym, ap, ◌∙◌};
+    ghost use Rattle.pmp_core.specs.RegisterFile.{RegisterFile, file_of, reset_entry};
     ghost use Rattle.pmp_core.specs.Ranges.{ranges_of};
+    ghost use Rattle.pmp_core.specs.Size.{size_with, used, padded, empty_range, IsStored};
 
     ghost Value = { RegisterFile };
 
-    ghost view = { λ f. file_of f.mseccfg f.entries };
+    ghost view = { λ f. file_of f.mseccfg (used f.size f.entries) };
 
-    ghost invariant = { λ f. IsLegal (file_of f.mseccfg f.entries) × (f.ranges ≡ ranges_of f.entries)
-        × (length f.entries ≡ ENTRIES) };
+    ghost invariant = { λ f. IsStored (file_of f.mseccfg (used f.size f.entries)) f.size f.entries f.ranges };
 
     ghost inverse = { λ file. record {
-      entries = file.entries;
+      size = size_with (length file.entries);
+      entries = padded reset_entry file.entries;
       mseccfg = file.mseccfg;
-      ranges = ranges_of file.entries;
+      ranges = padded empty_range (ranges_of file.entries);
     } };
 
-    ghost inverse_ok = { λ f h. ap (λ ranges. record {
-      entries = f.entries;
-      mseccfg = f.mseccfg;
-      ranges = ranges;
-    }) (sym h.1) };
+    ghost inverse_ok = { λ f h.
+        let in_use = used f.size f.entries in
+        ap (λ size. record {
+          size = size;
+          entries = padded reset_entry in_use;
+          mseccfg = f.mseccfg;
+          ranges = padded empty_range (ranges_of in_use);
+        }) (sym h.size_is)
+        ∙ ap (λ entries. record {
+          size = f.size;
+          entries = entries;
+          mseccfg = f.mseccfg;
+          ranges = padded empty_range (ranges_of in_use);
+        }) (sym h.entries_are)
+        ∙ ap (λ ranges. record {
+          size = f.size;
+          entries = f.entries;
+          mseccfg = f.mseccfg;
+          ranges = ranges;
+        }) (sym h.ranges_are) };
 }
 
 impl RegFile {
-    /// The register file that reset leaves: all registers are zero.
+    /// The register file that reset leaves in a unit of sixteen entries: all registers are zero.
     pub fn reset() -> RegFile
         ensures { result ≡ reset_file ENTRIES }
     {
+        RegFile::reset_of(Size::Sixteen)
+    }
+
+    /// The register file that reset leaves in a unit of this size: all registers are zero.
+    pub fn reset_of(size: Size) -> RegFile
+        ensures { result ≡ reset_file (count_of size) }
+    {
         RegFile {
-            entries: [Entry::RESET; ENTRIES],
+            size,
+            entries: [Entry::RESET; MAX_ENTRIES],
             mseccfg: MseccfgFields::RESET,
-            ranges: [ByteRange::EMPTY; ENTRIES],
+            ranges: [ByteRange::EMPTY; MAX_ENTRIES],
         }
+    }
+
+    /// The size of the unit.
+    pub fn size(&self) -> Size
+        ensures { length self.now.entries ≡ count_of result }
+    {
+        self.size
     }
 
     /// How many entries the unit has.
     pub fn entries(&self) -> u8
         ensures count { result ≡ length self.now.entries }
-        ensures sixteen { result ≡ ENTRIES }
+        ensures most { result ≤ MAX_ENTRIES }
     {
-        let entries = &self.entries;
-        entries.len() as u8
+        self.size.entries()
     }
 
-    /// Takes one event.
+    /// The entries in use.
+    fn in_use(&self) -> &[Entry]
+        ensures { result.now ≡ self.now.entries }
+    {
+        &self.entries[..usize::from(self.size.entries())]
+    }
+
+    /// The ranges of the entries in use.
+    fn decoded(&self) -> &[ByteRange]
+        ensures ranges { result.now ≡ ranges_of self.now.entries }
+        ensures most { length result.now ≤ MAX_ENTRIES }
+        ensures legal { IsLegal self.now }
+    {
+        &self.ranges[..usize::from(self.size.entries())]
+    }
+
+    /// Resets the unit, which is rare.
+    #[cold]
+    #[inline(never)]
+    fn reset_again(&mut self)
+        ensures { self.new ≡ reset_file (length self.old.entries) }
+    {
+        *self = RegFile::reset_of(self.size);
+    }
+
+    /// Takes one event. A reset keeps the size.
     pub fn step(&mut self, event: Event)
         ensures step { self.new ≡ step self.old event }
         ensures legal { IsLegal self.new }
         ensures entries { length self.new.entries ≡ length self.old.entries }
     {
         match event {
-            Event::Write(csr, value) => {
-                register_write::write(&mut self.entries, &mut self.mseccfg, csr, value);
-                decode_ranges(&self.entries, &mut self.ranges);
-            }
-            Event::Reset => *self = RegFile::reset(),
+            Event::Write(csr, value) => storage::write(
+                self.size,
+                &mut self.entries,
+                &mut self.mseccfg,
+                &mut self.ranges,
+                csr,
+                value,
+            ),
+            Event::Reset => self.reset_again(),
         }
     }
 
@@ -111,34 +172,45 @@ impl RegFile {
     pub fn read(&self, csr: Csr) -> u64
         ensures { result ≡ register_value self.now csr }
     {
-        register_value::read(&self.entries, &self.mseccfg, csr)
+        register_value::read(self.in_use(), &self.mseccfg, csr)
     }
 
-    /// Decides an access, in one pass over the entries.
+    /// Decides an access, in one pass over the entries. Each size has a pass of its own, over as many entries as are
+    /// known when it is compiled.
     pub fn decide(&self, access: &Access) -> Decision
         ensures by_bytes { IsDecision self.now access.now result }
         ensures computed { result ≡ decision_of self.now access.now }
     {
-        decision_by_ranges::decide(&self.entries, &self.mseccfg, &self.ranges, access)
+        match self.size {
+            Size::Sixteen => decision_by_ranges::decide(
+                &self.entries[..ENTRIES],
+                &self.mseccfg,
+                &self.ranges[..ENTRIES],
+                access,
+            ),
+            Size::SixtyFour => {
+                decision_by_ranges::decide(&self.entries, &self.mseccfg, &self.ranges, access)
+            }
+        }
     }
 
     /// Whether the entry is frozen: its lock bit is set and rule-locking bypass is off, so that writes leave it as it
     /// is.
     pub fn is_locked(&self, entry: u8) -> bool
-        requires { entry < ENTRIES }
+        requires { entry < length self.now.entries }
         ensures { result ≡ is_frozen self.now entry }
     {
-        self.entries[usize::from(entry)].configuration.locked && !self.mseccfg.rlb
+        self.in_use()[usize::from(entry)].configuration.locked && !self.mseccfg.rlb
     }
 
     /// What the entry's rule allows the mode, where the entry matches every byte of an access.
     pub fn rights(&self, entry: u8, mode: Mode) -> Perms
-        requires { entry < ENTRIES }
+        requires { entry < length self.now.entries }
         ensures rights { result ≡ perms_of (rights self.now entry mode) }
         ensures legal { IsLegal self.now }
     {
         rule_rights(
-            &self.entries[usize::from(entry)].configuration,
+            &self.in_use()[usize::from(entry)].configuration,
             mode,
             &self.mseccfg,
         )
@@ -154,19 +226,19 @@ impl RegFile {
 
     /// Whether the entry matches the byte at this byte address.
     pub fn matches(&self, entry: u8, byte: u64) -> bool
-        requires entry { entry < ENTRIES }
+        requires entry { entry < length self.now.entries }
         requires byte { byte < 2 ^ 56 }
         ensures { IsTrue result ↔ Matches self.now.entries entry byte }
     {
-        self.ranges[usize::from(entry)].contains(byte)
+        self.decoded()[usize::from(entry)].contains(byte)
     }
 
     /// Where each entry matches: a range of byte addresses for each, in their order.
     pub fn ranges(&self) -> &[ByteRange]
         ensures ranges { AreRanges self.now.entries result.now }
-        ensures count { length result.now ≡ ENTRIES }
+        ensures most { length result.now ≤ MAX_ENTRIES }
         ensures legal { IsLegal self.now }
     {
-        &self.ranges
+        self.decoded()
     }
 }

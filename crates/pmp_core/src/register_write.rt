@@ -16,7 +16,7 @@ use crate::rights::is_barred;
 const WORD_ADDRESSES: u64 = 1 << 54;
 
 /// How many entries a configuration register has bytes of.
-const ENTRIES_PER_CFG: usize = 8;
+pub const ENTRIES_PER_CFG: usize = 8;
 
 fn without_reserved(configuration: Configuration) -> Configuration
     ensures { result ≡ without_reserved configuration }

@@ -1,7 +1,6 @@
 -- What a map keeps of its register file.
 use Rattle.std.specs.Prelude.{◌≡◌, ℕ, ◌^◌, ◌<◌, ◌≤◌, Some, List, length, slice_index, slice_get}
 use Rattle.pmp_core.specs.RegisterFile.{RegisterFile, HasAddresses}
-use Rattle.pmp_core.specs.declared.register_file.TheConstants.{ENTRIES}
 use Rattle.pmp_map.specs.declared.run.Run.{Run}
 use Rattle.pmp_map.specs.declared.answers.Answers.{Answers}
 use Rattle.pmp_map.specs.declared.run.TheConstants.{RUNS}
@@ -27,6 +26,6 @@ pub record IsMapOf (file : RegisterFile) (runs : List Run) (starts : List ℕ) (
   pub addresses : HasAddresses file.entries
   pub runs_are : AreRuns file.entries runs
   pub few : length runs ≤ RUNS
-  pub owners : HasOwnersBelow ENTRIES runs
+  pub owners : HasOwnersBelow (length file.entries) runs
   pub starts_are : AreStarts runs starts
   pub answers_are : AreAnswers file runs answers

@@ -1,10 +1,10 @@
 //! What an access whose bytes have one owner is answered.
 
-ghost use Rattle.std.specs.Prelude.{◌≡◌, ◌<◌, ℕ, Option, IfSome};
+ghost use Rattle.std.specs.Prelude.{◌≡◌, ◌<◌, ℕ, Option, IfSome, length};
 ghost use Rattle.pmp_core.specs.RegisterFile.{RegisterFile};
 ghost use Rattle.pmp_map.specs.Answers.{decision_by, answers_of, kept_rights};
 
-use pmp_core::{Access, Cause, Decision, ENTRIES, Mode, Perms, RegFile};
+use pmp_core::{Access, Cause, Decision, Mode, Perms, RegFile};
 
 /// What a run answers to every access inside it, worked out when the map is built.
 #[derive(Clone, Copy, Debug, PartialEq, Eq)]
@@ -19,7 +19,7 @@ pub struct Answers {
 impl Answers {
     /// The answers where all bytes have this owner.
     pub fn of_owner(file: &RegFile, owner: Option<u8>) -> Answers
-        requires { IfSome owner (λ entry. entry < ENTRIES) }
+        requires { IfSome owner (λ entry. entry < length file.now.entries) }
         ensures { result ≡ answers_of file.now owner }
     {
         match owner {

@@ -1,9 +1,9 @@
 //! The runs of a map.
 
-use pmp_core::ENTRIES;
+use pmp_core::MAX_ENTRIES;
 
 /// The most runs that a map has: each entry adds at most two cuts.
-pub const RUNS: usize = 2 * ENTRIES + 1;
+pub const RUNS: usize = 2 * MAX_ENTRIES + 1;
 
 /// Bytes that lie side by side and have one owner, the lowest-numbered entry that matches them
 /// (Volume II, 3.7.1.3).

@@ -11,7 +11,7 @@ use crate::search::{PLACES, place_of};
 use crate::straddling::refuse_straddling;
 use crate::tables::{answers_of, runs_of, starts_of};
 use arrayvec::ArrayVec;
-use pmp_core::{Access, Decision, ENTRIES, RegFile};
+use pmp_core::{Access, Decision, RegFile};
 use std::marker::Model;
 use std::snapshot::Snapshot;
 
@@ -60,7 +60,7 @@ impl RunMap {
         ensures runs { AreRuns self.now.entries result.now }
         ensures few { length result.now ≤ 2 * length self.now.entries + 1 }
         ensures most { length result.now ≤ RUNS }
-        ensures owners { HasOwnersBelow ENTRIES result.now }
+        ensures owners { HasOwnersBelow (length self.now.entries) result.now }
     {
         &self.runs
     }

@@ -2,10 +2,10 @@
 
 ghost use Rattle.std.specs.Prelude.{◌+◌, ◌<◌, ◌≤◌, slice_index};
 
-use pmp_core::ENTRIES;
+use pmp_core::MAX_ENTRIES;
 
 /// How many places a table of starts has: a power of two, and more than there are runs.
-pub const PLACES: usize = 4 * ENTRIES;
+pub const PLACES: usize = 4 * MAX_ENTRIES;
 
 /// The place whose start is at or below the byte, and the next place's above it. Halves what is left, with no branch
 /// that depends on what is found.

@@ -10,11 +10,11 @@ use crate::cuts::{owner_in, run_end};
 use crate::run::{RUNS, Run};
 use crate::search::PLACES;
 use arrayvec::ArrayVec;
-use pmp_core::{ADDRESS_LIMIT, ByteRange, ENTRIES, RegFile};
+use pmp_core::{ADDRESS_LIMIT, ByteRange, MAX_ENTRIES, RegFile};
 
 /// The runs of these ranges' owners, from one change of owner to the next.
 pub fn runs_of(ranges: &[ByteRange]) -> ArrayVec<Run, RUNS>
-    requires { length ranges.now ≤ ENTRIES }
+    requires { length ranges.now ≤ MAX_ENTRIES }
     ensures { AreRunsTo (2 ^ 56) (IsOwnerIn ranges.now) result.items }
 {
     let mut runs = ArrayVec::new();
@@ -47,7 +47,7 @@ pub fn starts_of(runs: &[Run]) -> [u64; PLACES]
 /// What each run answers.
 pub fn answers_of(file: &RegFile, runs: &[Run]) -> [Answers; RUNS]
     requires few { length runs.now ≤ RUNS }
-    requires owners { HasOwnersBelow ENTRIES runs.now }
+    requires owners { HasOwnersBelow (length file.now.entries) runs.now }
     ensures { AreAnswers file.now runs.now result }
 {
     let mut answers = [Answers::of_owner(file, None); RUNS];

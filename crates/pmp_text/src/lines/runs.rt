@@ -1,6 +1,6 @@
 //! The runs of a register file as text.
 
-ghost use Rattle.std.specs.Prelude.{◌≡◌, ◌<◌, ◌++◌, IfSome, List, ℕ, OnOk, OnErr, Some, codes, if◌then◌else◌};
+ghost use Rattle.std.specs.Prelude.{◌≡◌, ◌<◌, ◌++◌, IfSome, List, ℕ, length, OnOk, OnErr, Some, codes, if◌then◌else◌};
 ghost use Rattle.std.specs.Io.{StartsWith};
 ghost use Rattle.pmp_core.specs.Rights.{perms_of};
 ghost use Rattle.pmp_map.specs.Answers.{owned_rights};
@@ -9,7 +9,7 @@ ghost use Rattle.pmp_text.specs.Steps.Marks.{perms_text};
 
 use crate::lines::hexadecimal::Hex;
 use crate::lines::{NoMemory, append_line};
-use pmp_core::{ENTRIES, Kind, Mode, Perms, RegFile};
+use pmp_core::{Kind, Mode, Perms, RegFile};
 use pmp_map::{Run, RunMap};
 use std::fmt;
 
@@ -52,7 +52,7 @@ impl fmt::Display for Marks {
 
 /// What the run's owner gives the mode, or what the mode may do where there is none.
 fn run_rights(file: &RegFile, run: &Run, mode: Mode) -> Perms
-    requires { IfSome run.now.owner (λ entry. entry < ENTRIES) }
+    requires { IfSome run.now.owner (λ entry. entry < length file.now.entries) }
     ensures { result ≡ perms_of (owned_rights file.now run.now.owner mode) }
 {
     match run.owner {
@@ -64,7 +64,7 @@ fn run_rights(file: &RegFile, run: &Run, mode: Mode) -> Perms
 /// Appends the line of a run.
 #[tactic(auto, unfolding(crate::specs::RunLines::run_line), using(crate::proofs::RunLines::text_of_perms))]
 fn write_run(out: &mut Vec<u8>, file: &RegFile, run: &Run) -> Result<(), NoMemory>
-    requires { IfSome run.now.owner (λ entry. entry < ENTRIES) }
+    requires { IfSome run.now.owner (λ entry. entry < length file.now.entries) }
     ensures ok { OnOk result (out.new.items ≡ out.old.items ++ run_line file.now run.now) }
     ensures err { OnErr result (out.new.items ≡ out.old.items) }
 {

@@ -1,28 +1,29 @@
-use Rattle.std.proofs.Common.{◌≡◌, length-set, sym, arith}
+use Rattle.std.proofs.Common.{◌≡◌, ◌<◌, length, length-set, get_or-set_other, get_or-set_same, arith, inl, inr}
+use Rattle.std.proofs.lemmas.Bool.{cases_eq}
 use Rattle.pmp_core.specs.Ranges.{range_of}
-use Rattle.pmp_core.proofs.Places.{low_address_below, all_decoded, decoded_more, low_address-next}
+use Rattle.pmp_core.proofs.Places.{all_decoded}
 use Rattle.pmp_core.proofs.ranges.decode_ranges.Goals as goal
+
+pub loop-index-init : goal.loop-index-init
+loop-index-init c = (c.requires.places, c.requires.others)
 
 pub loop-index-preserved : goal.loop-index-preserved
 unfolding range_of
 loop-index-preserved c =
     let loop = c.loop-index in
     let new : c.range_by.result ≡ range_of c.args.entries.now loop.index =
-    rw (← loop.invariant.0) c.range_by.ensures in (
-      sym (low_address-next c.args.entries.now loop.index),
-      simp length-set loop.invariant.1,
-      decoded_more c.args.entries.now loop.ranges loop.index _ (omega (
-        arith,
-        loop.auto.ranges,
-        c.loop-index-test.true,
-      )) loop.invariant.2 new,
+    rw (← c.low_address.ensures) c.range_by.ensures in
+    let here : loop.index < length loop.ranges =
+    omega (arith, loop.auto.ranges, c.min-end.ensures, c.loop-index-test.true) in (
+      simp length-set loop.invariant.0,
+      λ k inside outside. elim (cases_eq k loop.index) [
+        | inl same ↦ rw (same, get_or-set_same) new
+        | inr other ↦ rw get_or-set_other (loop.invariant.1 k inside (λ from. outside (omega arith)))
+      ],
     )
-
-pub range_by-requires-clause-low : goal.range_by-requires-clause-low
-range_by-requires-clause-low c =
-    rw c.loop-index.invariant.0 (low_address_below c.args.entries.now c.loop-index.index c.requires.addresses)
 
 pub returns : goal.returns
 returns c =
     let loop = c.loop-index in
-    all_decoded c.args.entries.now loop.ranges loop.invariant.1 (λ k h. loop.invariant.2 k (omega arith))
+    all_decoded c.args.entries.now loop.ranges loop.invariant.0 (λ k inside. loop.invariant.1 k inside
+    (λ from. omega (arith, c.min-end.ensures, c.loop-index-test.false, c.requires.places)))

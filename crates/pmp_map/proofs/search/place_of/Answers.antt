@@ -6,7 +6,7 @@ use Rattle.pmp_map.proofs.Halving.{IsBetween, halves, lower_half, upper_half}
 use Rattle.pmp_map.proofs.search.place_of.Goals as goal
 
 pub loop-width-init : goal.loop-width-init
-loop-width-init c = ((6, refl), (omega arith, c.requires, λ h. absurd (omega arith)))
+loop-width-init c = ((8, refl), (omega arith, c.requires, λ h. absurd (omega arith)))
 
 pub loop-width-preserved : goal.loop-width-preserved
 loop-width-preserved c =

@@ -1,16 +1,24 @@
-use Rattle.std.proofs.Common.{◌≡◌, ◌<◌, ◌↔◌, IsTrue, length, slice_index_or}
+use Rattle.std.proofs.Common.{◌≡◌, ◌↔◌, IsTrue, length, slice_index_or, ap, arith}
 use Rattle.pmp_core.specs.Ranges.{IsInRange, range_of}
 use Rattle.pmp_core.proofs.Matches.{matches_range}
-use Rattle.pmp_core.proofs.Places.{no_range, range_at}
+use Rattle.pmp_core.proofs.Places.{no_range, range_at, length-ranges_of}
 use Rattle.pmp_core.proofs.register_file.RegFile.matches.Goals as goal
+
+pub bounds-decoded-from : goal.bounds-decoded-from
+bounds-decoded-from c = omega (
+  arith,
+  c.requires.entry,
+  c.from.ensures,
+  ap length c.decoded.ensures.ranges,
+  length-ranges_of c.args.self.now.entries,
+)
 
 pub returns : goal.returns
 returns c =
-    let entries = c.self.inside.entries in
-    let inside : c.args.entry < length entries = rw c.self.invariant.2 c.requires.entry in
-    let here : slice_index_or c.self.inside.ranges c.args.entry no_range ≡ range_of entries c.args.entry =
-    rw c.self.invariant.1 (range_at entries c.args.entry inside) in
+    let entries = c.args.self.now.entries in
+    let here : slice_index_or c.decoded.result.now c.args.entry no_range ≡ range_of entries c.args.entry =
+    rw c.decoded.ensures.ranges (range_at entries c.args.entry c.requires.entry) in
     let tested : IsTrue c.contains.result ↔ IsInRange (range_of entries c.args.entry) c.args.byte =
     rw (c.from.ensures, here) at c.contains.ensures in
-    let meant = matches_range entries c.args.entry c.args.byte c.self.invariant.0.addresses in
-    rw (← c.self.view_is) (λ h. meant.1 (tested.0 h), λ m. tested.1 (meant.0 m))
+    let meant = matches_range entries c.args.entry c.args.byte c.decoded.ensures.legal.addresses in
+    (λ h. meant.1 (tested.0 h), λ m. tested.1 (meant.0 m))

@@ -1,6 +1,5 @@
 use Rattle.std.proofs.Common.{◌^◌, ◌≤◌, length}
 use Rattle.pmp_map.specs.declared.run.TheConstants.{RUNS}
-use Rattle.pmp_core.specs.declared.register_file.TheConstants.{ENTRIES}
 use Rattle.pmp_map.specs.Tables.{AreStarts, AreAnswers}
 use Rattle.pmp_map.specs.Runs.{HasOwnersBelow}
 use Rattle.pmp_map.proofs.Entries.{runs_by_entries, owners_below}
@@ -8,8 +7,8 @@ use Rattle.pmp_map.proofs.run_map.RunMap.build.Goals as goal
 
 pub answers_of-answers-requires-clause-owners : goal.answers_of-answers-requires-clause-owners
 answers_of-answers-requires-clause-owners c =
-    let below : HasOwnersBelow ENTRIES c.runs_of-runs.result.items =
-    rw (← c.ranges-2.ensures.count) (owners_below c.ranges-2.result.now c.runs_of-runs.result.items
+    let below : HasOwnersBelow (length c.args.file.now.entries) c.runs_of-runs.result.items =
+    rw (← c.ranges-2.ensures.ranges.count) (owners_below c.ranges-2.result.now c.runs_of-runs.result.items
     c.runs_of-runs.ensures) in
     rw c.deref-2.ensures.0 below
 
@@ -25,7 +24,7 @@ invariant_of-result c =
       runs_are = runs_by_entries c.args.file.now.entries c.ranges-2.result.now c.ranges-2.ensures.ranges (2 ^ 56) runs
           c.runs_of-runs.ensures;
       few = few;
-      owners = rw (← c.ranges-2.ensures.count) (owners_below c.ranges-2.result.now runs c.runs_of-runs.ensures);
+      owners = rw (← c.ranges-2.ensures.ranges.count) (owners_below c.ranges-2.result.now runs c.runs_of-runs.ensures);
       starts_are = starts;
       answers_are = answers;
     })

@@ -1,0 +1,10 @@
+use Rattle.std.proofs.Common.{◌*◌}
+use Rattle.pmp_core.specs.declared.csr.Csr.TheVariants.{Cfg}
+use Rattle.pmp_text.specs.Dumps.{register_line}
+use Rattle.pmp_text.proofs.Appending.{lines_grow}
+use Rattle.pmp_text.proofs.lines.registers.write_cfg_registers.Goals as goal
+
+pub loop-place-preserved : goal.loop-place-preserved
+loop-place-preserved c =
+    lines_grow (register_line c.args.file.now) (λ place. Cfg (2 * place)) c.args.out.now.items _ _ c.loop-place.place
+    c.in_ok-write_register.ensures.ok c.loop-place.invariant
