@@ -37,6 +37,3 @@ pub use notice::Notice;
 pub use opening::{CHECKERS, start};
 pub use publisher::Publisher;
 pub use room::HISTORY_LIMIT;
-
-#[cfg(test)]
-mod tests;

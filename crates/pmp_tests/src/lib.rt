@@ -13,6 +13,8 @@ mod report_rows;
 #[cfg(test)]
 mod scripts;
 #[cfg(test)]
+mod sharing;
+#[cfg(test)]
 mod sizes;
 #[cfg(test)]
 mod traces;

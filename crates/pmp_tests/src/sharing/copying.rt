@@ -1,8 +1,8 @@
 //! Copies of what is published.
 
 use super::{BY_ENTRY_ONE, ENTRY_ONE, ENTRY_ZERO, page_load, publish, submit, tell, unit_of_two};
-use crate::fault::ShareFault;
 use pmp_core::RegFile;
+use pmp_share::ShareFault;
 
 #[test]
 fn a_journal_has_the_published_events(rt: HostRuntime) {

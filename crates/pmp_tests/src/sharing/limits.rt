@@ -1,11 +1,11 @@
 //! How much a batch and a unit hold.
 
-use super::{BY_ENTRY_ZERO, batch_of, page_load, publish, tell, unit_of_two};
-use crate::batch::{Batch, BatchFull};
-use crate::fault::ShareFault;
-use crate::room::HISTORY_LIMIT;
-use crate::stage::PLACES;
+use super::{BY_ENTRY_ZERO, page_load, publish, tell, unit_of_two};
 use pmp_core::{BATCH_EVENTS, Csr, Event};
+use pmp_share::{Batch, BatchFull, HISTORY_LIMIT, ShareFault};
+
+/// How many checkers and notices of a unit there are at once.
+const PLACES: usize = 32;
 
 #[test]
 fn a_batch_holds_sixty_four_events(rt: HostRuntime) {
@@ -13,6 +13,7 @@ fn a_batch_holds_sixty_four_events(rt: HostRuntime) {
     for _ in 0..BATCH_EVENTS {
         assert_eq!(rt; batch.push(Event::Reset), Ok(()));
     }
+    assert!(rt; Batch::of(&[Event::Reset; BATCH_EVENTS + 1]).is_err());
     assert_eq!(rt; batch.push(Event::Reset), Err(BatchFull));
     assert_eq!(rt; batch.events().len(), 64);
 }
@@ -20,7 +21,7 @@ fn a_batch_holds_sixty_four_events(rt: HostRuntime) {
 #[test]
 fn a_unit_holds_so_many_events(rt: HostRuntime) {
     let (mut publisher, mut checker, _other) = unit_of_two(&rt, rt.alloc());
-    let full = batch_of(&rt, &[Event::Write(Csr::Addr(0), 1); BATCH_EVENTS]);
+    let full = Batch::of(&[Event::Write(Csr::Addr(0), 1); BATCH_EVENTS]).expect(&rt, "room in the batch");
     for half in 1..=2 {
         for _ in 0..8192 {
             assert_eq!(rt; publisher.submit(&full), Ok(()));
@@ -28,7 +29,7 @@ fn a_unit_holds_so_many_events(rt: HostRuntime) {
         assert_eq!(rt; publisher.publish(&rt), Ok(half * 524_288));
     }
     assert_eq!(rt; publisher.journal_len(), 1_048_576);
-    let one = batch_of(&rt, &[Event::Reset]);
+    let one = Batch::of(&[Event::Reset]).expect(&rt, "room in the batch");
     assert_eq!(rt; publisher.submit(&one), Err(ShareFault::Full));
     assert_eq!(rt;
         (publisher.journal_len(), publisher.pending_len()),
@@ -38,6 +39,11 @@ fn a_unit_holds_so_many_events(rt: HostRuntime) {
     let notice = tell(&rt, &mut publisher);
     assert_eq!(rt; notice.len(), 1_048_576);
     assert_eq!(rt; checker.decide(&page_load(&rt)).1, 1_048_576);
+    let journal = checker.copy_journal().expect(&rt, "memory");
+    assert_eq!(rt;
+        (journal.events().len(), journal.ends().len()),
+        (1_048_576, 16_385)
+    );
     publisher.end(&rt);
 }
 

@@ -4,17 +4,14 @@ ghost use Rattle.std.specs.Prelude.{◌≡◌};
 
 mod asking;
 mod copying;
+mod eight;
 mod ending;
 mod groups;
 mod limits;
 mod swapping;
 
-use crate::batch::Batch;
-use crate::checker::{Checker, Moved};
-use crate::notice::Notice;
-use crate::opening::start;
-use crate::publisher::Publisher;
 use pmp_core::{Access, Cause, Csr, Decision, Event, Kind, Mode, RegFile};
+use pmp_share::{Batch, Checker, Moved, Notice, Publisher, start};
 use std::alloc::Global;
 use std::process::Abort;
 use std::sync::Wait;
@@ -58,18 +55,11 @@ fn page_load(rt: &impl Abort) -> Access {
     Access::new(Mode::U, Kind::Load, 0x80000000, 4).expect(rt, "a lawful access")
 }
 
-fn batch_of(rt: &impl Abort, events: &[Event]) -> Batch {
-    let mut batch = Batch::new();
-    for event in events {
-        batch.push(*event).expect(rt, "room in the batch");
-    }
-    batch
-}
-
 fn submit(rt: &impl Abort, publisher: &mut Publisher, events: &[Event])
     ensures { publisher.new.unit ≡ publisher.old.unit }
 {
-    publisher.submit(&batch_of(rt, events)).expect(rt, "memory");
+    let batch = Batch::of(events).expect(rt, "room in the batch");
+    publisher.submit(&batch).expect(rt, "memory");
 }
 
 fn publish<R: Wait + Abort>(rt: &R, publisher: &mut Publisher, events: &[Event]) -> u64
@@ -80,8 +70,8 @@ fn publish<R: Wait + Abort>(rt: &R, publisher: &mut Publisher, events: &[Event])
 }
 
 fn tell(rt: &impl Abort, publisher: &mut Publisher) -> Notice
-    ensures unit { publisher.new.unit ≡ publisher.old.unit }
-    ensures told { result.unit ≡ publisher.old.unit }
+    ensures same { publisher.new ≡ publisher.old }
+    ensures told { result ≡ record { unit = publisher.old.unit; told = publisher.old.published } }
 {
     publisher.tell().expect(rt, "a notice")
 }

@@ -3,8 +3,8 @@
 use super::{
     BY_ENTRY_ONE, BY_NO_ENTRY, ENTRY_ONE, ENTRY_ZERO, page_load, publish, tell, unit_of_two,
 };
-use crate::checker::{Checker, Moved};
 use pmp_core::{Access, Decision};
+use pmp_share::{Checker, Moved};
 
 /// Decides twice. It has no handle, so it waits for nobody.
 fn decide_twice(

@@ -6,11 +6,9 @@ use super::{
     BY_ENTRY_ZERO, ENTRY_ONE, ENTRY_ZERO, ENTRY_ZERO_AGAIN, page_load, publish, tell,
     unit_of_three, unit_of_two,
 };
-use crate::checker::Checker;
-use crate::group::GROUP_ACCESSES;
-use crate::notice::Notice;
-use crate::publisher::Publisher;
 use pmp_core::{Cause, Decision};
+use pmp_share::{Checker, GROUP_ACCESSES, Notice, Publisher};
+use std::ops::Range;
 use std::process::Abort;
 use std::snapshot::Snapshot;
 use std::sync::Wait;
@@ -19,7 +17,7 @@ use std::thread::Promise;
 
 /// The checker that comes back is of the unit that it was of.
 #[derive(Drop)]
-struct SameUnit(Snapshot<Checker>);
+pub struct SameUnit(pub Snapshot<Checker>);
 
 impl Promise<Checker> for SameUnit {
     ghost kept_by = { λ promise checker. checker.unit ≡ promise.0.value.unit };
@@ -36,7 +34,12 @@ fn is_of_round(decision: &Decision, count: u64) -> bool {
 }
 
 /// Learns a notice and decides so often.
-fn watch<R: Wait + Abort>(rt: &R, mut checker: Checker, notice: Notice, decisions: u32) -> Checker
+pub fn watch<R: Wait + Abort>(
+    rt: &R,
+    mut checker: Checker,
+    notice: Notice,
+    decisions: u32,
+) -> Checker
     requires { notice.unit ≡ checker.unit }
     ensures { result.unit ≡ checker.unit }
 {
@@ -82,13 +85,14 @@ fn watch_groups<R: Wait + Abort>(
     checker
 }
 
-/// Publishes both swaps 200 times, each by itself.
-fn swap_entries<R: Wait + Abort>(rt: &R, publisher: &mut Publisher)
+/// Publishes both swaps in each of these rounds, each by itself.
+pub fn swap_entries<R: Wait + Abort>(rt: &R, publisher: &mut Publisher, rounds: Range<u32>)
     ensures { publisher.new.unit ≡ publisher.old.unit }
 {
-    for round in 0..200 {
-        assert_eq!(rt; publish(rt, publisher, &ENTRY_ONE), 4 + 5 * round);
-        assert_eq!(rt; publish(rt, publisher, &ENTRY_ZERO_AGAIN), 7 + 5 * round);
+    for round in rounds {
+        let before = 2 + 5 * u64::from(round);
+        assert_eq!(rt; publish(rt, publisher, &ENTRY_ONE), before + 2);
+        assert_eq!(rt; publish(rt, publisher, &ENTRY_ZERO_AGAIN), before + 5);
     }
 }
 
@@ -113,7 +117,7 @@ fn swaps_are_seen_whole(rt: HostRuntime) {
     })
     .ok()
     .expect(&rt, "a thread");
-    swap_entries(&rt, &mut publisher);
+    swap_entries(&rt, &mut publisher, 0..200);
     let mut first = first.join(&rt);
     let mut second = second.join(&rt);
     let mut third = third.join(&rt);
@@ -133,7 +137,7 @@ fn a_dropped_checker_stops_no_publication(rt: HostRuntime) {
     let gone = thread::spawn(&rt, move || drop(watch(&rt, first, notice, 100)))
         .ok()
         .expect(&rt, "a thread");
-    swap_entries(&rt, &mut publisher);
+    swap_entries(&rt, &mut publisher, 0..200);
     gone.join(&rt);
     assert_eq!(rt; publish(&rt, &mut publisher, &[]), 1002);
     assert_eq!(rt; second.decide(&page_load(&rt)), (BY_ENTRY_ZERO, 1002));

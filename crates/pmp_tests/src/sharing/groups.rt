@@ -4,9 +4,8 @@ use super::{
     BY_ENTRY_ONE, BY_ENTRY_ZERO, BY_NO_ENTRY, ENTRY_ONE, ENTRY_ZERO, page_load, publish,
     unit_of_two,
 };
-use crate::checker::Checker;
-use crate::group::GROUP_ACCESSES;
 use pmp_core::{Access, Decision, Kind, Mode};
+use pmp_share::{Checker, GROUP_ACCESSES};
 use std::process::Abort;
 
 /// Loads from the page's last word, from its end on and from the page again.

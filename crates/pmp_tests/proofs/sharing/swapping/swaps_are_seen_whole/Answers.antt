@@ -1,7 +1,7 @@
 use Rattle.std.proofs.Crossing.{crosses}
 use denote.Param.Send.{sendable}
 use Rattle.pmp_share.proofs.Crossing.{checker_send, notice_send}
-use Rattle.pmp_share.proofs.tests.swapping.swaps_are_seen_whole.Goals as goal
+use Rattle.pmp_tests.proofs.sharing.swapping.swaps_are_seen_whole.Goals as goal
 
 pub spawn_with-requires-send-T : goal.spawn_with-requires-send-T
 spawn_with-requires-send-T g c κs = search (checker_send, sendable) depth 6

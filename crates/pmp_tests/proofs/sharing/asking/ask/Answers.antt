@@ -1,0 +1,52 @@
+use Rattle.std.proofs.Common.{◌≡◌, ◌∙◌, ℕ, List, [], ◌∷◌, ◌++◌, length, Result, Ok, Err, OnOk, IfOk, subst, refl}
+use Rattle.std.proofs.Common.{arith}
+use Rattle.std.proofs.Common.{length-append}
+use Rattle.std.proofs.lemmas.List.{get_or_push}
+use Rattle.pmp_core.specs.declared.decision.Decision.{Decision}
+use Rattle.pmp_core.specs.declared.register_file.TheConstants.{ENTRIES}
+use Rattle.pmp_core.specs.declared.event.Event.{Event}
+use Rattle.pmp_core.specs.Decision.{IsDecision}
+use Rattle.pmp_core.specs.Histories.{joined, replay}
+use Rattle.pmp_core.specs.Ranges.{decision_of}
+use Rattle.pmp_share.specs.declared.checker.Moved.{Moved}
+use Rattle.pmp_share.specs.Batches.{Batches, StartsWith, event_count}
+use Rattle.pmp_share.specs.Laws.{SameEventsLaw}
+use Rattle.pmp_share.specs.Looks.{latest, Looked}
+use Rattle.pmp_tests.proofs.sharing.asking.ask.Goals as goal
+
+-- what both clauses say of an answer
+on_answer : (result : Result Decision Moved) (A : Type 0) (P Q : Decision → Type 0) → OnOk result A → IfOk result P
+    → (A → (decision : Decision) → P decision → Q decision) → IfOk result Q
+on_answer (Ok decision) A P Q a p step = step a decision p
+on_answer (Err moved) A P Q a p step = tt
+
+-- the last of the held lists begins the new one
+begins_last : (held new : List Batches) (told : Batches) → Looked (held ++ told ∷ []) new → StartsWith (latest new) told
+begins_last held new told looked =
+    subst (StartsWith (latest new)) (get_or_push held told told (length held) refl)
+    (looked.begins (length held) told (omega (arith, length-append held (told ∷ []))))
+
+-- what is decided in as many events as were told is decided in these
+in_told : (P : Decision → List Event → Type 0) (held new : List Batches) (told : Batches) (len : ℕ)
+    (result : Result Decision Moved) (A : Type 0) → SameEventsLaw → Looked (held ++ told ∷ []) new
+    → len ≡ event_count told → OnOk result ((event_count (latest new) ≡ len) × A)
+    → IfOk result (λ decision. P decision (joined (latest new))) → IfOk result (λ decision. P decision (joined told))
+in_told P held new told len result A law looked as_many at decided =
+    on_answer result _ _ _ at decided (λ at decision in_new. subst (P decision)
+    (law (latest new) told (begins_last held new told looked) (at.0 ∙ as_many)) in_new)
+
+pub returns-clause-decided : goal.returns-clause-decided
+returns-clause-decided c =
+    let looked = subst (λ (held : List Batches). Looked held c.decide_at.new.self.held) c.learn.ensures.held
+    c.decide_at.ensures.looked in
+    in_told (λ decision events. IsDecision (replay ENTRIES events) c.args.access.now decision) c.args.checker.now.held
+    c.decide_at.new.self.held c.args.notice.told c.len-len.result c.decide_at.result _ c.law_same_events.ensures looked
+    c.len-len.ensures c.decide_at.ensures.at_len c.decide_at.ensures.decided
+
+pub returns-clause-computed : goal.returns-clause-computed
+returns-clause-computed c =
+    let looked = subst (λ (held : List Batches). Looked held c.decide_at.new.self.held) c.learn.ensures.held
+    c.decide_at.ensures.looked in
+    in_told (λ decision events. decision ≡ decision_of (replay ENTRIES events) c.args.access.now)
+    c.args.checker.now.held c.decide_at.new.self.held c.args.notice.told c.len-len.result c.decide_at.result _
+    c.law_same_events.ensures looked c.len-len.ensures c.decide_at.ensures.at_len c.decide_at.ensures.computed
