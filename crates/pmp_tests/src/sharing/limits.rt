@@ -21,7 +21,10 @@ fn a_batch_holds_sixty_four_events(rt: HostRuntime) {
 #[test]
 fn a_unit_holds_so_many_events(rt: HostRuntime) {
     let (mut publisher, mut checker, _other) = unit_of_two(&rt, rt.alloc());
-    let full = Batch::of(&[Event::Write(Csr::Addr(0), 1); BATCH_EVENTS]).expect(&rt, "room in the batch");
+    let full = Batch::of(&[Event::Write(Csr::Addr(0), 1); BATCH_EVENTS]).expect(
+        &rt,
+        "room in the batch",
+    );
     for half in 1..=2 {
         for _ in 0..8192 {
             assert_eq!(rt; publisher.submit(&full), Ok(()));
