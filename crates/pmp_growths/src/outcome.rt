@@ -5,7 +5,7 @@ use pmp_share::{BatchFull, ShareFault};
 use std::alloc::{AllocError, AllocFailed};
 
 /// How a call that may need memory came back, where all is as it has to be.
-#[derive(Clone, Copy, Debug, PartialEq, Eq)]
+#[derive(Clone, Copy)]
 pub enum Outcome {
     /// It answered as with ample memory.
     Answered,
@@ -14,7 +14,7 @@ pub enum Outcome {
 }
 
 /// What isn't as it has to be.
-#[derive(Clone, Copy, Debug, PartialEq, Eq)]
+#[derive(Clone, Copy)]
 pub struct Wrong(pub &'static str);
 
 pub type Tried = Result<Outcome, Wrong>;

@@ -1,7 +1,5 @@
 //! The calls of a shared unit, mostly those that need memory.
 
-ghost use Rattle.std.specs.Prelude.{◌≡◌};
-
 use crate::count::{begin, end};
 use crate::deciding::{Deciding, answers_without_memory};
 use crate::outcome::{Outcome, Tried, Wrong, answered_if, require};
@@ -39,9 +37,7 @@ fn by_memory_or_place(refusal: Option<ShareFault>) -> Tried {
 }
 
 /// Submits the batches of these places.
-fn submit_all(publisher: &mut Publisher, first: u8, behind: u8) -> Result<(), Wrong>
-    ensures { publisher.new.unit ≡ publisher.old.unit }
-{
+fn submit_all(publisher: &mut Publisher, first: u8, behind: u8) -> Result<(), Wrong> {
     for place in first..behind {
         publisher.submit(&batch(place)?)?;
     }
@@ -54,9 +50,7 @@ fn stands(
     checker: &mut Checker,
     published: u8,
     pending: u8,
-) -> Result<(), Wrong>
-    ensures { publisher.new.unit ≡ publisher.old.unit }
-{
+) -> Result<(), Wrong> {
     require(publisher.journal_len() == events(published), "published")?;
     require(publisher.pending_len() == events(pending), "pending")?;
     let notice = publisher.tell()?;
