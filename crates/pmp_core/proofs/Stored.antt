@@ -81,8 +81,8 @@ module _ (file : RegisterFile) (size : Size) (entries : List Entry) (ranges : Li
         legal = legal;
         count = count;
         size_is = rw count (size_of_count size);
-        entries_are =
-            rw (stored.entries_are, ← stored.count) (padded_again reset_entry file.entries new (count ∙ sym stored.count));
+        entries_are = rw (stored.entries_are, ← stored.count)
+            (padded_again reset_entry file.entries new (count ∙ sym stored.count));
         ranges_are = rw (stored.ranges_are, ← length-decoded)
             (padded_again empty_range (ranges_of file.entries) (ranges_of new)
             (length-ranges_of new ∙ count ∙ sym length-decoded));

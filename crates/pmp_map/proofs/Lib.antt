@@ -1,5 +1,5 @@
 pub mod CutFacts
-pub mod Halving
+pub mod Counting
 pub mod Order
 pub mod OneList
 pub mod FewRuns

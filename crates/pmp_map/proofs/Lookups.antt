@@ -12,12 +12,13 @@ use Rattle.pmp_core.proofs.Decisions.{decided_by_ranges, one_decision}
 use Rattle.pmp_map.specs.declared.run.Run.{Run}
 use Rattle.pmp_map.specs.declared.run.TheConstants.{RUNS}
 use Rattle.pmp_map.specs.declared.run_map.RunMap.TheInside.{Inside}
-use Rattle.pmp_map.specs.declared.search.TheConstants.{PLACES}
+use Rattle.pmp_map.specs.declared.search.TheConstants.{PLACES, SHORT}
 use Rattle.pmp_map.specs.Answers.{decision_by, refusal_by}
 use Rattle.pmp_map.specs.Owners.{least_owner}
 use Rattle.pmp_map.specs.Runs.{IsInRun}
+use Rattle.pmp_map.specs.Search.{IsRising}
 use Rattle.pmp_map.specs.Tables.{map_run, IsMapOf}
-use Rattle.pmp_map.proofs.Order.{start_at, start_past, starts_rise, in_run, run_before}
+use Rattle.pmp_map.proofs.Order.{start_at, start_past, start_most, starts_rise, in_run, run_before}
 use Rattle.pmp_map.proofs.LeastOwner.{least_owner_is}
 use Rattle.pmp_map.proofs.Decided.{decided_whole, decided_split}
 
@@ -27,6 +28,27 @@ pub record IsPlaceOf (runs : List Run) (byte place : ℕ) : Type 0 where
   pub here : IsInRun (map_run runs place) byte
 
 module _ (m : Inside) (map : IsMapOf m.file.value m.runs.items m.starts m.answers) where
+  -- the table of starts rises, past the last run too
+  pub rising : IsRising m.starts
+  rising i j ordered within = rw (map.starts_are i (omega arith), map.starts_are j within)
+      (elim (cases_lt (length m.runs.items) j) [
+        | inr inside ↦ starts_rise (2 ^ 56) (IsOwner m.file.value.entries) m.runs.items map.runs_are i j ordered inside
+        | inl past ↦ omega (
+          arith,
+          start_past (2 ^ 56) m.runs.items j (omega arith),
+          start_most (2 ^ 56) (IsOwner m.file.value.entries) m.runs.items map.runs_are i,
+        )
+      ])
+
+  -- where there are no more runs than so many, all start before that place
+  pub past_all : (runs byte : ℕ) → runs ≡ length m.runs.items → byte < 2 ^ 56 → runs ≤ SHORT
+      → byte < slice_index m.starts SHORT
+  past_all runs byte count small short = omega (
+    arith,
+    map.starts_are SHORT (omega arith),
+    start_past (2 ^ 56) m.runs.items SHORT (omega arith),
+  )
+
   pub found : (byte place : ℕ) → byte < 2 ^ 56 → place < PLACES → slice_index m.starts place ≤ byte
       → (place + 1 < PLACES → byte < slice_index m.starts (place + 1)) → IsPlaceOf m.runs.items byte place
   found byte place small within from to =

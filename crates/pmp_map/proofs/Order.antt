@@ -35,6 +35,12 @@ module _ (to : ℕ) (Owns : ℕ → Option ℕ → Type 0) (runs : List Run) (ar
     start_past to runs (length runs) (omega arith),
   )
 
+  pub start_most : (k : ℕ) → start_at to runs k ≤ to
+  start_most k = elim (cases_lt k (length runs)) [
+    | inl inside ↦ omega (arith, start_below k inside)
+    | inr past ↦ omega (arith, start_past to runs k past)
+  ]
+
   pub in_run : (k byte : ℕ) → k < length runs → start_at to runs k ≤ byte → byte < start_at to runs (k + 1)
       → IsInRun (run_at to runs k) byte
   in_run k byte inside from below = (from, omega (arith, are.gapless k inside))

@@ -4,3 +4,4 @@ pub mod Runs
 pub mod Owners
 pub mod Answers
 pub mod Tables
+pub mod Search

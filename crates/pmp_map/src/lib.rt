@@ -1,7 +1,7 @@
 //! The interval map of a PMP register file: the runs of bytes that one entry owns, and decisions by them.
 //!
-//! `RunMap` is built once from a register file, and answers from then on by halving a table of where runs begin. The
-//! definitions that its contracts cite are in `specs/` and in those of `pmp_core`.
+//! `RunMap` is built once from a register file, and answers from then on by a search in a table of where runs begin.
+//! The definitions that its contracts cite are in `specs/` and in those of `pmp_core`.
 #![tactic(auto)]
 
 mod answers;

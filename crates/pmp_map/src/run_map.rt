@@ -70,7 +70,7 @@ impl RunMap {
         requires { byte < 2 ^ 56 }
         ensures { IsOwner self.now.entries byte result }
     {
-        self.runs[place_of(&self.starts, byte)].owner
+        self.runs[place_of(&self.starts, self.runs.len(), byte)].owner
     }
 
     /// Decides an access as the register file does that the map was built from (Volume II, 3.7.1.3). The contract
@@ -80,12 +80,13 @@ impl RunMap {
         ensures by_bytes { IsDecision file.now access.now result }
         ensures computed { result ≡ decision_of file.now access.now }
     {
-        let place = place_of(&self.starts, access.start);
+        let count = self.runs.len();
+        let place = place_of(&self.starts, count, access.start);
         let end = access.start + access.length;
         if end <= self.starts[place + 1] {
             return self.answers[place].decision(access);
         }
-        let last = place_of(&self.starts, end - 1);
+        let last = place_of(&self.starts, count, end - 1);
         refuse_straddling(&self.runs[place..last + 1])
     }
 }

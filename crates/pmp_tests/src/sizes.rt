@@ -1,6 +1,7 @@
 //! Units of sixteen and of sixty-four entries, side by side.
 
 use pmp_core::*;
+use pmp_map::{RUNS, Run, RunMap};
 use std::process::Abort;
 use std::test::Fail;
 
@@ -126,4 +127,49 @@ fn reset_keeps_the_size(rt: HostRuntime) {
     assert_eq!(rt; RegFile::reset(), RegFile::reset_of(Size::Sixteen));
     // After a reset the unit of sixty-four has its last entry still.
     assert_reads(&rt, &[Event::Reset, addr(63, 9)], Csr::Addr(63), 0, 9);
+}
+
+/// Words that lie a word apart have the most runs: each is one, and so is what lies before, between and after them.
+#[test]
+fn longest_map(rt: HostRuntime) -> Result<(), Fail> {
+    let mut file = RegFile::reset_of(Size::SixtyFour);
+    for entry in 0..64 {
+        file.step(addr(entry, 2 * u64::from(entry) + 1));
+    }
+    for place in 0..8 {
+        file.step(cfg(2 * place, 0x1111_1111_1111_1111));
+    }
+    let map = RunMap::build(&file);
+    let runs = map.runs();
+    assert_eq!(rt; runs.len(), RUNS);
+    assert_eq!(rt; runs.len(), 129);
+    for entry in 0..64 {
+        let start = 8 * u64::from(entry) + 4;
+        for (byte, owner) in [
+            (start - 4, None),
+            (start - 1, None),
+            (start, Some(entry)),
+            (start + 3, Some(entry)),
+            (start + 4, None),
+        ] {
+            assert_eq!(rt; map.owner(byte), owner, "byte {byte:#x}");
+        }
+        let access = Access::new(Mode::U, Kind::Load, start, 5)?;
+        let cause = Cause::Split(entry);
+        let allowed = false;
+        assert_eq!(rt; map.decide(&file, &access), Decision { allowed, cause });
+    }
+    let last = Run {
+        first: 0x1fc,
+        last: 0x1ff,
+        owner: Some(63),
+    };
+    let rest = Run {
+        first: 0x200,
+        last: 0xff_ffff_ffff_ffff,
+        owner: None,
+    };
+    assert_eq!(rt; runs.last(), Some(&rest));
+    assert_eq!(rt; runs.get(127), Some(&last));
+    Ok(())
 }

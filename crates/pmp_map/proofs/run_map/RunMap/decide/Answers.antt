@@ -2,7 +2,8 @@ use Rattle.std.proofs.Common.{◌+◌, ◌-◌, ◌<◌, ◌≤◌, length, arit
 use Rattle.std.proofs.lemmas.Option.{get_or_from_slice_get}
 use Rattle.pmp_core.specs.Decision.{IsDecision}
 use Rattle.pmp_map.specs.Tables.{map_run}
-use Rattle.pmp_map.proofs.Lookups.{IsPlaceOf, found, few_places, whole_decided, places_rise, split_decided, computed}
+use Rattle.pmp_map.proofs.Lookups.{IsPlaceOf, rising, past_all, found, few_places, whole_decided, places_rise}
+use Rattle.pmp_map.proofs.Lookups.{split_decided, computed}
 use Rattle.pmp_map.proofs.run_map.RunMap.decide.Goals as goal
 use Rattle.pmp_map.proofs.run_map.RunMap.decide.Goals.{After-place_of-place, After-place_of-last, After-decision}
 use Rattle.pmp_map.proofs.run_map.RunMap.decide.Goals.{After-deref, After-refuse_straddling}
@@ -45,6 +46,26 @@ split c =
     rw (c.refuse_straddling.ensures, c.deref.ensures.0)
     (split_decided c.self.inside c.self.invariant c.args.access.now c.place_of-place.result
     (first at.After-place_of-place) c.place_of-last.result (last at.After-place_of-last) c.if-end-self.false)
+
+pub place_of-place-requires-clause-rising : goal.place_of-place-requires-clause-rising
+place_of-place-requires-clause-rising c = rising c.self.inside c.self.invariant
+
+pub place_of-place-requires-clause-past : goal.place_of-place-requires-clause-past
+place_of-place-requires-clause-past c =
+    let full = c.args.access.now.not_empty in
+    let ends = c.args.access.now.inside in
+    past_all c.self.inside c.self.invariant c.len-count.result c.args.access.now.start c.len-count.ensures.value
+    (omega arith)
+
+pub place_of-last-requires-clause-rising : goal.place_of-last-requires-clause-rising
+place_of-last-requires-clause-rising c = rising c.self.inside c.self.invariant
+
+pub place_of-last-requires-clause-past : goal.place_of-last-requires-clause-past
+place_of-last-requires-clause-past c =
+    let full = c.args.access.now.not_empty in
+    let ends = c.args.access.now.inside in
+    past_all c.self.inside c.self.invariant c.len-count.result (c.args.access.now.start
+    + c.args.access.now.length - 1) c.len-count.ensures.value (omega arith)
 
 pub bounds-self-inside-place : goal.bounds-self-inside-place
 bounds-self-inside-place c = omega (

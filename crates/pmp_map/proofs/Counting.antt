@@ -1,0 +1,84 @@
+-- The place of a byte among six that lie a stride apart, by counting those whose start is at or below it.
+use Rattle.std.proofs.Common.{◌≡◌, ℕ, ◌+◌, ◌*◌, ◌<◌, ◌≤◌, List, slice_index, inl, inr, refl, arith}
+use Rattle.std.proofs.Math.Nat.{mul-le-mul_left, mul-suc}
+use Rattle.std.proofs.lemmas.Bool.{cases_lt}
+use Rattle.pmp_map.specs.declared.search.TheConstants.{PLACES}
+use Rattle.pmp_map.specs.Search.{IsRising, IsBetween}
+
+-- one where the start is at or below the byte, and else zero
+pub record Passed (start byte passed : ℕ) : Type 0 where
+  pub most : passed ≤ 1
+  pub from : start ≤ byte → passed ≡ 1
+  pub below : byte < start → passed ≡ 0
+
+module _ (starts : List ℕ) (byte low stride : ℕ) (rising : IsRising starts) (wide : 0 < stride)
+    (between : IsBetween starts byte low (6 * stride)) where
+  abbrev start_of : ℕ → ℕ
+  start_of k = slice_index starts (low + stride * k)
+
+  -- after n tests: so many starts were at or below the byte, and these are the first
+  record Reached (n count : ℕ) : Type 0 where
+    pub most : count ≤ n
+    pub from : start_of count ≤ byte
+    pub to : count < n → byte < start_of (count + 1)
+
+  starts_rise : (i j : ℕ) → i ≤ j → j ≤ 5 → start_of i ≤ start_of j
+  starts_rise i j ordered few = rising (low + stride * i) (low + stride * j)
+      (omega (arith, mul-le-mul_left stride ordered))
+      (omega (arith, mul-le-mul_left stride few, between.0))
+
+  none_yet : Reached 0 0
+  none_yet =
+      let same : low + stride * 0 ≡ low = omega arith in
+      record { most = omega arith; from = rw same between.1; to = λ less. absurd (omega arith) }
+
+  one_more : (n count passed : ℕ) → n < 5 → Reached n count → Passed (start_of (n + 1)) byte passed
+      → Reached (n + 1) (count + passed)
+  one_more n count passed few so_far test = elim (cases_lt byte (start_of (n + 1))) [
+    | inl below ↦ let same : count + passed ≡ count = omega (arith, test.below below) in
+        rw same (record {
+          most = omega (arith, so_far.most);
+          from = so_far.from;
+          to = λ less. elim (cases_lt count n) [
+            | inl lt ↦ so_far.to lt
+            | inr le ↦ let last : count ≡ n = omega (arith, so_far.most) in rw last below
+          ];
+        })
+    | inr from ↦ elim (cases_lt count n) [
+      | inl lt ↦ absurd (omega (arith, so_far.to lt, from, starts_rise (count + 1) (n + 1) (omega arith) (omega arith)))
+      | inr le ↦ let next : count + passed ≡ n + 1 = omega (arith, test.from from, so_far.most) in
+          rw next (record { most = omega arith; from = from; to = λ less. absurd (omega arith) })
+    ]
+  ]
+
+  all_tested : (count : ℕ) → Reached 5 count → IsBetween starts byte (low + stride * count) stride
+  all_tested count done = (
+    omega (arith, mul-le-mul_left stride done.most, between.0),
+    done.from,
+    λ inside. elim (cases_lt count 5) [
+      | inl lt ↦ let next : low + stride * count + stride ≡ low + stride * (count + 1) = omega (
+        arith,
+        mul-suc stride count,
+      ) in rw next (done.to lt)
+      | inr le ↦ let last : count ≡ 5 = omega (arith, done.most) in
+          let next : low + stride * count + stride ≡ low + 6 * stride = rw last (omega arith) in
+          rw next (between.2 (omega (arith, next)))
+    ],
+  )
+
+  pub counted : (a b c d e : ℕ) → Passed (slice_index starts (low + stride)) byte a
+      → Passed (slice_index starts (low + 2 * stride)) byte b → Passed (slice_index starts (low + 3 * stride)) byte c
+      → Passed (slice_index starts (low + 4 * stride)) byte d → Passed (slice_index starts (low + 5 * stride)) byte e
+      → IsBetween starts byte (low + stride * (a + b + c + d + e)) stride
+  counted a b c d e p q r s t =
+      let one : low + stride * (0 + 1) ≡ low + stride = omega arith in
+      let two : low + stride * (1 + 1) ≡ low + 2 * stride = omega arith in
+      let three : low + stride * (2 + 1) ≡ low + 3 * stride = omega arith in
+      let four : low + stride * (3 + 1) ≡ low + 4 * stride = omega arith in
+      let five : low + stride * (4 + 1) ≡ low + 5 * stride = omega arith in
+      let alone : 0 + a ≡ a = omega arith in
+      let first = rw alone at (one_more 0 0 a (omega arith) none_yet (rw one p)) in
+      let second = one_more 1 a b (omega arith) first (rw two q) in
+      let third = one_more 2 (a + b) c (omega arith) second (rw three r) in
+      let fourth = one_more 3 (a + b + c) d (omega arith) third (rw four s) in
+      all_tested (a + b + c + d + e) (one_more 4 (a + b + c + d) e (omega arith) fourth (rw five t))

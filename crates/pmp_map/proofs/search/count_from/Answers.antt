@@ -1,0 +1,11 @@
+use Rattle.pmp_map.proofs.Counting.{counted}
+use Rattle.pmp_map.proofs.search.count_from.Goals as goal
+
+pub returns : goal.returns
+returns c = counted c.args.starts.now c.args.byte c.args.low c.args.stride c.requires.rising c.requires.stride
+    c.requires.between c.passed.result c.passed-2.result c.passed-3.result c.passed-4.result c.passed-5.result
+    (record { most = c.passed.ensures.most; from = c.passed.ensures.from; below = c.passed.ensures.below })
+    (record { most = c.passed-2.ensures.most; from = c.passed-2.ensures.from; below = c.passed-2.ensures.below })
+    (record { most = c.passed-3.ensures.most; from = c.passed-3.ensures.from; below = c.passed-3.ensures.below })
+    (record { most = c.passed-4.ensures.most; from = c.passed-4.ensures.from; below = c.passed-4.ensures.below })
+    (record { most = c.passed-5.ensures.most; from = c.passed-5.ensures.from; below = c.passed-5.ensures.below })
