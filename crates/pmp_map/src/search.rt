@@ -19,7 +19,7 @@ fn passed(start: u64, byte: u64) -> usize
     usize::from(start <= byte)
 }
 
-/// The place of the byte among the six from `low` on that lie `stride` apart: counts the starts that are at or below it.
+/// The place of the byte among the six from `low` on that lie `stride` apart: counts the starts at or below it.
 #[inline(always)]
 fn count_from(starts: &[u64; PLACES], low: usize, stride: usize, byte: u64) -> usize
     requires rising { IsRising starts.now }
