@@ -1,14 +1,16 @@
 # make                      builds the program, where that isn't done
 # make install PREFIX=..    puts the program, its man page and docs/FORMATS.md on a user's path; make uninstall takes them away
+# make soak SECONDS=..      lets a publisher and eight checkers run so long, and compares each answer with a replay
 # make test                 proves and tests everything, then tries the program, the launcher and the documents
 PREFIX ?= /usr/local
+SECONDS ?= 600
 PROGRAM = crates/pmp_tool/out/pmp_tool
 GROWTHS = crates/pmp_growths/out/pmp_growths
 BIN = $(DESTDIR)$(PREFIX)/bin
 DOC = $(DESTDIR)$(PREFIX)/share/doc/pmp
 MAN = $(DESTDIR)$(PREFIX)/share/man/man1
 
-.PHONY: build test install uninstall bench bench-decide bench-threads bench-audit
+.PHONY: build test install uninstall soak soak-program bench bench-decide bench-threads bench-limits bench-audit
 
 # The launcher builds the program, and then the program says its version.
 build:
@@ -34,7 +36,7 @@ uninstall:
 	@rmdir "$(DOC)" 2>/dev/null || true
 
 # Proves and builds the library and the program, and compares their times with plain C.
-bench: bench-decide bench-threads bench-audit
+bench: bench-decide bench-threads bench-limits bench-audit
 
 bench-decide:
 	@mkdir -p bench/out
@@ -51,7 +53,21 @@ bench-threads:
 	crates/pmp_bench_threads/out/pmp_bench_threads run
 	bench/out/threads
 
+bench-limits: soak-program
+	crates/pmp_soak/out/pmp_soak fill 16384 64
+	crates/pmp_soak/out/pmp_soak fill 16384 64 together
+	crates/pmp_soak/out/pmp_soak fill 1000000 1
+	crates/pmp_soak/out/pmp_soak fill 1000000 1 together
+
 bench-audit: build
 	@mkdir -p bench/out
 	gcc -O2 -std=c11 -Wall -Wextra bench/audit.c -o bench/out/audit
 	bench/out/audit $(PROGRAM)
+
+soak: soak-program
+	crates/pmp_soak/out/pmp_soak $(SECONDS)
+
+soak-program:
+	@mkdir -p bench/out
+	@echo "proving and building the program; the log is bench/out/soak.log"
+	@(cd crates/pmp_soak && rt run --jobs 2) >bench/out/soak.log 2>&1 || { cat bench/out/soak.log >&2; exit 1; }
