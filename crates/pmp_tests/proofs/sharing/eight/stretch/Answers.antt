@@ -1,14 +1,14 @@
-use Rattle.std.proofs.Common.{◌≡◌, ◌∙◌, [], ◌∷◌, ◌++◌, List, Bool, true, false, if◌then◌else◌, All, IfSome, subst, sym}
+use Rattle.std.proofs.Common.{◌≡◌, ◌∙◌, [], ◌∷◌, ◌++◌, List, Bool, true, false, if◌then◌else◌, All, IfSome, subst}
 use Rattle.std.proofs.Common.{is_ok}
-use Rattle.std.proofs.lemmas.List.Elements.{All-pop, All-push}
+use Rattle.std.proofs.lemmas.List.Elements.{All-pop, All-push, All-same}
 use Rattle.pmp_share.specs.Tokens.{CheckerToken}
 use Rattle.pmp_tests.proofs.sharing.eight.stretch.Goals as goal
 
 -- a checker more, where there was memory
-more : (P : CheckerToken → Type 0) (checkers : List CheckerToken) (checker : CheckerToken) (fits : Bool)
-    → All P checkers → P checker → All P (if fits then checkers ++ checker ∷ [] else checkers)
-more P checkers checker true all own = All-push P checkers checker all own
-more P checkers checker false all own = all
+more : (P : CheckerToken → Type 0) (old new : List CheckerToken) (checker : CheckerToken) (fits : Bool)
+    → new ≡ (if fits then old ++ checker ∷ [] else old) → All P old → P checker → All P new
+more P old new checker true is all own = All-same P new (old ++ checker ∷ []) is (All-push P old checker all own)
+more P old new checker false is all own = All-same P new old is all
 
 pub loop-preserved : goal.loop-preserved
 loop-preserved g c =
@@ -19,7 +19,6 @@ loop-preserved g c =
     popped.1 in
     record {
       left = popped.0;
-      back = subst (All (λ (checker : CheckerToken). checker.unit ≡ unit)) (sym c.push.ensures.items)
-          (more (λ checker. checker.unit ≡ unit) c.loop.back.items c.take_back-checker.result (is_ok c.push.result)
-          c.loop.invariant.back (c.take_back-checker.ensures ∙ own));
+      back = more (λ checker. checker.unit ≡ unit) c.loop.back.items c.push.new.self.items c.take_back-checker.result
+          (is_ok c.push.result) c.push.ensures.items c.loop.invariant.back (c.take_back-checker.ensures ∙ own);
     }
