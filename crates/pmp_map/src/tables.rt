@@ -6,7 +6,7 @@ ghost use Rattle.pmp_map.specs.Runs.{AreRunsTo, HasOwnersBelow};
 ghost use Rattle.pmp_map.specs.Tables.{AreStarts, AreAnswers};
 
 use crate::answers::Answers;
-use crate::cuts::{owner_in, run_end};
+use crate::cuts::stretch_from;
 use crate::run::{RUNS, Run};
 use crate::search::PLACES;
 use arrayvec::ArrayVec;
@@ -20,14 +20,13 @@ pub fn runs_of(ranges: &[ByteRange]) -> ArrayVec<Run, RUNS>
     let mut runs = ArrayVec::new();
     let mut first = 0;
     while first < ADDRESS_LIMIT {
-        let owner = owner_in(ranges, first);
-        let end = run_end(ranges, first, owner);
+        let stretch = stretch_from(ranges, first);
         runs.push(Run {
             first,
-            last: end - 1,
-            owner,
+            last: stretch.end - 1,
+            owner: stretch.owner,
         });
-        first = end;
+        first = stretch.end;
     }
     runs
 }

@@ -6,28 +6,37 @@ use Rattle.pmp_map.specs.Runs.{AreRunsTo}
 use Rattle.pmp_map.proofs.FewRuns.{few_runs}
 use Rattle.pmp_map.proofs.Pushes.{IsNextRun, next_run, pushed, last_pushed}
 use Rattle.pmp_map.proofs.tables.runs_of.Goals as goal
-use Rattle.pmp_map.proofs.tables.runs_of.Goals.{After-run_end-end}
+use Rattle.pmp_map.proofs.tables.runs_of.Goals.{After-stretch_from-stretch}
 
 -- the run that is pushed
-abbrev run_found : After-run_end-end → Run
-run_found c = record { first = c.loop-first.first; last = c.run_end-end.result - 1; owner = c.owner_in-owner.result }
+abbrev run_found : After-stretch_from-stretch → Run
+run_found c = record {
+  first = c.loop-first.first;
+  last = c.stretch_from-stretch.result.end - 1;
+  owner = c.stretch_from-stretch.result.owner;
+}
 
-follows : (c : After-run_end-end)
+follows : (c : After-stretch_from-stretch)
     → IsNextRun c.loop-first.first (IsOwnerIn c.args.ranges.now) c.loop-first.runs.items (run_found c)
 follows c =
-    next_run c.args.ranges.now c.loop-first.runs.items c.loop-first.first c.run_end-end.result c.owner_in-owner.result
-    c.run_end-end.ensures.above c.run_end-end.ensures.owned
-    (λ k last. c.loop-first.invariant.2 c.loop-first-test.true k last c.owner_in-owner.result c.owner_in-owner.ensures)
+    let stretch = c.stretch_from-stretch.result in
+    let found = c.stretch_from-stretch.ensures in
+    next_run c.args.ranges.now c.loop-first.runs.items c.loop-first.first stretch.end stretch.owner found.above
+    found.owned
+    (λ k last. c.loop-first.invariant.2 c.loop-first-test.true k last stretch.owner
+    (found.owned c.loop-first.first (omega arith) found.above))
 
-longer : (c : After-run_end-end) → AreRunsTo c.run_end-end.result (IsOwnerIn c.args.ranges.now) (c.loop-first.runs.items
+longer : (c : After-stretch_from-stretch)
+    → AreRunsTo c.stretch_from-stretch.result.end (IsOwnerIn c.args.ranges.now) (c.loop-first.runs.items
     ++ run_found c ∷ [])
 longer c = pushed c.loop-first.first (IsOwnerIn c.args.ranges.now) c.loop-first.runs.items (run_found c)
-    c.loop-first.invariant.0 (follows c) c.run_end-end.result (omega (arith, c.run_end-end.ensures.above))
+    c.loop-first.invariant.0 (follows c) c.stretch_from-stretch.result.end
+    (omega (arith, c.stretch_from-stretch.ensures.above))
 
 pub push-requires : goal.push-requires
 push-requires c =
-    let at = (goal.at.push-requires c).After-run_end-end in
-    let few = few_runs c.run_end-end.result c.args.ranges.now (c.loop-first.runs.items
+    let at = (goal.at.push-requires c).After-stretch_from-stretch in
+    let few = few_runs c.stretch_from-stretch.result.end c.args.ranges.now (c.loop-first.runs.items
     ++ run_found at ∷ []) (longer at) in
     let room : length c.loop-first.runs.items < RUNS =
     omega (arith, few, length-append c.loop-first.runs.items (run_found at ∷ []), c.requires) in
@@ -35,12 +44,12 @@ push-requires c =
 
 pub loop-first-preserved : goal.loop-first-preserved
 loop-first-preserved c =
-    let at = (goal.at.loop-first-preserved c).After-run_end-end in
-    let end = c.run_end-end.result in
+    let at = (goal.at.loop-first-preserved c).After-stretch_from-stretch in
+    let end = c.stretch_from-stretch.result.end in
     rw c.push.ensures.items (
       longer at,
-      c.run_end-end.ensures.bounded,
-      λ inside k last other owned same. c.run_end-end.ensures.apart inside other owned
+      c.stretch_from-stretch.ensures.bounded,
+      λ inside k last other owned same. c.stretch_from-stretch.ensures.apart inside other owned
           (sym (ap (λ (run : Run). run.owner) (last_pushed c.loop-first.first (IsOwnerIn c.args.ranges.now)
           c.loop-first.runs.items (run_found at) c.loop-first.invariant.0 (follows at) end k last)) ∙ same),
     )
