@@ -1,5 +1,6 @@
 # make                      builds the program, where that isn't done
-# make install PREFIX=..    puts the program, its man page and docs/FORMATS.md on a user's path; make uninstall takes them away
+# make install PREFIX=..    puts the program, its man page and docs/FORMATS.md on a user's path
+# make uninstall PREFIX=..  takes them away
 # make soak SECONDS=..      lets a publisher and eight checkers run so long, and compares each answer with a replay
 # make test                 proves and tests everything, then tries the program, the launcher and the documents
 PREFIX ?= /usr/local
