@@ -39,7 +39,8 @@ fn decide_in(
     }
 }
 
-/// The unit's decision, where these are the ranges of these entries.
+/// The unit's decision, where these are the ranges of these entries. Inlined into the pass of each size.
+#[inline(always)]
 pub fn decide(
     entries: &[Entry],
     mseccfg: &MseccfgFields,
