@@ -13,7 +13,7 @@ pub mod RegisterWrite
 pub mod RegisterValue
 pub mod Histories
 pub mod LockLaw
+pub mod Size
+pub mod SizeLaw
 -- How decisions are computed: a law says that they are the same.
 pub mod Ranges
-pub mod SizeLaw
-pub mod Size
