@@ -43,13 +43,14 @@ bench-decide:
 	@mkdir -p bench/out
 	@echo "proving and building the library; the log is bench/out/library.log"
 	@(cd crates/pmp_bench && rt lib --jobs 2) >bench/out/library.log 2>&1 || { cat bench/out/library.log >&2; exit 1; }
-	gcc -O2 -std=c11 -Wall -Wextra bench/decide.c crates/pmp_bench/out/libpmp_bench.a -o bench/out/decide
-	bench/out/decide
+	@for entries in 16 64; do gcc -O2 -std=c11 -Wall -Wextra -DENTRIES=$$entries bench/decide.c \
+	    crates/pmp_bench/out/libpmp_bench.a -o bench/out/decide-$$entries && bench/out/decide-$$entries || exit 1; done
 
 bench-threads:
 	@mkdir -p bench/out
 	@echo "proving and building the program; the log is bench/out/threads.log"
-	@(cd crates/pmp_bench_threads && rt run --jobs 2) >bench/out/threads.log 2>&1 || { cat bench/out/threads.log >&2; exit 1; }
+	@(cd crates/pmp_bench_threads && rt run --jobs 2) >bench/out/threads.log 2>&1 \
+	    || { cat bench/out/threads.log >&2; exit 1; }
 	gcc -O2 -std=c11 -Wall -Wextra -pthread bench/threads.c -o bench/out/threads
 	crates/pmp_bench_threads/out/pmp_bench_threads run
 	bench/out/threads

@@ -1,4 +1,4 @@
-/* Times the proved unit and its map beside a plain C unit, over the same writes and accesses. */
+/* Times the proved unit and its map beside a plain C unit of as many entries, over the same writes and accesses. */
 #define _POSIX_C_SOURCE 199309L
 #include "plain_unit.h"
 #include <stdio.h>
@@ -7,24 +7,25 @@
 
 enum { COUNT = 100000, BUILDS = 1000, ROUNDS = 60, SMALL_FILES = 3000, SMALL_COUNT = 200 };
 
-/* The proved unit: decides the requests after the writes from reset, and counts the allowed ones.
+/* The proved unit of 16 or 64 entries: decides the requests after the writes from reset, and counts the allowed ones.
    There must be as many answers as requests. */
-size_t pmp_bench_decide(const struct write *writes, size_t write_count, const struct request *requests,
-                        size_t request_count, uint16_t *answers, size_t answer_count);
+size_t pmp_bench_decide(uint8_t entries, const struct write *writes, size_t write_count,
+                        const struct request *requests, size_t request_count, uint16_t *answers, size_t answer_count);
 
 /* The same by a map, which is built once. */
-size_t pmp_bench_decide_by_map(const struct write *writes, size_t write_count, const struct request *requests,
-                               size_t request_count, uint16_t *answers, size_t answer_count);
+size_t pmp_bench_decide_by_map(uint8_t entries, const struct write *writes, size_t write_count,
+                               const struct request *requests, size_t request_count, uint16_t *answers,
+                               size_t answer_count);
 
 /* Builds the map after the writes so many times, and answers how many runs it has. */
-size_t pmp_bench_build(const struct write *writes, size_t write_count, uint32_t times);
+size_t pmp_bench_build(uint8_t entries, const struct write *writes, size_t write_count, uint32_t times);
 
-static __attribute__((noinline)) size_t plain_decide(const struct write *writes, size_t write_count,
+static __attribute__((noinline)) size_t plain_decide(uint8_t entries, const struct write *writes, size_t write_count,
                                                      const struct request *requests, size_t request_count,
                                                      uint16_t *answers, size_t answer_count) {
     struct unit unit;
     size_t allowed = 0;
-    (void)answer_count;
+    (void)entries, (void)answer_count;
     reset(&unit);
     for (size_t i = 0; i < write_count; i++)
         write_register(&unit, &writes[i]);
@@ -38,7 +39,7 @@ static __attribute__((noinline)) size_t plain_decide(const struct write *writes,
 
 /* What both are given. */
 
-static struct write writes[COUNT + 32];
+static struct write writes[COUNT + 2 * ENTRIES];
 static struct request requests[COUNT];
 static uint16_t answers[3][COUNT];
 static size_t write_count, request_count;
@@ -47,12 +48,17 @@ static void add_write(uint16_t number, uint64_t value) {
     writes[write_count++] = (struct write){number, value};
 }
 
+/* The same configuration of the first entries. */
+static void configure(unsigned entries, uint64_t eight) {
+    for (unsigned first = 0; first < entries; first += 8)
+        add_write(PMPCFG0 + first / 4, entries - first < 8 ? eight >> 8 * (8 - (entries - first)) : eight);
+}
+
 static void set_regions(unsigned regions) {
     write_count = 0;
     for (unsigned entry = 0; entry < regions; entry++)
         add_write(PMPADDR0 + entry, napot_of_page(region(entry)));
-    add_write(PMPCFG0, regions == 1 ? 0x1b : UINT64_C(0x1b1b1b1b1b1b1b1b));
-    add_write(PMPCFG2, regions == 1 ? 0 : UINT64_C(0x1b1b1b1b1b1b1b1b));
+    configure(regions, UINT64_C(0x1b1b1b1b1b1b1b1b));
 }
 
 /* Loads of eight bytes by user mode, this far from the start of a region's page. */
@@ -62,13 +68,12 @@ static void set_loads(unsigned regions, uint64_t distance) {
         requests[i] = (struct request){region(below(regions)) + distance + 8 * below(512), 8, USER, LOAD};
 }
 
-/* Sixteen words of four bytes with a word between each: 33 runs. */
+/* Words of four bytes with a word between each: the most runs, one more than twice as many. */
 static void set_comb(void) {
     write_count = 0;
     for (unsigned entry = 0; entry < ENTRIES; entry++)
         add_write(PMPADDR0 + entry, 2 * entry + 1);
-    add_write(PMPCFG0, UINT64_C(0x1111111111111111));
-    add_write(PMPCFG2, UINT64_C(0x1111111111111111));
+    configure(ENTRIES, UINT64_C(0x1111111111111111));
 }
 
 /* Loads of four bytes by user mode, each inside a run of the comb. */
@@ -102,7 +107,7 @@ static void set_address_writes(void) {
 
 /* Eight random configuration bytes, whose bits are all in the mask. */
 static void add_configurations(uint64_t mask) {
-    add_write(below(2) ? PMPCFG0 : PMPCFG2, (next_random() ^ next_random() << 32) & mask);
+    add_write(PMPCFG0 + 2 * below(ENTRIES / 8), (next_random() ^ next_random() << 32) & mask);
 }
 
 static void set_configuration_writes(void) {
@@ -129,7 +134,7 @@ static void set_small_file(void) {
 
 /* The runs. */
 
-typedef size_t decider(const struct write *, size_t, const struct request *, size_t, uint16_t *, size_t);
+typedef size_t decider(uint8_t, const struct write *, size_t, const struct request *, size_t, uint16_t *, size_t);
 
 static double nanoseconds(void) {
     struct timespec time;
@@ -139,7 +144,7 @@ static double nanoseconds(void) {
 
 static double run(decider *decider, uint16_t *answers, size_t *allowed) {
     double before = nanoseconds();
-    *allowed = decider(writes, write_count, requests, request_count, answers, request_count);
+    *allowed = decider(ENTRIES, writes, write_count, requests, request_count, answers, request_count);
     return nanoseconds() - before;
 }
 
@@ -174,7 +179,7 @@ static void measure_build(const char *name) {
     double best = 1e18;
     for (unsigned round = 0; round < ROUNDS; round++) {
         double before = nanoseconds();
-        size_t runs = pmp_bench_build(writes, write_count, BUILDS);
+        size_t runs = pmp_bench_build(ENTRIES, writes, write_count, BUILDS);
         double time = nanoseconds() - before;
         if (runs != 2 * ENTRIES + 1)
             exit(1);
@@ -194,10 +199,10 @@ static void compare_small_files(void) {
 }
 
 static void measure_decisions(void) {
-    printf("%-44s %9s %9s %9s\n", "nanoseconds each, best of 60 rounds", "map", "file", "plain C");
+    printf("%2u entries, %-32s %9s %9s %9s\n", ENTRIES, "ns each, best of 60 rounds", "map", "file", "plain C");
     set_regions(ENTRIES);
     set_loads(ENTRIES, 0);
-    measure("decide, one of sixteen regions");
+    measure("decide, one of a region for each entry");
     mix_modes_and_kinds();
     measure("decide, the same in every mode and kind");
     set_regions(1);
@@ -205,10 +210,10 @@ static void measure_decisions(void) {
     measure("decide, one region");
     set_regions(ENTRIES);
     set_loads(ENTRIES, 0x2000);
-    measure("decide, no match with sixteen regions");
+    measure("decide, no match with as many regions");
     set_comb();
     set_words();
-    measure("decide, one word of a comb of 33 runs");
+    measure("decide, one word of the comb");
     set_long_words();
     measure("decide, across the words of the comb");
 }
@@ -219,7 +224,7 @@ static void measure_writes(void) {
     set_configuration_writes();
     measure("step, pmpcfg");
     set_regions(ENTRIES);
-    measure_build("build, sixteen regions");
+    measure_build("build, the regions");
     set_comb();
     measure_build("build, the comb");
 }

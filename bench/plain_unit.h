@@ -7,7 +7,10 @@
 enum { USER = 0, SUPERVISOR = 1, MACHINE = 3 };
 enum { FETCH = 0, LOAD = 1, STORE = 2 };
 enum { SPLIT = 256, NO_MATCH = 512, ALLOWED = 1024 };
-enum { ENTRIES = 16 };
+/* 16 or 64. */
+#ifndef ENTRIES
+#define ENTRIES 16
+#endif
 enum { PMPCFG0 = 0x3a0, PMPCFG2 = 0x3a2, PMPADDR0 = 0x3b0 };
 
 struct write {
@@ -105,10 +108,9 @@ static void write_address(struct unit *unit, unsigned entry, uint64_t value) {
 }
 
 static void write_register(struct unit *unit, const struct write *write) {
-    if (write->number == PMPCFG0)
-        write_configurations(unit, 0, write->value);
-    else if (write->number == PMPCFG2)
-        write_configurations(unit, 8, write->value);
+    unsigned first = 4 * (write->number - PMPCFG0);
+    if (write->number >= PMPCFG0 && first < ENTRIES && first % 8 == 0)
+        write_configurations(unit, first, write->value);
     else if (write->number >= PMPADDR0 && write->number < PMPADDR0 + ENTRIES)
         write_address(unit, write->number - PMPADDR0, write->value);
 }

@@ -3,7 +3,7 @@
 
 ghost use Rattle.std.specs.Prelude.{◌≡◌, ◌≤◌, length};
 
-use pmp_core::{Access, Cause, Csr, Decision, Event, Kind, Mode, RegFile};
+use pmp_core::{Access, Cause, Csr, Decision, Event, Kind, Mode, RegFile, Size};
 use pmp_map::RunMap;
 
 /// A write to the CSR with this number.
@@ -42,10 +42,19 @@ fn access_of(request: &Request) -> Option<Access> {
     Access::new(mode, kind, request.start, request.length).ok()
 }
 
+/// The size of a unit with at least so many entries, if there is one.
+fn size_of(entries: u8) -> Size {
+    if entries <= Size::Sixteen.entries() {
+        Size::Sixteen
+    } else {
+        Size::SixtyFour
+    }
+}
+
 /// The register file after these writes, in order, from reset. A number that names no register of the unit is passed
 /// over.
-fn file_after(writes: &[Write]) -> RegFile {
-    let mut file = RegFile::reset();
+fn file_after(entries: u8, writes: &[Write]) -> RegFile {
+    let mut file = RegFile::reset_of(size_of(entries));
     for write in writes {
         if let Ok(csr) = Csr::from_number(write.number) {
             file.step(Event::Write(csr, write.value));
@@ -105,9 +114,11 @@ fn answer_all<F: Fn(&Request) -> u16>(requests: &[Request], answers: &mut [u16],
     allowed
 }
 
-/// Answers requests in order, as decided after these writes from reset, and counts the allowed ones.
+/// Answers requests in order, as decided after these writes from reset in a unit of 16 or 64 entries, and counts the
+/// allowed ones.
 #[unsafe(no_mangle)]
 pub extern "C" fn pmp_bench_decide(
+    entries: u8,
     writes: &[Write],
     requests: &[Request],
     answers: &mut [u16],
@@ -115,13 +126,14 @@ pub extern "C" fn pmp_bench_decide(
     requires { length answers.old ≡ length requests.now }
     ensures { result ≤ length requests.now }
 {
-    let file = file_after(writes);
+    let file = file_after(entries, writes);
     answer_all(requests, answers, |request| answer(&file, request))
 }
 
 /// The same by a map that is built once.
 #[unsafe(no_mangle)]
 pub extern "C" fn pmp_bench_decide_by_map(
+    entries: u8,
     writes: &[Write],
     requests: &[Request],
     answers: &mut [u16],
@@ -129,7 +141,7 @@ pub extern "C" fn pmp_bench_decide_by_map(
     requires { length answers.old ≡ length requests.now }
     ensures { result ≤ length requests.now }
 {
-    let file = file_after(writes);
+    let file = file_after(entries, writes);
     let map = RunMap::build(&file);
     answer_all(
         requests,
@@ -145,8 +157,8 @@ fn count_runs(file: &RegFile) -> usize {
 
 /// Builds the map after these writes so many times, and answers how many runs it has.
 #[unsafe(no_mangle)]
-pub extern "C" fn pmp_bench_build(writes: &[Write], times: u32) -> usize {
-    let file = file_after(writes);
+pub extern "C" fn pmp_bench_build(entries: u8, writes: &[Write], times: u32) -> usize {
+    let file = file_after(entries, writes);
     let mut runs = 0;
     for _ in 0..times {
         runs = count_runs(&file);
