@@ -89,8 +89,11 @@ version_sync : IsSync version.the_row
 version_sync = declared_sync version.the_type (
   as_row_sync journal.the_field journal_sync,
   (
-    as_row_sync file.the_field file_sync,
-    (as_row_sync run_map.the_field map_sync, (seen.the_sync _ _ _ law.ghosts, tt)),
+    search (as_row_sync, sendable) depth 6,
+    (
+      as_row_sync file.the_field file_sync,
+      (as_row_sync run_map.the_field map_sync, (seen.the_sync _ _ _ law.ghosts, tt)),
+    ),
   ),
 )
 
@@ -101,7 +104,10 @@ digest_inside_send = declared_send digest_inside.the_type (
     search (as_row_send, sendable) depth 6,
     (
       search (as_row_send, sendable) depth 6,
-      (search (core.crosses, sendable) depth 12, tt),
+      (
+        search (as_row_send, sendable) depth 6,
+        (search (core.crosses, sendable) depth 12, tt),
+      ),
     ),
   ),
 )

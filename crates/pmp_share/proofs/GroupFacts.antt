@@ -1,9 +1,8 @@
 -- Groups of decisions.
-use Rattle.std.proofs.Common.{◌≡◌, List, [], ◌∷◌, map, subst, sym}
+use Rattle.std.proofs.Common.{◌≡◌, ℕ, List, [], ◌∷◌, map, subst, sym}
 use Rattle.std.specs.List.{AllZip}
 use Rattle.pmp_core.specs.declared.access.Access.{Access}
 use Rattle.pmp_core.specs.declared.decision.Decision.{Decision}
-use Rattle.pmp_core.specs.declared.register_file.TheConstants.{ENTRIES}
 use Rattle.pmp_core.specs.Decision.{IsDecision}
 use Rattle.pmp_core.specs.Histories.{LegalLaw, joined, file_after}
 use Rattle.pmp_core.specs.Ranges.{decision_of}
@@ -18,10 +17,10 @@ zip_map R f each (x ∷ xs) = (each x, zip_map R f each xs)
 
 -- what is computed for each access is the manual's decision on it
 pub decided_each : ((file : RegisterFile) (access : Access) → HasAddresses file.entries
-    → IsDecision file access (decision_of file access)) → LegalLaw → (list : Batches) (accesses : List Access)
-    (decisions : List Decision) → decisions ≡ map (decision_of (file_after ENTRIES list)) accesses
-    → AllZip (Decides list) accesses decisions
-decided_each by_ranges legal list accesses decisions is =
-    subst (AllZip (Decides list) accesses) (sym is)
-    (zip_map (Decides list) (decision_of (file_after ENTRIES list))
-    (λ access. by_ranges (file_after ENTRIES list) access (legal ENTRIES (joined list)).addresses) accesses)
+    → IsDecision file access (decision_of file access)) → LegalLaw → (n : ℕ) (list : Batches) (accesses : List Access)
+    (decisions : List Decision) → decisions ≡ map (decision_of (file_after n list)) accesses
+    → AllZip (Decides n list) accesses decisions
+decided_each by_ranges legal n list accesses decisions is =
+    subst (AllZip (Decides n list) accesses) (sym is)
+    (zip_map (Decides n list) (decision_of (file_after n list))
+    (λ access. by_ranges (file_after n list) access (legal n (joined list)).addresses) accesses)

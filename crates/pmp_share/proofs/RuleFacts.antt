@@ -10,7 +10,7 @@ use Rattle.pmp_share.specs.declared.view.Known.{Known}
 use Rattle.pmp_share.specs.declared.told.Told.{Told}
 use Rattle.pmp_share.specs.declared.version.Version.{Version}
 use Rattle.pmp_share.specs.Batches.{Batches, StartsWith}
-use Rattle.pmp_share.specs.Rule.{known_of, Fits, Kept, Enters, Shown}
+use Rattle.pmp_share.specs.Rule.{known_of, unit_of, Fits, Kept, Enters, Shown}
 use Rattle.pmp_share.specs.Stages.{told_of, after}
 use Rattle.pmp_share.proofs.LookFacts.{starts_alike, starts_on}
 
@@ -49,29 +49,29 @@ looks seat view version views kept at = (
 )
 
 -- what fits a version fits each that begins with it
-fits_later : (now next : Version) → next.past.book ≡ now.past.book → StartsWith next.journal now.journal
+fits_later : (now next : Version) → unit_of next ≡ unit_of now → StartsWith next.journal now.journal
     → (view : Option Known) → Fits now view → Fits next view
-fits_later now next book begins None fits = tt
-fits_later now next book begins (Some view) fits =
-    (fits.0 ∙ sym book, starts_on next.journal now.journal view.list begins fits.1)
+fits_later now next unit begins None fits = tt
+fits_later now next unit begins (Some view) fits =
+    (fits.0 ∙ sym unit, starts_on next.journal now.journal view.list begins fits.1)
 
-pub shows : (seat : ℕ) (view : Option Known) (now next : Version) → next.past.book ≡ now.past.book
+pub shows : (seat : ℕ) (view : Option Known) (now next : Version) → unit_of next ≡ unit_of now
     → next.past.log ≡ next.journal → StartsWith next.journal now.journal → TurnsAt Kept seat view now next Shown
-shows seat view now next book noted begins views kept at = (
+shows seat view now next unit noted begins views kept at = (
   Some (known_of next),
   record {
     noted = noted;
     fits = set_fits next seat views (Some (known_of next)) (all_fits next)
-        (λ j v other there. fits_later now next book begins v (kept.fits j v there));
+        (λ j v other there. fits_later now next unit begins v (kept.fits j v there));
   },
   refl,
 )
 
 -- the next version is one with this told of it
-pub shows_told : (seat : ℕ) (view : Option Known) (now : Version) (told : Told) → told.book ≡ now.past.book
+pub shows_told : (seat : ℕ) (view : Option Known) (now : Version) (told : Told) → told.unit ≡ unit_of now
     → told.log ≡ told.batches → StartsWith told.batches now.journal
     → (next : Version) → told_of next ≡ told → TurnsAt Kept seat view now next Shown
-shows_told seat view now told book noted begins next is = shows seat view now next (ap (λ t. t.book) is ∙ book)
+shows_told seat view now told unit noted begins next is = shows seat view now next (ap (λ t. t.unit) is ∙ unit)
     (ap (λ t. t.log) is ∙ noted ∙ sym (ap (λ t. t.batches) is))
     (subst (λ (b : Batches). StartsWith b now.journal) (sym (ap (λ t. t.batches) is)) begins)
 

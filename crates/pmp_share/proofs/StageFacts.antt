@@ -17,14 +17,14 @@ match_ok result P Q value is said = subst (λ (r : Result _ _). MatchResult r P 
 -- after a publication, with nothing handed over
 pub turned : (keeper : Known) (ahead : Bool) (view : Option Known) (shown : Version) (next : Told)
     (entries : List Entry) → told_of shown ≡ next → entries ≡ [] → view ≡ Some (known_of shown)
-    → next.book ≡ keeper.book → next.log ≡ next.batches → (ahead ≡ false → keeper.list ≡ next.batches)
+    → next.unit ≡ keeper.unit → next.log ≡ next.batches → (ahead ≡ false → keeper.list ≡ next.batches)
     → IsStage keeper ahead view shown (after shown entries)
-turned keeper ahead view shown next entries is none seen book noted history =
+turned keeper ahead view shown next entries is none seen unit noted history =
     subst (λ (told : Told). IsStage keeper ahead view shown told) (ap (after shown) (sym none)) record {
-      seated = seen ∙ ap (λ b. Some (known b shown.journal)) (ap (λ t. t.book) is ∙ book);
-      book = ap (λ t. t.book) is ∙ book;
+      seated = seen ∙ ap (λ u. Some (known u shown.journal)) (ap (λ t. t.unit) is ∙ unit);
+      unit = ap (λ t. t.unit) is ∙ unit;
       noted = ap (λ t. t.log) is ∙ noted ∙ sym (ap (λ t. t.batches) is);
-      next_book = ap (λ t. t.book) is ∙ book;
+      next_unit = ap (λ t. t.unit) is ∙ unit;
       next_noted = ap (λ t. t.log) is ∙ noted ∙ sym (ap (λ t. t.batches) is);
       begins = starts_alike shown.journal;
       history = λ no. history no ∙ sym (ap (λ t. t.batches) is);
@@ -39,7 +39,7 @@ pub turned_or_not : {A E : Type 0} (result : Result A E) (keeper : Known) (ahead
     → MatchResult result (λ _. after_view ≡ Some (known_of next)) (λ _. after_view ≡ view)
     → IsStage keeper ahead after_view next (after next rest)
 turned_or_not (Ok _) keeper ahead view after_view shown next entries rest was values seen =
-    turned keeper ahead after_view next (after shown entries) rest values.0 values.1 seen was.next_book was.next_noted
+    turned keeper ahead after_view next (after shown entries) rest values.0 values.1 seen was.next_unit was.next_noted
     was.history
 turned_or_not (Err _) keeper ahead view after_view shown next entries rest was values seen =
     rw (seen, values.0, values.1) was

@@ -1,5 +1,5 @@
 -- What a checker is made of.
-use Rattle.std.specs.Prelude.{◌≡◌, List}
+use Rattle.std.specs.Prelude.{◌≡◌, ℕ, List}
 use Rattle.pmp_core.specs.declared.access.Access.{Access}
 use Rattle.pmp_core.specs.declared.decision.Decision.{Decision}
 use Rattle.pmp_share.specs.declared.view.Known.{Known}
@@ -7,9 +7,9 @@ use Rattle.pmp_share.specs.Batches.{Batches, AllBegin}
 use Rattle.pmp_share.specs.Looks.{latest}
 use Rattle.pmp_share.specs.Object.{Decides}
 
--- the manual's decision in the file that reset and these batches give
-unfoldable pub DecidesIn : Batches → Access → Decision → Type 0
-DecidesIn list access decision = Decides list access decision
+-- the manual's decision in the file of so many entries that reset and these batches give
+unfoldable pub DecidesIn : (entries : ℕ) → Batches → Access → Decision → Type 0
+DecidesIn entries list access decision = Decides entries list access decision
 
 -- it stands at the latest list that it holds, which begins with all of them
 pub record IsChecker (stand : Known) (held : List Batches) : Type 0 where

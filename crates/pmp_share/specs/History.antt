@@ -4,6 +4,11 @@ use Rattle.logbook.specs.Pages.{Cell, Step, View, Book, Named}
 use Rattle.pmp_core.specs.declared.event.Event.{Event}
 use Rattle.pmp_share.specs.Batches.{Batches}
 
+-- which book, and the batches in it
+pub record Noted : Type 0 where
+  pub book : Book
+  pub list : Batches
+
 -- the first word is the number of batches. A book has two words, of which this one leaves the second at 0
 abbrev pub IsCounted : List Cell → Batches → Type 0
 IsCounted cells log = cells ≡ (length log, true) ∷ (0, true) ∷ []

@@ -2,23 +2,27 @@
 use Rattle.std.specs.Prelude.{◌≡◌, ℕ, List, Option, Some, None}
 use mathlib.Core.Option.{some}
 use lib.ListN.{get_elem?}
-use Rattle.logbook.specs.Pages.{Book}
 use Rattle.pmp_share.specs.declared.view.Known.{Known}
 use Rattle.pmp_share.specs.declared.version.Version.{Version}
 use Rattle.pmp_share.specs.Batches.{Batches, StartsWith}
+use Rattle.pmp_share.specs.Tokens.{UnitId, unit_with}
 
--- this beginning of this history
-abbrev pub known : Book → Batches → Known
-known book list = record { list = list; book = book }
+-- this beginning of this unit's history
+abbrev pub known : UnitId → Batches → Known
+known unit list = record { list = list; unit = unit }
+
+-- whose version it is
+abbrev pub unit_of : Version → UnitId
+unit_of version = unit_with version.past.book version.entries
 
 -- all that a version has
 abbrev pub known_of : Version → Known
-known_of version = known version.past.book version.journal
+known_of version = known (unit_of version) version.journal
 
--- what is known is a beginning of the version's batches
+-- what is known is of the version's unit, and a beginning of its batches
 abbrev pub Fits : Version → Option Known → Type 0
 Fits version None = Unit {0}
-Fits version (Some view) = (view.book ≡ version.past.book) × StartsWith version.journal view.list
+Fits version (Some view) = (view.unit ≡ unit_of version) × StartsWith version.journal view.list
 
 -- the version's history is its batches, which all that is known begins
 pub record Kept (version : Version) (views : List (Option Known)) : Type 0 where

@@ -2,7 +2,6 @@
 
 ghost use Rattle.std.specs.Prelude.{◌≡◌, ◌<◌, ◌≤◌, [], ◌∷◌, ◌++◌, length, map, IfOk, IfErr, OnOk};
 ghost use Rattle.std.specs.List.{AllZip};
-ghost use Rattle.pmp_core.specs.declared.register_file.TheConstants.{ENTRIES};
 ghost use Rattle.pmp_core.specs.Histories.{joined, file_after};
 ghost use Rattle.pmp_core.specs.Ranges.{decision_of};
 ghost use Rattle.pmp_share.specs.declared.fault.ShareFault.TheVariants.{Full};
@@ -43,7 +42,7 @@ impl Model for Checker {
 
     ghost Value = { CheckerToken };
 
-    ghost view = { λ checker. record { unit = checker.stand.book; held = checker.held } };
+    ghost view = { λ checker. record { unit = checker.stand.unit; held = checker.held } };
 
     ghost invariant = { λ checker. IsChecker checker.stand checker.held };
 }
@@ -51,7 +50,7 @@ impl Model for Checker {
 impl Checker {
     /// A checker that holds what is known there.
     pub(crate) fn new(stand: Stand) -> Checker
-        ensures { result ≡ record { unit = stand.book; held = stand.list ∷ [] } }
+        ensures { result ≡ record { unit = stand.unit; held = stand.list ∷ [] } }
     {
         let held = Held::alone(stand.digest());
         Checker { stand, held }
@@ -77,8 +76,8 @@ impl Checker {
     pub fn decide(&mut self, access: &Access) -> (Decision, u64)
         ensures unit { self.new.unit ≡ self.old.unit }
         ensures looked { Looked self.old.held self.new.held }
-        ensures decided { Decides (latest self.new.held) access.now result.0 }
-        ensures computed { result.0 ≡ decision_of (file_after ENTRIES (latest self.new.held)) access.now }
+        ensures decided { Decides self.new.unit.entries (latest self.new.held) access.now result.0 }
+        ensures computed { result.0 ≡ decision_of (file_after self.new.unit.entries (latest self.new.held)) access.now }
         ensures count { result.1 ≡ event_count (latest self.new.held) }
         ensures bound { KeepsBound self.old.held self.new.held }
     {
@@ -94,9 +93,10 @@ impl Checker {
         ensures looked { Looked self.old.held self.new.held }
         ensures at_len { OnOk result ((event_count (latest self.new.held) ≡ len)
             × (joined (latest self.new.held) ≡ joined (latest self.old.held))) }
-        ensures decided { IfOk result (λ decision. Decides (latest self.new.held) access.now decision) }
+        ensures decided { IfOk result (λ decision.
+            Decides self.new.unit.entries (latest self.new.held) access.now decision) }
         ensures computed { IfOk result (λ decision.
-            decision ≡ decision_of (file_after ENTRIES (latest self.new.held)) access.now) }
+            decision ≡ decision_of (file_after self.new.unit.entries (latest self.new.held)) access.now) }
         ensures moved { IfErr result (λ moved. (moved.seen ≡ event_count (latest self.new.held)) × (len < moved.seen)) }
         ensures bound { KeepsBound self.old.held self.new.held }
     {
@@ -114,9 +114,9 @@ impl Checker {
         requires { length accesses.now ≤ GROUP_ACCESSES }
         ensures unit { self.new.unit ≡ self.old.unit }
         ensures looked { Looked self.old.held self.new.held }
-        ensures decided { AllZip (Decides (latest self.new.held)) accesses.now result.0.items }
+        ensures decided { AllZip (Decides self.new.unit.entries (latest self.new.held)) accesses.now result.0.items }
         ensures computed { result.0.items
-            ≡ map (decision_of (file_after ENTRIES (latest self.new.held))) accesses.now }
+            ≡ map (decision_of (file_after self.new.unit.entries (latest self.new.held))) accesses.now }
         ensures count { result.1 ≡ event_count (latest self.new.held) }
         ensures bound { KeepsBound self.old.held self.new.held }
     {

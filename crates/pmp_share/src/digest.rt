@@ -1,7 +1,6 @@
 //! What a list of batches comes to.
 
 ghost use Rattle.std.specs.Prelude.{◌≡◌, ◌≤◌, length, map};
-ghost use Rattle.pmp_core.specs.declared.register_file.TheConstants.{ENTRIES};
 ghost use Rattle.pmp_core.specs.Decision.{IsDecision};
 ghost use Rattle.pmp_core.specs.Histories.{file_after};
 ghost use Rattle.pmp_core.specs.Ranges.{decision_of};
@@ -17,25 +16,26 @@ use pmp_core::{Access, Decision, RegFile};
 use std::marker::Model;
 use std::snapshot::Snapshot;
 
-/// The register file that batches give, and how many they are. A contract sees the batches.
+/// The register file that batches give, and how many they are. A contract sees the batches, and how many entries the
+/// file has.
 #[derive(Drop)]
 pub struct Digest {
     file: RegFile,
+    entries: u8,
     events: u64,
     batches: usize,
     of: Snapshot<Journal>,
 }
 
 impl Model for Digest {
-    ghost use Rattle.pmp_share.specs.Batches.{Batches};
+    ghost use Rattle.pmp_share.specs.Digests.{Digested, IsDigest};
 
-    ghost Value = { Batches };
+    ghost Value = { Digested };
 
-    ghost use Rattle.pmp_share.specs.Digests.{IsDigest};
+    ghost view = { λ digest. record { entries = digest.entries; list = digest.of.value } };
 
-    ghost view = { λ digest. digest.of.value };
-
-    ghost invariant = { λ digest. IsDigest digest.file digest.events digest.batches digest.of.value };
+    ghost invariant = { λ digest.
+        IsDigest digest.file digest.entries digest.events digest.batches digest.of.value };
 }
 
 impl Digest {
@@ -43,11 +43,12 @@ impl Digest {
 
     /// The digest of a version's batches.
     pub fn of(version: &Version) -> Digest
-        ensures { result ≡ version.now.journal }
+        ensures { result ≡ record { entries = version.now.entries; list = version.now.journal } }
     {
         let journal = version.journal();
         Digest {
             file: *version.file(),
+            entries: version.entries(),
             events: journal.event_count(),
             batches: journal.batches(),
             of: Snapshot::of(journal),
@@ -58,43 +59,43 @@ impl Digest {
     #[cold]
     #[inline(never)]
     pub fn refresh(&mut self, version: &Version)
-        ensures { self.new ≡ version.now.journal }
+        ensures { self.new ≡ record { entries = version.now.entries; list = version.now.journal } }
     {
         *self = Digest::of(version);
     }
 
     /// The register file.
     pub fn file(&self) -> RegFile
-        ensures { result ≡ file_after ENTRIES self.now }
+        ensures { result ≡ file_after self.now.entries self.now.list }
     {
         self.file
     }
 
     /// How many events they hold.
     pub fn events(&self) -> u64
-        ensures { result ≡ event_count self.now }
+        ensures { result ≡ event_count self.now.list }
     {
         self.events
     }
 
     /// How many batches there are.
     pub fn batches(&self) -> usize
-        ensures { result ≡ length self.now }
+        ensures { result ≡ length self.now.list }
     {
         self.batches
     }
 
     /// Whether the other's batches hold more events, or as many in no fewer batches.
     pub fn is_as_late(&self, other: &Digest) -> bool
-        ensures { result ≡ is_as_late self.now other.now }
+        ensures { result ≡ is_as_late self.now.list other.now.list }
     {
         self.events < other.events || (self.events == other.events && self.batches <= other.batches)
     }
 
     /// Decides an access in the register file.
     pub fn decide(&self, access: &Access) -> Decision
-        ensures by_bytes { IsDecision (file_after ENTRIES self.now) access.now result }
-        ensures computed { result ≡ decision_of (file_after ENTRIES self.now) access.now }
+        ensures by_bytes { IsDecision (file_after self.now.entries self.now.list) access.now result }
+        ensures computed { result ≡ decision_of (file_after self.now.entries self.now.list) access.now }
     {
         self.file.decide(access)
     }
@@ -102,7 +103,7 @@ impl Digest {
     /// Decides a group of accesses, in order, in the register file.
     pub fn decide_group(&self, accesses: &[Access]) -> Decisions
         requires { length accesses.now ≤ GROUP_ACCESSES }
-        ensures { result.items ≡ map (decision_of (file_after ENTRIES self.now)) accesses.now }
+        ensures { result.items ≡ map (decision_of (file_after self.now.entries self.now.list)) accesses.now }
     {
         let mut decisions = ArrayVec::new();
         for access in accesses {

@@ -1,7 +1,6 @@
 //! How a journal takes in a batch, with what its events give.
 
-ghost use Rattle.std.specs.Prelude.{◌≡◌, ◌∷◌, ◌++◌, [], OnOk, OnErr};
-ghost use Rattle.pmp_core.specs.declared.register_file.TheConstants.{ENTRIES};
+ghost use Rattle.std.specs.Prelude.{◌≡◌, ℕ, ◌∷◌, ◌++◌, [], OnOk, OnErr};
 ghost use Rattle.pmp_core.specs.Histories.{file_after};
 
 use crate::journal::Journal;
@@ -9,18 +8,18 @@ use pmp_core::{Event, RegFile};
 use pmp_map::RunMap;
 use std::alloc::AllocError;
 
-/// Adds a batch to the journal, to its register file and to that file's map. Where memory is refused nothing changes.
+/// Adds a batch to the journal, to its register file, of any number of entries, and to that file's map. Where memory is
+/// refused nothing changes.
 pub fn grow(
     journal: &mut Journal,
     file: &mut RegFile,
     map: &mut RunMap,
     batch: &[Event],
 ) -> Result<(), AllocError>
-    requires replayed { file.old ≡ file_after ENTRIES journal.old }
     requires mapped { map.old ≡ file.old }
     ensures added { OnOk result (journal.new ≡ journal.old ++ batch.now ∷ []) }
     ensures refused { OnErr result (journal.new ≡ journal.old) }
-    ensures replayed { file.new ≡ file_after ENTRIES journal.new }
+    ensures replayed { (n : ℕ) → file.old ≡ file_after n journal.old → file.new ≡ file_after n journal.new }
     ensures mapped { map.new ≡ file.new }
 {
     journal.push(batch)?;

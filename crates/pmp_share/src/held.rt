@@ -41,13 +41,13 @@ struct More {
 impl Opening<More, List> for Anything {
     ghost use Rattle.std.specs.Prelude.{[], ◌∷◌, ◌++◌};
 
-    ghost log = { λ _ more. more.before.value ++ more.told.value ∷ [] };
+    ghost log = { λ _ more. more.before.value ++ more.told.value.list ∷ [] };
 }
 
 impl Opening<Digest, List> for Anything {
     ghost use Rattle.std.specs.Prelude.{[], ◌∷◌};
 
-    ghost log = { λ _ list. list ∷ [] };
+    ghost log = { λ _ told. told.list ∷ [] };
 }
 
 /// The lists. It takes no bytes.
@@ -67,16 +67,16 @@ impl Model for Held {
 
 impl Held {
     /// One list.
-    pub fn alone(list: &Digest) -> Held
-        ensures { result ≡ list.now ∷ [] }
+    pub fn alone(told: &Digest) -> Held
+        ensures { result ≡ told.now.list ∷ [] }
     {
-        let (lists, _pens) = Seen::open_row::<Digest, Anything>(list, Start::alone(), 0);
+        let (lists, _pens) = Seen::open_row::<Digest, Anything>(told, Start::alone(), 0);
         Held { lists }
     }
 
     /// These lists, and one more.
     pub fn with(&self, told: &Digest) -> Held
-        ensures { result ≡ self.now ++ told.now ∷ [] }
+        ensures { result ≡ self.now ++ told.now.list ∷ [] }
     {
         let more = More {
             before: Snapshot::of(self),

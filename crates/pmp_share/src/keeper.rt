@@ -18,10 +18,9 @@ pub struct Keeper {
 
 impl Model for Keeper {
     ghost use Rattle.std.specs.Prelude.{◌≡◌, length};
-    ghost use Rattle.pmp_share.specs.declared.view.Known.{Known};
-    ghost use Rattle.pmp_share.specs.History.{head_of};
+    ghost use Rattle.pmp_share.specs.History.{Noted, head_of};
 
-    ghost Value = { Known };
+    ghost Value = { Noted };
 
     ghost view = { λ keeper. record { book = keeper.past.book; list = keeper.past.log } };
 

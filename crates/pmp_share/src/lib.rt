@@ -1,7 +1,8 @@
 //! A PMP unit that threads share: one publisher reprograms it by batches of events, and checkers decide accesses
 //! meanwhile, each in the register file that whole published batches give.
 //!
-//! `start` makes them. The definitions that contracts cite are in `specs/`.
+//! `start` makes them, and `start_of` those of a unit of either size. The definitions that contracts cite are in
+//! `specs/`.
 #![tactic(auto)]
 
 mod batch;
@@ -34,6 +35,6 @@ pub use fault::ShareFault;
 pub use group::GROUP_ACCESSES;
 pub use journal::Journal;
 pub use notice::Notice;
-pub use opening::{CHECKERS, start};
+pub use opening::{CHECKERS, start, start_of};
 pub use publisher::Publisher;
 pub use room::HISTORY_LIMIT;

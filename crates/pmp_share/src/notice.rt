@@ -1,7 +1,6 @@
 //! Notices: what a publisher tells checkers.
 
 ghost use Rattle.std.specs.Prelude.{◌≡◌};
-ghost use Rattle.pmp_core.specs.declared.register_file.TheConstants.{ENTRIES};
 ghost use Rattle.pmp_core.specs.Histories.{file_after};
 ghost use Rattle.pmp_share.specs.Batches.{event_count};
 
@@ -20,20 +19,20 @@ impl Model for Notice {
 
     ghost Value = { NoticeToken };
 
-    ghost view = { λ notice. record { unit = notice.stand.book; told = notice.stand.list } };
+    ghost view = { λ notice. record { unit = notice.stand.unit; told = notice.stand.list } };
 }
 
 impl Notice {
     /// The notice of what is known there.
     pub(crate) fn new(stand: Stand) -> Notice
-        ensures { result ≡ record { unit = stand.book; told = stand.list } }
+        ensures { result ≡ record { unit = stand.unit; told = stand.list } }
     {
         Notice { stand }
     }
 
     /// Where it stands.
     pub(crate) fn into_stand(self) -> Stand
-        ensures { result ≡ record { book = self.unit; list = self.told } }
+        ensures { result ≡ record { unit = self.unit; list = self.told } }
     {
         self.stand
     }
@@ -47,7 +46,7 @@ impl Notice {
 
     /// The register file that these events give.
     pub fn file(&self) -> RegFile
-        ensures { result ≡ file_after ENTRIES self.now.told }
+        ensures { result ≡ file_after self.now.unit.entries self.now.told }
     {
         self.stand.digest().file()
     }

@@ -1,6 +1,8 @@
 //! How a unit starts.
 
 ghost use Rattle.std.specs.Prelude.{◌≡◌, ◌≤◌, [], ◌∷◌, IfOk, IfErr, replicate};
+ghost use Rattle.pmp_core.specs.declared.register_file.TheConstants.{ENTRIES};
+ghost use Rattle.pmp_core.specs.Size.{count_of};
 ghost use Rattle.pmp_share.specs.declared.fault.ShareFault.TheVariants.{Full};
 ghost use Rattle.pmp_share.specs.declared.opening.TheConstants.{CHECKERS};
 ghost use Rattle.pmp_share.specs.Object.{no_batches};
@@ -8,6 +10,7 @@ ghost use Rattle.pmp_share.specs.Object.{no_batches};
 use crate::checker::Checker;
 use crate::fault::ShareFault;
 use crate::publisher::Publisher;
+use pmp_core::Size;
 use std::alloc::Global;
 use std::sync::Wait;
 
@@ -32,16 +35,23 @@ fn seat_checkers(
     Ok(checkers)
 }
 
-/// One publisher and `k` checkers of one unit, in the register file of reset and with nothing published.
-pub fn start<R: Wait>(rt: &R, alloc: Global, k: u8) -> Result<(Publisher, Vec<Checker>), ShareFault>
+/// One publisher and `k` checkers of one unit of this size, in the register file of reset and with nothing published.
+/// The unit keeps its size.
+pub fn start_of<R: Wait>(
+    rt: &R,
+    alloc: Global,
+    size: Size,
+    k: u8,
+) -> Result<(Publisher, Vec<Checker>), ShareFault>
     requires { (1 ≤ k) × (k ≤ CHECKERS) }
     ensures publisher { IfOk result (λ started. (started.0.published ≡ no_batches) × (started.0.pending ≡ [])
         × (started.0.tried ≡ 0)) }
     ensures checkers { IfOk result (λ started. started.1.items
         ≡ replicate k (record { unit = started.0.unit; held = no_batches ∷ [] })) }
+    ensures entries { IfOk result (λ started. started.0.unit.entries ≡ count_of size) }
     ensures refused { IfErr result (λ fault. ¬ (fault ≡ Full)) }
 {
-    let mut publisher = Publisher::open(rt, alloc)?;
+    let mut publisher = Publisher::open(rt, alloc, size)?;
     match seat_checkers(alloc, &mut publisher, k) {
         Ok(checkers) => Ok((publisher, checkers)),
         Err(fault) => {
@@ -49,4 +59,17 @@ pub fn start<R: Wait>(rt: &R, alloc: Global, k: u8) -> Result<(Publisher, Vec<Ch
             Err(fault)
         }
     }
+}
+
+/// As `start_of`, of a unit of sixteen entries.
+pub fn start<R: Wait>(rt: &R, alloc: Global, k: u8) -> Result<(Publisher, Vec<Checker>), ShareFault>
+    requires { (1 ≤ k) × (k ≤ CHECKERS) }
+    ensures publisher { IfOk result (λ started. (started.0.published ≡ no_batches) × (started.0.pending ≡ [])
+        × (started.0.tried ≡ 0)) }
+    ensures checkers { IfOk result (λ started. started.1.items
+        ≡ replicate k (record { unit = started.0.unit; held = no_batches ∷ [] })) }
+    ensures entries { IfOk result (λ started. started.0.unit.entries ≡ ENTRIES) }
+    ensures refused { IfErr result (λ fault. ¬ (fault ≡ Full)) }
+{
+    start_of(rt, alloc, Size::Sixteen, k)
 }

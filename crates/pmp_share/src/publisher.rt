@@ -1,6 +1,7 @@
 //! The publisher: it alone adds batches to a unit's history.
 
 ghost use Rattle.std.specs.Prelude.{◌≡◌, ◌↔◌, [], ◌∷◌, ◌++◌, Err, ◌⊎◌, IfOk, IfErr, OnOk, OnErr, false, length, take};
+ghost use Rattle.pmp_core.specs.Size.{count_of};
 ghost use Rattle.pmp_share.specs.declared.fault.ShareFault.TheVariants.{Full, Memory};
 ghost use Rattle.pmp_share.specs.Batches.{event_count};
 ghost use Rattle.pmp_share.specs.Object.{Publishes};
@@ -14,6 +15,7 @@ use crate::journal::Journal;
 use crate::notice::Notice;
 use crate::room::has_room;
 use crate::stage::Stage;
+use pmp_core::Size;
 use std::alloc::Global;
 use std::marker::Model;
 use std::sync::Wait;
@@ -46,14 +48,15 @@ impl Model for Publisher {
 }
 
 impl Publisher {
-    /// A publisher of a new unit, after reset.
-    pub(crate) fn open<R: Wait>(rt: &R, alloc: Global) -> Result<Publisher, ShareFault>
+    /// A publisher of a new unit of this size, after reset.
+    pub(crate) fn open<R: Wait>(rt: &R, alloc: Global, size: Size) -> Result<Publisher, ShareFault>
         ensures made { IfOk result (λ publisher. (publisher.published ≡ []) × (publisher.pending ≡ [])
             × (publisher.tried ≡ 0)) }
+        ensures entries { IfOk result (λ publisher. publisher.unit.entries ≡ count_of size) }
         ensures refused { IfErr result (λ fault. fault ≡ Memory) }
     {
         Ok(Publisher {
-            stage: Stage::open(rt, alloc)?,
+            stage: Stage::open(rt, alloc, size)?,
             pending: Journal::new(alloc),
             handed: 0,
             tried: 0,

@@ -1,6 +1,7 @@
 //! The two copies of a version, as the publisher has them.
 
 ghost use Rattle.std.specs.Prelude.{◌≡◌, true, false, [], ◌∷◌, ◌++◌, IfOk, IfErr, OnOk, OnErr};
+ghost use Rattle.pmp_core.specs.Size.{count_of};
 ghost use Rattle.pmp_share.specs.declared.fault.ShareFault.TheVariants.{Full, Memory};
 
 use crate::digest::Digest;
@@ -14,7 +15,7 @@ use crate::version::Version;
 use crate::view::View;
 use core::mem::replace_with;
 use left_right::writer::Writer;
-use pmp_core::Event;
+use pmp_core::{Event, Size};
 use std::alloc::{AllocError, Global};
 use std::marker::Model;
 use std::sync::Wait;
@@ -28,6 +29,8 @@ type UnitWriter = Writer<Version, Entry, View, OneHistory>;
 /// next publication shows, and the history.
 pub struct Stage {
     alloc: Global,
+    /// How many the unit has.
+    entries: u8,
     writer: UnitWriter,
     keeper: Keeper,
     /// The history has one batch that isn't handed over.
@@ -36,37 +39,42 @@ pub struct Stage {
 
 impl Model for Stage {
     ghost use Rattle.std.specs.Prelude.{drop};
+    ghost use Rattle.pmp_share.specs.Rule.{known};
     ghost use Rattle.pmp_share.specs.Stages.{OnStage, after, told_of, IsStage};
+    ghost use Rattle.pmp_share.specs.Tokens.{unit_with};
 
     ghost Value = { OnStage };
 
     ghost view = { λ stage. record {
-      unit = stage.keeper.book;
+      unit = unit_with stage.keeper.book stage.entries;
       shown = stage.writer.desk.shown.value.journal;
       handed = (after stage.writer.desk.shown.value (drop stage.writer.behind stage.writer.log.items)).batches;
       noted = stage.keeper.list;
       ahead = stage.ahead;
     } };
 
-    ghost invariant = { λ stage. IsStage stage.keeper stage.ahead stage.writer.desk.place.me.0.client
-        stage.writer.desk.shown.value
+    ghost invariant = { λ stage.
+        IsStage (known (unit_with stage.keeper.book stage.entries) stage.keeper.list) stage.ahead
+        stage.writer.desk.place.me.0.client stage.writer.desk.shown.value
         (after stage.writer.desk.shown.value (drop stage.writer.behind stage.writer.log.items)) };
 }
 
 impl Stage {
-    /// Two versions after reset.
-    pub fn open<R: Wait>(rt: &R, alloc: Global) -> Result<Stage, ShareFault>
+    /// Two versions after reset, of a unit of this size.
+    pub fn open<R: Wait>(rt: &R, alloc: Global, size: Size) -> Result<Stage, ShareFault>
         ensures made { IfOk result (λ stage. (stage.shown ≡ []) × (stage.handed ≡ []) × (stage.ahead ≡ false)) }
+        ensures entries { IfOk result (λ stage. stage.unit.entries ≡ count_of size) }
         ensures refused { IfErr result (λ fault. fault ≡ Memory) }
     {
         let keeper = Keeper::open();
-        let first = Version::new(alloc, keeper.past());
-        let second = Version::new(alloc, keeper.past());
+        let first = Version::new(alloc, size, keeper.past());
+        let second = Version::new(alloc, size, keeper.past());
         let writer = Writer::new(alloc, first, second, PLACES)?;
         let (writer, learnt) = writer.publish_as::<Shows, R>(rt);
         match learnt {
             Ok(()) => Ok(Stage {
                 alloc,
+                entries: size.entries(),
                 writer,
                 keeper,
                 ahead: false,
@@ -150,6 +158,7 @@ impl Stage {
     {
         let Stage {
             alloc,
+            entries,
             writer,
             keeper,
             ahead,
@@ -157,6 +166,7 @@ impl Stage {
         let (writer, shown) = writer.publish_as::<Shows, R>(rt);
         let stage = Stage {
             alloc,
+            entries,
             writer,
             keeper,
             ahead,
@@ -167,7 +177,7 @@ impl Stage {
     /// Where a checker or a notice stands that knows just what is published.
     pub fn stand(&mut self) -> Result<Stand, ShareFault>
         ensures same { self.new ≡ self.old }
-        ensures made { IfOk result (λ stand. stand ≡ record { book = self.old.unit; list = self.old.shown }) }
+        ensures made { IfOk result (λ stand. stand ≡ record { unit = self.old.unit; list = self.old.shown }) }
         ensures refused { IfErr result (λ fault. ¬ (fault ≡ Full)) }
     {
         let Ok(mut reader) = self.writer.factory().reader() else {
@@ -183,6 +193,7 @@ impl Stage {
     pub fn end<R: Wait>(self, rt: &R) {
         let Stage {
             alloc: _,
+            entries: _,
             writer,
             keeper: _keeper,
             ahead: _,

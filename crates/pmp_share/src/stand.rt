@@ -1,7 +1,6 @@
 //! Where a checker or a notice stands.
 
 ghost use Rattle.std.specs.Prelude.{◌≡◌, ◌≤◌, length, map, MatchBool, IfOk, IfErr};
-ghost use Rattle.pmp_core.specs.declared.register_file.TheConstants.{ENTRIES};
 ghost use Rattle.pmp_core.specs.Histories.{file_after};
 ghost use Rattle.pmp_core.specs.Ranges.{decision_of};
 ghost use Rattle.pmp_share.specs.declared.fault.ShareFault.TheVariants.{Full};
@@ -40,25 +39,28 @@ impl Model for Stand {
     ghost use Rattle.std.specs.Prelude.{◌≡◌, Some};
     ghost use Rattle.pmp_share.specs.declared.view.Known.{Known};
     ghost use Rattle.pmp_share.specs.Rule.{known};
+    ghost use Rattle.pmp_share.specs.Tokens.{unit_with};
 
     ghost Value = { Known };
 
-    ghost view = { λ stand. known stand.past.book stand.past.log };
+    ghost view = { λ stand. known (unit_with stand.past.book stand.digest.value.entries) stand.past.log };
 
-    ghost invariant = { λ stand. (stand.reader.place.me.0.client ≡ Some (known stand.past.book stand.past.log))
-        × (stand.digest.value ≡ stand.past.log) };
+    ghost invariant = { λ stand. (stand.reader.place.me.0.client
+        ≡ Some (known (unit_with stand.past.book stand.digest.value.entries) stand.past.log))
+        × (stand.digest.value.list ≡ stand.past.log) };
 }
 
 impl Stand {
     ghost use Rattle.std.specs.Prelude.{Some};
     ghost use Rattle.left_right.specs.Sides.{view};
     ghost use Rattle.pmp_share.specs.Rule.{known, known_of};
+    ghost use Rattle.pmp_share.specs.Tokens.{unit_with};
 
     /// Where a reader stands that knows just what the digest is of.
     pub fn new(reader: UnitReader, digest: Box<Digest>, past: Past) -> Stand
-        requires seat { view reader.place ≡ Some (known past.book past.log) }
-        requires digest { digest.value ≡ past.log }
-        ensures { result ≡ known past.book past.log }
+        requires seat { view reader.place ≡ Some (known (unit_with past.book digest.value.entries) past.log) }
+        requires digest { digest.value.list ≡ past.log }
+        ensures { result ≡ known (unit_with past.book digest.value.entries) past.log }
     {
         Stand {
             reader,
@@ -72,7 +74,8 @@ impl Stand {
     fn leave(reading: UnitReading, mut digest: Box<Digest>) -> Stand
         requires seat { view reading.place ≡ Some (known_of reading.part.value) }
         requires noted { reading.part.value.past.log ≡ reading.part.value.journal }
-        requires begins { StartsWith reading.part.value.journal digest.value }
+        requires entries { digest.value.entries ≡ reading.part.value.entries }
+        requires begins { StartsWith reading.part.value.journal digest.value.list }
         ensures { result ≡ known_of reading.part.value }
     {
         let version = reading.get();
@@ -85,7 +88,8 @@ impl Stand {
 
     /// The digest of the batches.
     pub fn digest(&self) -> &Digest
-        ensures { result.now ≡ self.now.list }
+        ensures entries { result.now.entries ≡ self.now.unit.entries }
+        ensures list { result.now.list ≡ self.now.list }
     {
         &self.digest
     }
@@ -93,7 +97,7 @@ impl Stand {
     /// Whether the other's batches hold more events, or as many in no fewer batches. Then these begin them, and
     /// otherwise they begin these.
     pub fn is_before(&self, other: &Stand) -> bool
-        requires unit { other.now.book ≡ self.now.book }
+        requires unit { other.now.unit ≡ self.now.unit }
         ensures late { result ≡ is_as_late self.now.list other.now.list }
         ensures begins { MatchBool result (StartsWith other.now.list self.now.list)
             (StartsWith self.now.list other.now.list) }
@@ -106,10 +110,10 @@ impl Stand {
     /// Enters the published version and decides there, or where no entrance is given in the batches that it knows.
     /// Answers how many events they hold, too.
     pub fn look(&mut self, access: &Access) -> (Decision, u64)
-        ensures unit { self.new.book ≡ self.old.book }
+        ensures unit { self.new.unit ≡ self.old.unit }
         ensures begins { StartsWith self.new.list self.old.list }
-        ensures decided { DecidesIn self.new.list access.now result.0 }
-        ensures computed { result.0 ≡ decision_of (file_after ENTRIES self.new.list) access.now }
+        ensures decided { DecidesIn self.new.unit.entries self.new.list access.now result.0 }
+        ensures computed { result.0 ≡ decision_of (file_after self.new.unit.entries self.new.list) access.now }
         ensures count { result.1 ≡ event_count self.new.list }
     {
         replace_with(self, access, |stand, access| stand.enter(access))
@@ -117,10 +121,10 @@ impl Stand {
 
     /// The stand after the look, and its answer.
     fn enter(self, access: &Access) -> (Stand, (Decision, u64))
-        ensures unit { result.0.book ≡ self.book }
+        ensures unit { result.0.unit ≡ self.unit }
         ensures begins { StartsWith result.0.list self.list }
-        ensures decided { DecidesIn result.0.list access.now result.1.0 }
-        ensures computed { result.1.0 ≡ decision_of (file_after ENTRIES result.0.list) access.now }
+        ensures decided { DecidesIn result.0.unit.entries result.0.list access.now result.1.0 }
+        ensures computed { result.1.0 ≡ decision_of (file_after result.0.unit.entries result.0.list) access.now }
         ensures count { result.1.1 ≡ event_count result.0.list }
     {
         let Stand {
@@ -144,9 +148,10 @@ impl Stand {
     /// As `look`, for a group of accesses.
     pub fn look_at_group(&mut self, group: &[Access]) -> (Decisions, u64)
         requires { length group.now ≤ GROUP_ACCESSES }
-        ensures unit { self.new.book ≡ self.old.book }
+        ensures unit { self.new.unit ≡ self.old.unit }
         ensures begins { StartsWith self.new.list self.old.list }
-        ensures computed { result.0.items ≡ map (decision_of (file_after ENTRIES self.new.list)) group.now }
+        ensures computed { result.0.items
+            ≡ map (decision_of (file_after self.new.unit.entries self.new.list)) group.now }
         ensures count { result.1 ≡ event_count self.new.list }
     {
         replace_with(self, group, |stand, group| stand.enter_all(group))
@@ -155,9 +160,10 @@ impl Stand {
     /// The stand after that look, and its answer.
     fn enter_all(self, group: &[Access]) -> (Stand, (Decisions, u64))
         requires { length group.now ≤ GROUP_ACCESSES }
-        ensures unit { result.0.book ≡ self.book }
+        ensures unit { result.0.unit ≡ self.unit }
         ensures begins { StartsWith result.0.list self.list }
-        ensures computed { result.1.0.items ≡ map (decision_of (file_after ENTRIES result.0.list)) group.now }
+        ensures computed { result.1.0.items
+            ≡ map (decision_of (file_after result.0.unit.entries result.0.list)) group.now }
         ensures count { result.1.1 ≡ event_count result.0.list }
     {
         let Stand {
@@ -181,7 +187,7 @@ impl Stand {
 
     /// Enters the published version and copies its batches.
     pub fn copy_journal(&mut self) -> Result<Journal, ShareFault>
-        ensures unit { self.new.book ≡ self.old.book }
+        ensures unit { self.new.unit ≡ self.old.unit }
         ensures begins { StartsWith self.new.list self.old.list }
         ensures copied { IfOk result (λ journal. journal ≡ self.new.list) }
         ensures refused { IfErr result (λ fault. ¬ (fault ≡ Full)) }
@@ -191,7 +197,7 @@ impl Stand {
 
     /// The stand after that, and the copy.
     fn enter_to_copy(self) -> (Stand, Result<Journal, ShareFault>)
-        ensures unit { result.0.book ≡ self.book }
+        ensures unit { result.0.unit ≡ self.unit }
         ensures begins { StartsWith result.0.list self.list }
         ensures copied { IfOk result.1 (λ journal. journal ≡ result.0.list) }
         ensures refused { IfErr result.1 (λ fault. ¬ (fault ≡ Full)) }

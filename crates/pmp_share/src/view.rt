@@ -4,26 +4,29 @@ use pmp_core::Event;
 use std::collections::LinkedList;
 use std::marker::Model;
 
-/// Whose history it is: a contract sees the book that keeps it. No value of it is made.
+/// Whose history it is: a contract sees the book that keeps it, and how many entries the unit has. No value of it is
+/// made.
 pub struct Unit {
     number: u64,
     log: u64,
     cells: u64,
+    entries: u8,
 }
 
 impl Model for Unit {
-    ghost use Rattle.logbook.specs.Pages.{Book, book_coded};
+    ghost use Rattle.pmp_share.specs.Tokens.{UnitId, unit_with, unit_coded};
 
-    ghost Value = { Book };
+    ghost Value = { UnitId };
 
-    ghost coded = { book_coded };
+    ghost coded = { unit_coded };
 
-    ghost view = { λ unit. record { number = unit.number; log_name = unit.log; cells_name = unit.cells } };
+    ghost view = { λ unit.
+        unit_with (record { number = unit.number; log_name = unit.log; cells_name = unit.cells }) unit.entries };
 }
 
 /// A beginning of one history. No value of it is made.
 pub struct Known {
-    pub book: Unit,
+    pub unit: Unit,
     pub list: LinkedList<LinkedList<Event>>,
 }
 

@@ -7,12 +7,12 @@ use Rattle.pmp_share.proofs.checker.Checker.copy_journal.Goals as goal
 use Rattle.pmp_share.proofs.checker.Checker.copy_journal.Goals.{After-drop-self-inside}
 
 look : (c : After-drop-self-inside) → Look c.self.inside.stand c.copy_journal-copied.new.self c.args.self.now.held
-    c.self.inside.held c.alone.result c.digest.result.now
+    c.self.inside.held c.alone.result c.digest.result.now.list
 look c = record {
   seen_is = ap (λ (token : CheckerToken). token.held) c.self.view_is;
   before = c.self.invariant;
   alone = c.alone.ensures;
-  digest_is = c.digest.ensures;
+  digest_is = c.digest.ensures.list;
   begins = c.copy_journal-copied.ensures.begins;
 }
 

@@ -1,5 +1,4 @@
 use Rattle.std.proofs.Common.{subst, sym, ap, ◌∙◌}
-use Rattle.pmp_core.specs.declared.register_file.TheConstants.{ENTRIES}
 use Rattle.pmp_core.specs.Histories.{file_after}
 use Rattle.pmp_core.specs.Ranges.{decision_of}
 use Rattle.pmp_share.specs.Batches.{Batches, event_count}
@@ -12,12 +11,12 @@ use Rattle.pmp_share.proofs.checker.Checker.decide.Goals as goal
 use Rattle.pmp_share.proofs.checker.Checker.decide.Goals.{After-drop-self-inside}
 
 look : (c : After-drop-self-inside) → Look c.self.inside.stand c.look-answer.new.self c.args.self.now.held
-    c.self.inside.held c.alone.result c.digest.result.now
+    c.self.inside.held c.alone.result c.digest.result.now.list
 look c = record {
   seen_is = ap (λ (token : CheckerToken). token.held) c.self.view_is;
   before = c.self.invariant;
   alone = c.alone.ensures;
-  digest_is = c.digest.ensures;
+  digest_is = c.digest.ensures.list;
   begins = c.look-answer.ensures.begins;
 }
 
@@ -29,12 +28,16 @@ returns-clause-looked c = looked (look c)
 
 pub returns-clause-decided : goal.returns-clause-decided
 unfolding DecidesIn
-returns-clause-decided c = subst (λ (b : Batches). Decides b c.args.access.now c.look-answer.result.0)
-    (sym (latest_new (look c))) c.look-answer.ensures.decided
+returns-clause-decided c =
+    let entries = c.look-answer.new.self.unit.entries in
+    subst (λ (b : Batches). Decides entries b c.args.access.now c.look-answer.result.0) (sym (latest_new (look c)))
+    c.look-answer.ensures.decided
 
 pub returns-clause-computed : goal.returns-clause-computed
-returns-clause-computed c = c.look-answer.ensures.computed
-    ∙ ap (λ (b : Batches). decision_of (file_after ENTRIES b) c.args.access.now) (sym (latest_new (look c)))
+returns-clause-computed c =
+    let entries = c.look-answer.new.self.unit.entries in
+    c.look-answer.ensures.computed
+    ∙ ap (λ (b : Batches). decision_of (file_after entries b) c.args.access.now) (sym (latest_new (look c)))
 
 pub returns-clause-count : goal.returns-clause-count
 returns-clause-count c = c.look-answer.ensures.count ∙ ap event_count (sym (latest_new (look c)))

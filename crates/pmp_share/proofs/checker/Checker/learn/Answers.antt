@@ -8,7 +8,7 @@ use Rattle.pmp_share.proofs.checker.Checker.learn.Goals as goal
 use Rattle.pmp_share.proofs.checker.Checker.learn.Goals.{After-is_before}
 
 held_more : (c : After-is_before) → c.with.result ≡ c.self.inside.held ++ c.into_stand-stand.result.list ∷ []
-held_more c = c.with.ensures ∙ ap (λ (told : Batches). c.self.inside.held ++ told ∷ []) c.digest.ensures
+held_more c = c.with.ensures ∙ ap (λ (told : Batches). c.self.inside.held ++ told ∷ []) c.digest.ensures.list
 
 held_told : (c : After-is_before) → c.with.result ≡ c.args.self.now.held ++ c.args.notice.told ∷ []
 held_told c =

@@ -1,6 +1,9 @@
 use Rattle.std.proofs.Common.{◌≡◌, [], ap, sym, ◌∙◌}
 use Rattle.pmp_share.specs.declared.version.Version.{Version}
+use Rattle.pmp_core.specs.Size.{count_of}
+use Rattle.pmp_share.specs.Rule.{known, unit_of}
 use Rattle.pmp_share.specs.Stages.{after, told_of}
+use Rattle.pmp_share.specs.Tokens.{unit_with}
 use Rattle.pmp_share.proofs.RuleFacts.{shows_none}
 use Rattle.pmp_share.proofs.StageFacts.{turned, match_ok}
 use Rattle.pmp_share.proofs.stage.Stage.open.Goals as goal
@@ -27,6 +30,13 @@ module _ (g : Over) (c : In_ok-writer g) where
       ∙ ap (λ past. past.book) c.new-first.ensures.past
       ∙ c.past.ensures.0
 
+  entries : c.in_ok-writer.writer.desk.shown.value.entries ≡ count_of c.args.size
+  entries =
+      ap (λ (version : Version). version.entries) c.in_ok-writer.ensures.0 ∙ c.new-first.ensures.entries
+
+  unit : unit_of c.in_ok-writer.writer.desk.shown.value ≡ unit_with c.open-keeper.result.book (count_of c.args.size)
+  unit = λ i. unit_with (book i) (entries i)
+
 pub publish_as-writer-requires : goal.publish_as-writer-requires
 publish_as-writer-requires g c next is =
     shows_none _ _ c.in_ok-writer.writer.desk.shown.value _ c.in_ok-writer.ensures.1 (noted g c) next is
@@ -36,6 +46,9 @@ invariant_of-result g c =
     let shown = c.in_ok-writer.writer.desk.shown.value in
     let made = (goal.at.invariant_of-result g c).In_ok-writer in
     let values = match_ok c.publish_as-writer.result.1 _ _ _ c.in-Ok.is c.publish_as-writer.ensures.values in
-    turned c.open-keeper.result _ _ _ (told_of shown) _ (values.0 ∙ ap (after shown) c.in_ok-writer.ensures.1) values.1
-    (match_ok c.publish_as-writer.result.1 _ _ _ c.in-Ok.is c.publish_as-writer.ensures.rule) (book g made)
-    (noted g made) (λ _. c.open-keeper.ensures ∙ sym (journal_is g made))
+    let keeper = c.open-keeper.result in
+    turned (known (unit_with keeper.book c.entries.result) keeper.list) _ _ _ (told_of shown) _
+    (values.0 ∙ ap (after shown) c.in_ok-writer.ensures.1) values.1
+    (match_ok c.publish_as-writer.result.1 _ _ _ c.in-Ok.is c.publish_as-writer.ensures.rule)
+    (unit g made ∙ ap (unit_with keeper.book) (sym c.entries.ensures)) (noted g made)
+    (λ _. c.open-keeper.ensures ∙ sym (journal_is g made))

@@ -1,5 +1,7 @@
 use Rattle.std.proofs.Common.{sym, ◌∙◌, drop}
+use Rattle.pmp_share.specs.Rule.{known}
 use Rattle.pmp_share.specs.Stages.{after}
+use Rattle.pmp_share.specs.Tokens.{unit_with}
 use Rattle.pmp_share.proofs.RuleFacts.{shows_told}
 use Rattle.pmp_share.proofs.StageFacts.{turned_or_not}
 use Rattle.pmp_share.proofs.stage.Stage.turn.Goals as goal
@@ -9,12 +11,14 @@ publish_as-writer-requires g c next is =
     let writer = c.self.inside.writer in
     let was = c.self.invariant in
     shows_told _ _ writer.desk.shown.value (after writer.desk.shown.value (drop writer.behind writer.log.items))
-    (was.next_book ∙ sym was.book) was.next_noted was.begins next is
+    (was.next_unit ∙ sym was.unit) was.next_noted was.begins next is
 
 pub invariant_of-stage : goal.invariant_of-stage
 invariant_of-stage g c =
     let writer = c.self.inside.writer in
     let next = c.publish_as-writer.result.0 in
-    turned_or_not c.publish_as-writer.result.1 c.self.inside.keeper c.self.inside.ahead _ _ writer.desk.shown.value _
-    (drop writer.behind writer.log.items) (drop next.behind next.log.items) c.self.invariant
-    c.publish_as-writer.ensures.values c.publish_as-writer.ensures.rule
+    let keeper = c.self.inside.keeper in
+    turned_or_not c.publish_as-writer.result.1 (known (unit_with keeper.book c.self.inside.entries) keeper.list)
+    c.self.inside.ahead _ _ writer.desk.shown.value _ (drop writer.behind writer.log.items)
+    (drop next.behind next.log.items) c.self.invariant c.publish_as-writer.ensures.values
+    c.publish_as-writer.ensures.rule

@@ -2,6 +2,7 @@ use Rattle.std.proofs.Common.{◌≡◌, ap, subst, sym, ◌∙◌}
 use mathlib.Core.List.{IsPrefix}
 use Rattle.pmp_share.specs.declared.view.Known.{Known}
 use Rattle.pmp_share.specs.Batches.{Batches}
+use Rattle.pmp_share.specs.Digests.{Digested}
 use Rattle.pmp_share.specs.Looks.{is_as_late}
 use Rattle.pmp_share.proofs.LookFacts.{later_begins}
 use Rattle.pmp_share.proofs.stand.Stand.is_before.Goals as goal
@@ -14,5 +15,6 @@ returns-clause-begins c =
     later_begins c.args.self.now.list c.args.other.now.list both
     (subst (λ (b : Batches). IsPrefix b both) (ap (λ past. past.log) c.again-both.ensures ∙ own) c.learn.ensures.2)
     (subst (λ (b : Batches). IsPrefix b both) others c.learn.ensures.3) c.is_as_late.result
-    (sym (c.is_as_late.ensures ∙ (λ i. is_as_late ((c.deref.ensures ∙ c.self.invariant.1 ∙ own) i)
-    ((c.deref-2.ensures ∙ c.other.invariant.1 ∙ others) i))))
+    (sym (c.is_as_late.ensures ∙ (λ i. is_as_late
+    ((ap (λ (digest : Digested). digest.list) c.deref.ensures ∙ c.self.invariant.1 ∙ own) i)
+    ((ap (λ (digest : Digested). digest.list) c.deref-2.ensures ∙ c.other.invariant.1 ∙ others) i))))

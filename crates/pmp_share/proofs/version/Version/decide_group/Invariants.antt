@@ -1,5 +1,4 @@
 use Rattle.std.proofs.Common.{◌≡◌, ◌++◌, length, drop, map}
-use Rattle.pmp_core.specs.declared.register_file.TheConstants.{ENTRIES}
 use Rattle.pmp_core.specs.Histories.{file_after}
 use Rattle.pmp_core.specs.Ranges.{decision_of}
 use Rattle.pmp_share.proofs.version.Version.decide_group.Given as goal
@@ -7,6 +6,6 @@ use Rattle.pmp_share.proofs.version.Version.decide_group.Given as goal
 -- the decisions so far and those on what is left are those on all
 abbrev pub invariant-loop-access : goal.invariant-loop-access
 invariant-loop-access l =
-    let decide = decision_of (file_after ENTRIES l.self.journal) in
+    let decide = decision_of (file_after l.self.entries l.self.journal) in
     (l.decisions.items ++ map decide (drop l.access-index l.accesses) ≡ map decide l.accesses)
     × (length l.decisions.items ≡ l.access-index)
