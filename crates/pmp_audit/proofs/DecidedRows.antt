@@ -77,11 +77,11 @@ module _ (batches : List (List Event)) where
         ∙ ap (λ (l : List Row). l ++ drop n (take (n + m) rows)) (take-take n (n + m) rows (omega arith))
         ∙ ap (λ (l : List Row). take n rows ++ l) (drop-take n m rows)
 
-    pub decided_next : (after : ℕ) (published : Batches) (decided new : List Decision)
-        → AreDecidedSoFar batches rows after decided → published ≡ take after batches
-        → new ≡ decided ++ decided_in (file_after ENTRIES published) (asking after (drop (length decided) rows))
+    pub decided_next : (after size : ℕ) (published : Batches) (decided new : List Decision)
+        → AreDecidedSoFar batches rows after decided → size ≡ ENTRIES → published ≡ take after batches
+        → new ≡ decided ++ decided_in (file_after size published) (asking after (drop (length decided) rows))
         → AreDecidedSoFar batches rows (after + 1) new
-    decided_next after published decided new so_far done added =
+    decided_next after size published decided new so_far sixteen done added =
         let n = length decided in
         let left = drop n rows in
         let front = asking after left in
@@ -89,7 +89,8 @@ module _ (batches : List (List Event)) where
         let next = asked after left so_far.order in
         let f = decision_for batches in
         let now : new ≡ decided ++ map f front =
-        added ∙ ap (λ (p : Batches). decided ++ decided_in (file_after ENTRIES p) front) done
+        added ∙ ap (λ (k : ℕ). decided ++ decided_in (file_after k published) front) sixteen
+        ∙ ap (λ (p : Batches). decided ++ decided_in (file_after ENTRIES p) front) done
         ∙ ap (λ (l : List Decision). decided ++ l) next.decisions in
         let many : length new ≡ n + m =
         ap (λ (l : List Decision). length l) now ∙ length-append decided (map f front)

@@ -10,7 +10,6 @@ use Rattle.std.proofs.lemmas.Bool.{cases_lt}
 use Rattle.std.proofs.lemmas.Option.{slice_get-map, slice_get_within, slice_get_cases, get_or_from_slice_get}
 use Rattle.std.proofs.lemmas.Option.{same_Some, some_pair_parts, slice_get_past, slice_get-get_or}
 use Rattle.pmp_core.specs.declared.decision.Decision.{Decision}
-use Rattle.pmp_core.specs.declared.register_file.TheConstants.{ENTRIES}
 use Rattle.pmp_core.specs.Histories.{file_after}
 use Rattle.pmp_core.specs.Ranges.{decision_of}
 use Rattle.pmp_core.specs.RegisterFile.{RegisterFile}
@@ -149,7 +148,8 @@ done_at results all worker done same at =
 -- what a call of `work` says of its job
 abbrev pub IsDoneAs : (workers first : ℕ) → List Row → Job → Result Done WorkFault → Type 0
 IsDoneAs workers first rows job result =
-    IfOk result (IsDone job.checker.unit (file_after ENTRIES job.notice.told) job.worker workers first rows)
+    IfOk result (IsDone job.checker.unit (file_after job.checker.unit.entries job.notice.told) job.worker workers first
+    rows)
 
 module _ (publisher : PublisherToken) (count workers first : ℕ) (rows : List Row) (jobs : List Job)
     (results : List (Result Done WorkFault)) (all : List Done)
@@ -158,7 +158,7 @@ module _ (publisher : PublisherToken) (count workers first : ℕ) (rows : List R
     → (job : Job) × ((e : Job) → get_or jobs i e ≡ job) × IsDoneAs workers first rows job (get_or results i d))
     (length_is : length results ≡ count) where
   abbrev file : RegisterFile
-  file = file_after ENTRIES publisher.published
+  file = file_after publisher.unit.entries publisher.published
 
   all_many : length all ≡ count
   all_many = sym (length-map all Ok) ∙ sym (ap (λ (l : List (Result Done WorkFault)). length l) same) ∙ length_is
@@ -170,13 +170,13 @@ module _ (publisher : PublisherToken) (count workers first : ℕ) (rows : List R
       let within = slice_get_within all worker done at in omega (arith, all_many, are.many) in
       let (job, job_is, is) = each worker (Ok done) inside in
       let at_job : slice_get jobs worker ≡ Some job = slice_get-get_or jobs worker job inside ∙ ap Some (job_is job) in
-      let own : IsDone job.checker.unit (file_after ENTRIES job.notice.told) job.worker workers first rows done =
-      subst (IsDoneAs workers first rows job) (done_at results all worker done same at) is in
+      let own : IsDone job.checker.unit (file_after job.checker.unit.entries job.notice.told) job.worker workers first
+      rows done = subst (IsDoneAs workers first rows job) (done_at results all worker done same at) is in
       let j : IsJob publisher worker job = are.each worker job at_job in
       let told : job.notice.told ≡ publisher.published = ap (λ (n : NoticeToken). n.told) j.notice in
       let number : workers ≡ length all = as_many ∙ sym all_many in
       let Own : UnitId → Batches → ℕ → ℕ → Type 0 = λ unit told worker workers.
-      IsDone unit (file_after ENTRIES told) worker workers first rows done in
+      IsDone unit (file_after unit.entries told) worker workers first rows done in
       let by_unit : Own publisher.unit job.notice.told job.worker workers =
       subst (λ (u : UnitId). Own u job.notice.told job.worker workers) j.same_unit own in
       let by_told : Own publisher.unit publisher.published job.worker workers =

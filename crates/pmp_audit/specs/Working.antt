@@ -2,7 +2,6 @@
 use Rattle.std.specs.Prelude.{◌≡◌, ℕ, ◌≤◌, ◌%◌, ◌/◌, List, All, map, slice_get}
 use Rattle.std.specs.List.{enumerate_from}
 use Rattle.pmp_share.specs.Tokens.{UnitId}
-use Rattle.pmp_core.specs.declared.register_file.TheConstants.{ENTRIES}
 use Rattle.pmp_core.specs.Histories.{file_after}
 use Rattle.pmp_core.specs.RegisterFile.{RegisterFile}
 use Rattle.pmp_share.specs.Batches.{Batches, event_count}
@@ -16,12 +15,12 @@ abbrev pub IsDealt : {A : Type 0} → (worker workers : ℕ) → (all hand : Lis
 IsDealt worker workers all hand =
     (place : ℕ) → place % workers ≡ worker → slice_get hand (place / workers) ≡ slice_get all place
 
--- some batches are bound that hold so many events and give this file
-pub record HasLearnt (held : List Batches) (count : ℕ) (file : RegisterFile) : Type 0 where
+-- some batches are bound that hold so many events and give this file, of so many entries
+pub record HasLearnt (entries : ℕ) (held : List Batches) (count : ℕ) (file : RegisterFile) : Type 0 where
   pub told : Batches
   pub bound : Bound held told
   pub counted : count ≡ event_count told
-  pub replayed : file ≡ file_after ENTRIES told
+  pub replayed : file ≡ file_after entries told
   pub reached : count ≤ event_count (latest held)
 
 -- what a decision is of: the number of its row, and the row

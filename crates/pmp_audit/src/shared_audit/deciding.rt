@@ -1,6 +1,7 @@
 //! All rows of a trace, decided while the script's publications are done.
 
 ghost use Rattle.std.specs.Prelude.{◌≡◌, ◌<◌, ◌≤◌, [], IfOk, IfErr, All, length, map};
+ghost use Rattle.pmp_core.specs.declared.register_file.TheConstants.{ENTRIES};
 ghost use Rattle.pmp_share.specs.declared.opening.TheConstants.{CHECKERS};
 ghost use Rattle.pmp_share.specs.declared.room.TheConstants.{HISTORY_LIMIT};
 ghost use Rattle.pmp_share.specs.Object.{no_batches};
@@ -34,6 +35,7 @@ fn decide_rows<R: Threads + Wait + Sync, G: Gate + Sync>(
     requires some { 0 < length checkers.items }
     requires few { length checkers.items ≤ CHECKERS }
     requires same_unit { All (λ checker. checker.unit ≡ publisher.old.unit) checkers.items }
+    requires entries { publisher.old.unit.entries ≡ ENTRIES }
     requires published { publisher.old.published ≡ no_batches }
     requires pending { publisher.old.pending ≡ [] }
     requires size { script_size script.now.batches ≤ HISTORY_LIMIT }

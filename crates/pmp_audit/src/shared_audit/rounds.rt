@@ -1,7 +1,6 @@
 //! One round: the rows that ask for just what is published, decided by all workers.
 
 ghost use Rattle.std.specs.Prelude.{◌≡◌, ◌+◌, ◌^◌, ◌<◌, ◌≤◌, ◌++◌, IfOk, IfErr, OnOk, All, length, drop};
-ghost use Rattle.pmp_core.specs.declared.register_file.TheConstants.{ENTRIES};
 ghost use Rattle.pmp_core.specs.Histories.{file_after};
 ghost use Rattle.pmp_share.specs.declared.fault.ShareFault.TheVariants.{Full};
 ghost use Rattle.pmp_share.specs.declared.opening.TheConstants.{CHECKERS};
@@ -68,7 +67,7 @@ fn round<R: Threads + Wait + Sync, G: Gate + Sync>(
     ensures same { publisher.new ≡ publisher.old }
     ensures checkers { IfOk result (λ all. AreCheckersOf publisher.old.unit (length checkers.items) all.items) }
     ensures decided { OnOk result (decided.new.items
-        ≡ decided.old.items ++ decided_in (file_after ENTRIES publisher.old.published) rows.now) }
+        ≡ decided.old.items ++ decided_in (file_after publisher.old.unit.entries publisher.old.published) rows.now) }
     ensures refused { IfErr result MayStop }
 {
     let first = decided.len() as u64 + 1;
@@ -79,8 +78,8 @@ fn round<R: Threads + Wait + Sync, G: Gate + Sync>(
         jobs,
         &|job: Job| -> Result<Done, WorkFault>
             requires { (0 < workers) × (first + length rows.now ≤ 2 ^ 64) }
-            ensures { IfOk result (IsDone job.checker.unit (file_after ENTRIES job.notice.told) job.worker workers first
-                rows.entry.now) }
+            ensures { IfOk result (IsDone job.checker.unit (file_after job.checker.unit.entries job.notice.told)
+                job.worker workers first rows.entry.now) }
         {
             let Job {
                 worker,
@@ -120,7 +119,7 @@ pub(crate) fn decide_asking<R: Threads + Wait + Sync, G: Gate + Sync>(
     ensures same { publisher.new ≡ publisher.old }
     ensures checkers { IfOk result (λ all. AreCheckersOf publisher.old.unit (length checkers.items) all.items) }
     ensures decided { OnOk result (decided.new.items ≡ decided.old.items
-        ++ decided_in (file_after ENTRIES publisher.old.published)
+        ++ decided_in (file_after publisher.old.unit.entries publisher.old.published)
         (asking after (drop (length decided.old.items) rows.now))) }
     ensures refused { IfErr result MayStop }
 {

@@ -1,7 +1,6 @@
 //! A worker: it decides its rows of one round, in just what its notice tells of.
 
 ghost use Rattle.std.specs.Prelude.{◌≡◌, OnOk, IfOk};
-ghost use Rattle.pmp_core.specs.declared.register_file.TheConstants.{ENTRIES};
 ghost use Rattle.pmp_core.specs.Histories.{file_after};
 ghost use Rattle.pmp_audit.specs.Working.{HasLearnt, IsDone, row_of};
 
@@ -26,9 +25,9 @@ fn ask(
     number: u64,
     row: &Row,
 ) -> Result<RowDecision, Moved>
-    requires { HasLearnt checker.old.held count file.now }
+    requires { HasLearnt checker.old.unit.entries checker.old.held count file.now }
     ensures unit { checker.new.unit ≡ checker.old.unit }
-    ensures learnt { OnOk result (HasLearnt checker.new.held count file.now) }
+    ensures learnt { OnOk result (HasLearnt checker.new.unit.entries checker.new.held count file.now) }
     ensures row { IfOk result (λ decision. row_of decision ≡ (number, row.now)) }
     ensures file { IfOk result (λ decision. decision.file.value ≡ file.now) }
 {
@@ -51,8 +50,8 @@ pub(crate) fn work<G: Gate>(
     gate: &G,
 ) -> Result<Done, WorkFault>
     requires { notice.unit ≡ checker.unit }
-    ensures { IfOk result (IsDone checker.unit (file_after ENTRIES notice.told) hand.entry.worker
-        hand.entry.workers hand.entry.first hand.entry.rows.now) }
+    ensures { IfOk result (IsDone checker.unit (file_after checker.unit.entries notice.told)
+        hand.entry.worker hand.entry.workers hand.entry.first hand.entry.rows.now) }
 {
     let count = notice.len();
     let file = notice.file();

@@ -2,7 +2,7 @@ use Rattle.std.proofs.Common.{◌≡◌, ◌+◌, ◌++◌, [], ◌∷◌, List,
 use Rattle.std.proofs.lemmas.List.{take_more}
 use Rattle.pmp_core.specs.declared.event.Event.{Event}
 use Rattle.pmp_share.specs.Batches.{Batches}
-use Rattle.pmp_share.specs.Tokens.{PublisherToken}
+use Rattle.pmp_share.specs.Tokens.{PublisherToken, UnitId}
 use Rattle.pmp_audit.proofs.DecidedRows.{none_decided, decided_next, all_decided, room_for}
 use Rattle.pmp_audit.proofs.shared_audit.deciding.decide_rows.Goals as goal
 
@@ -17,8 +17,9 @@ loop-index-init g c =
       pending = ap (λ (p : PublisherToken). p.pending) same ∙ c.requires.pending;
       unit = ap (λ (p : PublisherToken). p.unit) same;
       checkers = c.in_ok-checkers.ensures.checkers;
-      decided = decided_next script rows 0 c.args.publisher.now.published [] c.decide_asking.new.decided.items start
-          c.requires.published (rw c.new-decided.ensures.items at c.in_ok-checkers.ensures.decided);
+      decided = decided_next script rows 0 c.args.publisher.now.unit.entries c.args.publisher.now.published []
+          c.decide_asking.new.decided.items start c.requires.entries c.requires.published
+          (rw c.new-decided.ensures.items at c.in_ok-checkers.ensures.decided);
     }
 
 pub publish-requires-clause-room : goal.publish-requires-clause-room
@@ -44,8 +45,9 @@ loop-index-preserved g c =
       pending = ap (λ (p : PublisherToken). p.pending) same ∙ c.in_ok-publish.ensures.alone;
       unit = ap (λ (p : PublisherToken). p.unit) same ∙ unit;
       checkers = rw (unit, at.invariant.checkers.many) at checkers;
-      decided = decided_next script rows (at.index + 1) c.publish.new.publisher.published at.decided.items
-          c.decide_asking-in-loop-index.new.decided.items at.invariant.decided done
+      decided = decided_next script rows (at.index + 1) c.publish.new.publisher.unit.entries
+          c.publish.new.publisher.published at.decided.items c.decide_asking-in-loop-index.new.decided.items
+          at.invariant.decided (ap (λ (u : UnitId). u.entries) unit ∙ c.requires.entries) done
           c.in_ok-checkers-2.ensures.decided;
     }
 

@@ -1,7 +1,8 @@
-use Rattle.std.proofs.Common.{◌≡◌, ◌∙◌, arith}
-use Rattle.pmp_core.specs.Histories.{joined}
+use Rattle.std.proofs.Common.{◌≡◌, ◌∙◌, sym, ap, arith}
+use Rattle.pmp_core.specs.Histories.{joined, file_after}
 use Rattle.pmp_share.specs.Batches.{StartsWith, event_count}
 use Rattle.pmp_share.specs.Looks.{latest}
+use Rattle.pmp_share.specs.Tokens.{UnitId}
 use Rattle.pmp_audit.proofs.shared_audit.working.ask.Goals as goal
 
 pub invariant_of-result : goal.invariant_of-result
@@ -12,7 +13,8 @@ invariant_of-result c =
     let count : event_count new ≡ event_count told = c.in_ok-decision.ensures.at_len.0 ∙ c.requires.counted in
     let same : joined new ≡ joined told = c.law_same_events.ensures new told begins count in
     record {
-      decided = rw (c.of-2.ensures, c.of.ensures, c.requires.replayed, ← same) c.in_ok-decision.ensures.computed;
+      decided = rw (c.of-2.ensures, c.of.ensures, c.requires.replayed, ← same, ← c.decide_at.ensures.unit)
+          c.in_ok-decision.ensures.computed;
     }
 
 pub returns-clause-learnt : goal.returns-clause-learnt
@@ -20,6 +22,7 @@ returns-clause-learnt c = record {
   told = c.requires.told;
   bound = (c.decide_at.ensures.bound c.requires.told c.requires.bound).1;
   counted = c.requires.counted;
-  replayed = c.requires.replayed;
+  replayed = c.requires.replayed
+      ∙ ap (λ (unit : UnitId). file_after unit.entries c.requires.told) (sym c.decide_at.ensures.unit);
   reached = omega (arith, c.in_ok-decision.ensures.at_len.0);
 }
