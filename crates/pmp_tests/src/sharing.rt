@@ -8,6 +8,7 @@ mod eight;
 mod ending;
 mod groups;
 mod limits;
+mod sizes;
 mod swapping;
 
 use pmp_core::{Access, Cause, Csr, Decision, Event, Kind, Mode, RegFile};

@@ -6,7 +6,7 @@ use super::{
     BY_ENTRY_ZERO, ENTRY_ONE, ENTRY_ZERO, ENTRY_ZERO_AGAIN, page_load, publish, tell,
     unit_of_three, unit_of_two,
 };
-use pmp_core::{Cause, Decision};
+use pmp_core::{Cause, Decision, Event};
 use pmp_share::{Checker, GROUP_ACCESSES, Notice, Publisher};
 use std::ops::Range;
 use std::process::Abort;
@@ -23,19 +23,33 @@ impl Promise<Checker> for SameUnit {
     ghost kept_by = { λ promise checker. checker.unit ≡ promise.0.value.unit };
 }
 
-/// Whether the decision fits so many events: entry 0 decides after each whole round, entry 1 in the middle of one.
-fn is_of_round(decision: &Decision, count: u64) -> bool {
+/// The entries that read the page in turn.
+#[derive(Clone, Copy)]
+pub struct Pair {
+    pub first: u8,
+    pub second: u8,
+}
+
+const ZERO_AND_ONE: Pair = Pair {
+    first: 0,
+    second: 1,
+};
+
+/// Whether the decision fits so many events: the first entry decides after each whole round, the second in the middle
+/// of one.
+fn is_of_round(pair: Pair, decision: &Decision, count: u64) -> bool {
     decision.allowed
         && match decision.cause {
-            Cause::Rule(0) => count >= 2 && (count - 2) % 5 == 0,
-            Cause::Rule(1) => count >= 4 && (count - 4) % 5 == 0,
+            Cause::Rule(entry) if entry == pair.first => count >= 2 && (count - 2) % 5 == 0,
+            Cause::Rule(entry) if entry == pair.second => count >= 4 && (count - 4) % 5 == 0,
             _ => false,
         }
 }
 
 /// Learns a notice and decides so often.
-pub fn watch<R: Wait + Abort>(
+pub fn watch_pair<R: Wait + Abort>(
     rt: &R,
+    pair: Pair,
     mut checker: Checker,
     notice: Notice,
     decisions: u32,
@@ -50,12 +64,20 @@ pub fn watch<R: Wait + Abort>(
         let (decision, count) = checker.decide(&access);
         assert!(rt; least <= count, "the list went back to {count} events");
         assert!(rt;
-            is_of_round(&decision, count),
+            is_of_round(pair, &decision, count),
             "a decision that doesn't fit {count} events"
         );
         least = count;
     }
     checker
+}
+
+/// As `watch_pair`, for entries 0 and 1.
+pub fn watch<R: Wait + Abort>(rt: &R, checker: Checker, notice: Notice, decisions: u32) -> Checker
+    requires { notice.unit ≡ checker.unit }
+    ensures { result.unit ≡ checker.unit }
+{
+    watch_pair(rt, ZERO_AND_ONE, checker, notice, decisions)
 }
 
 /// Learns a notice and decides so many groups of equal accesses, each of which is decided alike.
@@ -77,7 +99,7 @@ fn watch_groups<R: Wait + Abort>(
         let decision = *decisions.as_slice().first().expect(rt, "a decision");
         assert_eq!(rt; decisions.as_slice(), [decision; GROUP_ACCESSES].as_slice());
         assert!(rt;
-            is_of_round(&decision, count),
+            is_of_round(ZERO_AND_ONE, &decision, count),
             "a group that doesn't fit {count} events"
         );
         least = count;
@@ -85,15 +107,28 @@ fn watch_groups<R: Wait + Abort>(
     checker
 }
 
-/// Publishes both swaps in each of these rounds, each by itself.
-pub fn swap_entries<R: Wait + Abort>(rt: &R, publisher: &mut Publisher, rounds: Range<u32>)
+/// Publishes a swap of two events and one of three back in each of these rounds, each by itself.
+pub fn swap_by<R: Wait + Abort>(
+    rt: &R,
+    publisher: &mut Publisher,
+    rounds: Range<u32>,
+    swap: &[Event; 2],
+    back: &[Event; 3],
+)
     ensures { publisher.new.unit ≡ publisher.old.unit }
 {
     for round in rounds {
         let before = 2 + 5 * u64::from(round);
-        assert_eq!(rt; publish(rt, publisher, &ENTRY_ONE), before + 2);
-        assert_eq!(rt; publish(rt, publisher, &ENTRY_ZERO_AGAIN), before + 5);
+        assert_eq!(rt; publish(rt, publisher, swap), before + 2);
+        assert_eq!(rt; publish(rt, publisher, back), before + 5);
     }
+}
+
+/// Swaps entries 0 and 1 in each of these rounds.
+pub fn swap_entries<R: Wait + Abort>(rt: &R, publisher: &mut Publisher, rounds: Range<u32>)
+    ensures { publisher.new.unit ≡ publisher.old.unit }
+{
+    swap_by(rt, publisher, rounds, &ENTRY_ONE, &ENTRY_ZERO_AGAIN);
 }
 
 #[test]
