@@ -19,5 +19,6 @@ learn-requires g c =
     let own : c.expect-last.result.unit ≡ unit =
     subst (λ one. IfSome one (λ (checker : CheckerToken). checker.unit ≡ unit)) c.expect-last.ensures popped.1 in
     record {
-      unit = ap (λ (notice : NoticeToken). notice.unit) c.tell.ensures.told ∙ c.all_stretches-left.ensures.unit ∙ sym own;
+      unit = ap (λ (notice : NoticeToken). notice.unit) c.tell.ensures.told ∙ c.all_stretches-left.ensures.unit
+          ∙ sym own;
     }
