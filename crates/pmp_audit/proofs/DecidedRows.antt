@@ -10,7 +10,7 @@ use Rattle.std.proofs.lemmas.List.Sums.{sum_by_more_le}
 use Rattle.pmp_core.specs.declared.access.Access.{Access}
 use Rattle.pmp_core.specs.declared.decision.Decision.{Decision}
 use Rattle.pmp_core.specs.declared.event.Event.{Event}
-use Rattle.pmp_core.specs.declared.register_file.TheConstants.{ENTRIES}
+use Rattle.pmp_core.specs.Size.{count_of}
 use Rattle.pmp_core.specs.Decision.{IsDecision}
 use Rattle.pmp_core.specs.Histories.{LegalLaw, file_after, joined}
 use Rattle.pmp_core.specs.Ranges.{decision_of}
@@ -19,21 +19,22 @@ use Rattle.pmp_share.specs.declared.room.TheConstants.{HISTORY_LIMIT}
 use Rattle.pmp_share.specs.Batches.{Batches, event_count}
 use Rattle.pmp_share.specs.Room.{has_room}
 use Rattle.pmp_text.specs.declared.trace.Row.{Row}
+use Rattle.pmp_text.specs.Contents.{ScriptContents}
+use Rattle.pmp_text.specs.Reports.{AreDecided, file_of_script}
 use Rattle.pmp_text.specs.Sizes.{script_size}
 use Rattle.pmp_text.specs.TraceFaults.{IsInOrder, afters}
 use Rattle.pmp_text.specs.Traces.{row_fields}
-use Rattle.pmp_audit.specs.TraceAudit.{AreDecided, file_of_row}
 use Rattle.pmp_audit.specs.Rounds.{AreDecidedSoFar, asking, decided_in, decision_for}
 
-module _ (batches : List (List Event)) where
+module _ (script : ScriptContents) where
   abbrev Ordered : ℕ → List Row → Type 0
-  Ordered least rows = IsInOrder (length batches) least (afters (map row_fields rows))
+  Ordered least rows = IsInOrder (length script.batches) least (afters (map row_fields rows))
 
   -- these rows are at the front of those that are left, and ask for just so many publications
   record AreAsked (after : ℕ) (left front : List Row) : Type 0 where
     within : length front ≤ length left
     is : front ≡ take (length front) left
-    decisions : decided_in (file_after ENTRIES (take after batches)) front ≡ map (decision_for batches) front
+    decisions : decided_in (file_of_script script after) front ≡ map (decision_for script) front
     order : Ordered (after + 1) (drop (length front) left)
 
   module _ (after : ℕ) (row : Row) (more : List Row) (order : Ordered after (row ∷ more))
@@ -41,8 +42,8 @@ module _ (batches : List (List Event)) where
     first_asked : row.after ≡ after → AreAsked after (row ∷ more) (row ∷ asking after more)
     first_asked same =
         let asked = rest (rw same at order.2) in
-        let decided : decision_of (file_after ENTRIES (take after batches)) row.access ≡ decision_for batches row =
-        ap (λ (n : ℕ). decision_of (file_after ENTRIES (take n batches)) row.access) (sym same) in
+        let decided : decision_of (file_of_script script after) row.access ≡ decision_for script row =
+        ap (λ (n : ℕ). decision_of (file_of_script script n) row.access) (sym same) in
         record {
           within = let w = asked.within in omega arith;
           is = ap (λ (l : List Row). row ∷ l) asked.is;
@@ -68,7 +69,7 @@ module _ (batches : List (List Event)) where
   asked after (row ∷ more) order = asked_row after row more order (asked after more) (row.after == after) refl
 
   module _ (rows : List Row) where
-    pub none_decided : Ordered 0 rows → AreDecidedSoFar batches rows 0 []
+    pub none_decided : Ordered 0 rows → AreDecidedSoFar script rows 0 []
     none_decided order = record { within = omega arith; decisions = refl; order = order }
 
     front_more : (n m : ℕ) → take (n + m) rows ≡ take n rows ++ take m (drop n rows)
@@ -78,19 +79,20 @@ module _ (batches : List (List Event)) where
         ∙ ap (λ (l : List Row). take n rows ++ l) (drop-take n m rows)
 
     pub decided_next : (after size : ℕ) (published : Batches) (decided new : List Decision)
-        → AreDecidedSoFar batches rows after decided → size ≡ ENTRIES → published ≡ take after batches
+        → AreDecidedSoFar script rows after decided → size ≡ count_of script.size
+        → published ≡ take after script.batches
         → new ≡ decided ++ decided_in (file_after size published) (asking after (drop (length decided) rows))
-        → AreDecidedSoFar batches rows (after + 1) new
-    decided_next after size published decided new so_far sixteen done added =
+        → AreDecidedSoFar script rows (after + 1) new
+    decided_next after size published decided new so_far sized done added =
         let n = length decided in
         let left = drop n rows in
         let front = asking after left in
         let m = length front in
         let next = asked after left so_far.order in
-        let f = decision_for batches in
+        let f = decision_for script in
         let now : new ≡ decided ++ map f front =
-        added ∙ ap (λ (k : ℕ). decided ++ decided_in (file_after k published) front) sixteen
-        ∙ ap (λ (p : Batches). decided ++ decided_in (file_after ENTRIES p) front) done
+        added ∙ ap (λ (k : ℕ). decided ++ decided_in (file_after k published) front) sized
+        ∙ ap (λ (p : Batches). decided ++ decided_in (file_after (count_of script.size) p) front) done
         ∙ ap (λ (l : List Decision). decided ++ l) next.decisions in
         let many : length new ≡ n + m =
         ap (λ (l : List Decision). length l) now ∙ length-append decided (map f front)
@@ -105,30 +107,31 @@ module _ (batches : List (List Event)) where
           order = subst (Ordered (after + 1)) (drop-drop m n rows ∙ ap (λ (k : ℕ). drop k rows) (sym many)) next.order;
         }
 
-    none_left : (left : List Row) → Ordered (length batches + 1) left → left ≡ []
+    none_left : (left : List Row) → Ordered (length script.batches + 1) left → left ≡ []
     none_left [] order = refl
     none_left (row ∷ left) order = absurd (omega (arith, order.0, order.1))
 
-    pub all_decided : (after : ℕ) (decided : List Decision) → after ≡ length batches + 1
-        → AreDecidedSoFar batches rows after decided → decided ≡ map (decision_for batches) rows
+    pub all_decided : (after : ℕ) (decided : List Decision) → after ≡ length script.batches + 1
+        → AreDecidedSoFar script rows after decided → decided ≡ map (decision_for script) rows
     all_decided after decided last so_far =
         let none : drop (length decided) rows ≡ [] = none_left (drop (length decided) rows) (rw last at so_far.order) in
         let left : length rows ≤ length decided =
         let nil = ap (λ (l : List Row). length l) none in omega (arith, length-drop (length decided) rows) in
-        so_far.decisions ∙ ap (map (decision_for batches)) (take_all (length decided) rows left)
+        so_far.decisions ∙ ap (map (decision_for script)) (take_all (length decided) rows left)
 
   -- ---- a script's publications have room
 
-  pub room_for : (index : ℕ) (published : Batches) (batch : List Event) → script_size batches ≤ HISTORY_LIMIT
-      → index < length batches → published ≡ take index batches → batch ≡ slice_index_or batches index []
+  pub room_for : (index : ℕ) (published : Batches) (batch : List Event) → script_size script.batches ≤ HISTORY_LIMIT
+      → index < length script.batches → published ≡ take index script.batches
+      → batch ≡ slice_index_or script.batches index []
       → has_room published [] batch ≡ true
   room_for index published batch size inside done is =
-      let events : event_count published ≡ sum_by (λ (b : List Event). length b) (take index batches) =
-      ap event_count done ∙ length-flat_map (λ (b : List Event). b) (take index batches) in
-      let fits = sum_by_more_le (λ (b : List Event). length b) batches index [] inside in
+      let events : event_count published ≡ sum_by (λ (b : List Event). length b) (take index script.batches) =
+      ap event_count done ∙ length-flat_map (λ (b : List Event). b) (take index script.batches) in
+      let fits = sum_by_more_le (λ (b : List Event). length b) script.batches index [] inside in
       let many : length published ≡ index =
-      ap (λ (l : Batches). length l) done ∙ length-take-le index batches (omega arith) in
-      let more : length batch ≡ length (get_or batches index []) = ap (λ (l : List Event). length l) is in
+      ap (λ (l : Batches). length l) done ∙ length-take-le index script.batches (omega arith) in
+      let more : length batch ≡ length (get_or script.batches index []) = ap (λ (l : List Event). length l) is in
       let events_fit : event_count published + 0 + length batch ≤ HISTORY_LIMIT = omega arith in
       let batches_fit : length published + 0 + 1 ≤ HISTORY_LIMIT = omega arith in
       grind (arith, nat_tests)
@@ -140,10 +143,11 @@ abbrev pub ByRanges : Type 0
 ByRanges = (file : RegisterFile) (access : Access) → HasAddresses file.entries
     → IsDecision file access (decision_of file access)
 
-pub are_decided : LegalLaw → ByRanges → (batches : List (List Event)) (rows : List Row)
-    → AreDecided batches rows (map (decision_for batches) rows)
-are_decided legal by_ranges batches [] = tt
-are_decided legal by_ranges batches (row ∷ rows) = (
-  by_ranges (file_of_row batches row) row.access (legal ENTRIES (joined (take row.after batches))).addresses,
-  are_decided legal by_ranges batches rows,
+pub are_decided : LegalLaw → ByRanges → (script : ScriptContents) (rows : List Row)
+    → AreDecided script rows (map (decision_for script) rows)
+are_decided legal by_ranges script [] = tt
+are_decided legal by_ranges script (row ∷ rows) = (
+  by_ranges (file_of_script script row.after) row.access
+      (legal (count_of script.size) (joined (take row.after script.batches))).addresses,
+  are_decided legal by_ranges script rows,
 )

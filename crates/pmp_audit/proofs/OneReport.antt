@@ -9,14 +9,15 @@ use Rattle.pmp_core.specs.Decision.{IsDecision}
 use Rattle.pmp_core.specs.RegisterFile.{RegisterFile}
 use Rattle.pmp_text.specs.declared.trace.Row.{Row}
 use Rattle.pmp_text.specs.Traces.{row_fields}
-use Rattle.pmp_audit.specs.TraceAudit.{OneListOfDecisionsLaw, OneReportLaw, file_of_row, report_text, summary_of}
+use Rattle.pmp_text.specs.Reports.{file_of_script, report_text}
+use Rattle.pmp_audit.specs.TraceAudit.{OneListOfDecisionsLaw, OneReportLaw, summary_of}
 use Rattle.pmp_audit.proofs.Lists.{one_list}
 
 pub one_list_of_decisions : ((file : RegisterFile) (access : Access) (one other : Decision)
     → IsDecision file access one → IsDecision file access other → one ≡ other) → OneListOfDecisionsLaw
-one_list_of_decisions one_decision batches rows one other decided too =
-    one_list (λ row decision. IsDecision (file_of_row batches row) row.access decision)
-    (λ row. one_decision (file_of_row batches row) row.access) rows one other decided too
+one_list_of_decisions one_decision script rows one other decided too =
+    one_list (λ row decision. IsDecision (file_of_script script row.after) row.access decision)
+    (λ row. one_decision (file_of_script script row.after) row.access) rows one other decided too
 
 -- ---- a row is what a trace says of it
 
@@ -72,12 +73,15 @@ same_rows (row ∷ one) (another ∷ other) same =
 
 pub one_report : OneListOfDecisionsLaw → OneReportLaw
 one_report one_list script trace one other text another said too =
-    let batches : said.batches ≡ too.batches = cc (said.script_means, too.script_means) in
-    let fields : map row_fields said.rows ≡ map row_fields too.rows = cc (batches, said.trace_means, too.trace_means) in
-    let rows = same_rows said.rows too.rows fields in
-    let decided = rw (batches, rows) at said.decided in
-    let decisions = one_list too.batches too.rows said.decisions too.decisions decided too.decided in (
+    let contents : said.contents ≡ too.contents = cc (said.script_means, too.script_means) in
+    let here = said.report in
+    let there = too.report in
+    let fields : map row_fields here.rows ≡ map row_fields there.rows =
+    cc (contents, here.trace_means, there.trace_means) in
+    let rows = same_rows here.rows there.rows fields in
+    let decided = rw (contents, rows) at here.decided in
+    let decisions = one_list too.contents there.rows here.decisions there.decisions decided there.decided in (
       said.counted ∙ ap summary_of decisions ∙ sym too.counted,
-      said.report ∙ ap (λ rows. report_text rows said.decisions) rows ∙ ap (report_text too.rows) decisions
-          ∙ sym too.report,
+      here.report ∙ ap (λ rows. report_text rows here.decisions) rows ∙ ap (report_text there.rows) decisions
+          ∙ sym there.report,
     )

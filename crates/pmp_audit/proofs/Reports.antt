@@ -6,17 +6,17 @@ use Rattle.std.specs.List.{enumerate_from, flat_map, zip}
 use Rattle.std.proofs.lemmas.List.{append-nil, drop_more, flat_map_more, length-append, length-take, take_more}
 use Rattle.std.proofs.lemmas.List.Sums.{count_by-le-length, sum_by-append}
 use Rattle.pmp_core.specs.declared.decision.Decision.{Decision}
-use Rattle.pmp_core.specs.declared.event.Event.{Event}
 use Rattle.pmp_core.specs.Decision.{IsDecision}
 use Rattle.pmp_text.specs.declared.trace.Row.{Row}
-use Rattle.pmp_text.specs.Reports.{report_row}
+use Rattle.pmp_text.specs.Contents.{ScriptContents}
+use Rattle.pmp_text.specs.Reports.{file_of_script, report_row, report_text}
 use Rattle.pmp_text.specs.Scripts.{script_meaning}
 use Rattle.pmp_text.specs.TraceFaults.{IsInOrder, afters}
 use Rattle.pmp_text.specs.Traces.{trace_meaning}
 use Rattle.pmp_text.specs.Traces.{row_fields}
 use Rattle.pmp_audit.specs.declared.trace_audit.Summary.{Summary}
 use Rattle.pmp_audit.specs.Report.{IsReported}
-use Rattle.pmp_audit.specs.TraceAudit.{AuditSays, file_of_row, report_text, summary_of}
+use Rattle.pmp_audit.specs.TraceAudit.{AuditSays, summary_of}
 use Rattle.pmp_audit.proofs.Lists.{AllZip-push, enumerate_from-push, length-all_zip, length-zip, zip-push}
 
 -- ---- one row more
@@ -53,9 +53,9 @@ refused-push decisions decision =
     sum_by-append (λ (d : Decision). cond (is_refused d) 1 0) decisions (decision ∷ [])
     ∙ ap (λ (n : ℕ). count_by is_refused decisions + n) (one_refused decision decision.allowed refl)
 
-module _ (batches : List (List Event)) where
+module _ (script : ScriptContents) where
   pub no_rows : (held : List ℕ) (summary : Summary)
-      → summary.rows ≡ 0 → summary.faults ≡ 0 → IsReported batches [] held held summary
+      → summary.rows ≡ 0 → summary.faults ≡ 0 → IsReported script [] held held summary
   unfolding report_text
   no_rows held summary rows faults = record {
     decisions = [];
@@ -65,10 +65,10 @@ module _ (batches : List (List Event)) where
   }
 
   abbrev Decides : Row → Decision → Type 0
-  Decides row decision = IsDecision (file_of_row batches row) row.access decision
+  Decides row decision = IsDecision (file_of_script script row.after) row.access decision
 
   module _ (rows : List Row) (before held : List ℕ) (summary : Summary)
-      (so_far : IsReported batches rows before held summary) where
+      (so_far : IsReported script rows before held summary) where
     one_each : length so_far.decisions ≡ length rows
     one_each = length-all_zip Decides rows so_far.decisions so_far.decided
 
@@ -105,7 +105,7 @@ module _ (batches : List (List Event)) where
 
       pub one_row_more : Decides row decision → after ≡ held ++ report_row more.rows row.access decision
           → more.rows ≡ summary.rows + 1 → more.faults ≡ summary.faults + cond decision.allowed 0 1
-          → IsReported batches (rows ++ row ∷ []) before after more
+          → IsReported script (rows ++ row ∷ []) before after more
       unfolding decisions
       one_row_more by_bytes written one_more refused = record {
         decisions = so_far.decisions ++ decision ∷ [];
@@ -125,24 +125,26 @@ module _ (batches : List (List Event)) where
     left : drop i rows ≡ row ∷ drop (i + 1) rows
     left = drop_more rows i row inside ∙ ap (λ (r : Row). r ∷ drop (i + 1) rows) (sym row_is)
 
-    pub order_of_rest : (done : ℕ) → IsInOrder (length batches) done (afters (map row_fields (drop i rows)))
-        → IsInOrder (length batches) row.after (afters (map row_fields (drop (i + 1) rows)))
+    pub order_of_rest : (done : ℕ) → IsInOrder (length script.batches) done (afters (map row_fields (drop i rows)))
+        → IsInOrder (length script.batches) row.after (afters (map row_fields (drop (i + 1) rows)))
     order_of_rest done order = (rw left at order).2
 
 -- ---- a whole report
 
-pub audit_says : (script trace : List ℕ) (batches : List (List Event)) (rows : List Row) (before after text : List ℕ)
-    (summary : Summary)
-    → script_meaning script ≡ Ok batches → trace_meaning (length batches) trace ≡ Ok (map row_fields rows)
-    → IsReported batches rows before after summary → before ≡ [] → text ≡ after → AuditSays script trace summary text
-audit_says script trace batches rows before after text summary script_means trace_means reported empty same = record {
-  batches = batches;
-  rows = rows;
-  decisions = reported.decisions;
+pub audit_says : (script trace : List ℕ) (contents : ScriptContents) (rows : List Row) (before after text : List ℕ)
+    (summary : Summary) → script_meaning script ≡ Ok contents
+    → trace_meaning (length contents.batches) trace ≡ Ok (map row_fields rows)
+    → IsReported contents rows before after summary → before ≡ [] → text ≡ after → AuditSays script trace summary text
+audit_says script trace contents rows before after text summary script_means trace_means reported empty same = record {
+  contents = contents;
   script_means = script_means;
-  trace_means = trace_means;
-  decided = reported.decided;
-  report = same ∙ reported.report ∙ ap (λ front. front ++ report_text rows reported.decisions) empty;
+  report = record {
+    rows = rows;
+    decisions = reported.decisions;
+    trace_means = trace_means;
+    decided = reported.decided;
+    report = same ∙ reported.report ∙ ap (λ front. front ++ report_text rows reported.decisions) empty;
+  };
   counted = reported.counted;
 }
 

@@ -1,21 +1,19 @@
 -- What a check says of an access, and when it refuses.
-use Rattle.std.specs.Prelude.{◌≡◌, ℕ, List, Ok, Err}
+use Rattle.std.specs.Prelude.{◌≡◌, ℕ, List, length, Ok, Err}
 use Rattle.pmp_core.specs.declared.access.Access.{Access}
 use Rattle.pmp_core.specs.declared.decision.Decision.{Decision}
-use Rattle.pmp_core.specs.declared.event.Event.{Event}
-use Rattle.pmp_core.specs.declared.register_file.TheConstants.{ENTRIES}
 use Rattle.pmp_core.specs.Decision.{IsDecision}
-use Rattle.pmp_text.specs.Reports.{report_row}
+use Rattle.pmp_text.specs.Contents.{ScriptContents}
+use Rattle.pmp_text.specs.Reports.{report_row, file_of_script}
 use Rattle.pmp_text.specs.Scripts.{script_meaning}
 use Rattle.pmp_audit.specs.declared.fault.AuditFault.{AuditFault}
 use Rattle.pmp_audit.specs.declared.fault.AuditFault.TheVariants.{Script}
-use Rattle.pmp_core.specs.Histories.{file_after}
 
--- the script has these publications, the decision is the manual's after them (3.7.1.3), and its row has the number 1
+-- the script means this, the decision is the manual's after all its publications (3.7.1.3), and its row has the number 1
 pub record CheckSays (script : List ℕ) (access : Access) (decision : Decision) (text : List ℕ) : Type 0 where
-  pub batches : List (List Event)
-  pub script_means : script_meaning script ≡ Ok batches
-  pub by_bytes : IsDecision (file_after ENTRIES batches) access decision
+  pub contents : ScriptContents
+  pub script_means : script_meaning script ≡ Ok contents
+  pub by_bytes : IsDecision (file_of_script contents (length contents.batches)) access decision
   pub row : text ≡ report_row 1 access decision
 
 -- the script's own fault

@@ -1,15 +1,14 @@
 -- Where a replay of a script stands.
-use Rattle.std.specs.Prelude.{ℕ, List, take}
-use Rattle.pmp_core.specs.declared.event.Event.{Event}
-use Rattle.pmp_core.specs.declared.register_file.TheConstants.{ENTRIES}
+use Rattle.std.specs.Prelude.{ℕ}
 use Rattle.pmp_core.specs.RegisterFile.{RegisterFile}
-use Rattle.pmp_core.specs.Histories.{file_after}
+use Rattle.pmp_text.specs.Contents.{ScriptContents}
+use Rattle.pmp_text.specs.Reports.{file_of_script}
 
--- a script's publications, and how many of them are done
+-- a script, and how many of its publications are done
 pub record Position : Type 0 where
-  pub batches : List (List Event)
+  pub script : ScriptContents
   pub done : ℕ
 
 -- the register file that these give
 abbrev pub file_at : Position → RegisterFile
-file_at position = file_after ENTRIES (take position.done position.batches)
+file_at position = file_of_script position.script position.done

@@ -3,16 +3,16 @@ use Rattle.std.specs.Prelude.{◌≡◌, ℕ, ◌==◌, ◌≤◌, List, [], ◌
 use Rattle.std.specs.Prelude.{if◌then◌else◌}
 use Rattle.std.specs.List.{enumerate_from}
 use Rattle.pmp_core.specs.declared.decision.Decision.{Decision}
-use Rattle.pmp_core.specs.declared.event.Event.{Event}
 use Rattle.pmp_core.specs.Ranges.{decision_of}
 use Rattle.pmp_core.specs.RegisterFile.{RegisterFile}
 use Rattle.pmp_share.specs.Tokens.{PublisherToken, CheckerToken, UnitId}
 use Rattle.pmp_text.specs.declared.trace.Row.{Row}
+use Rattle.pmp_text.specs.Contents.{ScriptContents}
+use Rattle.pmp_text.specs.Reports.{file_of_script}
 use Rattle.pmp_text.specs.TraceFaults.{IsInOrder, afters}
 use Rattle.pmp_text.specs.Traces.{row_fields}
 use Rattle.pmp_audit.specs.declared.shared_audit.job.Job.{Job}
 use Rattle.pmp_audit.specs.declared.shared_audit.job.Done.{Done}
-use Rattle.pmp_audit.specs.TraceAudit.{file_of_row}
 use Rattle.pmp_audit.specs.Working.{IsDealt, row_of}
 
 -- the rows at the front that ask for just so many publications
@@ -25,15 +25,15 @@ abbrev pub decided_in : RegisterFile → List Row → List Decision
 decided_in file rows = map (λ row. decision_of file row.access) rows
 
 -- the decision of a row in the file that it asks for
-abbrev pub decision_for : List (List Event) → Row → Decision
-decision_for batches row = decision_of (file_of_row batches row) row.access
+abbrev pub decision_for : ScriptContents → Row → Decision
+decision_for script row = decision_of (file_of_script script row.after) row.access
 
 -- the rows so far are decided, and those that are left ask for no fewer publications than these
-pub record AreDecidedSoFar (batches : List (List Event)) (rows : List Row) (after : ℕ) (decided : List Decision)
+pub record AreDecidedSoFar (script : ScriptContents) (rows : List Row) (after : ℕ) (decided : List Decision)
     : Type 0 where
   pub within : length decided ≤ length rows
-  pub decisions : decided ≡ map (decision_for batches) (take (length decided) rows)
-  pub order : IsInOrder (length batches) after (afters (map row_fields (drop (length decided) rows)))
+  pub decisions : decided ≡ map (decision_for script) (take (length decided) rows)
+  pub order : IsInOrder (length script.batches) after (afters (map row_fields (drop (length decided) rows)))
 
 -- so many checkers, all of one unit
 pub record AreCheckersOf (unit : UnitId) (count : ℕ) (checkers : List CheckerToken) : Type 0 where

@@ -12,7 +12,7 @@ use pmp_map::RunMap;
 use pmp_text::Script;
 use std::marker::Model;
 
-/// A script whose first publications are done. A contract sees the publications, and how many of them are done.
+/// A script whose first publications are done. A contract sees the script, and how many of its publications are done.
 #[derive(Drop)]
 pub struct Replay<'a> {
     script: &'a Script,
@@ -31,33 +31,33 @@ impl<'a> Model for Replay<'a> {
     ghost use Rattle.std.specs.Prelude.{◌≡◌, ◌≤◌, IfSome, length};
     ghost use Rattle.pmp_audit.specs.Replay.{file_at};
 
-    ghost view = { λ r. record { batches = r.script.now.batches; done = r.done } };
+    ghost view = { λ r. record { script = r.script.now; done = r.done } };
 
     ghost invariant = { λ r. (r.done ≤ length r.script.now.batches)
-        × (r.file ≡ file_at (record { batches = r.script.now.batches; done = r.done }))
+        × (r.file ≡ file_at (record { script = r.script.now; done = r.done }))
         × IfSome r.map (λ map. map ≡ r.file) };
 }
 
 impl<'a> Replay<'a> {
     /// Before the first publication.
     pub fn new(script: &'a Script) -> Replay<'a>
-        ensures { result ≡ record { batches = script.now.batches; done = 0 } }
+        ensures { result ≡ record { script = script.now; done = 0 } }
     {
         Replay {
             script,
             done: 0,
-            file: RegFile::reset(),
+            file: RegFile::reset_of(script.size()),
             map: None,
         }
     }
 
     /// After the first `after` publications, or after all of them where that is none; `BadAfter` where there are fewer.
     pub fn after(script: &'a Script, after: Option<u64>) -> Result<Replay<'a>, AuditFault>
-        ensures within { IfOk result (λ _. asked_count after script.now.batches ≤ length script.now.batches) }
+        ensures within { IfOk result (λ _. asked_count after script.now ≤ length script.now.batches) }
         ensures done { IfOk result
-            (λ replay. replay ≡ record { batches = script.now.batches; done = asked_count after script.now.batches }) }
+            (λ replay. replay ≡ record { script = script.now; done = asked_count after script.now }) }
         ensures beyond { IfErr result
-            (λ fault. (fault ≡ BadAfter) × (length script.now.batches < asked_count after script.now.batches)) }
+            (λ fault. (fault ≡ BadAfter) × (length script.now.batches < asked_count after script.now)) }
     {
         let count = after.unwrap_or(script.batches());
         if count > script.batches() {
@@ -71,7 +71,7 @@ impl<'a> Replay<'a> {
     /// Does publications until the first `count` are done.
     pub fn advance(&mut self, count: u64)
         requires forward { self.old.done ≤ count }
-        requires within { count ≤ length self.old.batches }
+        requires within { count ≤ length self.old.script.batches }
         ensures { self.new ≡ record self.old { done = count } }
     {
         if self.done < count {

@@ -50,7 +50,7 @@ pub fn audit<W: Write>(
 /// Appends the report of the rows, which ask for the script's publications in order.
 fn write_report(report: &mut Vec<u8>, script: &Script, rows: &[Row]) -> Result<Summary, NoMemory>
     requires { IsInOrder (length script.now.batches) 0 (afters (map row_fields rows.now)) }
-    ensures { IfOk result (IsReported script.now.batches rows.now report.old.items report.new.items) }
+    ensures { IfOk result (IsReported script.now rows.now report.old.items report.new.items) }
 {
     let mut replay = Replay::new(script);
     let mut summary = Summary::default();

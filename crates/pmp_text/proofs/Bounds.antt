@@ -9,6 +9,7 @@ use Rattle.std.proofs.lemmas.List.Sums.{sum_by_push, length-filter, count_by-le-
 use Rattle.std.proofs.lemmas.List.Splits.{length-slice_split}
 use Rattle.pmp_core.specs.declared.event.Event.{Event}
 use Rattle.pmp_core.specs.declared.event.TheConstants.{BATCH_EVENTS}
+use Rattle.pmp_core.specs.declared.size.Size.{Size}
 use Rattle.pmp_text.specs.declared.script.ScriptKind.{ScriptKind}
 use Rattle.pmp_text.specs.declared.script.ScriptKind.TheVariants.{BatchFull}
 use Rattle.pmp_text.specs.declared.script.ScriptFault.{ScriptFault}
@@ -17,12 +18,13 @@ use Rattle.pmp_text.specs.declared.script.statement.Statement.TheVariants as sta
 use Rattle.pmp_text.specs.Lines.{is_line_feed, has_bytes, without_empty_end, lines}
 use Rattle.pmp_text.specs.Statements.{statement_of}
 use Rattle.pmp_text.specs.Scripts.{Line, at_line, numbered_from, counts, significant_from, significant_lines}
-use Rattle.pmp_text.specs.Scripts.{is_version, script_meaning}
+use Rattle.pmp_text.specs.Scripts.{size_named, for_unit, script_meaning}
 use Rattle.pmp_text.specs.Steps.Progress.{Progress, longer, nothing_read, published, after_statement, all_published}
 use Rattle.pmp_text.specs.Steps.Progress.{resumed}
 use Rattle.pmp_text.specs.Sizes.{script_size}
+use Rattle.pmp_text.specs.Contents.{ScriptContents}
 use Rattle.pmp_text.specs.Limits.{script_limit}
-use Rattle.pmp_text.proofs.Meanings.{long_script, no_version, other_version, this_version}
+use Rattle.pmp_text.proofs.Meanings.{long_script, no_version, no_size, with_size}
 
 abbrev ok : List (List Event) → Result (List (List Event)) ScriptFault
 ok batches = Ok batches
@@ -118,27 +120,33 @@ lines_and_bytes text =
 
 -- ---- the law
 
-by_version : (is : Bool) (text : List ℕ) (short : length text ≤ script_limit) (version : Line) (more : List Line)
-    (batches : List (List Event)) → significant_lines text ≡ version ∷ more → is_version version.words ≡ is
-    → script_meaning text ≡ Ok batches → script_size batches ≤ length text
-by_version false text short version more batches lines is e = let refused = sym e
-    ∙ other_version text short version more lines is in absurd cc
-by_version true text short version more batches lines is e =
-    let n = bounded_by_lines more nothing_read batches (sym (this_version text short version more lines is) ∙ e) in
+pub sized_batches : (size : Size) (read : Result (List (List Event)) ScriptFault) (script : ScriptContents)
+    → for_unit size read ≡ Ok script → read ≡ Ok script.batches
+sized_batches size (Ok batches) script e = let same : batches ≡ script.batches = cc in ap ok same
+sized_batches size (Err fault) script e = absurd cc
+
+by_size : (size : Option Size) (text : List ℕ) (short : length text ≤ script_limit) (version : Line) (more : List Line)
+    (script : ScriptContents) → significant_lines text ≡ version ∷ more → size_named version.words ≡ size
+    → script_meaning text ≡ Ok script → script_size script.batches ≤ length text
+by_size None text short version more script lines named e = let refused = sym e
+    ∙ no_size text short version more lines named in absurd cc
+by_size (Some size) text short version more script lines named e =
+    let n = bounded_by_lines more nothing_read script.batches (sized_batches size (resumed nothing_read more) script
+    (sym (with_size text short version more lines size named) ∙ e)) in
     let m = lines_and_bytes text in
     let k = ap length lines in
     omega arith
 
-by_lines_read : (ls : List Line) (text : List ℕ) (short : length text ≤ script_limit) (batches : List (List Event))
-    → significant_lines text ≡ ls → script_meaning text ≡ Ok batches → script_size batches ≤ length text
-by_lines_read [] text short batches lines e = let refused = sym e ∙ no_version text short lines in absurd cc
-by_lines_read (version ∷ more) text short batches lines e =
-    by_version (is_version version.words) text short version more batches lines refl e
+by_lines_read : (ls : List Line) (text : List ℕ) (short : length text ≤ script_limit) (script : ScriptContents)
+    → significant_lines text ≡ ls → script_meaning text ≡ Ok script → script_size script.batches ≤ length text
+by_lines_read [] text short script lines e = let refused = sym e ∙ no_version text short lines in absurd cc
+by_lines_read (version ∷ more) text short script lines e =
+    by_size (size_named version.words) text short version more script lines refl e
 
-pub size_at_most : (text : List ℕ) (batches : List (List Event)) → script_meaning text ≡ Ok batches
-    → (script_size batches ≤ length text) × (length text ≤ script_limit)
-size_at_most text batches e =
+pub size_at_most : (text : List ℕ) (script : ScriptContents) → script_meaning text ≡ Ok script
+    → (script_size script.batches ≤ length text) × (length text ≤ script_limit)
+size_at_most text script e =
     elim (cases_lt script_limit (length text)) [
       | inl long ↦ let refused = sym e ∙ long_script text long in absurd cc
-      | inr short ↦ (by_lines_read (significant_lines text) text short batches refl e, short)
+      | inr short ↦ (by_lines_read (significant_lines text) text short script refl e, short)
     ]

@@ -13,3 +13,4 @@ pub mod Rows
 pub mod RegisterNames
 pub mod RunLines
 pub mod Transfers
+pub mod Versions

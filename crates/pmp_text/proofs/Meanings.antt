@@ -4,12 +4,13 @@ use Rattle.std.proofs.Common.{Option, Some, None, Result, Ok, Err, refl, sym, ap
 use Rattle.std.specs.Prelude.{filter_map, find, option_map, unwrap_or, is_some, codes, bytes_eq}
 use Rattle.std.specs.Option.{option_or}
 use Rattle.std.specs.List.{slice_split, onto_first}
-use Rattle.std.proofs.lemmas.Bool.{and_parts, cond-true, cond-false, lt-ltb, le-ltb}
+use Rattle.std.proofs.lemmas.Bool.{cond-true, cond-false, lt-ltb, le-ltb}
 use Rattle.std.proofs.lemmas.Slice.Eq.{bytes_eq-Decides}
 use Rattle.std.proofs.lemmas.List.{append-nil, length-append}
 use Rattle.std.proofs.lemmas.List.Splits.{length-slice_split}
 use Rattle.pmp_core.specs.declared.event.Event.{Event}
 use Rattle.pmp_core.specs.declared.event.TheConstants.{BATCH_EVENTS}
+use Rattle.pmp_core.specs.declared.size.Size.{Size}
 use Rattle.pmp_text.specs.declared.script.ScriptKind.{ScriptKind}
 use Rattle.pmp_text.specs.declared.script.ScriptKind.TheVariants.{BadVersion, BadLine, BatchFull, TooLong}
 use Rattle.pmp_text.specs.declared.script.ScriptFault.{ScriptFault}
@@ -17,8 +18,9 @@ use Rattle.pmp_text.specs.declared.script.statement.Statement.{Statement}
 use Rattle.pmp_text.specs.declared.script.statement.Statement.TheVariants as statement
 use Rattle.pmp_text.specs.Statements.{statement_of}
 use Rattle.pmp_text.specs.Scripts.{Line, at_line, counted, open_events, statement_fault, first_fault, event_of}
-use Rattle.pmp_text.specs.Scripts.{publishes, is_publish, but_last, last_piece, fault_or_batches, is_version}
-use Rattle.pmp_text.specs.Scripts.{significant_lines, lines_meaning, script_meaning, publications, first_unpublished}
+use Rattle.pmp_text.specs.Scripts.{publishes, is_publish, but_last, last_piece, fault_or_batches, size_of_version, size_named}
+use Rattle.pmp_text.specs.Scripts.{significant_lines, for_unit, meaning_behind, lines_meaning, script_meaning}
+use Rattle.pmp_text.specs.Scripts.{publications, first_unpublished}
 use Rattle.pmp_text.specs.Steps.Progress.{Progress, longer, nothing_read, published, after_statement, all_published}
 use Rattle.pmp_text.specs.Steps.Progress.{resumed}
 use Rattle.pmp_text.specs.Limits.{script_limit}
@@ -209,15 +211,18 @@ two_words : (name version : List ℕ) → name ≡ codes "pmp" → statement_of 
 unfolding statement_of
 two_words name version e = ap (λ (word : List ℕ). statement_of (word ∷ version ∷ [])) e
 
+by_name : (is : Bool) (name version : List ℕ) (size : Size) → bytes_eq name (codes "pmp") ≡ is
+    → cond is (size_of_version version) None ≡ Some size → statement_of (name ∷ version ∷ []) ≡ Err BadLine
+by_name true name version size is e = two_words name version ((bytes_eq-Decides name (codes "pmp")).0 is)
+by_name false name version size is e = absurd cc
+
 -- the version line is no statement
-no_statement : (words : List (List ℕ)) → is_version words ≡ true → statement_of words ≡ Err BadLine
-unfolding is_version
-no_statement [] e = absurd cc
-no_statement (name ∷ []) e = absurd cc
-no_statement (name ∷ version ∷ []) e = two_words name version
-    ((bytes_eq-Decides name (codes "pmp")).0 (and_parts (bytes_eq name (codes "pmp")) (bytes_eq version (codes "1"))
-    e).0)
-no_statement (name ∷ version ∷ word ∷ more) e = absurd cc
+no_statement : (words : List (List ℕ)) (size : Size) → size_named words ≡ Some size → statement_of words ≡ Err BadLine
+unfolding size_named
+no_statement [] size e = absurd cc
+no_statement (name ∷ []) size e = absurd cc
+no_statement (name ∷ version ∷ []) size e = by_name (bytes_eq name (codes "pmp")) name version size refl e
+no_statement (name ∷ version ∷ word ∷ more) size e = absurd cc
 
 module _ (text : List ℕ) where
   pub long_script : script_limit < length text → script_meaning text ≡ Err (at_line 0 TooLong)
@@ -233,21 +238,22 @@ module _ (text : List ℕ) where
     no_version lines = by_lines ∙ ap lines_meaning lines
 
     module _ (version : Line) (more : List Line) (lines : significant_lines text ≡ version ∷ more) where
-      abbrev with_version : Bool → Result (List (List Event)) ScriptFault
-      with_version is = fault_or_batches (option_or
-          (option_map (at_line version.number) (cond is None (Some BadVersion))) (first_fault (version ∷ []) more))
-          (first_unpublished more) (publications more)
+      pub no_size : size_named version.words ≡ None → script_meaning text ≡ Err (at_line version.number BadVersion)
+      no_size e = by_lines ∙ ap lines_meaning lines ∙ ap (meaning_behind version more) e
 
-      pub other_version : is_version version.words ≡ false
-          → script_meaning text ≡ Err (at_line version.number BadVersion)
-      other_version e = by_lines ∙ ap lines_meaning lines ∙ ap with_version e
+      module _ (size : Size) (named : size_named version.words ≡ Some size) where
+        read_from_nothing :
+            fault_or_batches (first_fault (version ∷ []) more) (first_unpublished more) (publications more)
+            ≡ resumed nothing_read more
+        read_from_nothing =
+            let count =
+            sym (ap (λ (r : Result Statement ScriptKind). counted r 0) (no_statement version.words size named)) in
+            ap (λ (since : Option ℕ). fault_or_batches (first_fault (version ∷ []) more) since (publications more))
+            (sym (since_from-nothing (pieces_of more)))
+            ∙ ap (fault_or_batches (first_fault (version ∷ []) more) (since_from None (pieces_of more)))
+            (sym (batches_from-nothing (pieces_of more)))
+            ∙ sym (reading_means more nothing_read version [] count)
 
-      pub this_version : is_version version.words ≡ true → script_meaning text ≡ resumed nothing_read more
-      this_version e =
-          let count = sym (ap (λ (r : Result Statement ScriptKind). counted r 0) (no_statement version.words e)) in
-          by_lines ∙ ap lines_meaning lines ∙ ap with_version e
-          ∙ ap (λ (since : Option ℕ). fault_or_batches (first_fault (version ∷ []) more) since (publications more))
-          (sym (since_from-nothing (pieces_of more)))
-          ∙ ap (fault_or_batches (first_fault (version ∷ []) more) (since_from None (pieces_of more)))
-          (sym (batches_from-nothing (pieces_of more)))
-          ∙ sym (reading_means more nothing_read version [] count)
+        pub with_size : script_meaning text ≡ for_unit size (resumed nothing_read more)
+        with_size = by_lines ∙ ap lines_meaning lines ∙ ap (meaning_behind version more) named
+            ∙ ap (for_unit size) read_from_nothing

@@ -20,3 +20,4 @@ pub mod Faults
 pub mod Sizes
 pub mod Steps
 pub mod TraceFaults
+pub mod Versions

@@ -1,10 +1,19 @@
--- The text of a report row.
-use Rattle.std.specs.Prelude.{ℕ, Bool, List, [], ◌∷◌, ◌++◌, Option, Some, None, if◌then◌else◌, codes, decimal}
+-- The text of a report, and of each of its rows.
+use Rattle.std.specs.Prelude.{◌≡◌, ℕ, Bool, List, [], ◌∷◌, ◌++◌, length, map, take, Option, Some, None, Ok}
+use Rattle.std.specs.Prelude.{if◌then◌else◌, codes, decimal}
+use Rattle.std.specs.List.{AllZip, zip, enumerate_from, flat_map}
 use Rattle.pmp_core.specs.declared.access.Access.{Access}
 use Rattle.pmp_core.specs.declared.decision.Cause.{Cause}
 use Rattle.pmp_core.specs.declared.decision.Cause.TheVariants.{Rule, Split, NoMatch}
 use Rattle.pmp_core.specs.declared.decision.Decision.{Decision}
+use Rattle.pmp_core.specs.Decision.{IsDecision}
 use Rattle.pmp_core.specs.FaultCode.{fault_of}
+use Rattle.pmp_core.specs.Histories.{file_after}
+use Rattle.pmp_core.specs.RegisterFile.{RegisterFile}
+use Rattle.pmp_core.specs.Size.{count_of}
+use Rattle.pmp_text.specs.declared.trace.Row.{Row}
+use Rattle.pmp_text.specs.Contents.{ScriptContents}
+use Rattle.pmp_text.specs.Traces.{row_fields, trace_meaning}
 
 abbrev pub answer_text : Bool → List ℕ
 answer_text allowed = if allowed then codes "allow" else codes "fault"
@@ -36,3 +45,28 @@ report_row number access decision =
     decimal number
     ++ fields_after (answer_text decision.allowed ∷ optional_text (fault_of access decision)
     ∷ cause_text decision.cause ∷ optional_text (entry_of decision.cause) ∷ [])
+
+-- ---- a whole report
+
+-- the register file after the first publications of a script, which is for a unit of its size
+abbrev pub file_of_script : ScriptContents → (done : ℕ) → RegisterFile
+file_of_script script done = file_after (count_of script.size) (take done script.batches)
+
+-- a decision for each row, each the manual's in the file after the publications that the row asks for (3.7.1.3)
+abbrev pub AreDecided : ScriptContents → List Row → List Decision → Type 0
+AreDecided script rows decisions =
+    AllZip (λ row decision. IsDecision (file_of_script script row.after) row.access decision) rows decisions
+
+-- a report row for each decision, numbered from 1
+unfoldable pub report_text : List Row → List Decision → List ℕ
+report_text rows decisions =
+    let numbered = enumerate_from 1 (zip rows decisions) in
+    flat_map (λ (number, (row, decision)). report_row number row.access decision) numbered
+
+-- the trace has these rows, and the text reports their decisions
+pub record IsReport (script : ScriptContents) (trace text : List ℕ) : Type 0 where
+  pub rows : List Row
+  pub decisions : List Decision
+  pub trace_means : trace_meaning (length script.batches) trace ≡ Ok (map row_fields rows)
+  pub decided : AreDecided script rows decisions
+  pub report : text ≡ report_text rows decisions

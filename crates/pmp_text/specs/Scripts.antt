@@ -1,11 +1,13 @@
--- What a script means: its publications, or its fault.
+-- What a script means: the size of its unit and its publications, or its fault.
 use Rattle.std.specs.Prelude.{ℕ, ◌+◌, List, [], ◌∷◌, length, map, filter, filter_map, find, Bool, true, false, not}
-use Rattle.std.specs.Prelude.{◌&&◌, ◌==◌, Option, Some, None, Result, Ok, Err, is_some, option_map, nat_lt, codes}
+use Rattle.std.specs.Prelude.{◌==◌, Option, Some, None, Result, Ok, Err, is_some, option_map, nat_lt, codes}
 use Rattle.std.specs.Prelude.{bytes_eq, slice_index, if◌then◌else◌}
 use Rattle.std.specs.List.{slice_split}
 use Rattle.std.specs.Option.{option_or}
 use Rattle.pmp_core.specs.declared.event.Event.{Event}
 use Rattle.pmp_core.specs.declared.event.TheConstants.{BATCH_EVENTS}
+use Rattle.pmp_core.specs.declared.size.Size.{Size}
+use Rattle.pmp_core.specs.declared.size.Size.TheVariants.{Sixteen, SixtyFour}
 use Rattle.pmp_text.specs.declared.script.ScriptKind.{ScriptKind}
 use Rattle.pmp_text.specs.declared.script.ScriptKind.TheVariants.{BadVersion, BatchFull, Unpublished, TooLong}
 use Rattle.pmp_text.specs.declared.script.ScriptFault.{ScriptFault}
@@ -13,6 +15,7 @@ use Rattle.pmp_text.specs.declared.script.statement.Statement.{Statement}
 use Rattle.pmp_text.specs.declared.script.statement.Statement.TheVariants as statement
 use Rattle.pmp_text.specs.Lines.{words, lines}
 use Rattle.pmp_text.specs.Statements.{statement_of}
+use Rattle.pmp_text.specs.Contents.{ScriptContents}
 use Rattle.pmp_text.specs.Limits.{script_limit}
 
 -- a line with its number in the text
@@ -40,10 +43,16 @@ significant_lines text = significant_from 1 text
 
 -- ---- faults
 
--- the first significant line has the words `pmp` and `1`
-unfoldable pub is_version : List (List ℕ) → Bool
-is_version (name ∷ version ∷ []) = bytes_eq name (codes "pmp") && bytes_eq version (codes "1")
-is_version _ = false
+-- the unit that a version is for: of 16 entries, or of 64
+abbrev pub size_of_version : List ℕ → Option Size
+size_of_version version =
+    if bytes_eq version (codes "1") then Some Sixteen
+    else (if bytes_eq version (codes "2") then Some SixtyFour else None)
+
+-- the first significant line has the words `pmp` and a version
+unfoldable pub size_named : List (List ℕ) → Option Size
+size_named (name ∷ version ∷ []) = if bytes_eq name (codes "pmp") then size_of_version version else None
+size_named _ = None
 
 -- one event line more, or none since a `publish`
 abbrev pub counted : Result Statement ScriptKind → ℕ → ℕ
@@ -64,7 +73,7 @@ statement_fault count (Ok (statement.Event event)) = if nat_lt count BATCH_EVENT
 
 -- the fault of a significant line, by its words and the significant lines before it, the nearest first
 abbrev pub line_fault : (before : List Line) → Line → Option ScriptKind
-line_fault [] line = if is_version line.words then None else Some BadVersion
+line_fault [] line = if is_some (size_named line.words) then None else Some BadVersion
 line_fault (last ∷ before) line = statement_fault (open_events (last ∷ before)) (statement_of line.words)
 
 -- the fault of a line with this number
@@ -127,13 +136,23 @@ fault_or_batches (Some fault) unpublished batches = Err fault
 fault_or_batches None (Some number) batches = Err (at_line number Unpublished)
 fault_or_batches None None batches = Ok batches
 
+-- these publications are for a unit of this size
+abbrev pub for_unit : Size → Result (List (List Event)) ScriptFault → Result ScriptContents ScriptFault
+for_unit size (Ok batches) = Ok (record { size = size; batches = batches })
+for_unit size (Err fault) = Err fault
+
+-- what lines mean behind a line that names a size, or none
+abbrev pub meaning_behind : Line → List Line → Option Size → Result ScriptContents ScriptFault
+meaning_behind version more None = Err (at_line version.number BadVersion)
+meaning_behind version more (Some size) =
+    for_unit size (fault_or_batches (first_fault (version ∷ []) more) (first_unpublished more) (publications more))
+
 -- the first line is the version; publications stand behind it
-abbrev pub lines_meaning : List Line → Result (List (List Event)) ScriptFault
+abbrev pub lines_meaning : List Line → Result ScriptContents ScriptFault
 lines_meaning [] = Err (at_line 1 BadVersion)
-lines_meaning (version ∷ more) =
-    fault_or_batches (first_fault [] (version ∷ more)) (first_unpublished more) (publications more)
+lines_meaning (version ∷ more) = meaning_behind version more (size_named version.words)
 
 -- what a text means; one of more bytes than the limit is too long, whatever it says
-unfoldable pub script_meaning : List ℕ → Result (List (List Event)) ScriptFault
+unfoldable pub script_meaning : List ℕ → Result ScriptContents ScriptFault
 script_meaning text =
     if nat_lt script_limit (length text) then Err (at_line 0 TooLong) else lines_meaning (significant_lines text)

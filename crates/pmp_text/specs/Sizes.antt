@@ -2,6 +2,7 @@
 use Rattle.std.specs.Prelude.{◌≡◌, ℕ, ◌+◌, ◌≤◌, List, length, sum_by, Ok}
 use Rattle.pmp_core.specs.declared.event.Event.{Event}
 use Rattle.pmp_text.specs.Scripts.{script_meaning}
+use Rattle.pmp_text.specs.Contents.{ScriptContents}
 use Rattle.pmp_text.specs.Limits.{script_limit}
 
 -- publications and events together
@@ -10,5 +11,5 @@ script_size batches = length batches + sum_by (λ batch. length batch) batches
 
 -- a script has no more publications and events than bytes, of which there are not too many
 abbrev pub ScriptSizeLaw : Type 0
-ScriptSizeLaw = (text : List ℕ) → (batches : List (List Event)) → script_meaning text ≡ Ok batches
-    → (script_size batches ≤ length text) × (length text ≤ script_limit)
+ScriptSizeLaw = (text : List ℕ) → (script : ScriptContents) → script_meaning text ≡ Ok script
+    → (script_size script.batches ≤ length text) × (length text ≤ script_limit)

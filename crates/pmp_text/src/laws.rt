@@ -4,6 +4,9 @@ ghost use Rattle.pmp_text.specs.Faults.{FirstFaultLaw, LeastFaultLaw};
 ghost use Rattle.pmp_text.specs.Names.{NamesReadBackLaw};
 ghost use Rattle.pmp_text.specs.Sizes.{ScriptSizeLaw};
 ghost use Rattle.pmp_text.specs.TraceFaults.{FirstRowFaultLaw, LeastRowFaultLaw, RowOrderLaw};
+ghost use Rattle.pmp_text.specs.Versions.{VersionOneLaw, VersionTwoLaw};
+
+use pmp_core::laws::law_sizes;
 
 /// The fault of a script's lines is that of the least faulty line: a significant line has it, and no significant
 /// line before it has any.
@@ -33,3 +36,17 @@ pub fn law_rows_in_order()
 pub fn law_names_read_back()
     ensures { NamesReadBackLaw }
 {}
+
+/// A script of version 1 means what it means where that version is the only one: the same fault, else the same
+/// publications, in a unit of sixteen entries.
+pub fn law_version_one()
+    ensures { VersionOneLaw }
+{}
+
+/// A script of version 1 without a fault that writes no register of entries above the sixteenth may as well be of
+/// version 2: it has the same publications, and with every trace the same report.
+pub fn law_version_two()
+    ensures { VersionTwoLaw }
+{
+    law_sizes();
+}

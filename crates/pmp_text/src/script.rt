@@ -12,7 +12,7 @@ mod significant;
 mod statement;
 mod words;
 
-use pmp_core::{BATCH_EVENTS, Event};
+use pmp_core::{BATCH_EVENTS, Event, Size};
 pub use reader::{MAX_SCRIPT, read_script};
 use std::alloc::AllocFailed;
 use std::marker::Model;
@@ -20,7 +20,7 @@ use std::marker::Model;
 /// What is wrong with a script.
 #[derive(Clone, Copy, Debug, PartialEq, Eq)]
 pub enum ScriptKind {
-    /// The first significant line isn't `pmp 1`, or there is none.
+    /// The first significant line is neither `pmp 1` nor `pmp 2`, or there is none.
     BadVersion,
     /// A later line is no statement.
     BadLine,
@@ -65,26 +65,38 @@ impl<T: Drop> From<AllocFailed<T>> for ScriptFault {
     }
 }
 
-/// The publications of a script, in their order. Each is a batch of at most [`BATCH_EVENTS`] events, perhaps empty.
+/// The size of the unit that a script is for, and its publications, in their order. Each is a batch of at most
+/// [`BATCH_EVENTS`] events, perhaps empty.
 #[derive(Debug, Drop)]
 pub struct Script {
+    size: Size,
     batches: Vec<Vec<Event>>,
 }
 
 impl Model for Script {
     ghost Value = { ScriptContents };
 
-    ghost view = { λ script. record { batches = map (λ batch. batch.items) script.batches.items } };
+    ghost view = { λ script. record {
+      size = script.size;
+      batches = map (λ batch. batch.items) script.batches.items;
+    } };
 
     ghost invariant = { λ script. All (λ batch. length batch.items ≤ BATCH_EVENTS) script.batches.items };
 }
 
 impl Script {
-    pub(crate) fn from_batches(batches: Vec<Vec<Event>>) -> Script
+    pub(crate) fn new(size: Size, batches: Vec<Vec<Event>>) -> Script
         requires { All (λ batch. length batch.items ≤ BATCH_EVENTS) batches.items }
-        ensures { result ≡ record { batches = map (λ batch. batch.items) batches.items } }
+        ensures { result ≡ record { size = size; batches = map (λ batch. batch.items) batches.items } }
     {
-        Script { batches }
+        Script { size, batches }
+    }
+
+    /// The size of the unit that the script is for.
+    pub fn size(&self) -> Size
+        ensures { result ≡ self.now.size }
+    {
+        self.size
     }
 
     /// How many publications there are.

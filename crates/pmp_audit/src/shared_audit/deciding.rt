@@ -1,7 +1,7 @@
 //! All rows of a trace, decided while the script's publications are done.
 
 ghost use Rattle.std.specs.Prelude.{◌≡◌, ◌<◌, ◌≤◌, [], IfOk, IfErr, All, length, map};
-ghost use Rattle.pmp_core.specs.declared.register_file.TheConstants.{ENTRIES};
+ghost use Rattle.pmp_core.specs.Size.{count_of};
 ghost use Rattle.pmp_share.specs.declared.opening.TheConstants.{CHECKERS};
 ghost use Rattle.pmp_share.specs.declared.room.TheConstants.{HISTORY_LIMIT};
 ghost use Rattle.pmp_share.specs.Object.{no_batches};
@@ -16,7 +16,7 @@ use super::rounds::decide_asking;
 use crate::fault::AuditFault;
 use crate::gate::Gate;
 use pmp_core::Decision;
-use pmp_share::{Checker, Publisher, start};
+use pmp_share::{Checker, Publisher, start_of};
 use pmp_text::{Row, Script};
 use std::alloc::Global;
 use std::sync::Wait;
@@ -35,12 +35,12 @@ fn decide_rows<R: Threads + Wait + Sync, G: Gate + Sync>(
     requires some { 0 < length checkers.items }
     requires few { length checkers.items ≤ CHECKERS }
     requires same_unit { All (λ checker. checker.unit ≡ publisher.old.unit) checkers.items }
-    requires entries { publisher.old.unit.entries ≡ ENTRIES }
+    requires entries { publisher.old.unit.entries ≡ count_of script.now.size }
     requires published { publisher.old.published ≡ no_batches }
     requires pending { publisher.old.pending ≡ [] }
     requires size { script_size script.now.batches ≤ HISTORY_LIMIT }
     requires order { IsInOrder (length script.now.batches) 0 (afters (map row_fields rows.now)) }
-    ensures decided { IfOk result (λ decided. decided.items ≡ map (decision_for script.now.batches) rows.now) }
+    ensures decided { IfOk result (λ decided. decided.items ≡ map (decision_for script.now) rows.now) }
     ensures refused { IfErr result MayStop }
 {
     let mut decided = Vec::new(alloc);
@@ -73,10 +73,10 @@ pub(crate) fn decide_shared<R: Threads + Wait + Sync, G: Gate + Sync>(
     requires workers { (1 ≤ k) × (k ≤ CHECKERS) }
     requires size { script_size script.now.batches ≤ HISTORY_LIMIT }
     requires order { IsInOrder (length script.now.batches) 0 (afters (map row_fields rows.now)) }
-    ensures decided { IfOk result (λ decided. decided.items ≡ map (decision_for script.now.batches) rows.now) }
+    ensures decided { IfOk result (λ decided. decided.items ≡ map (decision_for script.now) rows.now) }
     ensures refused { IfErr result MayStop }
 {
-    let (mut publisher, checkers) = start(rt, alloc, k)?;
+    let (mut publisher, checkers) = start_of(rt, alloc, script.size(), k)?;
     let decided = decide_rows(rt, alloc, gate, &mut publisher, checkers, script, rows);
     publisher.end(rt);
     decided

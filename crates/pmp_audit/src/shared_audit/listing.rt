@@ -1,7 +1,8 @@
 //! A report of decisions that are made.
 
 ghost use Rattle.std.specs.Prelude.{◌≡◌, ◌++◌, IfOk, OnOk, length};
-ghost use Rattle.pmp_audit.specs.TraceAudit.{report_text, summary_of};
+ghost use Rattle.pmp_text.specs.Reports.{report_text};
+ghost use Rattle.pmp_audit.specs.TraceAudit.{summary_of};
 
 use crate::trace_audit::Summary;
 use pmp_core::Decision;

@@ -3,13 +3,14 @@
 ghost use Rattle.std.specs.Prelude.{◌≡◌, ◌≤◌, All, Err, IfErr, IfOk, Ok, length, map};
 ghost use Rattle.pmp_core.specs.declared.event.TheConstants.{BATCH_EVENTS};
 ghost use Rattle.pmp_text.specs.Outcomes.{Gives};
+ghost use Rattle.pmp_text.specs.Scripts.{for_unit};
 ghost use Rattle.pmp_text.specs.Steps.Progress.{Progress, nothing_read, published, with_event, after_line, finished};
 ghost use Rattle.pmp_text.specs.Steps.Views.{seen_line};
 
 use crate::script::significant::NumberedLine;
 use crate::script::statement::{Statement, read_statement};
 use crate::script::{Script, ScriptFault, ScriptKind};
-use pmp_core::{BATCH_EVENTS, Event};
+use pmp_core::{BATCH_EVENTS, Event, Size};
 use std::alloc::Global;
 use std::marker::Model;
 use std::mem;
@@ -80,13 +81,13 @@ impl ScriptBuilder {
         }
     }
 
-    /// The script, if no events are left unpublished.
-    pub fn finish(self) -> Result<Script, ScriptFault>
-        ensures ok { IfOk result (λ script. finished self ≡ Ok script.batches) }
+    /// The script for a unit of this size, if no events are left unpublished.
+    pub fn finish(self, size: Size) -> Result<Script, ScriptFault>
+        ensures ok { IfOk result (λ script. for_unit size (finished self) ≡ Ok script) }
         ensures err { IfErr result (λ fault. finished self ≡ Err fault) }
     {
         match self.since {
-            None => Ok(Script::from_batches(self.published)),
+            None => Ok(Script::new(size, self.published)),
             Some(line) => Err(ScriptKind::Unpublished.at(line)),
         }
     }

@@ -3,7 +3,7 @@
 ghost use Rattle.pmp_text.specs.Lines.{words};
 ghost use Rattle.pmp_text.specs.Outcomes.{Gives};
 ghost use Rattle.pmp_text.specs.Steps.Progress.{nothing_read, resumed};
-ghost use Rattle.pmp_text.specs.Scripts.{is_version, script_meaning};
+ghost use Rattle.pmp_text.specs.Scripts.{size_named, for_unit, script_meaning};
 ghost use Rattle.pmp_text.specs.Steps.Views.{lines_left};
 ghost use Rattle.std.specs.Prelude.{◌≡◌};
 
@@ -11,37 +11,40 @@ use crate::script::progress::ScriptBuilder;
 use crate::script::significant::SignificantLines;
 use crate::script::words::Words;
 use crate::script::{Script, ScriptFault, ScriptKind};
+use pmp_core::Size;
 use std::alloc::Global;
 
 /// The most bytes of a script.
 pub const MAX_SCRIPT: usize = 1 << 20;
 
-#[tactic(auto, unfolding(crate::specs::Scripts::is_version))]
-fn is_version_line(line: &[u8]) -> bool
-    ensures { result ≡ is_version (words line.now) }
+/// The size of the unit that a script's first line names by its version.
+#[tactic(auto, unfolding(crate::specs::Scripts::size_named))]
+fn read_version(line: &[u8]) -> Option<Size>
+    ensures { result ≡ size_named (words line.now) }
 {
     let mut words = Words::new(line);
-    matches!(
-        (words.next(), words.next(), words.next()),
-        (Some(b"pmp"), Some(b"1"), None)
-    )
+    match (words.next(), words.next(), words.next()) {
+        (Some(b"pmp"), Some(b"1"), None) => Some(Size::Sixteen),
+        (Some(b"pmp"), Some(b"2"), None) => Some(Size::SixtyFour),
+        _ => None,
+    }
 }
 
 /// Reads the lines behind a script's first one.
-fn read_statements(alloc: Global, lines: SignificantLines) -> Result<Script, ScriptFault>
-    ensures { Gives (λ script. script.batches) result (resumed nothing_read (lines_left lines.entry)) }
+fn read_statements(alloc: Global, size: Size, lines: SignificantLines) -> Result<Script, ScriptFault>
+    ensures { Gives (λ script. script) result (for_unit size (resumed nothing_read (lines_left lines.entry))) }
 {
     let mut builder = ScriptBuilder::new(alloc);
     for line in lines {
         builder.take_line(line)?;
     }
-    builder.finish()
+    builder.finish(size)
 }
 
 /// The script that a text describes, else its first fault. The time is linear in the text, and only the
 /// publications take memory: where they can't grow, `Memory` is answered in place of any fault further on.
 pub fn read_script(alloc: Global, text: &[u8]) -> Result<Script, ScriptFault>
-    ensures { Gives (λ script. script.batches) result (script_meaning text.now) }
+    ensures { Gives (λ script. script) result (script_meaning text.now) }
 {
     if text.len() > MAX_SCRIPT {
         return Err(ScriptKind::TooLong.at(0));
@@ -50,8 +53,8 @@ pub fn read_script(alloc: Global, text: &[u8]) -> Result<Script, ScriptFault>
     let Some(version) = lines.next() else {
         return Err(ScriptKind::BadVersion.at(1));
     };
-    if !is_version_line(version.bytes) {
+    let Some(size) = read_version(version.bytes) else {
         return Err(ScriptKind::BadVersion.at(version.number));
-    }
-    read_statements(alloc, lines)
+    };
+    read_statements(alloc, size, lines)
 }

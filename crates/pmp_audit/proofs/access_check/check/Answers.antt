@@ -11,7 +11,7 @@ says : (g : _) (c : After-write_answer g)
 says g c =
     let moved = c.advance.ensures ∙ ap (λ (p : Position). record p { done = c.batches.result }) c.new-replay.ensures in
     let text = only_text _ _ _ _ c.deref.ensures.value c.in_ok-write_row.ensures.ok c.new-row.ensures.items in
-    check_says c.in_ok-script.script.batches c.batches.result c.advance.new.self c.batches.ensures moved
+    check_says c.in_ok-script.script c.batches.result c.advance.new.self c.batches.ensures moved
     c.args.script.now c.args.access.now c.decide-decision.result c.deref.result.now
     c.in_ok-script.ensures c.decide-decision.ensures.by_bytes text
 

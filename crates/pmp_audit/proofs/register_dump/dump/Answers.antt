@@ -12,7 +12,7 @@ returns-clause-err g c =
     let file = c.file.ensures ∙ ap file_at c.in_ok-replay.ensures.done in
     cut_short (DumpSays c.args.script.now c.args.after) _ _ tt c.deref.result.now
     (record {
-      batches = c.in_ok-script.script.batches;
+      contents = c.in_ok-script.script;
       script_means = c.in_ok-script.ensures;
       within = c.in_ok-replay.ensures.within;
       text_is = text ∙ ap dump_text file;

@@ -3,7 +3,8 @@ use Rattle.pmp_text.specs.Traces.{row_fields, trace_meaning}
 use Rattle.pmp_audit.specs.Report.{IsReported}
 use Rattle.pmp_audit.specs.Rounds.{decision_for}
 use Rattle.pmp_audit.specs.SharedAudit.{SharedAuditRefuses}
-use Rattle.pmp_audit.specs.TraceAudit.{AreDecided, AuditSays}
+use Rattle.pmp_text.specs.Reports.{AreDecided}
+use Rattle.pmp_audit.specs.TraceAudit.{AuditSays}
 use Rattle.pmp_audit.proofs.DecidedRows.{are_decided}
 use Rattle.pmp_audit.proofs.Reports.{audit_says}
 use Rattle.pmp_audit.proofs.WrittenAnswers.{answered, cut_short}
@@ -13,10 +14,10 @@ use Rattle.pmp_audit.proofs.shared_audit.audit_shared.Goals.{After-write_answer}
 says : (g : _) (c : After-write_answer g)
     → AuditSays c.args.script.now c.args.trace.now c.in_ok-summary.summary c.deref-4.result.now
 says g c =
-    let script = c.in_ok-script.script.batches in
+    let script = c.in_ok-script.script in
     let rows = c.in_ok-rows.rows.items in
     let decisions = c.in_ok-decisions.decisions.items in
-    let trace_means : trace_meaning (length script) c.args.trace.now ≡ Ok (map row_fields rows) =
+    let trace_means : trace_meaning (length script.batches) c.args.trace.now ≡ Ok (map row_fields rows) =
     rw (← c.batches.ensures) c.in_ok-rows.ensures.given in
     let made : decisions ≡ map (decision_for script) rows =
     c.in_ok-decisions.ensures.decided ∙ ap (map (decision_for script)) c.deref.ensures.value in

@@ -1,19 +1,19 @@
-use Rattle.std.proofs.Common.{◌≡◌, List, take, refl, ap, ◌∙◌, arith}
-use Rattle.pmp_core.specs.declared.event.Event.{Event}
+use Rattle.std.proofs.Common.{◌≡◌, take, refl, ap, ◌∙◌, arith}
 use Rattle.pmp_core.specs.Decision.{IsDecision}
-use Rattle.pmp_audit.specs.TraceAudit.{file_of_row}
+use Rattle.pmp_text.specs.Contents.{ScriptContents}
+use Rattle.pmp_text.specs.Reports.{file_of_script}
 use Rattle.pmp_audit.proofs.Reports.{no_rows, one_more, one_row_more, order_of_rest, rows_so_far, so_many}
 use Rattle.pmp_audit.proofs.trace_audit.write_report.Goals as goal
 
 pub loop-row-init : goal.loop-row-init
 loop-row-init c =
-    let none = no_rows c.args.script.now.batches c.args.report.now.items c.default-summary.result
+    let none = no_rows c.args.script.now c.args.report.now.items c.default-summary.result
     c.default-summary.ensures.0 c.default-summary.ensures.1 in
     rw c.new-replay.ensures (refl, c.requires, none)
 
 pub count-requires-clause-rows : goal.count-requires-clause-rows
 count-requires-clause-rows c =
-    let script = c.args.script.now.batches in
+    let script = c.args.script.now in
     let rows = c.args.rows.now in
     let i = c.loop-row.row-index in
     let done = rows_so_far script (take i rows) c.args.report.now.items c.loop-row.report.items c.loop-row.summary
@@ -23,15 +23,15 @@ count-requires-clause-rows c =
 
 pub loop-row-preserved : goal.loop-row-preserved
 loop-row-preserved c =
-    let script = c.args.script.now.batches in
+    let script = c.args.script.now in
     let rows = c.args.rows.now in
     let i = c.loop-row.row-index in
     let row = c.row-item.result in
     let decision = c.decide-decision.result in
     let (same, order, so_far) = c.loop-row.invariant in
-    let advanced : c.advance.new.self ≡ record { batches = script; done = row.after } =
-    c.advance.ensures ∙ ap (λ (b : List (List Event)). record { batches = b; done = row.after }) same in
-    let by_bytes : IsDecision (file_of_row script row) row.access decision =
+    let advanced : c.advance.new.self ≡ record { script = script; done = row.after } =
+    c.advance.ensures ∙ ap (λ (s : ScriptContents). record { script = s; done = row.after }) same in
+    let by_bytes : IsDecision (file_of_script script row.after) row.access decision =
     rw advanced at c.decide-decision.ensures.by_bytes in
     rw (c.decide-decision.ensures.position ∙ advanced, one_more script rows i row c.loop-row-test.true c.row-item.is) (
       refl,

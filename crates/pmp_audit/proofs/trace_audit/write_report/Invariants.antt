@@ -7,6 +7,6 @@ use Rattle.pmp_audit.proofs.trace_audit.write_report.Given as goal
 -- the rows so far are reported, and those that follow ask for no fewer publications than are done
 abbrev pub invariant-loop-row : goal.invariant-loop-row
 invariant-loop-row l =
-    (l.replay.batches ≡ l.script.batches)
+    (l.replay.script ≡ l.script)
     × IsInOrder (length l.script.batches) l.replay.done (afters (map row_fields (drop l.row-index l.rows)))
-    × IsReported l.script.batches (take l.row-index l.rows) l.fn.report.items l.report.items l.summary
+    × IsReported l.script (take l.row-index l.rows) l.fn.report.items l.report.items l.summary

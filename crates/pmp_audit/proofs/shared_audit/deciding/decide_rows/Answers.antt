@@ -8,7 +8,7 @@ use Rattle.pmp_audit.proofs.shared_audit.deciding.decide_rows.Goals as goal
 
 pub loop-index-init : goal.loop-index-init
 loop-index-init g c =
-    let script = c.args.script.now.batches in
+    let script = c.args.script.now in
     let rows = c.args.rows.now in
     let same = c.decide_asking.ensures.same in
     let start = none_decided script rows c.requires.order in
@@ -24,20 +24,20 @@ loop-index-init g c =
 
 pub publish-requires-clause-room : goal.publish-requires-clause-room
 publish-requires-clause-room g c =
-    room_for c.args.script.now.batches c.loop-index.index c.loop-index.publisher.published c.batch.result.now
+    room_for c.args.script.now c.loop-index.index c.loop-index.publisher.published c.batch.result.now
     c.requires.size (omega (arith, c.batches-index-end.ensures)) c.loop-index.invariant.published c.batch.ensures.events
 
 pub loop-index-preserved : goal.loop-index-preserved
 loop-index-preserved g c =
-    let script = c.args.script.now.batches in
+    let script = c.args.script.now in
     let rows = c.args.rows.now in
     let at = c.loop-index in
     let same = c.decide_asking-in-loop-index.ensures.same in
     let batch = c.batch.result.now in
-    let done : c.publish.new.publisher.published ≡ take (at.index + 1) script =
+    let done : c.publish.new.publisher.published ≡ take (at.index + 1) script.batches =
     c.in_ok-publish.ensures.published ∙ ap (λ (p : Batches). p ++ batch ∷ []) at.invariant.published
-    ∙ ap (λ (b : List Event). take at.index script ++ b ∷ []) c.batch.ensures.events
-    ∙ sym (take_more script at.index [] (omega (arith, c.batches-index-end.ensures))) in
+    ∙ ap (λ (b : List Event). take at.index script.batches ++ b ∷ []) c.batch.ensures.events
+    ∙ sym (take_more script.batches at.index [] (omega (arith, c.batches-index-end.ensures))) in
     let unit : c.publish.new.publisher.unit ≡ c.args.publisher.now.unit = c.publish.ensures.unit ∙ at.invariant.unit in
     let checkers = c.in_ok-checkers-2.ensures.checkers in
     record {
@@ -53,5 +53,5 @@ loop-index-preserved g c =
 
 pub returns-clause-decided : goal.returns-clause-decided
 returns-clause-decided g c =
-    all_decided c.args.script.now.batches c.args.rows.now (c.loop-index.index + 1) c.loop-index.decided.items
+    all_decided c.args.script.now c.args.rows.now (c.loop-index.index + 1) c.loop-index.decided.items
     (omega (arith, c.batches-index-end.ensures)) c.loop-index.invariant.decided

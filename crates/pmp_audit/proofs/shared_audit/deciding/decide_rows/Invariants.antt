@@ -9,5 +9,5 @@ invariant-loop-index g l = record {
   pending : l.publisher.pending ≡ [];
   unit : l.publisher.unit ≡ l.fn.publisher.unit;
   checkers : AreCheckersOf l.fn.publisher.unit (length l.fn.checkers.items) l.checkers.items;
-  decided : AreDecidedSoFar l.script.batches l.rows (l.index + 1) l.decided.items;
+  decided : AreDecidedSoFar l.script l.rows (l.index + 1) l.decided.items;
 }

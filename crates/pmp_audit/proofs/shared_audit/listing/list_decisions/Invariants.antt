@@ -1,5 +1,6 @@
 use Rattle.std.proofs.Common.{◌≡◌, ◌++◌, take}
-use Rattle.pmp_audit.specs.TraceAudit.{report_text, summary_of}
+use Rattle.pmp_text.specs.Reports.{report_text}
+use Rattle.pmp_audit.specs.TraceAudit.{summary_of}
 use Rattle.pmp_audit.proofs.shared_audit.listing.list_decisions.Given as goal
 
 -- the rows so far are reported and counted

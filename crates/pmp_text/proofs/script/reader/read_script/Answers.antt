@@ -1,6 +1,6 @@
 use Rattle.std.proofs.Common.{inl, sym, ◌∙◌, arith}
 use Rattle.pmp_text.specs.Steps.Views.{seen_line, lines_left}
-use Rattle.pmp_text.proofs.Meanings.{long_script, no_version, other_version, this_version}
+use Rattle.pmp_text.proofs.Meanings.{long_script, no_version, no_size, with_size}
 use Rattle.pmp_text.proofs.script.reader.read_script.Goals as goal
 
 pub returns-then-text-gt-MAX_SCRIPT : goal.returns-then-text-gt-MAX_SCRIPT
@@ -10,14 +10,14 @@ pub returns-in_default : goal.returns-in_default
 returns-in_default c = rw c.at-in_default.ensures (inl
     (no_version c.args.text.now (omega arith) (sym c.new-lines.ensures ∙ c.in_default.ensures.steps.0)))
 
-pub returns-then-not-is_version_line : goal.returns-then-not-is_version_line
-returns-then-not-is_version_line c =
-    rw c.at-then-not-is_version_line.ensures (inl
-    (other_version c.args.text.now (omega arith) (seen_line c.in-Some.version) (lines_left c.next.new.self)
-    (sym c.new-lines.ensures ∙ c.in-Some.ensures.steps) (sym c.if-not-is_version_line.ensures)))
+pub returns-in_default-read_version : goal.returns-in_default-read_version
+returns-in_default-read_version c =
+    rw c.at-in_default-read_version.ensures (inl
+    (no_size c.args.text.now (omega arith) (seen_line c.in-Some.version) (lines_left c.next.new.self)
+    (sym c.new-lines.ensures ∙ c.in-Some.ensures.steps) (sym c.in_default-read_version.ensures)))
 
 pub returns : goal.returns
 returns c =
-    rw (this_version c.args.text.now (omega arith) (seen_line c.in-Some.version) (lines_left c.next.new.self)
-    (sym c.new-lines.ensures ∙ c.in-Some.ensures.steps) (sym c.if-not-is_version_line.ensures))
-    c.read_statements.ensures
+    rw (with_size c.args.text.now (omega arith) (seen_line c.in-Some.version) (lines_left c.next.new.self)
+    (sym c.new-lines.ensures ∙ c.in-Some.ensures.steps) c.in-Some-read_version.size
+    (sym c.in-Some-read_version.ensures)) c.read_statements.ensures

@@ -1,0 +1,226 @@
+-- What the version of a script makes of it.
+use Rattle.std.proofs.Common.{◌≡◌, ℕ, zero, suc, ◌+◌, ◌<◌, ◌≤◌, Bool, true, false, cond, ltb, List, [], ◌∷◌, ◌++◌, length, map}
+use Rattle.std.proofs.Common.{take, Result, Ok, Err, Option, Some, refl, sym, ap, subst, ◌∙◌, arith, inl, inr}
+use Rattle.std.specs.Prelude.{◌↔◌, All, filter, codes}
+use Rattle.std.specs.List.{AllZip, list_all, flat_map}
+use Rattle.std.proofs.lemmas.Bool.{and_parts, and_from, cases_lt, cond-true, cond-false}
+use Rattle.std.proofs.lemmas.List.Elements.{All-head, All-tail}
+use Rattle.std.proofs.lemmas.List.Folds.{list_all-append}
+use Rattle.pmp_core.specs.declared.decision.Decision.{Decision}
+use Rattle.pmp_core.specs.declared.event.Event.{Event}
+use Rattle.pmp_core.specs.declared.size.Size.{Size}
+use Rattle.pmp_core.specs.declared.size.Size.TheVariants.{Sixteen, SixtyFour}
+use Rattle.pmp_core.specs.Decision.{IsDecision}
+use Rattle.pmp_core.specs.Histories.{joined}
+use Rattle.pmp_core.specs.SizeLaw.{SizeLaw, writes_sixteen}
+use Rattle.pmp_text.specs.declared.script.ScriptFault.{ScriptFault}
+use Rattle.pmp_text.specs.declared.script.ScriptKind.TheVariants.{BadVersion, TooLong}
+use Rattle.pmp_text.specs.declared.trace.Row.{Row}
+use Rattle.pmp_text.specs.Contents.{ScriptContents}
+use Rattle.pmp_text.specs.Limits.{script_limit}
+use Rattle.pmp_text.specs.Lines.{words, lines}
+use Rattle.pmp_text.specs.Reports.{AreDecided, IsReport}
+use Rattle.pmp_text.specs.Scripts.{Line, at_line, counts, numbered_from, significant_from, significant_lines}
+use Rattle.pmp_text.specs.Scripts.{first_fault, first_unpublished, publications, fault_or_batches, size_named, for_unit}
+use Rattle.pmp_text.specs.Scripts.{meaning_behind, lines_meaning, script_meaning}
+use Rattle.pmp_text.specs.Steps.Progress.{nothing_read, resumed}
+use Rattle.pmp_text.specs.Versions.{is_version_one, lines_meaning_in_one, meaning_in_one, IsVersionOne, MeansAsInOne}
+use Rattle.pmp_text.specs.Versions.{VersionOneLaw, IsSameInTwo, in_sixty_four, ReportsAlike, VersionTwoLaw}
+use Rattle.pmp_text.proofs.Bounds.{sized_batches}
+use Rattle.pmp_text.proofs.Meanings.{long_script, with_size}
+
+abbrev one_says : List (List ℕ)
+one_says = codes "pmp" ∷ codes "1" ∷ []
+
+abbrev two_says : List (List ℕ)
+two_says = codes "pmp" ∷ codes "2" ∷ []
+
+names_sixteen : size_named one_says ≡ Some Sixteen
+unfolding size_named
+names_sixteen = refl
+
+names_sixty_four : size_named two_says ≡ Some SixtyFour
+unfolding size_named
+names_sixty_four = refl
+
+names_one : is_version_one one_says ≡ true
+unfolding is_version_one
+names_one = refl
+
+-- ---- version 1
+
+abbrev read_lines : Line → List Line → Result (List (List Event)) ScriptFault
+read_lines version more =
+    fault_or_batches (first_fault (version ∷ []) more) (first_unpublished more) (publications more)
+
+lines_in_one : (version : Line) (more : List Line) → version.words ≡ one_says
+    → lines_meaning (version ∷ more) ≡ for_unit Sixteen (lines_meaning_in_one (version ∷ more))
+lines_in_one version more says =
+    ap (meaning_behind version more) (ap size_named says ∙ names_sixteen)
+    ∙ ap (for_unit Sixteen) (sym (cond-true _ (read_lines version more) (Err (at_line version.number BadVersion))
+    (ap is_version_one says ∙ names_one)))
+
+by_length : (long : Bool) (ls : List Line) → lines_meaning ls ≡ for_unit Sixteen (lines_meaning_in_one ls)
+    → cond long (Err (at_line 0 TooLong)) (lines_meaning ls)
+    ≡ for_unit Sixteen (cond long (Err (at_line 0 TooLong)) (lines_meaning_in_one ls))
+by_length true ls same = refl
+by_length false ls same = same
+
+as_in_one : (text : List ℕ) → lines_meaning (significant_lines text)
+    ≡ for_unit Sixteen (lines_meaning_in_one (significant_lines text))
+    → script_meaning text ≡ for_unit Sixteen (meaning_in_one text)
+unfolding script_meaning
+as_in_one text same = by_length (ltb script_limit (length text)) (significant_lines text) same
+
+pub version_one : VersionOneLaw
+version_one text is =
+    let same : lines_meaning (significant_lines text)
+    ≡ for_unit Sixteen (lines_meaning_in_one (significant_lines text)) =
+    ap lines_meaning is.lines_are ∙ lines_in_one is.version is.more is.says
+    ∙ ap (λ (ls : List Line). for_unit Sixteen (lines_meaning_in_one ls)) (sym is.lines_are) in
+    record { meaning = as_in_one text same; files = λ batches done. refl }
+
+-- ---- version 2: the lines behind the version are the same
+
+abbrev significant : ℕ → List (List ℕ) → List Line
+significant number ls = filter (λ (line : Line). counts line.words) (numbered_from number ls)
+
+one_counts : (line : List ℕ) (says : List (List ℕ)) → words line ≡ says → counts says ≡ true
+    → (number : ℕ) (after : List (List ℕ))
+    → significant number (line ∷ after) ≡ record { number = number; words = says } ∷ significant (number + 1) after
+one_counts line says e counted number after =
+    cond-true (counts (words line)) (record { number = number; words = words line } ∷ significant (number + 1) after)
+    (significant (number + 1) after) (ap counts e ∙ counted)
+    ∙ ap (λ (ws : List (List ℕ)). record { number = number; words = ws } ∷ significant (number + 1) after) e
+
+-- behind lines that don't count, the first line that does has the same number, whatever it says
+record StandsBehind (number : ℕ) (before after : List (List ℕ)) : Type 0 where
+  at : ℕ
+  more : List Line
+  stands : (line : List ℕ) (says : List (List ℕ)) → words line ≡ says → counts says ≡ true
+      → significant number (before ++ line ∷ after) ≡ record { number = at; words = says } ∷ more
+
+stands_behind : (number : ℕ) (before after : List (List ℕ)) → All (λ line. counts (words line) ≡ false) before
+    → StandsBehind number before after
+stands_behind number [] after none = record {
+  at = number;
+  more = significant (number + 1) after;
+  stands = λ line says e counted. one_counts line says e counted number after;
+}
+stands_behind number (skipped ∷ before) after none =
+    let here = All-head (λ line. counts (words line) ≡ false) skipped before none in
+    let rest = stands_behind (number + 1) before after
+    (All-tail (λ line. counts (words line) ≡ false) skipped before none) in
+    record {
+      at = rest.at;
+      more = rest.more;
+      stands = λ line says e counted.
+          cond-false (counts (words skipped))
+          (record { number = number; words = words skipped } ∷ significant (number + 1) (before ++ line ∷ after))
+          (significant (number + 1) (before ++ line ∷ after)) here
+          ∙ rest.stands line says e counted;
+    }
+
+lines_behind : (text : List ℕ) (ls : List (List ℕ)) → lines text ≡ ls → significant_lines text ≡ significant 1 ls
+unfolding significant_from
+lines_behind text ls e = ap (significant 1) e
+
+-- a script that has a meaning isn't too long
+short_script : (text : List ℕ) (script : ScriptContents) → script_meaning text ≡ Ok script → length text ≤ script_limit
+short_script text script e =
+    elim (cases_lt script_limit (length text)) [
+      | inl long ↦ let refused = sym e ∙ long_script text long in absurd cc
+      | inr short ↦ short
+    ]
+
+module _ (one two : List ℕ) (script : ScriptContents) (same : IsSameInTwo one two)
+    (means : script_meaning one ≡ Ok script) where
+  behind : StandsBehind 1 same.before same.after
+  behind = stands_behind 1 same.before same.after same.insignificant
+
+  short : length one ≤ script_limit
+  short = short_script one script means
+
+  in_one : script_meaning one ≡ for_unit Sixteen (resumed nothing_read behind.more)
+  in_one = with_size one short (record { number = behind.at; words = one_says }) behind.more
+      (lines_behind one (same.before ++ same.version ∷ same.after) same.lines_of_one
+      ∙ behind.stands same.version one_says same.says_one refl) Sixteen names_sixteen
+
+  in_two : script_meaning two ≡ for_unit SixtyFour (resumed nothing_read behind.more)
+  in_two = with_size two (let e = same.as_long in let s = short in omega arith)
+      (record { number = behind.at; words = two_says }) behind.more
+      (lines_behind two (same.before ++ same.other ∷ same.after) same.lines_of_two
+      ∙ behind.stands same.other two_says same.says_two refl) SixtyFour names_sixty_four
+
+  read : resumed nothing_read behind.more ≡ Ok script.batches
+  read = sized_batches Sixteen (resumed nothing_read behind.more) script (sym in_one ∙ means)
+
+  same_batches : script_meaning two ≡ Ok (in_sixty_four script)
+  same_batches = in_two ∙ ap (for_unit SixtyFour) read
+
+  is_sixteen : script.size ≡ Sixteen
+  is_sixteen = let e : for_unit Sixteen (Ok script.batches) ≡ Ok script =
+      sym (ap (for_unit Sixteen) read) ∙ sym in_one ∙ means in
+      let same : record { size = Sixteen; batches = script.batches } ≡ script = cc in
+      sym (ap (λ (s : ScriptContents). s.size) same)
+
+-- ---- version 2: rows are decided alike
+
+fewer_events : (batches : List (List Event)) (done : ℕ) → list_all writes_sixteen (joined batches) ≡ true
+    → list_all writes_sixteen (joined (take done batches)) ≡ true
+fewer_events [] zero all = refl
+fewer_events [] (suc done) all = refl
+fewer_events (batch ∷ batches) zero all = refl
+fewer_events (batch ∷ batches) (suc done) all =
+    let both = and_parts _ _ (sym (list_all-append writes_sixteen batch (joined batches)) ∙ all) in
+    list_all-append writes_sixteen batch (joined (take done batches))
+    ∙ and_from _ _ both.0 (fewer_events batches done both.1)
+
+module _ (law : SizeLaw) (batches : List (List Event)) (all : list_all writes_sixteen (joined batches) ≡ true) where
+  abbrev of_size : Size → ScriptContents
+  of_size size = record { size = size; batches = batches }
+
+  decided_in_two : (rows : List Row) (decisions : List Decision)
+      → AreDecided (of_size Sixteen) rows decisions → AreDecided (of_size SixtyFour) rows decisions
+  decided_in_two [] [] decided = tt
+  decided_in_two [] (decision ∷ decisions) decided = absurd decided
+  decided_in_two (row ∷ rows) [] decided = absurd decided
+  decided_in_two (row ∷ rows) (decision ∷ decisions) decided =
+      let alike = law (joined (take row.after batches)) row.access (fewer_events batches row.after all) in
+      ((alike.by_bytes decision).0 decided.0, decided_in_two rows decisions decided.1)
+
+  decided_in_one : (rows : List Row) (decisions : List Decision)
+      → AreDecided (of_size SixtyFour) rows decisions → AreDecided (of_size Sixteen) rows decisions
+  decided_in_one [] [] decided = tt
+  decided_in_one [] (decision ∷ decisions) decided = absurd decided
+  decided_in_one (row ∷ rows) [] decided = absurd decided
+  decided_in_one (row ∷ rows) (decision ∷ decisions) decided =
+      let alike = law (joined (take row.after batches)) row.access (fewer_events batches row.after all) in
+      ((alike.by_bytes decision).1 decided.0, decided_in_one rows decisions decided.1)
+
+  reports_alike : (trace text : List ℕ) → IsReport (of_size Sixteen) trace text ↔ IsReport (of_size SixtyFour) trace text
+  reports_alike trace text = (
+    (λ said. record {
+      rows = said.rows;
+      decisions = said.decisions;
+      trace_means = said.trace_means;
+      decided = decided_in_two said.rows said.decisions said.decided;
+      report = said.report;
+    }),
+    (λ said. record {
+      rows = said.rows;
+      decisions = said.decisions;
+      trace_means = said.trace_means;
+      decided = decided_in_one said.rows said.decisions said.decided;
+      report = said.report;
+    }),
+  )
+
+pub version_two : SizeLaw → VersionTwoLaw
+version_two law one two script same means all = record {
+  meaning = same_batches one two script same means;
+  reports = λ trace text.
+      subst (λ (size : Size). IsReport (record script { size = size }) trace text
+      ↔ IsReport (in_sixty_four script) trace text) (sym (is_sixteen one two script same means))
+      (reports_alike law script.batches all trace text);
+}

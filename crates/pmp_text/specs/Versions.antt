@@ -1,0 +1,84 @@
+-- What the version of a script makes of it.
+use Rattle.std.specs.Prelude.{◌≡◌, ◌↔◌, ℕ, List, [], ◌∷◌, ◌++◌, All, length, take, Bool, true, false, ◌&&◌, Result, Ok}
+use Rattle.std.specs.Prelude.{Err, nat_lt, codes, bytes_eq, if◌then◌else◌}
+use Rattle.std.specs.List.{list_all}
+use Rattle.pmp_core.specs.declared.event.Event.{Event}
+use Rattle.pmp_core.specs.declared.register_file.TheConstants.{ENTRIES}
+use Rattle.pmp_core.specs.declared.size.Size.TheVariants.{Sixteen, SixtyFour}
+use Rattle.pmp_core.specs.Histories.{joined, file_after}
+use Rattle.pmp_core.specs.SizeLaw.{writes_sixteen}
+use Rattle.pmp_text.specs.declared.script.ScriptFault.{ScriptFault}
+use Rattle.pmp_text.specs.declared.script.ScriptKind.TheVariants.{BadVersion, TooLong}
+use Rattle.pmp_text.specs.Contents.{ScriptContents}
+use Rattle.pmp_text.specs.Limits.{script_limit}
+use Rattle.pmp_text.specs.Lines.{words, lines}
+use Rattle.pmp_text.specs.Reports.{IsReport, file_of_script}
+use Rattle.pmp_text.specs.Scripts.{Line, at_line, counts, significant_lines, first_fault, first_unpublished, publications}
+use Rattle.pmp_text.specs.Scripts.{fault_or_batches, for_unit, script_meaning}
+
+-- ---- version 1
+
+-- the words `pmp` and `1`
+unfoldable pub is_version_one : List (List ℕ) → Bool
+is_version_one (name ∷ version ∷ []) = bytes_eq name (codes "pmp") && bytes_eq version (codes "1")
+is_version_one _ = false
+
+-- what lines mean where version 1 is the only one
+abbrev pub lines_meaning_in_one : List Line → Result (List (List Event)) ScriptFault
+lines_meaning_in_one [] = Err (at_line 1 BadVersion)
+lines_meaning_in_one (version ∷ more) =
+    if is_version_one version.words
+    then fault_or_batches (first_fault (version ∷ []) more) (first_unpublished more) (publications more)
+    else Err (at_line version.number BadVersion)
+
+-- what a text means where version 1 is the only one
+abbrev pub meaning_in_one : List ℕ → Result (List (List Event)) ScriptFault
+meaning_in_one text =
+    if nat_lt script_limit (length text) then Err (at_line 0 TooLong)
+    else lines_meaning_in_one (significant_lines text)
+
+-- the first significant line of the text has the words `pmp` and `1`
+pub record IsVersionOne (text : List ℕ) : Type 0 where
+  pub version : Line
+  pub more : List Line
+  pub lines_are : significant_lines text ≡ version ∷ more
+  pub says : version.words ≡ codes "pmp" ∷ codes "1" ∷ []
+
+-- it has the fault or the publications that it has where that version is the only one, and these are done in a unit of
+-- sixteen entries
+pub record MeansAsInOne (text : List ℕ) : Type 0 where
+  pub meaning : script_meaning text ≡ for_unit Sixteen (meaning_in_one text)
+  pub files : (batches : List (List Event)) (done : ℕ)
+      → file_of_script (record { size = Sixteen; batches = batches }) done ≡ file_after ENTRIES (take done batches)
+
+abbrev pub VersionOneLaw : Type 0
+VersionOneLaw = (text : List ℕ) → IsVersionOne text → MeansAsInOne text
+
+-- ---- version 2
+
+-- the other text is the same, but that its first significant line has the words `pmp` and `2` in place of `pmp` and `1`
+pub record IsSameInTwo (one two : List ℕ) : Type 0 where
+  pub before : List (List ℕ)
+  pub version : List ℕ
+  pub other : List ℕ
+  pub after : List (List ℕ)
+  pub lines_of_one : lines one ≡ before ++ version ∷ after
+  pub lines_of_two : lines two ≡ before ++ other ∷ after
+  pub insignificant : All (λ line. counts (words line) ≡ false) before
+  pub says_one : words version ≡ codes "pmp" ∷ codes "1" ∷ []
+  pub says_two : words other ≡ codes "pmp" ∷ codes "2" ∷ []
+  pub as_long : length two ≡ length one
+
+-- the same publications, in a unit of sixty-four entries
+abbrev pub in_sixty_four : ScriptContents → ScriptContents
+in_sixty_four script = record script { size = SixtyFour }
+
+-- the same publications, and the same report for every trace
+pub record ReportsAlike (two : List ℕ) (script : ScriptContents) : Type 0 where
+  pub meaning : script_meaning two ≡ Ok (in_sixty_four script)
+  pub reports : (trace text : List ℕ) → IsReport script trace text ↔ IsReport (in_sixty_four script) trace text
+
+-- a script of version 1 without a fault that writes no register of further entries reports the same in version 2
+abbrev pub VersionTwoLaw : Type 0
+VersionTwoLaw = (one two : List ℕ) (script : ScriptContents) → IsSameInTwo one two → script_meaning one ≡ Ok script
+    → list_all writes_sixteen (joined script.batches) ≡ true → ReportsAlike two script
