@@ -31,7 +31,11 @@ fn read_version(line: &[u8]) -> Option<Size>
 }
 
 /// Reads the lines behind a script's first one.
-fn read_statements(alloc: Global, size: Size, lines: SignificantLines) -> Result<Script, ScriptFault>
+fn read_statements(
+    alloc: Global,
+    size: Size,
+    lines: SignificantLines,
+) -> Result<Script, ScriptFault>
     ensures { Gives (λ script. script) result (for_unit size (resumed nothing_read (lines_left lines.entry))) }
 {
     let mut builder = ScriptBuilder::new(alloc);
