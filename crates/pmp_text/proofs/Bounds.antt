@@ -22,59 +22,57 @@ use Rattle.pmp_text.specs.Scripts.{size_named, for_unit, script_meaning}
 use Rattle.pmp_text.specs.Steps.Progress.{Progress, longer, nothing_read, published, after_statement, all_published}
 use Rattle.pmp_text.specs.Steps.Progress.{resumed}
 use Rattle.pmp_text.specs.Sizes.{script_size}
-use Rattle.pmp_text.specs.Contents.{ScriptContents}
+use Rattle.pmp_text.specs.Contents.{Publications, ScriptContents}
 use Rattle.pmp_text.specs.Limits.{script_limit}
 use Rattle.pmp_text.proofs.Meanings.{long_script, no_version, no_size, with_size}
 
-abbrev ok : List (List Event) → Result (List (List Event)) ScriptFault
-ok batches = Ok batches
-
 -- what was read so far, with the open batch
 abbrev read : Progress → ℕ
-read so_far = script_size so_far.published + length so_far.batch
+read so_far = script_size so_far.published.batches + length so_far.batch
 
 read_published : (so_far : Progress) → read (published so_far) ≡ suc (read so_far)
 read_published so_far =
-    let batches = length-append so_far.published (so_far.batch ∷ []) in
-    let events = sum_by_push (λ (batch : List Event). length batch) so_far.published so_far.batch in
+    let batches = length-append so_far.published.batches (so_far.batch ∷ []) in
+    let events = sum_by_push (λ (batch : List Event). length batch) so_far.published.batches so_far.batch in
     omega arith
 
 read_event : (so_far : Progress) (number : ℕ) (event : Event) → read (longer so_far number event) ≡ suc (read so_far)
 read_event so_far number event = let events = length-append so_far.batch (event ∷ []) in omega arith
 
 abbrev IsBounded : List Line → Type 0
-IsBounded lines = (so_far : Progress) (batches : List (List Event)) → resumed so_far lines ≡ Ok batches
-    → script_size batches ≤ read so_far + length lines
+IsBounded lines = (so_far : Progress) (all : Publications) → resumed so_far lines ≡ Ok all
+    → script_size all.batches ≤ read so_far + length lines
 
-abbrev on : List Line → Result Progress ScriptFault → Result (List (List Event)) ScriptFault
+abbrev on : List Line → Result Progress ScriptFault → Result Publications ScriptFault
 on more step = elim step [ Ok next ↦ resumed next more | Err fault ↦ Err fault ]
 
-ended : (so_far : Progress) (since : Option ℕ) (batches : List (List Event))
-    → all_published since so_far.published ≡ Ok batches → script_size batches ≤ read so_far
-ended so_far None batches e = let same : so_far.published ≡ batches = cc in let n = ap script_size same in omega arith
-ended so_far (Some number) batches e = absurd cc
+ended : (so_far : Progress) (since : Option ℕ) (all : Publications)
+    → all_published since so_far.published ≡ Ok all → script_size all.batches ≤ read so_far
+ended so_far None all e = let same : so_far.published ≡ all = cc in
+    let n = ap (λ (p : Publications). script_size p.batches) same in omega arith
+ended so_far (Some number) all e = absurd cc
 
 with_room : (room : Bool) (so_far : Progress) (number : ℕ) (event : Event) (more : List Line)
-    (batches : List (List Event)) → IsBounded more
-    → on more (cond room (Ok (longer so_far number event)) (Err (at_line number BatchFull))) ≡ Ok batches
-    → script_size batches ≤ suc (read so_far) + length more
-with_room true so_far number event more batches bounded e = let n = bounded (longer so_far number event) batches e in
+    (all : Publications) → IsBounded more
+    → on more (cond room (Ok (longer so_far number event)) (Err (at_line number BatchFull))) ≡ Ok all
+    → script_size all.batches ≤ suc (read so_far) + length more
+with_room true so_far number event more all bounded e = let n = bounded (longer so_far number event) all e in
     let m = read_event so_far number event in omega arith
-with_room false so_far number event more batches bounded e = absurd cc
+with_room false so_far number event more all bounded e = absurd cc
 
 one_line : (says : Result Statement ScriptKind) (so_far : Progress) (number : ℕ) (more : List Line)
-    (batches : List (List Event)) → IsBounded more → on more (after_statement so_far number says) ≡ Ok batches
-    → script_size batches ≤ suc (read so_far) + length more
-one_line (Err kind) so_far number more batches bounded e = absurd cc
-one_line (Ok statement.Publish) so_far number more batches bounded e = let n = bounded (published so_far) batches e in
+    (all : Publications) → IsBounded more → on more (after_statement so_far number says) ≡ Ok all
+    → script_size all.batches ≤ suc (read so_far) + length more
+one_line (Err kind) so_far number more all bounded e = absurd cc
+one_line (Ok statement.Publish) so_far number more all bounded e = let n = bounded (published so_far) all e in
     let m = read_published so_far in omega arith
-one_line (Ok (statement.Event event)) so_far number more batches bounded e =
-    with_room (ltb (length so_far.batch) BATCH_EVENTS) so_far number event more batches bounded e
+one_line (Ok (statement.Event event)) so_far number more all bounded e =
+    with_room (ltb (length so_far.batch) BATCH_EVENTS) so_far number event more all bounded e
 
 bounded_by_lines : (lines : List Line) → IsBounded lines
-bounded_by_lines [] = λ so_far batches e. let n = ended so_far so_far.since batches e in omega arith
-bounded_by_lines (line ∷ more) = λ so_far batches e. let n =
-    one_line (statement_of line.words) so_far line.number more batches (bounded_by_lines more) e in omega arith
+bounded_by_lines [] = λ so_far all e. let n = ended so_far so_far.since all e in omega arith
+bounded_by_lines (line ∷ more) = λ so_far all e. let n =
+    one_line (statement_of line.words) so_far line.number more all (bounded_by_lines more) e in omega arith
 
 -- ---- lines and bytes
 
@@ -120,10 +118,18 @@ lines_and_bytes text =
 
 -- ---- the law
 
-pub sized_batches : (size : Size) (read : Result (List (List Event)) ScriptFault) (script : ScriptContents)
-    → for_unit size read ≡ Ok script → read ≡ Ok script.batches
-sized_batches size (Ok batches) script e = let same : batches ≡ script.batches = cc in ap ok same
-sized_batches size (Err fault) script e = absurd cc
+abbrev pub published_in : ScriptContents → Publications
+published_in script = record { batches = script.batches; lines = script.lines }
+
+abbrev sized : Size → Publications → ScriptContents
+sized size all = record { size = size; batches = all.batches; lines = all.lines }
+
+pub publications_in : (size : Size) (read : Result Publications ScriptFault) (script : ScriptContents)
+    → for_unit size read ≡ Ok script → read ≡ Ok (published_in script)
+publications_in size (Ok all) script e =
+    let same : sized size all ≡ script = cc in
+    ap (λ (s : ScriptContents). Ok (published_in s)) same
+publications_in size (Err fault) script e = absurd cc
 
 by_size : (size : Option Size) (text : List ℕ) (short : length text ≤ script_limit) (version : Line) (more : List Line)
     (script : ScriptContents) → significant_lines text ≡ version ∷ more → size_named version.words ≡ size
@@ -131,8 +137,8 @@ by_size : (size : Option Size) (text : List ℕ) (short : length text ≤ script
 by_size None text short version more script lines named e = let refused = sym e
     ∙ no_size text short version more lines named in absurd cc
 by_size (Some size) text short version more script lines named e =
-    let n = bounded_by_lines more nothing_read script.batches (sized_batches size (resumed nothing_read more) script
-    (sym (with_size text short version more lines size named) ∙ e)) in
+    let n = bounded_by_lines more nothing_read (published_in script) (publications_in size (resumed nothing_read more)
+    script (sym (with_size text short version more lines size named) ∙ e)) in
     let m = lines_and_bytes text in
     let k = ap length lines in
     omega arith

@@ -7,7 +7,7 @@ use Rattle.std.proofs.lemmas.List.{append-nil, reverse-append}
 use Rattle.pmp_core.specs.declared.size.Size.{Size}
 use Rattle.pmp_text.specs.declared.script.ScriptFault.{ScriptFault}
 use Rattle.pmp_text.specs.declared.script.ScriptKind.TheVariants.{BadVersion}
-use Rattle.pmp_text.specs.Scripts.{Line, at_line, line_fault, first_fault, fault_or_batches, first_unpublished}
+use Rattle.pmp_text.specs.Scripts.{Line, at_line, line_fault, first_fault, fault_or_publications, first_unpublished}
 use Rattle.pmp_text.specs.Scripts.{publications, size_named, for_unit, meaning_behind, lines_meaning}
 use Rattle.pmp_text.specs.Scripts.{significant_lines, script_meaning}
 use Rattle.pmp_text.specs.Faults.{fault_at, IsLeastFault}
@@ -56,7 +56,7 @@ refused_behind None version more fault e = let same : at_line version.number Bad
     ap (λ (f : ScriptFault). Err f) same
 refused_behind (Some size) version more fault e =
     ap (λ (first : Option ScriptFault). for_unit size
-    (fault_or_batches first (first_unpublished more) (publications more))) e
+    (fault_or_publications first (first_unpublished more) (publications more))) e
 
 refused : (lines : List Line) (fault : ScriptFault) → first_fault [] lines ≡ Some fault
     → lines_meaning lines ≡ Err fault

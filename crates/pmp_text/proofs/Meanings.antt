@@ -16,49 +16,64 @@ use Rattle.pmp_text.specs.declared.script.ScriptKind.TheVariants.{BadVersion, Ba
 use Rattle.pmp_text.specs.declared.script.ScriptFault.{ScriptFault}
 use Rattle.pmp_text.specs.declared.script.statement.Statement.{Statement}
 use Rattle.pmp_text.specs.declared.script.statement.Statement.TheVariants as statement
+use Rattle.pmp_text.specs.Contents.{Publications}
 use Rattle.pmp_text.specs.Statements.{statement_of}
 use Rattle.pmp_text.specs.Scripts.{Line, at_line, counted, open_events, statement_fault, first_fault, event_of}
-use Rattle.pmp_text.specs.Scripts.{publishes, is_publish, but_last, last_piece, fault_or_batches, size_of_version, size_named}
+use Rattle.pmp_text.specs.Scripts.{event_in, event_line_of}
+use Rattle.pmp_text.specs.Scripts.{publishes, is_publish, but_last, last_piece, fault_or_publications, size_of_version, size_named}
 use Rattle.pmp_text.specs.Scripts.{significant_lines, for_unit, meaning_behind, lines_meaning, script_meaning}
 use Rattle.pmp_text.specs.Scripts.{publications, first_unpublished}
 use Rattle.pmp_text.specs.Steps.Progress.{Progress, longer, nothing_read, published, after_statement, all_published}
 use Rattle.pmp_text.specs.Steps.Progress.{resumed}
 use Rattle.pmp_text.specs.Limits.{script_limit}
 
--- what pieces add to an open batch: the batches that they publish, and where events stay open
-abbrev events : List Line → List Event
-events piece = filter_map event_of piece
+-- what pieces publish, of what a line may add
+module _ {X : Type 0} (pick : Line → Option X) where
+  abbrev published_from : List X → List (List Line) → List (List X)
+  published_from held [] = []
+  published_from held (piece ∷ []) = []
+  published_from held (piece ∷ next ∷ more) = (held ++ filter_map pick piece) ∷ published_from [] (next ∷ more)
+
+  published_from-nothing : (pieces : List (List Line))
+      → published_from [] pieces ≡ map (filter_map pick) (but_last pieces)
+  published_from-nothing [] = refl
+  published_from-nothing (piece ∷ []) = refl
+  published_from-nothing (piece ∷ next ∷ more) = ap (λ (all : List (List X)). filter_map pick piece ∷ all)
+      (published_from-nothing (next ∷ more))
+
+  -- behind a `publish`
+  published_from-published : (all : List (List X)) (held : List X) (pieces : List (List Line)) → 0 < length pieces
+      → all ++ published_from held ([] ∷ pieces) ≡ (all ++ held ∷ []) ++ published_from [] pieces
+  published_from-published all held [] some = absurd (omega arith)
+  published_from-published all held (next ∷ more) some =
+      ap (λ (front : List X). all ++ front ∷ published_from [] (next ∷ more)) (append-nil held)
+      ∙ sym (append_assoc all (held ∷ []) (published_from [] (next ∷ more)))
+
+  -- behind a line that adds something
+  module _ (line : Line) (x : X) (adds : pick line ≡ Some x) where
+    picked : (piece : List Line) → filter_map pick (line ∷ piece) ≡ x ∷ filter_map pick piece
+    picked piece = rw adds refl
+
+    published_from-added : (held : List X) (pieces : List (List Line))
+        → published_from held (onto_first line pieces) ≡ published_from (held ++ x ∷ []) pieces
+    published_from-added held [] = refl
+    published_from-added held (piece ∷ []) = refl
+    published_from-added held (piece ∷ next ∷ more) =
+        ap (λ (front : List X). front ∷ published_from [] (next ∷ more))
+        (ap (λ (more : List X). held ++ more) (picked piece) ∙ sym (append_assoc held (x ∷ []) (filter_map pick piece)))
 
 abbrev first_event : List Line → Option ℕ
 first_event piece = option_map (λ line. line.number) (find (λ line. is_some (event_of line)) piece)
-
-abbrev batches_from : List Event → List (List Line) → List (List Event)
-batches_from batch [] = []
-batches_from batch (piece ∷ []) = []
-batches_from batch (piece ∷ next ∷ more) = (batch ++ events piece) ∷ batches_from [] (next ∷ more)
 
 abbrev since_from : Option ℕ → List (List Line) → Option ℕ
 since_from since [] = since
 since_from since (piece ∷ []) = option_or since (first_event piece)
 since_from since (piece ∷ next ∷ more) = since_from None (next ∷ more)
 
-batches_from-nothing : (pieces : List (List Line)) → batches_from [] pieces ≡ map events (but_last pieces)
-batches_from-nothing [] = refl
-batches_from-nothing (piece ∷ []) = refl
-batches_from-nothing (piece ∷ next ∷ more) = ap (λ (batches : List (List Event)). events piece ∷ batches)
-    (batches_from-nothing (next ∷ more))
-
 since_from-nothing : (pieces : List (List Line)) → since_from None pieces ≡ first_event (last_piece pieces)
 since_from-nothing [] = refl
 since_from-nothing (piece ∷ []) = refl
 since_from-nothing (piece ∷ next ∷ more) = since_from-nothing (next ∷ more)
-
--- behind a `publish`
-batches_from-published : (batch : List Event) (pieces : List (List Line)) → 0 < length pieces
-    → batches_from batch ([] ∷ pieces) ≡ batch ∷ batches_from [] pieces
-batches_from-published batch [] some = absurd (omega arith)
-batches_from-published batch (next ∷ more) some =
-    ap (λ (front : List Event). front ∷ batches_from [] (next ∷ more)) (append-nil batch)
 
 since_from-published : (since : Option ℕ) (pieces : List (List Line)) → 0 < length pieces
     → since_from since ([] ∷ pieces) ≡ since_from None pieces
@@ -67,20 +82,14 @@ since_from-published since (next ∷ more) some = refl
 
 -- behind an event
 module _ (line : Line) (event : Event) (says : statement_of line.words ≡ Ok (statement.Event event)) where
-  events-event : (piece : List Line) → events (line ∷ piece) ≡ event ∷ events piece
-  events-event piece = rw says refl
+  adds_event : event_of line ≡ Some event
+  adds_event = ap event_in says
+
+  adds_line : event_line_of line ≡ Some line.number
+  adds_line = ap (option_map (λ _. line.number)) adds_event
 
   first_event-event : (piece : List Line) → first_event (line ∷ piece) ≡ Some line.number
   first_event-event piece = rw says refl
-
-  batches_from-event : (batch : List Event) (pieces : List (List Line))
-      → batches_from batch (onto_first line pieces) ≡ batches_from (batch ++ event ∷ []) pieces
-  batches_from-event batch [] = refl
-  batches_from-event batch (piece ∷ []) = refl
-  batches_from-event batch (piece ∷ next ∷ more) =
-      ap (λ (front : List Event). front ∷ batches_from [] (next ∷ more))
-      (ap (λ (more : List Event). batch ++ more) (events-event piece)
-      ∙ sym (append_assoc batch (event ∷ []) (events piece)))
 
   or_here : (since : Option ℕ) → option_or since (Some line.number) ≡ Some (unwrap_or since line.number)
   or_here None = refl
@@ -98,15 +107,52 @@ pieces_of lines = slice_split is_publish lines
 some_piece : (lines : List Line) → 0 < length (pieces_of lines)
 some_piece lines = omega (arith, length-slice_split is_publish lines)
 
+abbrev publications_of : List (List Event) → List (List ℕ) → Publications
+publications_of batches lines = record { batches = batches; lines = lines }
+
+same_publications : (batches more_batches : List (List Event)) (lines more_lines : List (List ℕ))
+    → batches ≡ more_batches → lines ≡ more_lines
+    → publications_of batches lines ≡ publications_of more_batches more_lines
+same_publications batches more_batches lines more_lines same_batches same_lines =
+    ap (λ (b : List (List Event)). publications_of b lines) same_batches
+    ∙ ap (publications_of more_batches) same_lines
+
+-- what is published where these pieces follow what was read so far
+abbrev all_from : Progress → List (List Line) → Publications
+all_from so_far pieces = publications_of
+    (so_far.published.batches ++ published_from event_of so_far.batch pieces)
+    (so_far.published.lines ++ published_from event_line_of so_far.lines pieces)
+
+all_from-nothing : (pieces : List (List Line)) → all_from nothing_read pieces
+    ≡ publications_of (map (filter_map event_of) (but_last pieces)) (map (filter_map event_line_of) (but_last pieces))
+all_from-nothing pieces = same_publications _ _ _ _
+    (published_from-nothing event_of pieces) (published_from-nothing event_line_of pieces)
+
+all_from-published : (so_far : Progress) (pieces : List (List Line)) → 0 < length pieces
+    → all_from so_far ([] ∷ pieces) ≡ all_from (published so_far) pieces
+all_from-published so_far pieces some = same_publications _ _ _ _
+    (published_from-published event_of so_far.published.batches so_far.batch pieces some)
+    (published_from-published event_line_of so_far.published.lines so_far.lines pieces some)
+
+all_from-event : (so_far : Progress) (line : Line) (event : Event)
+    → statement_of line.words ≡ Ok (statement.Event event) → (pieces : List (List Line))
+    → all_from so_far (onto_first line pieces) ≡ all_from (longer so_far line.number event) pieces
+all_from-event so_far line event says pieces = same_publications _ _ _ _
+    (ap (λ (all : List (List Event)). so_far.published.batches ++ all)
+    (published_from-added event_of line event (adds_event line event says) so_far.batch pieces))
+    (ap (λ (all : List (List ℕ)). so_far.published.lines ++ all)
+    (published_from-added event_line_of line line.number (adds_line line event says) so_far.lines pieces))
+
 -- what is meant by lines behind others, with what was read so far
-abbrev meant_from : Progress → (before lines : List Line) → Result (List (List Event)) ScriptFault
-meant_from so_far before lines = fault_or_batches (first_fault before lines) (since_from so_far.since (pieces_of lines))
-    (so_far.published ++ batches_from so_far.batch (pieces_of lines))
+abbrev meant_from : Progress → (before lines : List Line) → Result Publications ScriptFault
+meant_from so_far before lines =
+    fault_or_publications (first_fault before lines) (since_from so_far.since (pieces_of lines))
+    (all_from so_far (pieces_of lines))
 
 -- one line more, by what it says
 module _ (so_far : Progress) (last : Line) (front : List Line)
     (count : length so_far.batch ≡ open_events (last ∷ front)) (line : Line) (more : List Line) where
-  abbrev reads : Result Progress ScriptFault → Result (List (List Event)) ScriptFault
+  abbrev reads : Result Progress ScriptFault → Result Publications ScriptFault
   reads step = elim step [ Ok next ↦ resumed next more | Err fault ↦ Err fault ]
 
   abbrev later : Option ScriptFault
@@ -115,11 +161,10 @@ module _ (so_far : Progress) (last : Line) (front : List Line)
   abbrev cut : Bool → List (List Line)
   cut publish = cond publish ([] ∷ pieces_of more) (onto_first line (pieces_of more))
 
-  abbrev means : Result Statement ScriptKind → Result (List (List Event)) ScriptFault
-  means says = fault_or_batches
+  abbrev means : Result Statement ScriptKind → Result Publications ScriptFault
+  means says = fault_or_publications
       (option_or (option_map (at_line line.number) (statement_fault (open_events (last ∷ front)) says)) later)
-      (since_from so_far.since (cut (publishes says)))
-      (so_far.published ++ batches_from so_far.batch (cut (publishes says)))
+      (since_from so_far.since (cut (publishes says))) (all_from so_far (cut (publishes says)))
 
   agree : (says : Result Statement ScriptKind) → statement_of line.words ≡ says
       → reads (after_statement so_far line.number says) ≡ means says
@@ -131,23 +176,19 @@ module _ (so_far : Progress) (last : Line) (front : List Line)
       → resumed (published so_far) more ≡ means (Ok statement.Publish)
   publish_agrees same =
       let since = since_from-published so_far.since (pieces_of more) (some_piece more) in
-      let batches = append_assoc so_far.published (so_far.batch ∷ []) (batches_from [] (pieces_of more))
-      ∙ ap (λ (front : List (List Event)). so_far.published ++ front)
-      (sym (batches_from-published so_far.batch (pieces_of more) (some_piece more))) in
-      same ∙ ap (λ (batches : List (List Event)). fault_or_batches later (since_from None (pieces_of more)) batches)
-      batches ∙ ap (λ (since : Option ℕ). fault_or_batches later since
-      (so_far.published ++ batches_from so_far.batch ([] ∷ pieces_of more))) (sym since)
+      let all = all_from-published so_far (pieces_of more) (some_piece more) in
+      same ∙ ap (λ (all : Publications). fault_or_publications later (since_from None (pieces_of more)) all) (sym all)
+      ∙ ap (λ (since : Option ℕ). fault_or_publications later since (all_from so_far ([] ∷ pieces_of more))) (sym since)
 
   module _ (event : Event) where
     abbrev next_one : Progress
     next_one = longer so_far line.number event
 
     fits : (room : Bool) → (room ≡ true → resumed next_one more
-        ≡ fault_or_batches later (since_from so_far.since (cut false))
-        (so_far.published ++ batches_from so_far.batch (cut false)))
+        ≡ fault_or_publications later (since_from so_far.since (cut false)) (all_from so_far (cut false)))
         → reads (cond room (Ok next_one) (Err (at_line line.number BatchFull)))
-        ≡ fault_or_batches (option_or (option_map (at_line line.number) (cond room None (Some BatchFull))) later)
-        (since_from so_far.since (cut false)) (so_far.published ++ batches_from so_far.batch (cut false))
+        ≡ fault_or_publications (option_or (option_map (at_line line.number) (cond room None (Some BatchFull))) later)
+        (since_from so_far.since (cut false)) (all_from so_far (cut false))
     fits true same = same refl
     fits false same = refl
 
@@ -157,15 +198,15 @@ module _ (so_far : Progress) (last : Line) (front : List Line)
         → reads (after_statement so_far line.number (Ok (statement.Event event))) ≡ means (Ok (statement.Event event))
     event_agrees says same =
         let since = since_from-event line event says so_far.since (pieces_of more) (some_piece more) in
-        let batches = batches_from-event line event says so_far.batch (pieces_of more) in
-        let ends = ap (λ (since : Option ℕ). fault_or_batches later since
-        (so_far.published ++ batches_from next_one.batch (pieces_of more))) (sym since)
-        ∙ ap (λ (batches : List (List Event)). fault_or_batches later (since_from so_far.since (cut false))
-        (so_far.published ++ batches)) (sym batches) in
+        let all = all_from-event so_far line event says (pieces_of more) in
+        let ends = ap (λ (since : Option ℕ). fault_or_publications later since (all_from next_one (pieces_of more)))
+        (sym since)
+        ∙ ap (λ (all : Publications). fault_or_publications later (since_from so_far.since (cut false)) all)
+        (sym all) in
         fits (ltb (length so_far.batch) BATCH_EVENTS) (λ room. same room ∙ ends)
-        ∙ ap (λ (n : ℕ). fault_or_batches
+        ∙ ap (λ (n : ℕ). fault_or_publications
         (option_or (option_map (at_line line.number) (cond (ltb n BATCH_EVENTS) None (Some BatchFull))) later)
-        (since_from so_far.since (cut false)) (so_far.published ++ batches_from so_far.batch (cut false))) count
+        (since_from so_far.since (cut false)) (all_from so_far (cut false))) count
 
 -- the open batch has as many events as were counted
 counted_event : (so_far : Progress) (front : List Line) (line : Line) (event : Event)
@@ -197,8 +238,10 @@ by_saying (Ok (statement.Event event)) line more says same so_far last front cou
     (counted_event so_far (last ∷ front) line event count says)))
 
 nothing_left : (so_far : Progress) (since : Option ℕ)
-    → all_published since so_far.published ≡ fault_or_batches None (option_or since None) (so_far.published ++ [])
-nothing_left so_far None = ap (λ (batches : List (List Event)). Ok batches) (sym (append-nil so_far.published))
+    → all_published since so_far.published ≡ fault_or_publications None (option_or since None)
+    (publications_of (so_far.published.batches ++ []) (so_far.published.lines ++ []))
+nothing_left so_far None = ap (λ (all : Publications). Ok all) (sym (same_publications _ _ _ _
+    (append-nil so_far.published.batches) (append-nil so_far.published.lines)))
 nothing_left so_far (Some number) = refl
 
 pub reading_means : (lines : List Line) → HoldsOf lines
@@ -243,15 +286,15 @@ module _ (text : List ℕ) where
 
       module _ (size : Size) (named : size_named version.words ≡ Some size) where
         read_from_nothing :
-            fault_or_batches (first_fault (version ∷ []) more) (first_unpublished more) (publications more)
+            fault_or_publications (first_fault (version ∷ []) more) (first_unpublished more) (publications more)
             ≡ resumed nothing_read more
         read_from_nothing =
             let count =
             sym (ap (λ (r : Result Statement ScriptKind). counted r 0) (no_statement version.words size named)) in
-            ap (λ (since : Option ℕ). fault_or_batches (first_fault (version ∷ []) more) since (publications more))
+            ap (λ (since : Option ℕ). fault_or_publications (first_fault (version ∷ []) more) since (publications more))
             (sym (since_from-nothing (pieces_of more)))
-            ∙ ap (fault_or_batches (first_fault (version ∷ []) more) (since_from None (pieces_of more)))
-            (sym (batches_from-nothing (pieces_of more)))
+            ∙ ap (fault_or_publications (first_fault (version ∷ []) more) (since_from None (pieces_of more)))
+            (sym (all_from-nothing (pieces_of more)))
             ∙ sym (reading_means more nothing_read version [] count)
 
         pub with_size : script_meaning text ≡ for_unit size (resumed nothing_read more)

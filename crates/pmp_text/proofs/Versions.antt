@@ -16,17 +16,17 @@ use Rattle.pmp_core.specs.SizeLaw.{SizeLaw, writes_sixteen}
 use Rattle.pmp_text.specs.declared.script.ScriptFault.{ScriptFault}
 use Rattle.pmp_text.specs.declared.script.ScriptKind.TheVariants.{BadVersion, TooLong}
 use Rattle.pmp_text.specs.declared.trace.Row.{Row}
-use Rattle.pmp_text.specs.Contents.{ScriptContents}
+use Rattle.pmp_text.specs.Contents.{Publications, ScriptContents}
 use Rattle.pmp_text.specs.Limits.{script_limit}
 use Rattle.pmp_text.specs.Lines.{words, lines}
 use Rattle.pmp_text.specs.Reports.{AreDecided, IsReport}
 use Rattle.pmp_text.specs.Scripts.{Line, at_line, counts, numbered_from, significant_from, significant_lines}
-use Rattle.pmp_text.specs.Scripts.{first_fault, first_unpublished, publications, fault_or_batches, size_named, for_unit}
+use Rattle.pmp_text.specs.Scripts.{first_fault, first_unpublished, publications, fault_or_publications, size_named, for_unit}
 use Rattle.pmp_text.specs.Scripts.{meaning_behind, lines_meaning, script_meaning}
 use Rattle.pmp_text.specs.Steps.Progress.{nothing_read, resumed}
 use Rattle.pmp_text.specs.Versions.{is_version_one, lines_meaning_in_one, meaning_in_one, IsVersionOne, MeansAsInOne}
 use Rattle.pmp_text.specs.Versions.{VersionOneLaw, IsSameInTwo, in_sixty_four, ReportsAlike, VersionTwoLaw}
-use Rattle.pmp_text.proofs.Bounds.{sized_batches}
+use Rattle.pmp_text.proofs.Bounds.{publications_in, published_in}
 use Rattle.pmp_text.proofs.Meanings.{long_script, with_size}
 
 abbrev one_says : List (List ℕ)
@@ -49,9 +49,9 @@ names_one = refl
 
 -- ---- version 1
 
-abbrev read_lines : Line → List Line → Result (List (List Event)) ScriptFault
+abbrev read_lines : Line → List Line → Result Publications ScriptFault
 read_lines version more =
-    fault_or_batches (first_fault (version ∷ []) more) (first_unpublished more) (publications more)
+    fault_or_publications (first_fault (version ∷ []) more) (first_unpublished more) (publications more)
 
 lines_in_one : (version : Line) (more : List Line) → version.words ≡ one_says
     → lines_meaning (version ∷ more) ≡ for_unit Sixteen (lines_meaning_in_one (version ∷ more))
@@ -78,7 +78,7 @@ version_one text is =
     ≡ for_unit Sixteen (lines_meaning_in_one (significant_lines text)) =
     ap lines_meaning is.lines_are ∙ lines_in_one is.version is.more is.says
     ∙ ap (λ (ls : List Line). for_unit Sixteen (lines_meaning_in_one ls)) (sym is.lines_are) in
-    record { meaning = as_in_one text same; files = λ batches done. refl }
+    record { meaning = as_in_one text same; files = λ batches lines done. refl }
 
 -- ---- version 2: the lines behind the version are the same
 
@@ -152,16 +152,16 @@ module _ (one two : List ℕ) (script : ScriptContents) (same : IsSameInTwo one 
       (lines_behind two (same.before ++ same.other ∷ same.after) same.lines_of_two
       ∙ behind.stands same.other two_says same.says_two refl) SixtyFour names_sixty_four
 
-  read : resumed nothing_read behind.more ≡ Ok script.batches
-  read = sized_batches Sixteen (resumed nothing_read behind.more) script (sym in_one ∙ means)
+  read : resumed nothing_read behind.more ≡ Ok (published_in script)
+  read = publications_in Sixteen (resumed nothing_read behind.more) script (sym in_one ∙ means)
 
   same_batches : script_meaning two ≡ Ok (in_sixty_four script)
   same_batches = in_two ∙ ap (for_unit SixtyFour) read
 
   is_sixteen : script.size ≡ Sixteen
-  is_sixteen = let e : for_unit Sixteen (Ok script.batches) ≡ Ok script =
+  is_sixteen = let e : for_unit Sixteen (Ok (published_in script)) ≡ Ok script =
       sym (ap (for_unit Sixteen) read) ∙ sym in_one ∙ means in
-      let same : record { size = Sixteen; batches = script.batches } ≡ script = cc in
+      let same : record { size = Sixteen; batches = script.batches; lines = script.lines } ≡ script = cc in
       sym (ap (λ (s : ScriptContents). s.size) same)
 
 -- ---- version 2: rows are decided alike
@@ -176,9 +176,10 @@ fewer_events (batch ∷ batches) (suc done) all =
     list_all-append writes_sixteen batch (joined (take done batches))
     ∙ and_from _ _ both.0 (fewer_events batches done both.1)
 
-module _ (law : SizeLaw) (batches : List (List Event)) (all : list_all writes_sixteen (joined batches) ≡ true) where
+module _ (law : SizeLaw) (batches : List (List Event)) (lines : List (List ℕ))
+    (all : list_all writes_sixteen (joined batches) ≡ true) where
   abbrev of_size : Size → ScriptContents
-  of_size size = record { size = size; batches = batches }
+  of_size size = record { size = size; batches = batches; lines = lines }
 
   decided_in_two : (rows : List Row) (decisions : List Decision)
       → AreDecided (of_size Sixteen) rows decisions → AreDecided (of_size SixtyFour) rows decisions
@@ -222,5 +223,5 @@ version_two law one two script same means all = record {
   reports = λ trace text.
       subst (λ (size : Size). IsReport (record script { size = size }) trace text
       ↔ IsReport (in_sixty_four script) trace text) (sym (is_sixteen one two script same means))
-      (reports_alike law script.batches all trace text);
+      (reports_alike law script.batches script.lines all trace text);
 }

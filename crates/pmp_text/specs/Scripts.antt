@@ -15,7 +15,7 @@ use Rattle.pmp_text.specs.declared.script.statement.Statement.{Statement}
 use Rattle.pmp_text.specs.declared.script.statement.Statement.TheVariants as statement
 use Rattle.pmp_text.specs.Lines.{words, lines}
 use Rattle.pmp_text.specs.Statements.{statement_of}
-use Rattle.pmp_text.specs.Contents.{ScriptContents}
+use Rattle.pmp_text.specs.Contents.{Publications, ScriptContents}
 use Rattle.pmp_text.specs.Limits.{script_limit}
 
 -- a line with its number in the text
@@ -97,6 +97,10 @@ event_in (Err kind) = None
 abbrev pub event_of : Line → Option Event
 event_of line = event_in (statement_of line.words)
 
+-- the number of a line that adds one
+abbrev pub event_line_of : Line → Option ℕ
+event_line_of line = option_map (λ _. line.number) (event_of line)
+
 -- whether a line is `publish`
 abbrev pub publishes : Result Statement ScriptKind → Bool
 publishes (Ok (statement.Event event)) = false
@@ -119,8 +123,10 @@ last_piece (piece ∷ []) = piece
 last_piece (piece ∷ next ∷ more) = last_piece (next ∷ more)
 
 -- the publications: the events of the pieces between `publish` lines, but of the last piece
-abbrev pub publications : List Line → List (List Event)
-publications lines = map (filter_map event_of) (but_last (slice_split is_publish lines))
+abbrev pub publications : List Line → Publications
+publications lines =
+    let pieces = but_last (slice_split is_publish lines) in
+    record { batches = map (filter_map event_of) pieces; lines = map (filter_map event_line_of) pieces }
 
 -- the number of the first event line behind the last `publish`
 abbrev pub first_unpublished : List Line → Option ℕ
@@ -131,21 +137,21 @@ first_unpublished lines =
 -- ---- the meaning
 
 -- the fault of a line comes first, then events that are never published
-abbrev pub fault_or_batches : Option ScriptFault → Option ℕ → List (List Event) → Result (List (List Event)) ScriptFault
-fault_or_batches (Some fault) unpublished batches = Err fault
-fault_or_batches None (Some number) batches = Err (at_line number Unpublished)
-fault_or_batches None None batches = Ok batches
+abbrev pub fault_or_publications : Option ScriptFault → Option ℕ → Publications → Result Publications ScriptFault
+fault_or_publications (Some fault) unpublished published = Err fault
+fault_or_publications None (Some number) published = Err (at_line number Unpublished)
+fault_or_publications None None published = Ok published
 
 -- these publications are for a unit of this size
-abbrev pub for_unit : Size → Result (List (List Event)) ScriptFault → Result ScriptContents ScriptFault
-for_unit size (Ok batches) = Ok (record { size = size; batches = batches })
+abbrev pub for_unit : Size → Result Publications ScriptFault → Result ScriptContents ScriptFault
+for_unit size (Ok published) = Ok (record { size = size; batches = published.batches; lines = published.lines })
 for_unit size (Err fault) = Err fault
 
 -- what lines mean behind a line that names a size, or none
 abbrev pub meaning_behind : Line → List Line → Option Size → Result ScriptContents ScriptFault
 meaning_behind version more None = Err (at_line version.number BadVersion)
 meaning_behind version more (Some size) =
-    for_unit size (fault_or_batches (first_fault (version ∷ []) more) (first_unpublished more) (publications more))
+    for_unit size (fault_or_publications (first_fault (version ∷ []) more) (first_unpublished more) (publications more))
 
 -- the first line is the version; publications stand behind it
 abbrev pub lines_meaning : List Line → Result ScriptContents ScriptFault

@@ -9,12 +9,12 @@ use Rattle.pmp_core.specs.Histories.{joined, file_after}
 use Rattle.pmp_core.specs.SizeLaw.{writes_sixteen}
 use Rattle.pmp_text.specs.declared.script.ScriptFault.{ScriptFault}
 use Rattle.pmp_text.specs.declared.script.ScriptKind.TheVariants.{BadVersion, TooLong}
-use Rattle.pmp_text.specs.Contents.{ScriptContents}
+use Rattle.pmp_text.specs.Contents.{Publications, ScriptContents}
 use Rattle.pmp_text.specs.Limits.{script_limit}
 use Rattle.pmp_text.specs.Lines.{words, lines}
 use Rattle.pmp_text.specs.Reports.{IsReport, file_of_script}
 use Rattle.pmp_text.specs.Scripts.{Line, at_line, counts, significant_lines, first_fault, first_unpublished, publications}
-use Rattle.pmp_text.specs.Scripts.{fault_or_batches, for_unit, script_meaning}
+use Rattle.pmp_text.specs.Scripts.{fault_or_publications, for_unit, script_meaning}
 
 -- ---- version 1
 
@@ -24,15 +24,15 @@ is_version_one (name ∷ version ∷ []) = bytes_eq name (codes "pmp") && bytes_
 is_version_one _ = false
 
 -- what lines mean where version 1 is the only one
-abbrev pub lines_meaning_in_one : List Line → Result (List (List Event)) ScriptFault
+abbrev pub lines_meaning_in_one : List Line → Result Publications ScriptFault
 lines_meaning_in_one [] = Err (at_line 1 BadVersion)
 lines_meaning_in_one (version ∷ more) =
     if is_version_one version.words
-    then fault_or_batches (first_fault (version ∷ []) more) (first_unpublished more) (publications more)
+    then fault_or_publications (first_fault (version ∷ []) more) (first_unpublished more) (publications more)
     else Err (at_line version.number BadVersion)
 
 -- what a text means where version 1 is the only one
-abbrev pub meaning_in_one : List ℕ → Result (List (List Event)) ScriptFault
+abbrev pub meaning_in_one : List ℕ → Result Publications ScriptFault
 meaning_in_one text =
     if nat_lt script_limit (length text) then Err (at_line 0 TooLong)
     else lines_meaning_in_one (significant_lines text)
@@ -48,8 +48,9 @@ pub record IsVersionOne (text : List ℕ) : Type 0 where
 -- sixteen entries
 pub record MeansAsInOne (text : List ℕ) : Type 0 where
   pub meaning : script_meaning text ≡ for_unit Sixteen (meaning_in_one text)
-  pub files : (batches : List (List Event)) (done : ℕ)
-      → file_of_script (record { size = Sixteen; batches = batches }) done ≡ file_after ENTRIES (take done batches)
+  pub files : (batches : List (List Event)) (lines : List (List ℕ)) (done : ℕ)
+      → file_of_script (record { size = Sixteen; batches = batches; lines = lines }) done
+      ≡ file_after ENTRIES (take done batches)
 
 abbrev pub VersionOneLaw : Type 0
 VersionOneLaw = (text : List ℕ) → IsVersionOne text → MeansAsInOne text

@@ -14,7 +14,7 @@ mod words;
 
 use pmp_core::{BATCH_EVENTS, Event, Size};
 pub use reader::{MAX_SCRIPT, read_script};
-use std::alloc::AllocFailed;
+use std::alloc::{AllocFailed, Global};
 use std::marker::Model;
 
 /// What is wrong with a script.
@@ -70,7 +70,15 @@ impl<T: Drop> From<AllocFailed<T>> for ScriptFault {
 #[derive(Debug, Drop)]
 pub struct Script {
     size: Size,
-    batches: Vec<Vec<Event>>,
+    publications: Vec<Publication>,
+}
+
+/// A publication as a script has it.
+#[derive(Debug, Drop)]
+pub(crate) struct Publication {
+    pub events: Vec<Event>,
+    /// The line of each event.
+    pub lines: Vec<u64>,
 }
 
 impl Model for Script {
@@ -78,18 +86,36 @@ impl Model for Script {
 
     ghost view = { λ script. record {
       size = script.size;
-      batches = map (λ batch. batch.items) script.batches.items;
+      batches = map (λ publication. publication.events.items) script.publications.items;
+      lines = map (λ publication. publication.lines.items) script.publications.items;
     } };
 
-    ghost invariant = { λ script. All (λ batch. length batch.items ≤ BATCH_EVENTS) script.batches.items };
+    ghost invariant = { λ script.
+        All (λ publication. length publication.events.items ≤ BATCH_EVENTS) script.publications.items };
+}
+
+impl Publication {
+    pub(crate) fn new(alloc: Global) -> Publication
+        ensures events { result.events.items ≡ [] }
+        ensures lines { result.lines.items ≡ [] }
+    {
+        Publication {
+            events: Vec::new(alloc),
+            lines: Vec::new(alloc),
+        }
+    }
 }
 
 impl Script {
-    pub(crate) fn new(size: Size, batches: Vec<Vec<Event>>) -> Script
-        requires { All (λ batch. length batch.items ≤ BATCH_EVENTS) batches.items }
-        ensures { result ≡ record { size = size; batches = map (λ batch. batch.items) batches.items } }
+    pub(crate) fn new(size: Size, publications: Vec<Publication>) -> Script
+        requires { All (λ publication. length publication.events.items ≤ BATCH_EVENTS) publications.items }
+        ensures { result ≡ record {
+          size = size;
+          batches = map (λ publication. publication.events.items) publications.items;
+          lines = map (λ publication. publication.lines.items) publications.items;
+        } }
     {
-        Script { size, batches }
+        Script { size, publications }
     }
 
     /// The size of the unit that the script is for.
@@ -103,7 +129,15 @@ impl Script {
     pub fn batches(&self) -> u64
         ensures { result ≡ length self.now.batches }
     {
-        self.batches.len() as u64
+        self.publications.len() as u64
+    }
+
+    /// The line of each event of the publication with this index, from 0. Lines are numbered from 1.
+    pub fn lines(&self, index: u64) -> &[u64]
+        requires { index < length self.now.batches }
+        ensures { result.now ≡ slice_index_or self.now.lines index [] }
+    {
+        &self.publications[index as usize].lines
     }
 
     /// The events of the publication with this index, from 0.
@@ -112,6 +146,6 @@ impl Script {
         ensures events { result.now ≡ slice_index_or self.now.batches index [] }
         ensures limit { length result.now ≤ BATCH_EVENTS }
     {
-        &self.batches[index as usize]
+        &self.publications[index as usize].events
     }
 }

@@ -8,28 +8,39 @@ use Rattle.pmp_text.specs.declared.script.ScriptKind.TheVariants.{BatchFull, Unp
 use Rattle.pmp_text.specs.declared.script.ScriptFault.{ScriptFault}
 use Rattle.pmp_text.specs.declared.script.statement.Statement.{Statement}
 use Rattle.pmp_text.specs.declared.script.statement.Statement.TheVariants as statement
+use Rattle.pmp_text.specs.Contents.{Publications}
 use Rattle.pmp_text.specs.Statements.{statement_of}
 use Rattle.pmp_text.specs.Scripts.{Line, at_line}
 
--- the publications so far, the open batch, and the line of its first event
+-- the publications so far, the events of the open batch and their lines, and the line of the first of them
 pub record Progress : Type 0 where
-  pub published : List (List Event)
+  pub published : Publications
   pub batch : List Event
+  pub lines : List ℕ
   pub since : Option ℕ
 
 -- nothing read
 abbrev pub nothing_read : Progress
-nothing_read = record { published = []; batch = []; since = None }
+nothing_read = record { published = record { batches = []; lines = [] }; batch = []; lines = []; since = None }
 
 -- the open batch is published
 abbrev pub published : Progress → Progress
-published so_far = record { published = so_far.published ++ so_far.batch ∷ []; batch = []; since = None }
+published so_far = record {
+  published = record {
+    batches = so_far.published.batches ++ so_far.batch ∷ [];
+    lines = so_far.published.lines ++ so_far.lines ∷ [];
+  };
+  batch = [];
+  lines = [];
+  since = None;
+}
 
 -- an event joins the open batch
 abbrev pub longer : Progress → ℕ → Event → Progress
 longer so_far number event = record {
   published = so_far.published;
   batch = so_far.batch ++ event ∷ [];
+  lines = so_far.lines ++ number ∷ [];
   since = Some (unwrap_or so_far.since number);
 }
 
@@ -50,14 +61,14 @@ abbrev pub after_line : Progress → Line → Result Progress ScriptFault
 after_line so_far line = after_statement so_far line.number (statement_of line.words)
 
 -- the text ends here
-abbrev pub all_published : Option ℕ → List (List Event) → Result (List (List Event)) ScriptFault
-all_published None batches = Ok batches
-all_published (Some number) batches = Err (at_line number Unpublished)
+abbrev pub all_published : Option ℕ → Publications → Result Publications ScriptFault
+all_published None published = Ok published
+all_published (Some number) published = Err (at_line number Unpublished)
 
-abbrev pub finished : Progress → Result (List (List Event)) ScriptFault
+abbrev pub finished : Progress → Result Publications ScriptFault
 finished so_far = all_published so_far.since so_far.published
 
 -- what reading gives that goes on from here with these lines
-abbrev pub resumed : Progress → List Line → Result (List (List Event)) ScriptFault
+abbrev pub resumed : Progress → List Line → Result Publications ScriptFault
 resumed so_far [] = finished so_far
 resumed so_far (line ∷ more) = elim (after_line so_far line) [ Ok next ↦ resumed next more | Err fault ↦ Err fault ]

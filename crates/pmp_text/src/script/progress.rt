@@ -9,7 +9,7 @@ ghost use Rattle.pmp_text.specs.Steps.Views.{seen_line};
 
 use crate::script::significant::NumberedLine;
 use crate::script::statement::{Statement, read_statement};
-use crate::script::{Script, ScriptFault, ScriptKind};
+use crate::script::{Publication, Script, ScriptFault, ScriptKind};
 use pmp_core::{BATCH_EVENTS, Event, Size};
 use std::alloc::Global;
 use std::marker::Model;
@@ -19,8 +19,8 @@ use std::mem;
 #[derive(Drop)]
 pub struct ScriptBuilder {
     alloc: Global,
-    published: Vec<Vec<Event>>,
-    batch: Vec<Event>,
+    published: Vec<Publication>,
+    batch: Publication,
     /// The line of the open batch's first event.
     since: Option<u64>,
 }
@@ -29,13 +29,18 @@ impl Model for ScriptBuilder {
     ghost Value = { Progress };
 
     ghost view = { λ builder. record {
-      published = map (λ batch. batch.items) builder.published.items;
-      batch = builder.batch.items;
+      published = record {
+        batches = map (λ publication. publication.events.items) builder.published.items;
+        lines = map (λ publication. publication.lines.items) builder.published.items;
+      };
+      batch = builder.batch.events.items;
+      lines = builder.batch.lines.items;
       since = builder.since;
     } };
 
-    ghost invariant = { λ builder. All (λ batch. length batch.items ≤ BATCH_EVENTS) builder.published.items
-        × (length builder.batch.items ≤ BATCH_EVENTS) };
+    ghost invariant = { λ builder.
+        All (λ publication. length publication.events.items ≤ BATCH_EVENTS) builder.published.items
+        × (length builder.batch.events.items ≤ BATCH_EVENTS) };
 }
 
 impl ScriptBuilder {
@@ -45,7 +50,7 @@ impl ScriptBuilder {
         ScriptBuilder {
             alloc,
             published: Vec::new(alloc),
-            batch: Vec::new(alloc),
+            batch: Publication::new(alloc),
             since: None,
         }
     }
@@ -53,7 +58,7 @@ impl ScriptBuilder {
     fn publish(&mut self) -> Result<(), ScriptFault>
         ensures { Gives (λ _. self.new) result (Ok (published self.old)) }
     {
-        let batch = mem::replace(&mut self.batch, Vec::new(self.alloc));
+        let batch = mem::replace(&mut self.batch, Publication::new(self.alloc));
         self.published.push(batch)?;
         self.since = None;
         Ok(())
@@ -62,10 +67,11 @@ impl ScriptBuilder {
     fn add(&mut self, line: u64, event: Event) -> Result<(), ScriptFault>
         ensures { Gives (λ _. self.new) result (with_event self.old line event) }
     {
-        if self.batch.len() >= BATCH_EVENTS {
+        if self.batch.events.len() >= BATCH_EVENTS {
             return Err(ScriptKind::BatchFull.at(line));
         }
-        self.batch.push(event)?;
+        self.batch.events.push(event)?;
+        self.batch.lines.push(line)?;
         self.since = Some(self.since.unwrap_or(line));
         Ok(())
     }
