@@ -3,7 +3,6 @@ pub mod Crossing
 pub mod Merging
 pub mod Asking
 pub mod Dealing
-pub mod DecidedAccess
 pub mod Lists
 pub mod OneReport
 pub mod Reports

@@ -45,7 +45,7 @@ fn an_audit_decides_each_row_after_its_publications(rt: HostRuntime) {
 fn a_check_takes_all_publications(rt: HostRuntime) -> Result<(), Fail> {
     let mut row = Vec::new(rt.alloc());
     let access = Access::new(Mode::U, Kind::Fetch, 0x8000_0000, 4)?;
-    let decision = check(rt.alloc(), SCRIPT, &access, &mut row)?;
+    let decision = check(rt.alloc(), SCRIPT, &access, None, &mut row)?;
     assert_eq!(rt; row.as_slice(), b"1,fault,1,rule,1\n".as_slice());
     assert_eq!(rt; decision.cause, Cause::Rule(1));
     assert!(rt; !decision.allowed);

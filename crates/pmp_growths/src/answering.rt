@@ -67,7 +67,7 @@ impl Answering {
         match self {
             Answering::Check => {
                 let access = page_load().map_err(|_| AuditFault::BadAfter)?;
-                Ok(check(alloc, SCRIPT, &access, output)? == decision_after(2))
+                Ok(check(alloc, SCRIPT, &access, None, output)? == decision_after(2))
             }
             Answering::Audit => Ok(audit(alloc, SCRIPT, TRACE, output)? == SUMMARY),
             Answering::AuditByOne => audits_by(rt, alloc, 1, output),
