@@ -41,11 +41,11 @@ with_checkers app = with_rule app checkers_rule
 abbrev pub script_app : (name : Text) → App
 script_app name = with_word (new_app name) (codes "script")
 
--- `check SCRIPT MODE KIND START LENGTH`
+-- `check SCRIPT MODE KIND START LENGTH [--after N]`
 abbrev pub check_app : App
 check_app =
-    with_word (with_word (with_word (with_word (script_app (codes "check")) (codes "mode")) (codes "kind"))
-    (codes "start")) (codes "length")
+    with_after (with_word (with_word (with_word (with_word (script_app (codes "check")) (codes "mode")) (codes "kind"))
+    (codes "start")) (codes "length"))
 
 -- `audit SCRIPT TRACE [--checkers K]`
 abbrev pub audit_app : App

@@ -20,18 +20,25 @@ use Rattle.pmp_tool.specs.declared.refusal.Refusal.TheVariants.{BadWord}
 use Rattle.pmp_tool.specs.Checkers.{checkers_given}
 use Rattle.pmp_tool.specs.Refusals.{refusal_of_access, result_map}
 
+-- an access, in plain values
+pub record AccessTask : Type 0 where
+  pub mode : Mode
+  pub kind : Kind
+  pub start : ℕ
+  pub length : ℕ
+
 -- what is asked for of a script, in plain values
 pub data Task : Type 0 where
-  Check : Mode → Kind → (start length : ℕ) → Task
+  Check : AccessTask → (after : Option ℕ) → Task
   Audit : (trace : Text) (checkers : Option ℕ) → Task
   Dump : (after : Option ℕ) → Task
   Map : (after : Option ℕ) → Task
 
-abbrev pub check_task : Access → Task
-check_task access = Check access.mode access.kind access.start access.length
+abbrev pub access_task : Access → AccessTask
+access_task access = record { mode = access.mode; kind = access.kind; start = access.start; length = access.length }
 
 abbrev pub task_of : Request → Task
-task_of (request.Check access) = check_task access
+task_of (request.Check access after) = Check (access_task access) after
 task_of (request.Audit trace checkers) = Audit trace.now (option_map (λ checkers. checkers.count) checkers)
 task_of (request.Dump after) = Dump after
 task_of (request.Map after) = Map after
@@ -49,19 +56,19 @@ abbrev pub required : Option Text → Result Text Refusal
 required None = Err BadWord
 required (Some word) = Ok word
 
-abbrev pub task_unless : Option AccessFault → Task → Result Task Refusal
-task_unless None task = Ok task
-task_unless (Some fault) task = Err (refusal_of_access fault)
+abbrev pub access_unless : Option AccessFault → AccessTask → Result AccessTask Refusal
+access_unless None access = Ok access
+access_unless (Some fault) access = Err (refusal_of_access fault)
 
 -- an access has lawful numbers; its words are read before it is made
-abbrev pub check_of : Option Mode → Option Kind → (start length : Option ℕ) → Result Task Refusal
-check_of (Some mode) (Some kind) (Some start) (Some length) =
-    task_unless (access_fault start length) (Check mode kind start length)
-check_of _ _ _ _ = Err BadWord
+abbrev pub access_of : Option Mode → Option Kind → (start length : Option ℕ) → Result AccessTask Refusal
+access_of (Some mode) (Some kind) (Some start) (Some length) =
+    access_unless (access_fault start length) (record { mode = mode; kind = kind; start = start; length = length })
+access_of _ _ _ _ = Err BadWord
 
-abbrev pub check_in : List Row → Result Task Refusal
-check_in rows =
-    check_of (option_and_then mode_named (first_of (codes "mode") rows))
+abbrev pub access_in : List Row → Result AccessTask Refusal
+access_in rows =
+    access_of (option_and_then mode_named (first_of (codes "mode") rows))
     (option_and_then kind_named (first_of (codes "kind") rows))
     (option_and_then word_number (first_of (codes "start") rows))
     (option_and_then word_number (first_of (codes "length") rows))
@@ -80,6 +87,15 @@ after_of (Some word) = number_given (word_number word)
 abbrev pub checkers_of : Option Text → Result (Option ℕ) Refusal
 checkers_of None = Ok None
 checkers_of (Some word) = result_map Some (checkers_given (word_number word))
+
+abbrev pub check_with : (after : Result (Option ℕ) Refusal) → Result AccessTask Refusal → Result Task Refusal
+check_with (Err refusal) access = Err refusal
+check_with (Ok after) (Err refusal) = Err refusal
+check_with (Ok after) (Ok access) = Ok (Check access after)
+
+-- the option is read before the access is made
+abbrev pub check_in : List Row → Result Task Refusal
+check_in rows = check_with (after_of (first_of (codes "after") rows)) (access_in rows)
 
 abbrev pub audit_with : (trace : Result Text Refusal) → (checkers : Result (Option ℕ) Refusal) → Result Task Refusal
 audit_with (Err refusal) checkers = Err refusal

@@ -4,7 +4,7 @@ ghost use Rattle.std.specs.Prelude.{◌≡◌, codes, option_map};
 ghost use Rattle.clap.specs.Words.{first_of, found_of, rows_of, subcommand_rows_of};
 ghost use Rattle.pmp_text.specs.AccessWords.{kind_named, mode_named};
 ghost use Rattle.pmp_text.specs.Numbers.{word_number};
-ghost use Rattle.pmp_tool.specs.Commands.{after_of, asked, asked_of, audit_in, check_in, check_of, check_task};
+ghost use Rattle.pmp_tool.specs.Commands.{access_of, access_task, after_of, asked, asked_of, audit_in, check_in};
 ghost use Rattle.pmp_tool.specs.Commands.{checkers_of, command_named, required, task_in, task_of};
 ghost use Rattle.pmp_tool.specs.Refusals.{result_map};
 
@@ -17,7 +17,8 @@ use pmp_text::{read_kind, read_mode, read_word_number};
 /// What is asked for of a script.
 #[derive(Clone, Copy)]
 pub enum Request<'a> {
-    Check(Access),
+    /// The access, and how many publications are taken before it, where not all are.
+    Check(Access, Option<u64>),
     /// The path of the trace, and how many checkers decide its rows, where that is said.
     Audit(&'a str, Option<Checkers>),
     /// How many publications are taken, where not all are.
@@ -72,7 +73,7 @@ fn read_request<'a>(name: CommandName, words: &ArgMatches<'a>) -> Result<Request
     ensures { result_map task_of result ≡ task_in name (rows_of (found_of words.now)) }
 {
     match name {
-        CommandName::Check => Ok(Request::Check(read_check(words)?)),
+        CommandName::Check => read_check(words),
         CommandName::Audit => read_audit(words),
         CommandName::Dump => Ok(Request::Dump(read_after(words)?)),
         CommandName::Map => Ok(Request::Map(read_after(words)?)),
@@ -106,21 +107,23 @@ fn asked_checkers(words: &ArgMatches) -> Result<Option<Checkers>, Refusal>
     }
 }
 
-/// The access of a check.
-fn read_check(words: &ArgMatches) -> Result<Access, Refusal>
-    ensures { result_map check_task result ≡ check_in (rows_of (found_of words.now)) }
+/// The access of a check, and how many publications are taken.
+fn read_check<'a>(words: &ArgMatches<'a>) -> Result<Request<'a>, Refusal>
+    ensures { result_map task_of result ≡ check_in (rows_of (found_of words.now)) }
 {
+    let after = read_after(words)?;
     let mode = word_of(words, "mode")?;
     let kind = word_of(words, "kind")?;
     let start = word_of(words, "start")?;
     let length = word_of(words, "length")?;
-    read_access(mode, kind, start, length)
+    let access = read_access(mode, kind, start, length)?;
+    Ok(Request::Check(access, after))
 }
 
 /// The access that four words describe. All words are read before the access is made.
 fn read_access(mode: &str, kind: &str, start: &str, length: &str) -> Result<Access, Refusal>
-    ensures { result_map check_task result
-        ≡ check_of (mode_named mode.now) (kind_named kind.now) (word_number start.now) (word_number length.now) }
+    ensures { result_map access_task result
+        ≡ access_of (mode_named mode.now) (kind_named kind.now) (word_number start.now) (word_number length.now) }
 {
     let mode = read_mode(mode.as_bytes()).ok_or(Refusal::BadWord)?;
     let kind = read_kind(kind.as_bytes()).ok_or(Refusal::BadWord)?;

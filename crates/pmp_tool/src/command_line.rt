@@ -41,6 +41,7 @@ fn check<'a>(alloc: Global) -> Result<Command<'a>, AllocError>
     let command = with_word(alloc, command, "kind", "KIND", help::KIND)?;
     let command = with_word(alloc, command, "start", "START", help::START)?;
     let command = with_word(alloc, command, "length", "LENGTH", help::LENGTH)?;
+    let command = with_after(alloc, command)?;
     Ok(command)
 }
 

@@ -6,7 +6,7 @@ pub const VERSION: &str = "0.1.0";
 pub const ABOUT: &str =
     "Decides accesses to physical memory as the PMP unit of one RV64 hart does.";
 
-pub const CHECK: &str = "Decides one access after all publications of a script, and writes its row";
+pub const CHECK: &str = "Decides one access after publications of a script, and writes its row";
 
 pub const AUDIT: &str =
     "Decides each access of a trace after publications of a script, and writes a row for each";

@@ -118,7 +118,10 @@ fn answer<R: Threads + Wait + Sync, I: Inputs, O: Write>(
 {
     let script = inputs.script(command.script)?;
     match command.request {
-        Request::Check(access) => Ok(Outcome::Decided(check(alloc, &script, &access, out)?)),
+        Request::Check(access, after) => {
+            let decision = check(alloc, &script, &access, after, out)?;
+            Ok(Outcome::Decided(decision))
+        }
         Request::Audit(trace, checkers) => {
             let trace = inputs.trace(trace)?;
             Ok(Outcome::Audited(audit_by(rt, alloc, checkers, &script, &trace, out)?))

@@ -1,6 +1,6 @@
 use Rattle.std.proofs.lemmas.Result.{err_from_is_err_and}
 use Rattle.std.proofs.KnownBytes.{Keeps-refl}
-use Rattle.pmp_audit.specs.AccessCheck.{CheckRefuses, CheckSays}
+use Rattle.pmp_audit.specs.AccessCheck.{CheckSays}
 use Rattle.pmp_audit.specs.AskedFile.{FileRefuses}
 use Rattle.pmp_audit.specs.Map.{MapSays}
 use Rattle.pmp_audit.specs.RegisterDump.{DumpSays}
@@ -17,16 +17,17 @@ returns-in_err-script-clause-err g c =
     let p = err_from_is_err_and c.from_residual.result c.from_residual.ensures.1 in
     rw (p.1, p.2) (no_script c.in_err-script.field-0.0 c.in_err-script.ensures.unread (Keeps-refl _))
 
-pub returns-in_err-check-in-Check-clause-err : goal.returns-in_err-check-in-Check-clause-err
-returns-in_err-check-in-Check-clause-err g c =
-    let p = err_from_is_err_and c.from_residual-in_err-check-in-Check.result
-    c.from_residual-in_err-check-in-Check.ensures.1 in
+pub returns-in_err-decision-in-Check-clause-err : goal.returns-in_err-decision-in-Check-clause-err
+returns-in_err-decision-in-Check-clause-err g c =
+    let p = err_from_is_err_and c.from_residual-in_err-decision-in-Check.result
+    c.from_residual-in_err-decision-in-Check.ensures.1 in
     let script = c.in_ok-script.script.items in
-    let refused = rw c.deref.ensures.value at c.in_err-check-in-Check.ensures.err in
+    let refused = rw c.deref.ensures.value at c.in_err-decision-in-Check.ensures.err in
     rw (p.1, p.2)
-    (not_answered _ _ c.args.command script c.in_ok-script.ensures.read (Check c.in-Check.access) c.in-Check.is _ _
-    Decided (CheckSays script c.in-Check.access) (λ decision text says. says) (CheckRefuses script)
-    (λ fault refuses. refuses) c.in_err-check-in-Check.field-0.0 refused)
+    (not_answered _ _ c.args.command script c.in_ok-script.ensures.read (Check c.in-Check.access c.in-Check.after) c.in-Check.is _ _
+    Decided (CheckSays script c.in-Check.access c.in-Check.after) (λ decision text says. says)
+    (FileRefuses script c.in-Check.after)
+    (λ fault refuses. refuses) c.in_err-decision-in-Check.field-0.0 refused)
 
 pub returns-in_err-trace-in-Audit-clause-err : goal.returns-in_err-trace-in-Audit-clause-err
 returns-in_err-trace-in-Audit-clause-err g c =
