@@ -10,3 +10,4 @@ pub mod Locks
 pub mod Sizes
 pub mod Changes
 pub mod Stored
+pub mod Spans

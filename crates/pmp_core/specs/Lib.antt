@@ -5,6 +5,7 @@ pub mod Configuration
 pub mod Mseccfg
 pub mod RegisterFile
 pub mod Matching
+pub mod Span
 pub mod Perms
 pub mod Rights
 pub mod Decision
@@ -12,6 +13,7 @@ pub mod FaultCode
 pub mod RegisterWrite
 pub mod RegisterValue
 pub mod Histories
+pub mod Lock
 pub mod LockLaw
 pub mod Size
 pub mod SizeLaw

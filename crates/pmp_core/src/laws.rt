@@ -11,6 +11,7 @@ ghost use Rattle.pmp_core.specs.Rights.{BarredRulesLaw, StoreLaw};
 ghost use Rattle.pmp_core.specs.Histories.{LegalLaw};
 ghost use Rattle.pmp_core.specs.LockLaw.{LockLaw};
 ghost use Rattle.pmp_core.specs.SizeLaw.{SizeLaw};
+ghost use Rattle.pmp_core.specs.Span.{OneSpanLaw};
 ghost use Rattle.pmp_core.specs.Ranges.{decision_of};
 
 /// What is computed from the entries' ranges is the manual's decision.
@@ -34,6 +35,11 @@ pub fn law_owner_decides_byte()
 /// Only an entry of the file matches a byte.
 pub fn law_matching_entry()
     ensures { (entries : List Entry) (i byte : ℕ) → Matches entries i byte → i < length entries }
+{}
+
+/// An entry matches the bytes of one span, or no byte.
+pub fn law_one_span()
+    ensures { OneSpanLaw }
 {}
 
 /// Whatever events follow a reset, the register file is legal, for any number of entries.

@@ -1,26 +1,31 @@
 //! The register file.
 
 ghost use Rattle.std.specs.Prelude.{◌≡◌, ◌<◌, ◌≤◌, ◌^◌, ◌↔◌, IsTrue, length, fold};
-ghost use Rattle.pmp_core.specs.RegisterFile.{IsLegal, reset_file, is_frozen};
+ghost use Rattle.pmp_core.specs.RegisterFile.{IsLegal, reset_file, entry_at, is_frozen};
+ghost use Rattle.pmp_core.specs.Lock.{lock_of};
 ghost use Rattle.pmp_core.specs.Matching.{Matches};
+ghost use Rattle.pmp_core.specs.Span.{IsSpan, span_of};
 ghost use Rattle.pmp_core.specs.Decision.{IsDecision};
 ghost use Rattle.pmp_core.specs.Rights.{perms_of, rights, default_rights};
-ghost use Rattle.pmp_core.specs.RegisterWrite.{step};
+ghost use Rattle.pmp_core.specs.RegisterWrite.{step, is_address_frozen};
 ghost use Rattle.pmp_core.specs.RegisterValue.{register_value};
 ghost use Rattle.pmp_core.specs.Ranges.{AreRanges, ranges_of, decision_of};
 ghost use Rattle.pmp_core.specs.Size.{count_of};
 
 use crate::access::{Access, Mode};
+use crate::configuration::AddressMatching;
 use crate::csr::Csr;
 use crate::decision::Decision;
 use crate::entry::Entry;
 use crate::event::Event;
+use crate::lock::Lock;
 use crate::mseccfg::MseccfgFields;
 use crate::perms::Perms;
 use crate::range::ByteRange;
 use crate::rights::{default_rights_by, rule_rights};
 use crate::size::{MAX_ENTRIES, Size};
-use crate::{decision_by_ranges, register_value, storage};
+use crate::span::{Span, span_in};
+use crate::{decision_by_ranges, register_value, register_write, storage};
 use std::marker::Model;
 
 /// How many entries a unit of `Size::Sixteen` has.
@@ -203,6 +208,37 @@ impl RegFile {
         self.in_use()[usize::from(entry)].configuration.locked && !self.mseccfg.rlb
     }
 
+    /// How the entry is locked.
+    pub fn lock(&self, entry: u8) -> Lock
+        requires { entry < length self.now.entries }
+        ensures { result ≡ lock_of self.now entry }
+    {
+        if self.is_locked(entry) {
+            Lock::Locked
+        } else if self.in_use()[usize::from(entry)].configuration.locked {
+            Lock::Bypassed
+        } else {
+            Lock::Open
+        }
+    }
+
+    /// Whether writes leave the entry's address register as it is: the entry is frozen, or the next one is and its
+    /// range ends there.
+    pub fn is_address_locked(&self, entry: u8) -> bool
+        requires { entry < length self.now.entries }
+        ensures { result ≡ is_address_frozen self.now entry }
+    {
+        register_write::is_address_frozen(self.in_use(), &self.mseccfg, usize::from(entry))
+    }
+
+    /// How the entry's address register is read.
+    pub fn matching(&self, entry: u8) -> AddressMatching
+        requires { entry < length self.now.entries }
+        ensures { result ≡ (entry_at self.now.entries entry).configuration.matching }
+    {
+        self.in_use()[usize::from(entry)].configuration.matching
+    }
+
     /// What the entry's rule allows the mode, where the entry matches every byte of an access.
     pub fn rights(&self, entry: u8, mode: Mode) -> Perms
         requires { entry < length self.now.entries }
@@ -231,6 +267,15 @@ impl RegFile {
         ensures { IsTrue result ↔ Matches self.now.entries entry byte }
     {
         self.decoded()[usize::from(entry)].contains(byte)
+    }
+
+    /// The first and the last byte that the entry matches, if it matches any.
+    pub fn span(&self, entry: u8) -> Option<Span>
+        requires { entry < length self.now.entries }
+        ensures by_bytes { IsSpan self.now.entries entry result }
+        ensures computed { result ≡ span_of self.now.entries entry }
+    {
+        span_in(&self.decoded()[usize::from(entry)])
     }
 
     /// Where each entry matches: a range of byte addresses for each, in their order.
