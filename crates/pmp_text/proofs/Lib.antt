@@ -2,6 +2,7 @@ pub mod Appending
 pub mod Bounds
 pub mod Cuts
 pub mod Digits
+pub mod EntryRows
 pub mod Fields
 pub mod LeastFaults
 pub mod LeastRows

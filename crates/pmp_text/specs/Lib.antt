@@ -3,6 +3,7 @@ pub mod AccessWords
 pub mod Bytes
 pub mod Contents
 pub mod Dumps
+pub mod EntryRows
 pub mod Hexadecimal
 pub mod Inputs
 pub mod Limits

@@ -2,12 +2,15 @@
 
 ghost use Rattle.std.specs.Prelude.{◌≡◌, ◌++◌, IfSome, OnErr, OnOk};
 
+mod entries;
 mod hexadecimal;
+mod marks;
 mod registers;
 mod report;
 mod runs;
 
 use arrayvec::ArrayString;
+pub use entries::write_entries;
 pub use registers::write_registers;
 pub use report::write_row;
 pub use runs::write_runs;
@@ -15,8 +18,8 @@ use std::alloc::AllocError;
 use std::fmt;
 use std::fmt::{Display, Write};
 
-/// Room for a line. A run's has 41 bytes, and no other has more.
-const LINE: usize = 64;
+/// Room for a line. An entry's has at most 82 bytes, and no other has more.
+const LINE: usize = 96;
 
 /// No memory for a text.
 #[derive(Clone, Copy, Debug, PartialEq, Eq)]

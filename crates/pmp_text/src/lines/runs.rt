@@ -1,15 +1,15 @@
 //! The runs of a register file as text.
 
-ghost use Rattle.std.specs.Prelude.{◌≡◌, ◌<◌, ◌++◌, IfSome, List, ℕ, length, OnOk, OnErr, Some, codes, if◌then◌else◌};
+ghost use Rattle.std.specs.Prelude.{◌≡◌, ◌<◌, ◌++◌, IfSome, List, ℕ, length, OnOk, OnErr, Some};
 ghost use Rattle.std.specs.Io.{StartsWith};
 ghost use Rattle.pmp_core.specs.Rights.{perms_of};
 ghost use Rattle.pmp_map.specs.Answers.{owned_rights};
 ghost use Rattle.pmp_text.specs.RunLines.{IsMapText, owner_text, run_line};
-ghost use Rattle.pmp_text.specs.Steps.Marks.{perms_text};
 
 use crate::lines::hexadecimal::Hex;
+use crate::lines::marks::Marks;
 use crate::lines::{NoMemory, append_line};
-use pmp_core::{Kind, Mode, Perms, RegFile};
+use pmp_core::{Mode, Perms, RegFile};
 use pmp_map::{Run, RunMap};
 use std::fmt;
 
@@ -25,28 +25,6 @@ impl fmt::Display for Owner {
             Some(entry) => write!(f, "{entry}"),
             None => write!(f, "-"),
         }
-    }
-}
-
-/// A letter where a right is given, and else a dash.
-fn mark(given: bool, letter: &'static str) -> &'static str
-    ensures { result.now ≡ (if given then letter.now else codes "-") }
-{
-    if given { letter } else { "-" }
-}
-
-/// `r`, `w` and `x`, each where the right is there.
-#[derive(Clone, Copy)]
-struct Marks(Perms);
-
-impl fmt::Display for Marks {
-    ghost output = { λ marks. Some (perms_text marks.0) };
-
-    fn fmt<W: fmt::Write>(&self, f: &mut fmt::Formatter<W>) -> fmt::Result {
-        let read = mark(self.0.allows(Kind::Load), "r");
-        let write = mark(self.0.allows(Kind::Store), "w");
-        let execute = mark(self.0.allows(Kind::Fetch), "x");
-        write!(f, "{read}{write}{execute}")
     }
 }
 

@@ -1,0 +1,34 @@
+use Rattle.std.proofs.Common.{◌≡◌, length, None, refl, below_more, arith}
+use Rattle.std.specs.List.{flat_map, range_with_len, slice_index_or}
+use Rattle.pmp_core.specs.Span.{IsSpan, span_of}
+use Rattle.pmp_text.specs.EntryRows.{entry_row}
+use Rattle.pmp_text.proofs.EntryRows.{rows_grow}
+use Rattle.pmp_text.proofs.lines.entries.write_all.Goals as goal
+
+pub loop-entry-preserved : goal.loop-entry-preserved
+loop-entry-preserved c =
+    let file = c.args.file.now in
+    let since = c.args.since.now in
+    record {
+      spans = below_more (λ i. IsSpan file.entries i (span_of file.entries i)) c.loop-entry.entry
+          c.loop-entry.invariant.spans c.write_entry.ensures.span;
+      rows = rows_grow
+          (λ i. entry_row file i (span_of file.entries i) (slice_index_or since i None))
+          c.args.out.now.items c.loop-entry.out.items _ c.loop-entry.entry
+          (rw c.from.ensures at c.in_ok-write_entry.ensures.ok) c.loop-entry.invariant.rows;
+    }
+
+pub returns-clause-ok : goal.returns-clause-ok
+returns-clause-ok c =
+    let file = c.args.file.now in
+    let since = c.args.since.now in
+    let all : c.loop-entry.entry ≡ length file.entries = omega arith in (
+      flat_map (λ i. entry_row file i (span_of file.entries i) (slice_index_or since i None))
+          (range_with_len 0 (length file.entries)),
+      record {
+        span = span_of file.entries;
+        spans = rw all at c.loop-entry.invariant.spans;
+        rows = refl;
+      },
+      rw all at c.loop-entry.invariant.rows,
+    )

@@ -1,0 +1,54 @@
+-- The text of a register file's entries.
+use Rattle.std.specs.Prelude.{◌≡◌, ℕ, ◌<◌, Bool, List, [], ◌∷◌, ◌++◌, length, Option, Some, None, if◌then◌else◌, codes}
+use Rattle.std.specs.Prelude.{decimal}
+use Rattle.std.specs.List.{flat_map, range_with_len, slice_index_or}
+use Rattle.pmp_core.specs.declared.access.Mode.TheVariants.{M, U}
+use Rattle.pmp_core.specs.declared.configuration.AddressMatching.{AddressMatching}
+use Rattle.pmp_core.specs.declared.configuration.AddressMatching.TheVariants.{Off, Tor, Na4, Napot}
+use Rattle.pmp_core.specs.declared.lock.Lock.{Lock}
+use Rattle.pmp_core.specs.declared.lock.Lock.TheVariants.{Open, Bypassed, Locked}
+use Rattle.pmp_core.specs.declared.span.Span.{Span}
+use Rattle.pmp_core.specs.RegisterFile.{RegisterFile, entry_at}
+use Rattle.pmp_core.specs.Rights.{rights}
+use Rattle.pmp_core.specs.Lock.{lock_of}
+use Rattle.pmp_core.specs.Span.{IsSpan}
+use Rattle.pmp_core.specs.RegisterWrite.{is_address_frozen}
+use Rattle.pmp_text.specs.Hexadecimal.{hex_text}
+use Rattle.pmp_text.specs.Reports.{fields_after, optional_text}
+use Rattle.pmp_text.specs.RunLines.{rights_text}
+
+-- how the address register is read
+abbrev pub matching_text : AddressMatching → List ℕ
+matching_text Off = codes "off"
+matching_text Tor = codes "tor"
+matching_text Na4 = codes "na4"
+matching_text Napot = codes "napot"
+
+-- the first and the last byte in fourteen digits, or two dashes
+abbrev pub span_text : Option Span → List ℕ
+span_text None = codes "-,-"
+span_text (Some span) = hex_text 14 span.first ++ (codes "," ++ hex_text 14 span.last)
+
+abbrev pub lock_text : Lock → List ℕ
+lock_text Open = codes "-"
+lock_text Bypassed = codes "bypassed"
+lock_text Locked = codes "locked"
+
+-- whether the address register takes no write
+abbrev pub address_text : Bool → List ℕ
+address_text is_locked = if is_locked then codes "locked" else codes "-"
+
+-- entry i: how it matches, its bytes, the rights of machine mode and of the other modes, its locks, and since when
+unfoldable pub entry_row : RegisterFile → ℕ → Option Span → Option ℕ → List ℕ
+entry_row file i span since =
+    decimal i
+    ++ fields_after (matching_text (entry_at file.entries i).configuration.matching ∷ span_text span
+    ∷ rights_text (rights file i M) ∷ rights_text (rights file i U) ∷ lock_text (lock_of file i)
+    ∷ address_text (is_address_frozen file i) ∷ optional_text since ∷ [])
+
+-- a row for each entry, with the number that the list has for it
+pub record IsEntryText (file : RegisterFile) (since : List (Option ℕ)) (text : List ℕ) : Type 0 where
+  pub span : ℕ → Option Span
+  pub spans : (i : ℕ) → i < length file.entries → IsSpan file.entries i (span i)
+  pub rows : text ≡ flat_map (λ i. entry_row file i (span i) (slice_index_or since i None))
+      (range_with_len 0 (length file.entries))

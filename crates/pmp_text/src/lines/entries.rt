@@ -1,0 +1,167 @@
+//! The entries of a register file as text.
+
+ghost use Rattle.std.specs.Prelude.{◌≡◌, ◌<◌, ◌≤◌, ◌++◌, List, ℕ, length, OnOk, OnErr, Some, codes};
+ghost use Rattle.std.specs.Io.{StartsWith};
+ghost use Rattle.pmp_core.specs.Span.{IsSpan, span_of};
+ghost use Rattle.pmp_text.specs.EntryRows.{IsEntryText, address_text, entry_row, lock_text, matching_text, span_text};
+ghost use Rattle.pmp_text.specs.Reports.{optional_text};
+ghost use Rattle.pmp_text.specs.Steps.Marks.{perms_text};
+
+use crate::lines::hexadecimal::Hex;
+use crate::lines::marks::Marks;
+use crate::lines::{NoMemory, append_line};
+use pmp_core::{AddressMatching, Lock, Mode, Perms, RegFile, Span};
+use std::fmt;
+
+/// The first and the last byte that an entry matches, or two dashes.
+#[derive(Clone, Copy)]
+struct Ends(Option<Span>);
+
+impl fmt::Display for Ends {
+    ghost output = { λ ends. Some (span_text ends.0) };
+
+    fn fmt<W: fmt::Write>(&self, f: &mut fmt::Formatter<W>) -> fmt::Result {
+        match self.0 {
+            Some(span) => {
+                let first = Hex::<14>::new(span.first);
+                let last = Hex::<14>::new(span.last);
+                write!(f, "{first},{last}")
+            }
+            None => write!(f, "-,-"),
+        }
+    }
+}
+
+/// What a rule gives machine mode, and what it gives the other two.
+#[derive(Clone, Copy)]
+struct Rule {
+    machine: Perms,
+    others: Perms,
+}
+
+impl fmt::Display for Rule {
+    ghost output = { λ rule. Some (perms_text rule.machine ++ (codes "," ++ perms_text rule.others)) };
+
+    fn fmt<W: fmt::Write>(&self, f: &mut fmt::Formatter<W>) -> fmt::Result {
+        let machine = Marks(self.machine);
+        let others = Marks(self.others);
+        write!(f, "{machine},{others}")
+    }
+}
+
+/// How an entry is locked, and whether its address register is.
+#[derive(Clone, Copy)]
+struct Locks {
+    entry: Lock,
+    is_address_locked: bool,
+}
+
+impl fmt::Display for Locks {
+    ghost output = { λ locks. Some (lock_text locks.entry ++ (codes "," ++ address_text locks.is_address_locked)) };
+
+    fn fmt<W: fmt::Write>(&self, f: &mut fmt::Formatter<W>) -> fmt::Result {
+        let entry = match self.entry {
+            Lock::Open => "-",
+            Lock::Bypassed => "bypassed",
+            Lock::Locked => "locked",
+        };
+        let address = if self.is_address_locked {
+            "locked"
+        } else {
+            "-"
+        };
+        write!(f, "{entry},{address}")
+    }
+}
+
+/// A number, or nothing.
+#[derive(Clone, Copy)]
+struct Number(Option<u64>);
+
+impl fmt::Display for Number {
+    ghost output = { λ number. Some (optional_text number.0) };
+
+    fn fmt<W: fmt::Write>(&self, f: &mut fmt::Formatter<W>) -> fmt::Result {
+        match self.0 {
+            Some(number) => write!(f, "{number}"),
+            None => Ok(()),
+        }
+    }
+}
+
+fn matching_word(matching: AddressMatching) -> &'static str
+    ensures { result.now ≡ matching_text matching }
+{
+    match matching {
+        AddressMatching::Off => "off",
+        AddressMatching::Tor => "tor",
+        AddressMatching::Na4 => "na4",
+        AddressMatching::Napot => "napot",
+    }
+}
+
+/// Appends the row of an entry.
+fn write_entry(
+    out: &mut Vec<u8>,
+    file: &RegFile,
+    entry: u8,
+    since: Option<u64>,
+) -> Result<(), NoMemory>
+    requires { entry < length file.now.entries }
+    ensures span { IsSpan file.now.entries entry (span_of file.now.entries entry) }
+    ensures ok { OnOk result (out.new.items
+        ≡ out.old.items ++ entry_row file.now entry (span_of file.now.entries entry) since) }
+    ensures err { OnErr result (out.new.items ≡ out.old.items) }
+{
+    let matching = matching_word(file.matching(entry));
+    let ends = Ends(file.span(entry));
+    let rule = Rule {
+        machine: file.rights(entry, Mode::M),
+        others: file.rights(entry, Mode::U),
+    };
+    let locks = Locks {
+        entry: file.lock(entry),
+        is_address_locked: file.is_address_locked(entry),
+    };
+    let since = Number(since);
+    append_line(
+        out,
+        format_args!("{entry},{matching},{ends},{rule},{locks},{since}\n"),
+    )
+}
+
+fn write_all(out: &mut Vec<u8>, file: &RegFile, since: &[Option<u64>]) -> Result<(), NoMemory>
+    requires { length file.now.entries ≤ length since.now }
+    ensures ok { OnOk result
+        ((text : List ℕ) × IsEntryText file.now since.now text × (out.new.items ≡ out.old.items ++ text)) }
+    ensures err { OnErr result (StartsWith out.new.items out.old.items) }
+{
+    for entry in 0..file.entries() {
+        write_entry(out, file, entry, since[usize::from(entry)])?;
+    }
+    Ok(())
+}
+
+/// Appends a row for each entry, `ENTRY,MATCHING,FIRST,LAST,MRIGHTS,SURIGHTS,LOCK,ADDRESS,SINCE` and LF.
+///
+/// MATCHING says how the address register is read. FIRST and LAST are the ends of the bytes that the entry matches, in
+/// fourteen hexadecimal digits, or dashes. MRIGHTS and SURIGHTS are what its rule gives machine mode and the other two.
+/// LOCK is `locked` where writes leave the entry as it is, and `bypassed` where they would but for rule-locking bypass;
+/// ADDRESS is `locked` where they leave its address register as it is. SINCE is the number in `since`, if any.
+pub fn write_entries(
+    out: &mut Vec<u8>,
+    file: &RegFile,
+    since: &[Option<u64>],
+) -> Result<(), NoMemory>
+    requires { length file.now.entries ≤ length since.now }
+    ensures ok { OnOk result
+        ((text : List ℕ) × IsEntryText file.now since.now text × (out.new.items ≡ out.old.items ++ text)) }
+    ensures err { OnErr result (out.new.items ≡ out.old.items) }
+{
+    let before = out.len();
+    let written = write_all(out, file, since);
+    if written.is_err() {
+        out.truncate(before);
+    }
+    written
+}

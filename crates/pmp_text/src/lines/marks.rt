@@ -1,0 +1,29 @@
+//! Rights as three characters.
+
+ghost use Rattle.std.specs.Prelude.{◌≡◌, Some, codes, if◌then◌else◌};
+ghost use Rattle.pmp_text.specs.Steps.Marks.{perms_text};
+
+use pmp_core::{Kind, Perms};
+use std::fmt;
+
+/// A letter where a right is given, and else a dash.
+fn mark(given: bool, letter: &'static str) -> &'static str
+    ensures { result.now ≡ (if given then letter.now else codes "-") }
+{
+    if given { letter } else { "-" }
+}
+
+/// `r`, `w` and `x`, each where the right is there.
+#[derive(Clone, Copy)]
+pub struct Marks(pub Perms);
+
+impl fmt::Display for Marks {
+    ghost output = { λ marks. Some (perms_text marks.0) };
+
+    fn fmt<W: fmt::Write>(&self, f: &mut fmt::Formatter<W>) -> fmt::Result {
+        let read = mark(self.0.allows(Kind::Load), "r");
+        let write = mark(self.0.allows(Kind::Store), "w");
+        let execute = mark(self.0.allows(Kind::Fetch), "x");
+        write!(f, "{read}{write}{execute}")
+    }
+}
