@@ -1,4 +1,5 @@
 pub mod DecidedRows
+pub mod FrozenSince
 pub mod Crossing
 pub mod Merging
 pub mod Asking

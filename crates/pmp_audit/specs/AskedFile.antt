@@ -11,13 +11,18 @@ use Rattle.pmp_audit.specs.declared.fault.AuditFault.TheVariants.{Script, BadAft
 abbrev pub asked_count : Option ℕ → ScriptContents → ℕ
 asked_count after script = unwrap_or after (length script.batches)
 
--- the script means this, no more publications are asked for than it has, and the text is one of the file that those give
-pub record SaysOfFile (IsTextOf : RegisterFile → List ℕ → Type 0) (script : List ℕ) (after : Option ℕ) (text : List ℕ)
-    : Type 0 where
+-- the script means this, no more publications are asked for than it has, and the text is one of so many of them
+pub record SaysOfScript (IsTextOf : ScriptContents → (done : ℕ) → List ℕ → Type 0) (script : List ℕ)
+    (after : Option ℕ) (text : List ℕ) : Type 0 where
   pub contents : ScriptContents
   pub script_means : script_meaning script ≡ Ok contents
   pub within : asked_count after contents ≤ length contents.batches
-  pub text_is : IsTextOf (file_of_script contents (asked_count after contents)) text
+  pub text_is : IsTextOf contents (asked_count after contents) text
+
+-- the text is one of the file that they give
+abbrev pub SaysOfFile : (IsTextOf : RegisterFile → List ℕ → Type 0)
+    → (script : List ℕ) → (after : Option ℕ) → (text : List ℕ) → Type 0
+SaysOfFile IsTextOf = SaysOfScript (λ contents done. IsTextOf (file_of_script contents done))
 
 -- more publications are asked for than there are
 pub record AsksTooMuch (script : List ℕ) (after : Option ℕ) : Type 0 where

@@ -6,6 +6,8 @@ pub mod SharedAudit
 pub mod AskedFile
 pub mod RegisterDump
 pub mod Map
+pub mod Since
+pub mod EntryList
 pub mod Fault
 -- The rest, which only private contracts cite.
 pub mod Replay

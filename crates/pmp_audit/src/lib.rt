@@ -3,6 +3,7 @@
 
 mod access_check;
 mod answer;
+mod entry_list;
 mod fault;
 mod gate;
 pub mod laws;
@@ -10,9 +11,11 @@ mod map;
 mod register_dump;
 mod replay;
 mod shared_audit;
+mod since;
 mod trace_audit;
 
 pub use access_check::check;
+pub use entry_list::entries_of;
 pub use fault::AuditFault;
 pub use gate::{Gate, OpenGate};
 pub use map::map_of;

@@ -1,0 +1,18 @@
+-- What a list of entries says.
+use Rattle.std.specs.Prelude.{ℕ, List, take, Option}
+use Rattle.pmp_core.specs.Size.{count_of}
+use Rattle.pmp_text.specs.Contents.{ScriptContents}
+use Rattle.pmp_text.specs.EntryRows.{IsEntryText}
+use Rattle.pmp_text.specs.Reports.{file_of_script}
+use Rattle.pmp_audit.specs.AskedFile.{SaysOfScript}
+use Rattle.pmp_audit.specs.Since.{AreSince}
+
+-- a row for each entry of the file that so many publications give, with since when the entry is frozen
+pub record IsEntryList (script : ScriptContents) (done : ℕ) (text : List ℕ) : Type 0 where
+  pub since : List (Option ℕ)
+  pub since_are : AreSince (count_of script.size) (take done script.batches) since
+  pub rows : IsEntryText (file_of_script script done) since text
+
+-- the entries of the file that is asked for
+abbrev pub EntriesSay : (script : List ℕ) → (after : Option ℕ) → Unit {0} → (text : List ℕ) → Type 0
+EntriesSay script after _ text = SaysOfScript IsEntryList script after text
