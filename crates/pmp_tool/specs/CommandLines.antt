@@ -51,13 +51,9 @@ check_app =
 abbrev pub audit_app : App
 audit_app = with_checkers (with_word (script_app (codes "audit")) (codes "trace"))
 
--- `dump SCRIPT [--after N]`
-abbrev pub dump_app : App
-dump_app = with_after (script_app (codes "dump"))
-
--- `map SCRIPT [--after N]`
-abbrev pub map_app : App
-map_app = with_after (script_app (codes "map"))
+-- `NAME SCRIPT [--after N]`, as `dump`, `map` and `entries` are
+abbrev pub file_app : (name : Text) → App
+file_app name = with_after (script_app name)
 
 -- it has a version, its words begin with a subcommand, and help answers where there are none
 abbrev pub as_top : App → App
@@ -79,7 +75,9 @@ with_command program command = with_subcommand program command.top
 
 -- the program, with a subcommand for each thing that it does
 abbrev pub pmp_app : App
-pmp_app = with_command (with_command (with_command (with_command top_app check_app) audit_app) dump_app) map_app
+pmp_app =
+    with_command (with_command (with_command (with_command (with_command top_app check_app) audit_app)
+    (file_app (codes "dump"))) (file_app (codes "map"))) (file_app (codes "entries"))
 
 -- clap takes the words, and what it finds in them asks for that
 abbrev pub WordsAskFor : List Text → Asked → Type 0

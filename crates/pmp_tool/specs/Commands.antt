@@ -33,6 +33,7 @@ pub data Task : Type 0 where
   Audit : (trace : Text) (checkers : Option ℕ) → Task
   Dump : (after : Option ℕ) → Task
   Map : (after : Option ℕ) → Task
+  Entries : (after : Option ℕ) → Task
 
 abbrev pub access_task : Access → AccessTask
 access_task access = record { mode = access.mode; kind = access.kind; start = access.start; length = access.length }
@@ -42,6 +43,7 @@ task_of (request.Check access after) = Check (access_task access) after
 task_of (request.Audit trace checkers) = Audit trace.now (option_map (λ checkers. checkers.count) checkers)
 task_of (request.Dump after) = Dump after
 task_of (request.Map after) = Map after
+task_of (request.Entries after) = Entries after
 
 -- a task, and the path of the script
 pub record Asked : Type 0 where
@@ -113,6 +115,7 @@ task_in name.Check rows = check_in rows
 task_in name.Audit rows = audit_in rows
 task_in name.Dump rows = result_map Dump (after_of (first_of (codes "after") rows))
 task_in name.Map rows = result_map Map (after_of (first_of (codes "after") rows))
+task_in name.Entries rows = result_map Entries (after_of (first_of (codes "after") rows))
 
 -- the command that a word names
 abbrev pub command_named : Text → Option CommandName
@@ -120,7 +123,8 @@ command_named word =
     if bytes_eq word (codes "check") then Some name.Check
     else (if bytes_eq word (codes "audit") then Some name.Audit
     else (if bytes_eq word (codes "dump") then Some name.Dump
-    else (if bytes_eq word (codes "map") then Some name.Map else None)))
+    else (if bytes_eq word (codes "map") then Some name.Map
+    else (if bytes_eq word (codes "entries") then Some name.Entries else None))))
 
 abbrev pub asked_with : (script : Result Text Refusal) → Result Task Refusal → Result Asked Refusal
 asked_with (Err refusal) task = Err refusal

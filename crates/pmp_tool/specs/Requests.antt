@@ -3,15 +3,16 @@ use Rattle.std.specs.Prelude.{ℕ, List, Option, Some, None}
 use Rattle.pmp_audit.specs.declared.fault.AuditFault.{AuditFault}
 use Rattle.pmp_audit.specs.AccessCheck.{CheckSays}
 use Rattle.pmp_audit.specs.AskedFile.{FileRefuses}
+use Rattle.pmp_audit.specs.EntryList.{EntriesSay}
 use Rattle.pmp_audit.specs.Map.{MapSays}
 use Rattle.pmp_audit.specs.RegisterDump.{DumpSays}
 use Rattle.pmp_audit.specs.SharedAudit.{SharedAuditRefuses}
 use Rattle.pmp_audit.specs.TraceAudit.{AuditRefuses, AuditSays}
 use Rattle.pmp_tool.specs.declared.checkers.Checkers.{Checkers}
 use Rattle.pmp_tool.specs.declared.command.Request.{Request}
-use Rattle.pmp_tool.specs.declared.command.Request.TheVariants.{Check, Audit, Dump, Map}
+use Rattle.pmp_tool.specs.declared.command.Request.TheVariants.{Check, Audit, Dump, Map, Entries}
 use Rattle.pmp_tool.specs.declared.run.Outcome.{Outcome}
-use Rattle.pmp_tool.specs.declared.run.Outcome.TheVariants.{Decided, Audited, Dumped, Mapped}
+use Rattle.pmp_tool.specs.declared.run.Outcome.TheVariants.{Decided, Audited, Listed}
 use Rattle.pmp_tool.specs.Inputs.{AreBytesOf, Inputs}
 
 -- which text goes with which outcome of a request of this script
@@ -19,8 +20,9 @@ abbrev pub RequestSays : (traces : Inputs) (script : List ℕ) → Request → O
 RequestSays traces script (Check access after) (Decided decision) text = CheckSays script access after decision text
 RequestSays traces script (Audit path checkers) (Audited summary) text =
     (trace : List ℕ) × AreBytesOf (traces path.now) trace × AuditSays script trace summary text
-RequestSays traces script (Dump after) Dumped text = DumpSays script after tt text
-RequestSays traces script (Map after) Mapped text = MapSays script after tt text
+RequestSays traces script (Dump after) Listed text = DumpSays script after tt text
+RequestSays traces script (Map after) Listed text = MapSays script after tt text
+RequestSays traces script (Entries after) Listed text = EntriesSay script after tt text
 RequestSays _ _ _ _ _ = ⊥
 
 -- which faults an audit is refused for; several checkers may lack a place
@@ -35,3 +37,4 @@ RequestRefuses traces script (Audit path checkers) fault =
     (trace : List ℕ) × AreBytesOf (traces path.now) trace × AuditByRefuses checkers script trace fault
 RequestRefuses traces script (Dump after) fault = FileRefuses script after fault
 RequestRefuses traces script (Map after) fault = FileRefuses script after fault
+RequestRefuses traces script (Entries after) fault = FileRefuses script after fault

@@ -25,6 +25,8 @@ pub enum Request<'a> {
     Dump(Option<u64>),
     /// The same.
     Map(Option<u64>),
+    /// The same.
+    Entries(Option<u64>),
 }
 
 /// What the program's words ask for.
@@ -42,6 +44,7 @@ enum CommandName {
     Audit,
     Dump,
     Map,
+    Entries,
 }
 
 /// The command that a word names.
@@ -53,6 +56,7 @@ fn read_name(word: &str) -> Option<CommandName>
         "audit" => Some(CommandName::Audit),
         "dump" => Some(CommandName::Dump),
         "map" => Some(CommandName::Map),
+        "entries" => Some(CommandName::Entries),
         _ => None,
     }
 }
@@ -77,6 +81,7 @@ fn read_request<'a>(name: CommandName, words: &ArgMatches<'a>) -> Result<Request
         CommandName::Audit => read_audit(words),
         CommandName::Dump => Ok(Request::Dump(read_after(words)?)),
         CommandName::Map => Ok(Request::Map(read_after(words)?)),
+        CommandName::Entries => Ok(Request::Entries(read_after(words)?)),
     }
 }
 

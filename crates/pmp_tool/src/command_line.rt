@@ -3,7 +3,7 @@
 ghost use Rattle.std.specs.Prelude.{◌≡◌, map, false, IfOk, IfErr, string_bytes};
 ghost use Rattle.clap.specs.Words.{HasKind, app_of, fault_of, new_app, rule_of};
 ghost use Rattle.pmp_tool.specs.Building.{Changes, IsCommand, IsLocal, IsTaken};
-ghost use Rattle.pmp_tool.specs.CommandLines.{after_rule, audit_app, check_app, checkers_rule, dump_app, map_app};
+ghost use Rattle.pmp_tool.specs.CommandLines.{after_rule, audit_app, check_app, checkers_rule, file_app};
 ghost use Rattle.pmp_tool.specs.CommandLines.{pmp_app, top_app, with_after, with_checkers, with_command, with_word};
 ghost use Rattle.pmp_tool.specs.CommandLines.{word_rule};
 
@@ -27,8 +27,12 @@ fn pmp<'a>(alloc: Global) -> Result<Command<'a>, AllocError>
     let program = top(alloc)?;
     let program = with_command(program, check(alloc)?)?;
     let program = with_command(program, audit(alloc)?)?;
-    let program = with_command(program, dump(alloc)?)?;
-    let program = with_command(program, map(alloc)?)?;
+    let dump = of_file(alloc, "dump", help::DUMP, help::MORE_OF_DUMP)?;
+    let program = with_command(program, dump)?;
+    let map = of_file(alloc, "map", help::MAP, help::MORE_OF_MAP)?;
+    let program = with_command(program, map)?;
+    let entries = of_file(alloc, "entries", help::ENTRIES, help::MORE_OF_ENTRIES)?;
+    let program = with_command(program, entries)?;
     Ok(program)
 }
 
@@ -55,19 +59,16 @@ fn audit<'a>(alloc: Global) -> Result<Command<'a>, AllocError>
     Ok(command)
 }
 
-fn dump<'a>(alloc: Global) -> Result<Command<'a>, AllocError>
-    ensures { IfOk result (λ command. IsCommand command dump_app) }
+/// A command of the register file after publications: `name SCRIPT [--after N]`.
+fn of_file<'a>(
+    alloc: Global,
+    name: &'a str,
+    about: &'a str,
+    more: &'a str,
+) -> Result<Command<'a>, AllocError>
+    ensures { IfOk result (λ command. IsCommand command (file_app name.entry.now)) }
 {
-    let command = named(alloc, "dump", help::DUMP, help::MORE_OF_DUMP);
-    let command = with_word(alloc, command, "script", "SCRIPT", help::SCRIPT)?;
-    let command = with_after(alloc, command)?;
-    Ok(command)
-}
-
-fn map<'a>(alloc: Global) -> Result<Command<'a>, AllocError>
-    ensures { IfOk result (λ command. IsCommand command map_app) }
-{
-    let command = named(alloc, "map", help::MAP, help::MORE_OF_MAP);
+    let command = named(alloc, name, about, more);
     let command = with_word(alloc, command, "script", "SCRIPT", help::SCRIPT)?;
     let command = with_after(alloc, command)?;
     Ok(command)

@@ -15,6 +15,9 @@ pub const DUMP: &str = "Writes the unit's registers after publications of a scri
 
 pub const MAP: &str = "Writes which bytes each entry owns after publications of a script";
 
+pub const ENTRIES: &str =
+    "Writes what each entry is and how it is locked, after publications of a script";
+
 pub const SCRIPT: &str =
     "The path of a script of at most 1048576 bytes, or stdin for standard input";
 
@@ -115,4 +118,34 @@ Example:
   It answers 00000000000000,ffffffffffffff,-,rwx,---
 
 docs/FORMATS.md describes scripts, the run lines, and every refusal with its
+number.";
+
+pub const MORE_OF_ENTRIES: &str = "\
+A number is 1 to 20 decimal digits, or 0x and 1 to 16 hexadecimal digits.
+
+Each line is an entry of the unit, from entry 0 on:
+ENTRY,MATCHING,FIRST,LAST,MRIGHTS,SURIGHTS,LOCK,ADDRESS,SINCE.
+  MATCHING    off, tor, na4 or napot
+  FIRST,LAST  the addresses of the first and last byte that it matches, in
+              hexadecimal digits, or - and - where it matches none
+  MRIGHTS     what machine mode may do where it decides: r, w and x, or -
+  SURIGHTS    the same for supervisor and user mode
+  LOCK        locked where its lock bit is set; bypassed where the bit is set and
+              rule-locking bypass is on; else -
+  ADDRESS     locked where its address register takes no write; else -
+  SINCE       where it is locked, the least number of publications after which it
+              was, with no reset behind them
+A locked entry keeps its configuration and its bytes through every later list of
+writes, until a reset.
+
+Exit status:
+  0  the entries were written
+  2  no answer: the words or the script are at fault
+  3  no answer: memory, the script's input or the output failed
+
+Example:
+  printf 'pmp 1\nwrite pmpcfg0 0x98\npublish\n' | pmp entries stdin
+  It answers 0,napot,00000000000000,00000000000007,---,---,locked,locked,1
+
+docs/FORMATS.md describes scripts, the entry lines, and every refusal with its
 number.";

@@ -16,7 +16,9 @@ use crate::command::{Command, Request, read_command};
 use crate::command_line::parse_words;
 use crate::failure::Failure;
 use crate::inputs::Inputs;
-use pmp_audit::{AuditFault, OpenGate, Summary, audit, audit_shared, check, dump, map_of};
+use pmp_audit::{
+    AuditFault, OpenGate, Summary, audit, audit_shared, check, dump, entries_of, map_of,
+};
 use pmp_core::Decision;
 use pmp_text::write_out;
 use std::alloc::Global;
@@ -24,7 +26,7 @@ use std::io::Write;
 use std::sync::Wait;
 use std::thread::Threads;
 
-/// The exit status of texts, registers and runs that were written, and of accesses that are all allowed.
+/// The exit status of texts and lists that were written, and of accesses that are all allowed.
 const DONE: u8 = 0;
 
 /// The exit status of an access that is refused.
@@ -128,11 +130,15 @@ fn answer<R: Threads + Wait + Sync, I: Inputs, O: Write>(
         }
         Request::Dump(after) => {
             dump(alloc, &script, after, out)?;
-            Ok(Outcome::Dumped)
+            Ok(Outcome::Listed)
         }
         Request::Map(after) => {
             map_of(alloc, &script, after, out)?;
-            Ok(Outcome::Mapped)
+            Ok(Outcome::Listed)
+        }
+        Request::Entries(after) => {
+            entries_of(alloc, &script, after, out)?;
+            Ok(Outcome::Listed)
         }
     }
 }
@@ -163,8 +169,8 @@ fn audit_by<R: Threads + Wait + Sync, O: Write>(
 enum Outcome {
     Decided(Decision),
     Audited(Summary),
-    Dumped,
-    Mapped,
+    /// The registers, the runs or the entries were written.
+    Listed,
     /// A text of help or the version was written.
     Told,
 }

@@ -2,11 +2,12 @@ use Rattle.std.proofs.lemmas.Result.{err_from_is_err_and}
 use Rattle.std.proofs.KnownBytes.{Keeps-refl}
 use Rattle.pmp_audit.specs.AccessCheck.{CheckSays}
 use Rattle.pmp_audit.specs.AskedFile.{FileRefuses}
+use Rattle.pmp_audit.specs.EntryList.{EntriesSay}
 use Rattle.pmp_audit.specs.Map.{MapSays}
 use Rattle.pmp_audit.specs.RegisterDump.{DumpSays}
 use Rattle.pmp_audit.specs.TraceAudit.{AuditSays}
-use Rattle.pmp_tool.specs.declared.command.Request.TheVariants.{Audit, Check, Dump, Map}
-use Rattle.pmp_tool.specs.declared.run.Outcome.TheVariants.{Audited, Decided, Dumped, Mapped}
+use Rattle.pmp_tool.specs.declared.command.Request.TheVariants.{Audit, Check, Dump, Entries, Map}
+use Rattle.pmp_tool.specs.declared.run.Outcome.TheVariants.{Audited, Decided, Listed}
 use Rattle.pmp_tool.specs.Requests.{AuditByRefuses}
 use Rattle.pmp_tool.specs.Runs.{no_script, no_trace}
 use Rattle.pmp_tool.proofs.Requesting.{not_answered}
@@ -61,7 +62,7 @@ returns-in_err-dump-in-Dump-clause-err g c =
     let refused = rw c.deref-in-Dump.ensures.value at c.in_err-dump-in-Dump.ensures.err in
     rw (p.1, p.2)
     (not_answered _ _ c.args.command script c.in_ok-script.ensures.read (Dump c.in-Dump.after) c.in-Dump.is _ _
-    (λ _. Dumped) (DumpSays script c.in-Dump.after) (λ done text says. says) (FileRefuses script c.in-Dump.after)
+    (λ _. Listed) (DumpSays script c.in-Dump.after) (λ done text says. says) (FileRefuses script c.in-Dump.after)
     (λ fault refuses. refuses) c.in_err-dump-in-Dump.field-0.0 refused)
 
 pub returns-in_err-map_of-in-Map-clause-err : goal.returns-in_err-map_of-in-Map-clause-err
@@ -72,5 +73,16 @@ returns-in_err-map_of-in-Map-clause-err g c =
     let refused = rw c.deref-in-Map.ensures.value at c.in_err-map_of-in-Map.ensures.err in
     rw (p.1, p.2)
     (not_answered _ _ c.args.command script c.in_ok-script.ensures.read (Map c.in-Map.after) c.in-Map.is _ _
-    (λ _. Mapped) (MapSays script c.in-Map.after) (λ done text says. says) (FileRefuses script c.in-Map.after)
+    (λ _. Listed) (MapSays script c.in-Map.after) (λ done text says. says) (FileRefuses script c.in-Map.after)
     (λ fault refuses. refuses) c.in_err-map_of-in-Map.field-0.0 refused)
+
+pub returns-in_err-entries_of-in-Entries-clause-err : goal.returns-in_err-entries_of-in-Entries-clause-err
+returns-in_err-entries_of-in-Entries-clause-err g c =
+    let p = err_from_is_err_and c.from_residual-in_err-entries_of-in-Entries.result
+    c.from_residual-in_err-entries_of-in-Entries.ensures.1 in
+    let script = c.in_ok-script.script.items in
+    let refused = rw c.deref-in-Entries.ensures.value at c.in_err-entries_of-in-Entries.ensures.err in
+    rw (p.1, p.2)
+    (not_answered _ _ c.args.command script c.in_ok-script.ensures.read (Entries c.in-Entries.after) c.in-Entries.is _ _
+    (λ _. Listed) (EntriesSay script c.in-Entries.after) (λ done text says. says) (FileRefuses script c.in-Entries.after)
+    (λ fault refuses. refuses) c.in_err-entries_of-in-Entries.field-0.0 refused)
