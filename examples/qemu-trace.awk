@@ -5,6 +5,9 @@
 # It takes the writes of hart 0, or of another by -v hart=1, and makes each write a publication. With -v bursts=1 a
 # publication has the writes on lines side by side, at most 64: any other line of the trace ends it.
 #
+# The script is of version 2, for a unit of 64 entries, where a value other than zero is written to a register of entries
+# 16 to 63; else it is of version 1, for one of 16 entries. With -v version=1 or -v version=2 it is of that one.
+#
 # It was made for QEMU 7.2, whose events have the form
 #
 #   pmpcfg_csr_write hart 0: write reg0, val: 0x18
@@ -18,15 +21,29 @@ function say(words) {
     print "qemu-trace: " words | "cat 1>&2"
 }
 
+# Nothing is printed before the end, since the first line needs the version.
+function add(line) {
+    script[++lines] = line
+}
+
 function publish() {
-    if (open) print "publish"
+    if (open) add("publish")
     open = 0
+}
+
+# Whether it is a register of entries 16 to 63.
+function is_high(name) {
+    if (name ~ /^pmpcfg/) return substr(name, 7) + 0 >= 4
+    return name ~ /^pmpaddr/ && substr(name, 8) + 0 >= 16
 }
 
 BEGIN {
     if (hart == "") hart = 0
-    print "pmp 1"
-    print "# from QEMU's trace of hart " hart ", a publication for each " (bursts ? "burst" : "write")
+    if (version "" !~ /^[12]?$/) {
+        say("version=" version " is no version of scripts, which are 1 and 2")
+        failed = 1
+        exit
+    }
     form = "hart [0-9]+: write (reg[0-9]+|addr[0-9]+|mseccfg), val: 0x[0-9a-f]+$"
 }
 
@@ -56,7 +73,8 @@ $0 !~ ("_csr_write " form) {
     sub(/,$/, "", name)
     sub(/^reg/, "pmpcfg", name)
     sub(/^addr/, "pmpaddr", name)
-    print "write " name " " $5
+    if (!high && is_high(name) && $5 !~ /^0x0+$/) high = $5 " is written to " name
+    add("write " name " " $5)
     writes++
     open++
     if (!bursts || open == 64) publish()
@@ -70,4 +88,8 @@ END {
         say("the trace has no write of hart " hart)
         exit 1
     }
+    print "pmp " (version ? version : high ? 2 : 1)
+    print "# from QEMU's trace of hart " hart ", a publication for each " (bursts ? "burst" : "write")
+    if (!version && high) print "# version 2, since " high
+    for (i = 1; i <= lines; i++) print script[i]
 }

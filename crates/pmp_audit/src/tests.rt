@@ -3,6 +3,7 @@
 mod firmware;
 mod maps;
 mod sharing;
+mod versions;
 
 use crate::access_check::check;
 use crate::fault::AuditFault;

@@ -1,6 +1,6 @@
 //! Scripts, register names and numbers.
 
-use pmp_core::{Csr, Event};
+use pmp_core::{Csr, Event, Size};
 use pmp_text::{ScriptFault, ScriptKind, read_script, read_word_number};
 use std::alloc::{AllocError, Global};
 use std::test::*;
@@ -91,9 +91,15 @@ fn lines_and_words(rt: HostRuntime) {
             refused(ScriptKind::BadVersion, 1),
         ),
         (
-            b"\n\npmp 2\n".as_slice(),
+            b"\n\npmp 3\n".as_slice(),
             refused(ScriptKind::BadVersion, 3),
         ),
+        (b"pmp 2\npublish\n".as_slice(), Ok(1)),
+        (b"pmp 2 \r\n".as_slice(), Ok(0)),
+        (b"pmp 1 2\n".as_slice(), refused(ScriptKind::BadVersion, 1)),
+        (b"pmp 02\n".as_slice(), refused(ScriptKind::BadVersion, 1)),
+        (b"pmp 12\n".as_slice(), refused(ScriptKind::BadVersion, 1)),
+        (b"PMP 2\n".as_slice(), refused(ScriptKind::BadVersion, 1)),
         (b"pmp 1 1\n".as_slice(), refused(ScriptKind::BadVersion, 1)),
         (b"# first\n \t\n  pmp\t1  \npublish".as_slice(), Ok(1)),
         (b"pmp 1\r\npublish\r\n".as_slice(), Ok(1)),
@@ -141,6 +147,30 @@ fn lines_and_words(rt: HostRuntime) {
     for (text, expected) in texts {
         assert_eq!(rt; outcome(alloc, text), expected, "of {:?}", text);
     }
+}
+
+#[test]
+fn versions_say_how_many_entries_there_are(rt: HostRuntime) -> Result<(), Fail> {
+    for (text, size) in [
+        (b"pmp 1\n".as_slice(), Size::Sixteen),
+        (b"# pmp 1\n\n pmp\t2".as_slice(), Size::SixtyFour),
+        (
+            b"pmp 1\nwrite pmpaddr63 7\npublish\n".as_slice(),
+            Size::Sixteen,
+        ),
+        (
+            b"pmp 2\nwrite pmpaddr0 7\npublish\n".as_slice(),
+            Size::SixtyFour,
+        ),
+    ] {
+        assert_eq!(rt;
+            read_script(rt.alloc(), text)?.size(),
+            size,
+            "of {:?}",
+            text
+        );
+    }
+    Ok(())
 }
 
 /// The register that a script's second line writes by this name, or what is wrong with the name.

@@ -19,7 +19,8 @@ pub const ENTRIES: &str =
     "Writes what each entry is and how it is locked, after publications of a script";
 
 pub const SCRIPT: &str =
-    "The path of a script of at most 1048576 bytes, or stdin for standard input";
+    "The path of a script of at most 1048576 bytes, or stdin for standard input; it begins with pmp 1 for a unit of \
+    16 entries, with pmp 2 for one of 64";
 
 pub const TRACE: &str = "The path of a trace of at most 16777216 bytes";
 

@@ -95,29 +95,60 @@ fn nobody_executes_a_shared_page_under_lockdown(rt: HostRuntime) -> Result<(), F
     )
 }
 
-/// Sixteen words with a word between each, the most runs that there are.
-#[test]
-fn a_comb_has_thirty_three_runs(rt: HostRuntime) -> Result<(), Fail> {
-    let alloc = rt.alloc();
-    let mut script = String::new(alloc);
-    script.push_str("pmp 1\n")?;
-    for entry in 0..16u64 {
-        let address = 2 * entry + 1;
-        let write = format!(in alloc; "write pmpaddr{entry} {address}\n")?;
+/// Gives each entry a word, with a word between each.
+fn push_words(script: &mut String, entries: u8) -> Result<(), AllocError> {
+    for entry in 0..entries {
+        let address = 2 * u64::from(entry) + 1;
+        let write = format!(in *script.allocator(); "write pmpaddr{entry} {address}\n")?;
         script.push_str(write.as_str())?;
     }
-    script.push_str(
-        "write pmpcfg0 0x1111111111111111\nwrite pmpcfg2 0x1111111111111111\npublish\n",
-    )?;
+    script.push_str("publish\n")
+}
+
+/// Lets the other modes read four bytes by each entry.
+fn push_configurations(script: &mut String, entries: u8) -> Result<(), AllocError> {
+    for register in 0..entries / 8 {
+        let register = 2 * u64::from(register);
+        let write = format!(in *script.allocator(); "write pmpcfg{register} 0x1111111111111111\n")?;
+        script.push_str(write.as_str())?;
+    }
+    script.push_str("publish\n")
+}
+
+/// Asserts how many runs a comb of all entries has, the most that there are, and which are the last.
+fn assert_comb<R: Abort + AllocGlobal>(
+    rt: &R,
+    version: &str,
+    entries: u8,
+    runs: u64,
+    ends: &str,
+) -> Result<(), Fail> {
+    let alloc = rt.alloc();
+    let mut script = version.to_string(alloc)?;
+    push_words(&mut script, entries)?;
+    push_configurations(&mut script, entries)?;
     let mut map = Vec::new(alloc);
     let answer = map_of(alloc, script.as_bytes(), None, &mut map);
     assert_eq!(rt; answer, Ok(()));
-    assert_eq!(rt; map.iter().filter(|byte| **byte == b'\n').count(), 33);
+    let count = map.iter().filter(|byte| **byte == b'\n').count();
+    assert_eq!(rt; count as u64, runs);
     let begins =
         b"00000000000000,00000000000003,-,rwx,---\n00000000000004,00000000000007,0,rwx,r--\n";
     assert!(rt; map.starts_with(begins.as_slice()));
-    let ends =
-        b"0000000000007c,0000000000007f,15,rwx,r--\n00000000000080,ffffffffffffff,-,rwx,---\n";
-    assert!(rt; map.ends_with(ends.as_slice()));
+    assert!(rt; map.ends_with(ends.as_bytes()));
     Ok(())
+}
+
+#[test]
+fn a_comb_has_thirty_three_runs(rt: HostRuntime) -> Result<(), Fail> {
+    let ends =
+        "0000000000007c,0000000000007f,15,rwx,r--\n00000000000080,ffffffffffffff,-,rwx,---\n";
+    assert_comb(&rt, "pmp 1\n", 16, 33, ends)
+}
+
+#[test]
+fn a_long_comb_has_a_hundred_and_twenty_nine_runs(rt: HostRuntime) -> Result<(), Fail> {
+    let ends =
+        "000000000001fc,000000000001ff,63,rwx,r--\n00000000000200,ffffffffffffff,-,rwx,---\n";
+    assert_comb(&rt, "pmp 2\n", 64, 129, ends)
 }

@@ -6,6 +6,7 @@ mod dumps;
 mod errors;
 mod maps;
 mod refusals;
+mod versions;
 mod words;
 
 use super::*;

@@ -71,7 +71,7 @@ fn a_fault_of_the_script_comes_before_any_of_the_trace(rt: HostRuntime) -> Resul
             "script line 2: refused 16 Unpublished",
         ),
         (
-            "pmp 2\n",
+            "pmp 3\n",
             "after,mode,kind,start,length\n9,U,load,0x0,4\n",
             "script line 1: refused 10 BadVersion",
         ),
@@ -111,6 +111,24 @@ fn both_inputs_are_read_before_either_is_judged(rt: HostRuntime) -> Result<(), F
 const TRACE: &str = "after,mode,kind,start,length\n0,U,load,0x80000000,4\n1,U,load,0x80000000,4\n\
     1,U,store,0x80000000,4\n2,U,load,0x80000000,4\n";
 
+/// Asserts that these words write the report of the trace behind this script.
+fn assert_same_report<R: Abort + AllocGlobal + Threads + Wait + Sync>(
+    rt: &R,
+    script: &str,
+    words: &str,
+) -> Result<(), Fail> {
+    let inputs = Table {
+        alloc: rt.alloc(),
+        script: script.as_bytes(),
+        trace: TRACE.as_bytes(),
+    };
+    let answer = run_on(rt, inputs, words)?;
+    assert_eq!(rt; answer.out.as_slice(), REPORT.as_bytes(), "{words}");
+    assert!(rt; answer.err.is_empty(), "{words}");
+    assert_eq!(rt; answer.status, 1, "{words}");
+    Ok(())
+}
+
 #[test]
 fn checkers_on_threads_write_the_same_bytes(rt: HostRuntime) -> Result<(), Fail> {
     for words in [
@@ -118,15 +136,18 @@ fn checkers_on_threads_write_the_same_bytes(rt: HostRuntime) -> Result<(), Fail>
         "audit table trace --checkers 2",
         "audit --checkers=8 table trace",
     ] {
-        let inputs = Table {
-            alloc: rt.alloc(),
-            script: SCRIPT.as_bytes(),
-            trace: TRACE.as_bytes(),
-        };
-        let answer = run_on(&rt, inputs, words)?;
-        assert_eq!(rt; answer.out.as_slice(), REPORT.as_bytes(), "{words}");
-        assert!(rt; answer.err.is_empty(), "{words}");
-        assert_eq!(rt; answer.status, 1, "{words}");
+        assert_same_report(&rt, SCRIPT, words)?;
+    }
+    Ok(())
+}
+
+/// The script writes the registers of two entries alone.
+#[test]
+fn version_2_has_the_report_of_version_1(rt: HostRuntime) -> Result<(), Fail> {
+    let rest = SCRIPT.strip_prefix("pmp 1").unwrap_or("");
+    let script = format!(in rt.alloc(); "pmp 2{rest}")?;
+    for words in ["audit table trace", "audit table trace --checkers 2"] {
+        assert_same_report(&rt, script.as_str(), words)?;
     }
     Ok(())
 }

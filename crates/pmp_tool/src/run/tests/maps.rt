@@ -64,24 +64,39 @@ fn maps_are_refused(rt: HostRuntime) -> Result<(), Fail> {
     assert_refused(&rt, page, "map nothing", "pmp: refused 41 Input", 3)
 }
 
-/// Sixteen words with a word between each.
-fn comb(alloc: Global) -> Result<String, AllocError> {
-    let mut script = String::new(alloc);
-    script.push_str("pmp 1\n")?;
-    for entry in 0..16u64 {
-        let address = 2 * entry + 1;
-        let write = format!(in alloc; "write pmpaddr{entry} {address}\n")?;
+/// Gives each entry a word, with a word between each.
+fn push_words(script: &mut String, entries: u8) -> Result<(), AllocError> {
+    for entry in 0..entries {
+        let address = 2 * u64::from(entry) + 1;
+        let write = format!(in *script.allocator(); "write pmpaddr{entry} {address}\n")?;
         script.push_str(write.as_str())?;
     }
-    script.push_str(
-        "write pmpcfg0 0x1111111111111111\nwrite pmpcfg2 0x1111111111111111\npublish\n",
-    )?;
+    Ok(())
+}
+
+/// Lets the other modes read four bytes by each entry.
+fn push_configurations(script: &mut String, entries: u8) -> Result<(), AllocError> {
+    for register in 0..entries / 8 {
+        let register = 2 * u64::from(register);
+        let write = format!(in *script.allocator(); "write pmpcfg{register} 0x1111111111111111\n")?;
+        script.push_str(write.as_str())?;
+    }
+    Ok(())
+}
+
+/// A comb of all entries, with these lines before the configurations.
+fn comb(alloc: Global, version: &str, entries: u8, between: &str) -> Result<String, AllocError> {
+    let mut script = version.to_string(alloc)?;
+    push_words(&mut script, entries)?;
+    script.push_str(between)?;
+    push_configurations(&mut script, entries)?;
+    script.push_str("publish\n")?;
     Ok(script)
 }
 
 #[test]
 fn accesses_across_a_comb(rt: HostRuntime) -> Result<(), Fail> {
-    let script = comb(rt.alloc())?;
+    let script = comb(rt.alloc(), "pmp 1\n", 16, "")?;
     for (words, row, status) in [
         ("check table U load 0x7c 4", "1,allow,,rule,15\n", 0),
         ("check table U load 0x78 8", "1,fault,5,split,15\n", 1),
@@ -92,4 +107,29 @@ fn accesses_across_a_comb(rt: HostRuntime) -> Result<(), Fail> {
         assert_eq!(rt; answer.status, status, "{words}");
     }
     Ok(())
+}
+
+#[test]
+fn a_comb_of_sixty_four_entries(rt: HostRuntime) -> Result<(), Fail> {
+    let script = comb(rt.alloc(), "pmp 2\n", 64, "publish\n")?;
+    let answer = run(&rt, script.as_bytes(), "map table")?;
+    let runs = answer.out.iter().filter(|byte| **byte == b'\n').count();
+    assert_eq!(rt; runs, 129);
+    let begins =
+        b"00000000000000,00000000000003,-,rwx,---\n00000000000004,00000000000007,0,rwx,r--\n";
+    assert!(rt; answer.out.starts_with(begins.as_slice()));
+    let ends =
+        b"000000000001fc,000000000001ff,63,rwx,r--\n00000000000200,ffffffffffffff,-,rwx,---\n";
+    assert!(rt; answer.out.ends_with(ends.as_slice()));
+    let answer = run(&rt, script.as_bytes(), "check table U load 0x1f8 8")?;
+    assert_eq!(rt; answer.out.as_slice(), b"1,fault,5,split,63\n".as_slice());
+    Ok(())
+}
+
+/// A publication has at most 64 events, also where there are 64 entries.
+#[test]
+fn a_comb_in_one_publication(rt: HostRuntime) -> Result<(), Fail> {
+    let script = comb(rt.alloc(), "pmp 2\n", 64, "")?;
+    let line = "pmp: script line 66: refused 15 BatchFull";
+    assert_refused(&rt, script.as_bytes(), "map table", line, 2)
 }

@@ -52,7 +52,10 @@ fn of_scripts(rt: HostRuntime) -> Result<(), Fail> {
     let overfull = overfull(rt.alloc())?;
     for (script, line) in [
         ("", "script line 1: refused 10 BadVersion"),
-        ("pmp 2\n", "script line 1: refused 10 BadVersion"),
+        ("pmp 3\n", "script line 1: refused 10 BadVersion"),
+        ("pmp 2 64\n", "script line 1: refused 10 BadVersion"),
+        ("\npmp 02\n", "script line 2: refused 10 BadVersion"),
+        ("pmp 2\nstop\n", "script line 2: refused 11 BadLine"),
         ("pmp 1\nstop\n", "script line 2: refused 11 BadLine"),
         (
             "pmp 1\nwrite pmpaddr64 0\n",
@@ -60,6 +63,14 @@ fn of_scripts(rt: HostRuntime) -> Result<(), Fail> {
         ),
         (
             "pmp 1\nwrite pmpcfg1 0\n",
+            "script line 2: refused 13 OddCfg",
+        ),
+        (
+            "pmp 2\nwrite pmpaddr64 0\n",
+            "script line 2: refused 12 BadName",
+        ),
+        (
+            "pmp 2\nwrite pmpcfg15 0\n",
             "script line 2: refused 13 OddCfg",
         ),
         (

@@ -19,6 +19,8 @@ fn help_tells_what_a_user_needs(rt: HostRuntime) -> Result<(), Fail> {
         "<SCRIPT> <MODE> <KIND> <START> <LENGTH>",
         "stdin",
         "1048576 bytes",
+        "pmp 1 for a unit of 16 entries",
+        "pmp 2 for one of 64",
         "M, S or U",
         "fetch, load or store",
         "1 to 4096",
