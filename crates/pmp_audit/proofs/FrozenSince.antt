@@ -1,9 +1,11 @@
 -- Since when an entry is frozen, batch by batch.
-use Rattle.std.proofs.Common.{◌≡◌, ℕ, ◌+◌, ◌<◌, ◌≤◌, Bool, true, false, ◌&&◌, List, [], ◌∷◌, ◌++◌, length}
-use Rattle.std.proofs.Common.{fold, take, drop, Option, None, Some, get_or, replicate, refl, sym, ap, subst, ◌∙◌, inl, inr, arith}
+use Rattle.std.proofs.Common.{◌≡◌, ℕ, ◌+◌, ◌-◌, ◌<◌, ◌≤◌, Bool, true, false, ◌&&◌, List, [], ◌∷◌, ◌++◌, length}
+use Rattle.std.proofs.Common.{fold, take, drop, Option, None, Some, get_or, replicate, refl, sym, ap, subst, ◌∙◌}
+use Rattle.std.proofs.Common.{inl, inr, arith}
 use Rattle.std.specs.List.{list_all}
 use Rattle.std.proofs.lemmas.Bool.{and_parts, cases_lt, false≢true}
-use Rattle.std.proofs.lemmas.List.{take-append-le, drop-append-le, take-append-drop, take_all, drop_all}
+use Rattle.std.proofs.lemmas.List.{take-append-le, drop-append-le, take-append-drop, take-take, drop-take}
+use Rattle.std.proofs.lemmas.List.{take_all, drop_all}
 use Rattle.std.proofs.lemmas.List.{append-nil, length-append, length-take-le, take_more, get_or-replicate, get_or_past}
 use Rattle.std.proofs.lemmas.List.{length-replicate}
 use Rattle.std.proofs.lemmas.List.Concat.{flat_map-append}
@@ -12,10 +14,11 @@ use Rattle.pmp_core.specs.declared.event.Event.{Event}
 use Rattle.pmp_core.specs.RegisterFile.{RegisterFile, reset_entry, reset_file, is_frozen}
 use Rattle.pmp_core.specs.RegisterWrite.{step}
 use Rattle.pmp_core.specs.Histories.{joined, file_after}
-use Rattle.pmp_core.specs.LockLaw.{is_write}
+use Rattle.pmp_core.specs.LockLaw.{is_write, StaysLocked}
 use Rattle.pmp_core.proofs.Locks.{lock_law}
 use Rattle.pmp_core.proofs.Legal.{length-step, reset_at}
-use Rattle.pmp_audit.specs.Since.{IsFrozenFrom, IsSince, since_after}
+use Rattle.pmp_audit.specs.Since.{IsFrozenFrom, IsSince, SinceLaw}
+use Rattle.pmp_audit.specs.SinceStep.{since_after}
 
 -- ---- batches
 
@@ -34,12 +37,40 @@ file_split n k batches =
     ∙ ap (fold step (reset_file n)) (joined-append (take k batches) (drop k batches))
     ∙ fold-append (reset_file n) (joined (take k batches)) (joined (drop k batches))
 
--- an entry that is frozen from some number of batches on is frozen after all
-frozen_still : (n : ℕ) (batches : List (List Event)) (i k : ℕ) → IsFrozenFrom n batches i k
-    → is_frozen (file_after n batches) i ≡ true
-frozen_still n batches i k from =
-    ap (λ file. is_frozen file i) (file_split n k batches)
-    ∙ (lock_law (file_after n (take k batches)) i (joined (drop k batches)) from.frozen from.writes).frozen
+-- so many batches, counted from the first k on
+file_from : (n k done : ℕ) (batches : List (List Event)) → k ≤ done
+    → file_after n (take done batches) ≡ fold step (file_after n (take k batches)) (joined (drop k (take done batches)))
+file_from n k done batches within =
+    file_split n k (take done batches)
+    ∙ ap (λ front. fold step (file_after n front) (joined (drop k (take done batches))))
+    (take-take k done batches within)
+
+-- a beginning of batches that hold no reset holds none
+writes_in_front : (batches : List (List Event)) (count : ℕ) → list_all is_write (joined batches) ≡ true
+    → list_all is_write (joined (take count batches)) ≡ true
+writes_in_front batches count writes =
+    let front = joined (take count batches) in
+    let rest = joined (drop count batches) in
+    let parts : joined batches ≡ front ++ rest = ap joined (sym (take-append-drop count batches))
+    ∙ joined-append (take count batches) (drop count batches) in
+    (and_parts _ _ (sym (list_all-append is_write front rest) ∙ ap (list_all is_write) (sym parts) ∙ writes)).0
+
+module _ (n : ℕ) (batches : List (List Event)) (i k : ℕ) (from : IsFrozenFrom n batches i k) where
+  stays_locked : (done : ℕ) → k ≤ done
+      → StaysLocked (file_after n (take k batches)) (file_after n (take done batches)) i
+  stays_locked done within =
+      let taken : drop k (take done batches) ≡ take (done - k) (drop k batches) =
+      ap (λ (m : ℕ). drop k (take m batches)) (omega arith) ∙ drop-take k (done - k) batches in
+      let writes : list_all is_write (joined (drop k (take done batches))) ≡ true =
+      rw taken (writes_in_front (drop k batches) (done - k) from.writes) in
+      subst (λ file. StaysLocked (file_after n (take k batches)) file i) (sym (file_from n k done batches within))
+      (lock_law (file_after n (take k batches)) i (joined (drop k (take done batches))) from.frozen writes)
+
+  -- it is frozen after all batches
+  frozen_still : is_frozen (file_after n batches) i ≡ true
+  frozen_still =
+      ap (λ file. is_frozen file i) (file_split n k batches)
+      ∙ (lock_law (file_after n (take k batches)) i (joined (drop k batches)) from.frozen from.writes).frozen
 
 -- the number of all batches is such a number where the entry is frozen in the end
 frozen_by_all : (n : ℕ) (batches : List (List Event)) (i k : ℕ) → length batches ≤ k
@@ -59,6 +90,16 @@ least_within n batches i k least =
           absurd (least.1 last beyond (frozen_by_all n batches i last (omega arith) still))
       | inr within ↦ within
     ]
+
+thawed : (n : ℕ) (batches : List (List Event)) (i : ℕ) (frozen : Bool) → is_frozen (file_after n batches) i ≡ frozen
+    → IsSince n batches i None → is_frozen (file_after n batches) i ≡ false
+thawed n batches i true frozen never =
+    absurd (never (length batches) (frozen_by_all n batches i (length batches) (omega arith) frozen))
+thawed n batches i false frozen never = frozen
+
+pub since_law : SinceLaw
+since_law n batches i None never = thawed n batches i (is_frozen (file_after n batches) i) refl never
+since_law n batches i (Some k) since = stays_locked n batches i k since.0
 
 -- ---- one batch more
 

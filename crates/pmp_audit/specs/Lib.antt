@@ -12,5 +12,6 @@ pub mod Fault
 -- The rest, which only private contracts cite.
 pub mod Replay
 pub mod Report
+pub mod SinceStep
 pub mod Working
 pub mod Rounds

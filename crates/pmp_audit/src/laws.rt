@@ -1,5 +1,6 @@
 //! Laws of the definitions, each the contract of a function that changes nothing.
 
+ghost use Rattle.pmp_audit.specs.Since.{SinceLaw};
 ghost use Rattle.pmp_audit.specs.TraceAudit.{OneListOfDecisionsLaw, OneReportLaw};
 
 use pmp_core::laws::law_one_decision;
@@ -17,3 +18,9 @@ pub fn law_one_report()
 {
     law_one_list_of_decisions();
 }
+
+/// Where an entry is frozen, it has been so, with its configuration and its bytes, ever since the publication that an
+/// entry list names.
+pub fn law_since()
+    ensures { SinceLaw }
+{}

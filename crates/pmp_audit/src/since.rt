@@ -5,7 +5,8 @@ ghost use Rattle.std.specs.List.{list_all, slice_index_or};
 ghost use Rattle.pmp_core.specs.LockLaw.{is_write};
 ghost use Rattle.pmp_core.specs.RegisterFile.{is_frozen};
 ghost use Rattle.pmp_core.specs.Size.{count_of};
-ghost use Rattle.pmp_audit.specs.Since.{AreSince, since_after};
+ghost use Rattle.pmp_audit.specs.Since.{AreSince};
+ghost use Rattle.pmp_audit.specs.SinceStep.{since_after};
 
 use crate::replay::Replay;
 use pmp_core::{Event, MAX_ENTRIES, RegFile};

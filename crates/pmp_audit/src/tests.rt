@@ -1,5 +1,6 @@
 //! Answers written to vectors, and to outputs that fail.
 
+mod entries;
 mod firmware;
 mod maps;
 mod sharing;

@@ -1,7 +1,7 @@
 use Rattle.std.proofs.Common.{◌≡◌, ℕ, ◌<◌, ◌≤◌, None}
 use Rattle.std.specs.List.{slice_index_or}
 use Rattle.pmp_core.specs.RegisterFile.{is_frozen}
-use Rattle.pmp_audit.specs.Since.{since_after}
+use Rattle.pmp_audit.specs.SinceStep.{since_after}
 use Rattle.pmp_audit.proofs.since.count_in.Given as goal
 
 -- the entries below this one are counted in, and the others stand as they were

@@ -1,0 +1,5 @@
+use Rattle.pmp_audit.proofs.FrozenSince.{since_law}
+use Rattle.pmp_audit.proofs.laws.law_since.Goals as goal
+
+pub returns : goal.returns
+returns c = since_law
