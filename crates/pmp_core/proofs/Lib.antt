@@ -11,3 +11,7 @@ pub mod Sizes
 pub mod Changes
 pub mod Stored
 pub mod Spans
+pub mod StoredBytes
+pub mod Reasons
+pub mod WordReasons
+pub mod ReasonsLaw

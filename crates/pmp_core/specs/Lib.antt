@@ -12,6 +12,7 @@ pub mod Decision
 pub mod FaultCode
 pub mod RegisterWrite
 pub mod RegisterValue
+pub mod WriteReasons
 pub mod Histories
 pub mod Lock
 pub mod LockLaw

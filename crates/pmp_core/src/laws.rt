@@ -12,6 +12,7 @@ ghost use Rattle.pmp_core.specs.Histories.{LegalLaw};
 ghost use Rattle.pmp_core.specs.LockLaw.{LockLaw};
 ghost use Rattle.pmp_core.specs.SizeLaw.{SizeLaw};
 ghost use Rattle.pmp_core.specs.Span.{OneSpanLaw};
+ghost use Rattle.pmp_core.specs.WriteReasons.{WriteReasonsLaw};
 ghost use Rattle.pmp_core.specs.Ranges.{decision_of};
 
 /// What is computed from the entries' ranges is the manual's decision.
@@ -69,4 +70,10 @@ pub fn law_store_load()
 /// every access as a unit of sixteen does.
 pub fn law_sizes()
     ensures { SizeLaw }
+{}
+
+/// A write to a legal register file has no reason not to be stored as written exactly where the register then reads
+/// what was written. So the reasons are all that there are.
+pub fn law_write_reasons()
+    ensures { WriteReasonsLaw }
 {}

@@ -24,6 +24,7 @@ mod rights;
 mod size;
 mod span;
 mod storage;
+mod write_reasons;
 
 pub use access::{ADDRESS_LIMIT, Access, AccessFault, Kind, Mode};
 pub use configuration::AddressMatching;
@@ -37,3 +38,4 @@ pub use range::ByteRange;
 pub use register_file::{ENTRIES, RegFile};
 pub use size::{MAX_ENTRIES, Size};
 pub use span::Span;
+pub use write_reasons::WriteReason;

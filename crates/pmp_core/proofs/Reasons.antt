@@ -1,0 +1,88 @@
+-- The reasons for a write, one by one.
+use Rattle.std.proofs.Common.{◌≡◌, ℕ, zero, suc, ◌+◌, ◌-◌, ◌<◌, ◌≤◌, Bool, true, false, cond, List, [], ◌∷◌, length, get_or}
+use Rattle.std.proofs.Common.{refl, sym, ◌∙◌, arith}
+use Rattle.std.specs.List.{range_with_len, list_any, filter}
+use Rattle.std.proofs.lemmas.Bool.{false≢true, false_from_ne_true, or_from}
+use Rattle.std.proofs.lemmas.List.Folds.{list_any_at}
+use Rattle.std.proofs.lemmas.List.FromFn.{length-range_with_len, get_or-range_with_len}
+use Rattle.pmp_core.specs.declared.csr.Csr.{Csr}
+use Rattle.pmp_core.specs.declared.write_reasons.WriteReason.{WriteReason}
+use Rattle.pmp_core.specs.declared.write_reasons.WriteReason.TheVariants.{Absent, Bits, Locked, Tor, Reserved, Lockdown}
+use Rattle.pmp_core.specs.declared.write_reasons.WriteReason.TheVariants.{Sticky, Bypass}
+use Rattle.pmp_core.specs.RegisterFile.{RegisterFile}
+use Rattle.pmp_core.specs.WriteReasons.{turns_away, all_reasons, write_reasons}
+
+-- ---- lists
+
+filter_none : {X : Type 0} (p : X → Bool) (xs : List X) (i : ℕ) (d : X) → filter p xs ≡ [] → i < length xs
+    → p (get_or xs i d) ≡ false
+filter_none p [] i d none near = absurd (omega arith)
+filter_none p (x ∷ xs) zero d none near =
+    elim (p x) as (λ b. cond b (x ∷ filter p xs) (filter p xs) ≡ [] → b ≡ false) [
+      | true ↦ λ e. absurd cc
+      | false ↦ λ e. refl
+    ] none
+filter_none p (x ∷ xs) (suc i) d none near =
+    elim (p x) as (λ b. cond b (x ∷ filter p xs) (filter p xs) ≡ [] → p (get_or xs i d) ≡ false) [
+      | true ↦ λ e. absurd cc
+      | false ↦ λ e. filter_none p xs i d e (omega arith)
+    ] none
+
+pub none_between : (p : ℕ → Bool) (a n : ℕ) → ((i : ℕ) → a ≤ i → i < a + n → p i ≡ false)
+    → list_any p (range_with_len a n) ≡ false
+none_between p a zero h = refl
+none_between p a (suc n) h =
+    or_from (p a) _ (h a (omega arith) (omega arith))
+    (none_between p (a + 1) n (λ i low high. h i (omega arith) (omega arith)))
+
+pub none_at : (p : ℕ → Bool) (a n i : ℕ) → list_any p (range_with_len a n) ≡ false → a ≤ i → i < a + n → p i ≡ false
+none_at p a n i none low high =
+    let place : get_or (range_with_len a n) (i - a) 0 ≡ i =
+    get_or-range_with_len a n (i - a) 0 (omega arith) ∙ omega arith in
+    false_from_ne_true (p i) (λ t. false≢true (sym none
+    ∙ list_any_at p (range_with_len a n) (i - a) 0 (omega (arith, length-range_with_len a n)) (rw place t)))
+
+pub none_in : (p : ℕ → Bool) (xs : List ℕ) → ((i : ℕ) → i < length xs → p (get_or xs i 0) ≡ false) → list_any p xs ≡ false
+none_in p [] h = refl
+none_in p (x ∷ xs) h = or_from (p x) _ (h 0 (omega arith)) (none_in p xs (λ i near. h (suc i) (omega arith)))
+
+pub none_of : (p : ℕ → Bool) (xs : List ℕ) (i : ℕ) → list_any p xs ≡ false → i < length xs → p (get_or xs i 0) ≡ false
+none_of p xs i none near =
+    false_from_ne_true (p (get_or xs i 0)) (λ t. false≢true (sym none ∙ list_any_at p xs i 0 near t))
+
+-- ---- the reasons one by one
+
+pub record HasNone (file : RegisterFile) (csr : Csr) (value : ℕ) : Type 0 where
+  pub absent : turns_away Absent file csr value ≡ false
+  pub bits : turns_away Bits file csr value ≡ false
+  pub locked : turns_away Locked file csr value ≡ false
+  pub tor : turns_away Tor file csr value ≡ false
+  pub reserved : turns_away Reserved file csr value ≡ false
+  pub lockdown : turns_away Lockdown file csr value ≡ false
+  pub sticky : turns_away Sticky file csr value ≡ false
+  pub bypass : turns_away Bypass file csr value ≡ false
+
+none_all : (p : WriteReason → Bool) → p Absent ≡ false → p Bits ≡ false → p Locked ≡ false → p Tor ≡ false
+    → p Reserved ≡ false → p Lockdown ≡ false → p Sticky ≡ false → p Bypass ≡ false → filter p all_reasons ≡ []
+none_all p a b c d e f g h = rw (a, b, c, d, e, f, g, h) refl
+
+pub has_none : (file : RegisterFile) (csr : Csr) (value : ℕ) → write_reasons file csr value ≡ []
+    → HasNone file csr value
+has_none file csr value none =
+    let each : (i : ℕ) → i < 8 → turns_away (get_or all_reasons i Absent) file csr value ≡ false =
+    λ i near. filter_none (λ reason. turns_away reason file csr value) all_reasons i Absent none near in
+    record {
+      absent = each 0 (omega arith);
+      bits = each 1 (omega arith);
+      locked = each 2 (omega arith);
+      tor = each 3 (omega arith);
+      reserved = each 4 (omega arith);
+      lockdown = each 5 (omega arith);
+      sticky = each 6 (omega arith);
+      bypass = each 7 (omega arith);
+    }
+
+pub no_reasons : (file : RegisterFile) (csr : Csr) (value : ℕ) → HasNone file csr value → write_reasons file csr value ≡ []
+no_reasons file csr value h =
+    none_all (λ reason. turns_away reason file csr value) h.absent h.bits h.locked h.tor h.reserved h.lockdown h.sticky
+    h.bypass
