@@ -43,7 +43,7 @@ module _ (file : RegisterFile) (legal : IsLegal file) (i value : ℕ) where
       → (entry_at (written file (Addr i) value).entries i).address ≡ value % 2 ^ 54
   reads_value free inside = rw free (rw get_or-set_same refl)
 
-  changed_here : is_changed file (Addr i) value i ≡ not (value == address)
+  changed_here : is_changed file.entries (Addr i) value i ≡ not (value == address)
   changed_here = ap (λ (b : Bool). b && not (value == address)) (eq-eqb i i refl)
 
   is_same : not (value == address) ≡ false → address ≡ value
@@ -93,7 +93,7 @@ module _ (file : RegisterFile) (legal : IsLegal file) (i value : ℕ) where
     ]
 
     -- where the address is frozen, no entry's is another
-    unchanged_at : (k : ℕ) → is_address_frozen file i ≡ true → is_changed file (Addr i) value k ≡ false
+    unchanged_at : (k : ℕ) → is_address_frozen file i ≡ true → is_changed file.entries (Addr i) value k ≡ false
     unchanged_at k frozen = elim (cases_eq i k) [
       | inl here ↦ rw (← here) (changed_here ∙ not_same value address (sym same ∙ reads_frozen frozen))
       | inr other ↦ rw (ne_eqb i k other) refl

@@ -2,8 +2,9 @@
 use Rattle.std.proofs.Common.{◌≡◌, ℕ, zero, suc, ◌+◌, ◌-◌, ◌*◌, ◌%◌, ◌^◌, ◌<◌, ◌≤◌, Bool, true, false, not, ◌&&◌, ◌==◌, nat_le, nat_lt}
 use Rattle.std.proofs.Common.{length, map, get_or, refl, sym, ap, ◌∙◌, inl, inr, arith}
 use Rattle.std.specs.Int.{w64, byte_at, bytes_low_first, to_le_bytes, from_le_bytes}
-use Rattle.std.specs.List.{range_with_len}
+use Rattle.std.specs.List.{range_with_len, list_any}
 use Rattle.std.proofs.lemmas.Bool.{cases_lt, cases_eq, cases_Bool, false≢true, not-false, and_left, and_right, and_parts, eqb-true, eq-eqb, ne_eqb, leb-true, ltb-true, lt-ltb, le-ltb}
+use Rattle.std.proofs.lemmas.Bool.{and_from, not_from_true, not_from_false, true_from_ne_false}
 use Rattle.std.proofs.lemmas.Bool.Decides.{nat_tests}
 use Rattle.std.proofs.lemmas.List.{get_or_past}
 use Rattle.std.proofs.lemmas.List.FromFn.{fill_by_all, get_or-map-range_with_len}
@@ -19,7 +20,7 @@ use Rattle.pmp_core.specs.RegisterWrite.{holds_byte_of, written}
 use Rattle.pmp_core.specs.WriteReasons.{byte_for, is_locked, adds_reserved, adds_barred, turns_entry_away_by}
 use Rattle.pmp_core.proofs.Legal.{configured_place, length-written}
 use Rattle.pmp_core.proofs.Reasons.{none_between, none_at, none_in, none_of, HasNone}
-use Rattle.pmp_core.proofs.StoredBytes.{is_plain, byte_plain, IsTaken, left_of, taken, stored_as_taken}
+use Rattle.pmp_core.proofs.StoredBytes.{not_same, is_plain, byte_plain, IsTaken, left_of, taken, stored_as_taken}
 
 -- ---- words of bytes
 
@@ -223,3 +224,51 @@ module _ (file : RegisterFile) (q value : ℕ) where
       sticky = refl;
       bypass = refl;
     }
+
+-- ---- where each register is there as a whole
+
+module _ (n q value : ℕ) (whole : n % 8 ≡ 0) where
+  abbrev is_there : Bool
+  is_there = q % 2 == 0 && nat_lt (4 * q) n
+
+  abbrev is_absent_byte : ℕ → Bool
+  is_absent_byte i = not (byte_for q value i == 0) && not (holds_byte_of q i && nat_lt i n)
+
+  there : is_there ≡ true → (i : ℕ) → 4 * q ≤ i → i < 4 * q + 8 → is_absent_byte i ≡ false
+  there h i low high =
+      let even : q % 2 ≡ 0 = eqb-true (q % 2) 0 (and_parts (q % 2 == 0) (nat_lt (4 * q) n) h).0 in
+      let below : 4 * q < n = ltb-true (4 * q) n (and_parts (q % 2 == 0) (nat_lt (4 * q) n) h).1 in
+      let inside : i < n = omega arith in
+      let holds : holds_byte_of q i ≡ true = grind (arith, nat_tests) in
+      rw (holds, lt-ltb i n inside) (and_right (not (byte_for q value i == 0)) false refl)
+
+  not_there : is_there ≡ false → (i : ℕ) → 4 * q ≤ i → i < 4 * q + 8 → (holds_byte_of q i && nat_lt i n) ≡ false
+  not_there h i low high = grind (arith, nat_tests)
+
+  zero_byte : value ≡ 0 → (i : ℕ) → 4 * q ≤ i → i < 4 * q + 8 → is_absent_byte i ≡ false
+  zero_byte none i low high =
+      let empty : byte_for q value i ≡ 0 =
+      rw none (word_gives (λ j. 0) 0 (λ j near. omega arith) refl (i - 4 * q) (omega arith)) in
+      and_left (not (byte_for q value i == 0)) _ (not_same (byte_for q value i) 0 empty)
+
+  -- a value of bytes that aren't there is zero, if none of them is absent
+  no_byte : value < 2 ^ 64 → is_there ≡ false → list_any is_absent_byte (range_with_len (4 * q) 8) ≡ false → value ≡ 0
+  no_byte small h none = sym (word_from (λ j. 0) value small (λ j near.
+      let here = none_at is_absent_byte (4 * q) 8 (4 * q + j) none (omega arith) (omega arith) in
+      let nobody = not_there h (4 * q + j) (omega arith) (omega arith) in
+      let place : 4 * q + j - 4 * q ≡ j = omega arith in
+      rw place at (eqb-true _ 0 (not-false _ (and_true _ (rw nobody at here))))))
+
+  pub absent_word : value < 2 ^ 64
+      → list_any is_absent_byte (range_with_len (4 * q) 8) ≡ (not (value == 0) && not is_there)
+  absent_word small = elim (cases_Bool is_there) [
+    | inl h ↦ none_between is_absent_byte (4 * q) 8 (there h)
+        ∙ sym (and_right (not (value == 0)) (not is_there) (not_from_true is_there h))
+    | inr h ↦ elim (cases_eq value 0) [
+      | inl none ↦ none_between is_absent_byte (4 * q) 8 (zero_byte none)
+          ∙ sym (and_left (not (value == 0)) (not is_there) (not_same value 0 none))
+      | inr some ↦ true_from_ne_false _ (λ none. some (no_byte small h none))
+          ∙ sym (and_from (not (value == 0)) (not is_there) (not_from_false _ (ne_eqb value 0 some))
+          (not_from_false is_there h))
+    ]
+  ]

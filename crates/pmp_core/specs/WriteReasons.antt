@@ -5,6 +5,8 @@ use Rattle.std.specs.List.{range_with_len, list_any, filter}
 use Rattle.std.specs.Int.{w64, to_le_bytes}
 use Rattle.pmp_core.specs.declared.csr.Csr.{Csr}
 use Rattle.pmp_core.specs.declared.csr.Csr.TheVariants.{Cfg, Addr, Mseccfg}
+use Rattle.pmp_core.specs.declared.entry.Entry.{Entry}
+use Rattle.pmp_core.specs.declared.mseccfg.MseccfgFields.{MseccfgFields}
 use Rattle.pmp_core.specs.declared.write_reasons.WriteReason.{WriteReason}
 use Rattle.pmp_core.specs.declared.write_reasons.WriteReason.TheVariants.{Absent, Bits, Locked, Tor, Reserved, Lockdown}
 use Rattle.pmp_core.specs.declared.write_reasons.WriteReason.TheVariants.{Sticky, Bypass}
@@ -15,6 +17,9 @@ use Rattle.pmp_core.specs.RegisterValue.{register_value}
 use Rattle.pmp_core.specs.RegisterWrite.{holds_byte_of, is_address_frozen, is_any_locked, written}
 use Rattle.pmp_core.specs.Rights.{is_barred}
 
+abbrev pub all_reasons : List WriteReason
+all_reasons = Absent ∷ Bits ∷ Locked ∷ Tor ∷ Reserved ∷ Lockdown ∷ Sticky ∷ Bypass ∷ []
+
 -- ---- one entry
 
 -- the byte for entry i in a value of pmpcfg q (3.7.1)
@@ -22,21 +27,21 @@ abbrev pub byte_for : (q value i : ℕ) → ℕ
 byte_for q value i = slice_index (to_le_bytes w64 value) (i - 4 * q)
 
 -- the register has entry i's byte or address, and the value has another
-abbrev pub is_changed : RegisterFile → Csr → (value i : ℕ) → Bool
-is_changed file (Cfg q) value i =
-    holds_byte_of q i && not (byte_for q value i == byte_of (entry_at file.entries i).configuration)
-is_changed file (Addr k) value i = k == i && not (value == (entry_at file.entries i).address)
-is_changed file Mseccfg value i = false
+abbrev pub is_changed : List Entry → Csr → (value i : ℕ) → Bool
+is_changed entries (Cfg q) value i =
+    holds_byte_of q i && not (byte_for q value i == byte_of (entry_at entries i).configuration)
+is_changed entries (Addr k) value i = k == i && not (value == (entry_at entries i).address)
+is_changed entries Mseccfg value i = false
 
 -- a frozen entry is to change (3.7.1.2)
 abbrev pub is_locked : RegisterFile → Csr → (value i : ℕ) → Bool
-is_locked file csr value i = is_frozen file i && is_changed file csr value i
+is_locked file csr value i = is_frozen file i && is_changed file.entries csr value i
 
 -- the low end of a frozen entry's range is to change, and is of an entry that isn't frozen (3.7.1.2)
 abbrev pub is_low_end : RegisterFile → Csr → (value i : ℕ) → Bool
 is_low_end file (Cfg q) value i = false
 is_low_end file (Addr k) value i =
-    not (is_frozen file i) && is_address_frozen file i && is_changed file (Addr k) value i
+    not (is_frozen file i) && is_address_frozen file i && is_changed file.entries (Addr k) value i
 is_low_end file Mseccfg value i = false
 
 -- W without R is to be stored over an entry that isn't frozen, and MML is 0 (3.7.1)
@@ -70,9 +75,7 @@ turns_entry_away_by Bypass file csr value i = false
 
 -- entry i doesn't take what the value has for it
 abbrev pub turns_entry_away : RegisterFile → Csr → (value i : ℕ) → Bool
-turns_entry_away file csr value i =
-    is_locked file csr value i || is_low_end file csr value i || adds_reserved file csr value i
-    || adds_barred file csr value i
+turns_entry_away file csr value i = list_any (λ reason. turns_entry_away_by reason file csr value i) all_reasons
 
 -- the entries that don't
 abbrev pub entries_turned_away : RegisterFile → Csr → (value : ℕ) → List ℕ
@@ -81,27 +84,30 @@ entries_turned_away file csr value =
 
 -- ---- the whole register
 
--- the value isn't zero for an entry, or a register, that the unit doesn't have (3.7.1)
-abbrev pub is_absent : RegisterFile → Csr → (value : ℕ) → Bool
-is_absent file (Cfg q) value =
-    list_any (λ i. not (byte_for q value i == 0) && not (holds_byte_of q i && nat_lt i (length file.entries)))
-    (range_with_len (4 * q) 8)
-is_absent file (Addr i) value = not (value == 0) && not (nat_lt i (length file.entries))
-is_absent file Mseccfg value = false
+-- the value isn't zero for an entry, or a register, that a unit of n entries doesn't have (3.7.1)
+abbrev pub is_absent : (n : ℕ) → Csr → (value : ℕ) → Bool
+is_absent n (Cfg q) value =
+    list_any (λ i. not (byte_for q value i == 0) && not (holds_byte_of q i && nat_lt i n)) (range_with_len (4 * q) 8)
+is_absent n (Addr i) value = not (value == 0) && not (nat_lt i n)
+is_absent n Mseccfg value = false
+
+-- bit 6 or 5 (3.7.1)
+abbrev pub has_bit_6_or_5 : (byte : ℕ) → Bool
+has_bit_6_or_5 byte = not (byte / 32 % 4 == 0)
 
 -- bits 6 and 5 of a byte, 63 to 54 of an address, 63 to 3 of mseccfg (3.7.1 and Smepmp)
 abbrev pub has_other_bits : Csr → (value : ℕ) → Bool
-has_other_bits (Cfg q) value = list_any (λ byte. not (byte / 32 % 4 == 0)) (to_le_bytes w64 value)
+has_other_bits (Cfg q) value = list_any has_bit_6_or_5 (to_le_bytes w64 value)
 has_other_bits (Addr i) value = not (value / 2 ^ 54 == 0)
 has_other_bits Mseccfg value = not (value / 8 == 0)
 
 -- MML or MMWP is to be cleared (Smepmp)
-abbrev pub clears_sticky : RegisterFile → Csr → (value : ℕ) → Bool
-clears_sticky file (Cfg q) value = false
-clears_sticky file (Addr i) value = false
-clears_sticky file Mseccfg value =
+abbrev pub clears_sticky : MseccfgFields → Csr → (value : ℕ) → Bool
+clears_sticky mseccfg (Cfg q) value = false
+clears_sticky mseccfg (Addr i) value = false
+clears_sticky mseccfg Mseccfg value =
     let new = mseccfg_fields value in
-    (file.mseccfg.mml && not new.mml) || (file.mseccfg.mmwp && not new.mmwp)
+    (mseccfg.mml && not new.mml) || (mseccfg.mmwp && not new.mmwp)
 
 -- RLB is to be set, and some entry is locked (Smepmp)
 abbrev pub sets_bypass : RegisterFile → Csr → (value : ℕ) → Bool
@@ -117,17 +123,14 @@ turns_some_entry_away reason file csr value =
 
 -- whether it is a reason why the register doesn't read the value
 abbrev pub turns_away : WriteReason → RegisterFile → Csr → (value : ℕ) → Bool
-turns_away Absent file csr value = is_absent file csr value
+turns_away Absent file csr value = is_absent (length file.entries) csr value
 turns_away Bits file csr value = has_other_bits csr value
 turns_away Locked file csr value = turns_some_entry_away Locked file csr value
 turns_away Tor file csr value = turns_some_entry_away Tor file csr value
 turns_away Reserved file csr value = turns_some_entry_away Reserved file csr value
 turns_away Lockdown file csr value = turns_some_entry_away Lockdown file csr value
-turns_away Sticky file csr value = clears_sticky file csr value
+turns_away Sticky file csr value = clears_sticky file.mseccfg csr value
 turns_away Bypass file csr value = sets_bypass file csr value
-
-abbrev pub all_reasons : List WriteReason
-all_reasons = Absent ∷ Bits ∷ Locked ∷ Tor ∷ Reserved ∷ Lockdown ∷ Sticky ∷ Bypass ∷ []
 
 -- the reasons why the register doesn't read the value, in this order
 abbrev pub write_reasons : RegisterFile → Csr → (value : ℕ) → List WriteReason

@@ -70,7 +70,7 @@ impl MseccfgFields {
     }
 
     /// The bits of a value.
-    fn from_value(value: u64) -> MseccfgFields
+    pub fn from_value(value: u64) -> MseccfgFields
         ensures { result ≡ mseccfg_fields value }
     {
         let set = Mseccfg::from_bits_retain(value);

@@ -9,6 +9,7 @@ ghost use Rattle.pmp_core.specs.Decision.{IsDecision};
 ghost use Rattle.pmp_core.specs.Rights.{perms_of, rights, default_rights};
 ghost use Rattle.pmp_core.specs.RegisterWrite.{step, is_address_frozen};
 ghost use Rattle.pmp_core.specs.RegisterValue.{register_value};
+ghost use Rattle.pmp_core.specs.WriteReasons.{turns_away, turns_entry_away};
 ghost use Rattle.pmp_core.specs.Ranges.{AreRanges, ranges_of, decision_of};
 ghost use Rattle.pmp_core.specs.Size.{count_of};
 
@@ -25,7 +26,10 @@ use crate::range::ByteRange;
 use crate::rights::{default_rights_by, rule_rights};
 use crate::size::{MAX_ENTRIES, Size};
 use crate::span::{Span, span_in};
-use crate::{decision_by_ranges, register_value, register_write, storage};
+use crate::write_reasons::WriteReason;
+use crate::{
+    decision_by_ranges, register_value, register_write, storage, write_reasons,
+};
 use std::marker::Model;
 
 /// How many entries a unit of `Size::Sixteen` has.
@@ -178,6 +182,27 @@ impl RegFile {
         ensures { result ≡ register_value self.now csr }
     {
         register_value::read(self.in_use(), &self.mseccfg, csr)
+    }
+
+    /// Whether this is a reason why the register wouldn't read the value, if it were written now.
+    pub fn turns_away(&self, reason: WriteReason, csr: Csr, value: u64) -> bool
+        ensures { result ≡ turns_away reason self.now csr value }
+    {
+        write_reasons::turns_away(reason, self.in_use(), &self.mseccfg, csr, value)
+    }
+
+    /// Whether the entry wouldn't take what the value has for it, if it were written now.
+    pub fn turns_entry_away(&self, entry: u8, csr: Csr, value: u64) -> bool
+        requires { entry < length self.now.entries }
+        ensures { result ≡ turns_entry_away self.now csr value entry }
+    {
+        write_reasons::turns_entry_away(
+            self.in_use(),
+            &self.mseccfg,
+            csr,
+            value,
+            usize::from(entry),
+        )
     }
 
     /// Decides an access, in one pass over the entries. Each size has a pass of its own, over as many entries as are

@@ -13,7 +13,7 @@ use crate::mseccfg::MseccfgFields;
 use crate::rights::is_barred;
 
 /// How many word addresses there are: the address registers keep 54 bits.
-const WORD_ADDRESSES: u64 = 1 << 54;
+pub const WORD_ADDRESSES: u64 = 1 << 54;
 
 /// How many entries a configuration register has bytes of.
 pub const ENTRIES_PER_CFG: usize = 8;
@@ -96,7 +96,7 @@ fn write_address(entries: &mut [Entry], mseccfg: &MseccfgFields, register: u8, v
 }
 
 /// Whether some entry is locked, be it off or not.
-fn is_any_locked(entries: &[Entry]) -> bool
+pub fn is_any_locked(entries: &[Entry]) -> bool
     ensures { result ≡ is_any_locked entries.now }
 {
     entries.iter().any(|entry| entry.configuration.locked)

@@ -1,5 +1,23 @@
 //! Why a register doesn't read what was written to it.
 
+ghost use Rattle.std.specs.Prelude.{◌≡◌, ◌*◌, ◌%◌, ◌<◌, ◌==◌, nat_lt, not, ◌&&◌, Some, None, length};
+ghost use Rattle.std.specs.Prelude.{if◌then◌else◌};
+ghost use Rattle.std.specs.List.{list_any};
+ghost use Rattle.pmp_core.specs.Configuration.{configuration_of, byte_of, is_reserved};
+ghost use Rattle.pmp_core.specs.RegisterFile.{file_of};
+ghost use Rattle.pmp_core.specs.RegisterWrite.{holds_byte_of};
+ghost use Rattle.pmp_core.specs.Rights.{is_barred};
+ghost use Rattle.pmp_core.specs.WriteReasons.{byte_for, is_changed};
+ghost use Rattle.pmp_core.specs.WriteReasons.{turns_entry_away_by, turns_entry_away, turns_some_entry_away, turns_away};
+ghost use Rattle.pmp_core.specs.WriteReasons.{is_absent, has_bit_6_or_5, has_other_bits, clears_sticky, sets_bypass};
+
+use crate::configuration::Configuration;
+use crate::csr::Csr;
+use crate::entry::Entry;
+use crate::mseccfg::MseccfgFields;
+use crate::register_write::{ENTRIES_PER_CFG, WORD_ADDRESSES, is_address_frozen, is_any_locked};
+use crate::rights::is_barred;
+
 /// Why a register doesn't read what was written to it. A write may have several reasons.
 #[derive(Clone, Copy, Debug, PartialEq, Eq)]
 pub enum WriteReason {
@@ -19,4 +37,194 @@ pub enum WriteReason {
     Sticky,
     /// The value would set RLB, and some entry is locked.
     Bypass,
+}
+
+impl WriteReason {
+    /// All reasons, in the order in which they are named.
+    pub const ALL: [WriteReason; 8] = [
+        WriteReason::Absent,
+        WriteReason::Bits,
+        WriteReason::Locked,
+        WriteReason::Tor,
+        WriteReason::Reserved,
+        WriteReason::Lockdown,
+        WriteReason::Sticky,
+        WriteReason::Bypass,
+    ];
+}
+
+/// The byte for an entry in a value of a configuration register, where the register has one.
+fn byte_for(register: u8, value: u64, index: usize) -> Option<u8>
+    ensures { result ≡ (if holds_byte_of register index then Some (byte_for register value index) else None) }
+{
+    if index / ENTRIES_PER_CFG * 2 == usize::from(register) {
+        Some(value.to_le_bytes()[index % ENTRIES_PER_CFG])
+    } else {
+        None
+    }
+}
+
+/// Whether the register has the entry's byte or address, and the value has another.
+fn is_changed(entries: &[Entry], csr: Csr, value: u64, index: usize) -> bool
+    requires { index < length entries.now }
+    ensures { result ≡ is_changed entries.now csr value index }
+{
+    let entry = &entries[index];
+    match csr {
+        Csr::Cfg(register) => match byte_for(register, value, index) {
+            Some(byte) => byte != entry.configuration.byte(),
+            None => false,
+        },
+        Csr::Addr(register) => usize::from(register) == index && value != entry.address,
+        Csr::Mseccfg => false,
+    }
+}
+
+/// Whether a byte that isn't kept out by a lock would add W without R.
+fn adds_reserved(mseccfg: &MseccfgFields, byte: u8) -> bool
+    ensures { result ≡ (not mseccfg.now.mml && is_reserved (configuration_of byte)) }
+{
+    !mseccfg.mml && Configuration::from_byte(byte).is_reserved()
+}
+
+/// Whether a byte that isn't kept out by a lock would add a barred rule.
+fn adds_barred(mseccfg: &MseccfgFields, old: &Configuration, byte: u8) -> bool
+    ensures { let new = configuration_of byte in
+        result ≡ (mseccfg.now.mml && not mseccfg.now.rlb && is_barred new.locked new.read new.write new.execute
+        && not (byte_of new == byte_of old.now)) }
+{
+    let new = Configuration::from_byte(byte);
+    mseccfg.mml && !mseccfg.rlb && is_barred(&new) && new.byte() != old.byte()
+}
+
+/// Whether this is a reason why the entry doesn't take what the value has for it.
+fn turns_entry_away_by(
+    reason: WriteReason,
+    entries: &[Entry],
+    mseccfg: &MseccfgFields,
+    csr: Csr,
+    value: u64,
+    index: usize,
+) -> bool
+    requires { index < length entries.now }
+    ensures { result ≡ turns_entry_away_by reason (file_of mseccfg.now entries.now) csr value index }
+{
+    let old = &entries[index].configuration;
+    let frozen = old.locked && !mseccfg.rlb;
+    match (reason, csr) {
+        (WriteReason::Locked, _) => frozen && is_changed(entries, csr, value, index),
+        (WriteReason::Tor, Csr::Addr(_)) => {
+            !frozen
+                && is_address_frozen(entries, mseccfg, index)
+                && is_changed(entries, csr, value, index)
+        }
+        (WriteReason::Reserved, Csr::Cfg(register)) => match byte_for(register, value, index) {
+            Some(byte) => !frozen && adds_reserved(mseccfg, byte),
+            None => false,
+        },
+        (WriteReason::Lockdown, Csr::Cfg(register)) => match byte_for(register, value, index) {
+            Some(byte) => !frozen && adds_barred(mseccfg, old, byte),
+            None => false,
+        },
+        _ => false,
+    }
+}
+
+/// Whether it is one for some entry of the unit.
+fn turns_some_entry_away(
+    reason: WriteReason,
+    entries: &[Entry],
+    mseccfg: &MseccfgFields,
+    csr: Csr,
+    value: u64,
+) -> bool
+    ensures { result ≡ turns_some_entry_away reason (file_of mseccfg.now entries.now) csr value }
+{
+    (0..entries.len()).any(|index| turns_entry_away_by(reason, entries, mseccfg, csr, value, index))
+}
+
+/// Whether the entry doesn't take what the value has for it.
+pub fn turns_entry_away(
+    entries: &[Entry],
+    mseccfg: &MseccfgFields,
+    csr: Csr,
+    value: u64,
+    index: usize,
+) -> bool
+    requires { index < length entries.now }
+    ensures { result ≡ turns_entry_away (file_of mseccfg.now entries.now) csr value index }
+{
+    WriteReason::ALL.iter().any(|reason| turns_entry_away_by(
+        *reason, entries, mseccfg, csr, value, index,
+    ))
+}
+
+/// Whether no entry of a unit with so many has its byte in the configuration register.
+fn is_absent_cfg(count: usize, register: u8) -> bool
+    ensures { result ≡ not (register % 2 == 0 && nat_lt (4 * register) count) }
+{
+    register % 2 == 1 || 4 * usize::from(register) >= count
+}
+
+/// Whether the value isn't zero for a register of which a unit with so many entries has nothing.
+fn is_absent(count: usize, csr: Csr, value: u64) -> bool
+    requires { count % 8 ≡ 0 }
+    ensures { result ≡ is_absent count csr value }
+{
+    match csr {
+        Csr::Cfg(register) => value != 0 && is_absent_cfg(count, register),
+        Csr::Addr(register) => value != 0 && usize::from(register) >= count,
+        Csr::Mseccfg => false,
+    }
+}
+
+/// Whether one of the bytes has bit 6 or 5, which no configuration has.
+fn has_bit_6_or_5(bytes: &[u8]) -> bool
+    ensures { result ≡ list_any has_bit_6_or_5 bytes.now }
+{
+    bytes.iter().any(|byte| byte / 32 % 4 != 0)
+}
+
+fn has_other_bits(csr: Csr, value: u64) -> bool
+    ensures { result ≡ has_other_bits csr value }
+{
+    match csr {
+        Csr::Cfg(_) => has_bit_6_or_5(&value.to_le_bytes()),
+        Csr::Addr(_) => value / WORD_ADDRESSES != 0,
+        Csr::Mseccfg => value / 8 != 0,
+    }
+}
+
+fn clears_sticky(mseccfg: &MseccfgFields, value: u64) -> bool
+    ensures { result ≡ clears_sticky mseccfg.now Csr.Mseccfg value }
+{
+    let new = MseccfgFields::from_value(value);
+    mseccfg.mml && !new.mml || mseccfg.mmwp && !new.mmwp
+}
+
+fn sets_bypass(entries: &[Entry], mseccfg: &MseccfgFields, value: u64) -> bool
+    ensures { result ≡ sets_bypass (file_of mseccfg.now entries.now) Csr.Mseccfg value }
+{
+    MseccfgFields::from_value(value).rlb && !mseccfg.rlb && is_any_locked(entries)
+}
+
+/// Whether this is a reason why the register doesn't read the value after it is written.
+pub fn turns_away(
+    reason: WriteReason,
+    entries: &[Entry],
+    mseccfg: &MseccfgFields,
+    csr: Csr,
+    value: u64,
+) -> bool
+    requires { length entries.now % 8 ≡ 0 }
+    ensures { result ≡ turns_away reason (file_of mseccfg.now entries.now) csr value }
+{
+    match (reason, csr) {
+        (WriteReason::Absent, _) => is_absent(entries.len(), csr, value),
+        (WriteReason::Bits, _) => has_other_bits(csr, value),
+        (WriteReason::Sticky, Csr::Mseccfg) => clears_sticky(mseccfg, value),
+        (WriteReason::Bypass, Csr::Mseccfg) => sets_bypass(entries, mseccfg, value),
+        (WriteReason::Sticky | WriteReason::Bypass, _) => false,
+        _ => turns_some_entry_away(reason, entries, mseccfg, csr, value),
+    }
 }
