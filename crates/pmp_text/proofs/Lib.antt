@@ -9,9 +9,11 @@ pub mod LeastRows
 pub mod Leasts
 pub mod Lefts
 pub mod Meanings
+pub mod Prefixes
 pub mod RecordsLeft
 pub mod Rows
 pub mod RegisterNames
 pub mod RunLines
 pub mod Transfers
 pub mod Versions
+pub mod Words

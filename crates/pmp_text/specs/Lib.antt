@@ -3,6 +3,7 @@ pub mod AccessWords
 pub mod Bytes
 pub mod Contents
 pub mod Dumps
+pub mod Effects
 pub mod EntryRows
 pub mod Hexadecimal
 pub mod Inputs

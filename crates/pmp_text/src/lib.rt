@@ -13,7 +13,9 @@ mod trace;
 
 pub use access_words::{read_kind, read_mode};
 pub use input::{InputFault, MAX_LIMIT, read_bytes, read_script_bytes, read_trace_bytes};
-pub use lines::{NoMemory, write_entries, write_registers, write_row, write_runs};
+pub use lines::{
+    EventPlace, NoMemory, write_effect, write_entries, write_registers, write_row, write_runs,
+};
 pub use numbers::read_word_number;
 pub use output::{OutputFault, write_out};
 pub use script::{MAX_SCRIPT, Script, ScriptFault, ScriptKind, read_script};

@@ -2,6 +2,7 @@
 
 ghost use Rattle.std.specs.Prelude.{◌≡◌, ◌++◌, IfSome, OnErr, OnOk};
 
+mod effects;
 mod entries;
 mod hexadecimal;
 mod marks;
@@ -10,6 +11,7 @@ mod report;
 mod runs;
 
 use arrayvec::ArrayString;
+pub use effects::{EventPlace, write_effect};
 pub use entries::write_entries;
 pub use registers::write_registers;
 pub use report::write_row;
@@ -18,7 +20,7 @@ use std::alloc::AllocError;
 use std::fmt;
 use std::fmt::{Display, Write};
 
-/// Room for a line. An entry's has at most 82 bytes, and no other has more.
+/// Room for a line, or for a part of one. An entry's has at most 82 bytes, and no other has more.
 const LINE: usize = 96;
 
 /// No memory for a text.

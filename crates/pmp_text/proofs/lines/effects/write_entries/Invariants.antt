@@ -1,0 +1,10 @@
+use Rattle.std.proofs.Common.{decimal}
+use Rattle.std.specs.List.{range_with_len}
+use Rattle.pmp_core.specs.WriteReasons.{turns_entry_away}
+use Rattle.pmp_text.proofs.Words.{HasPassed}
+use Rattle.pmp_text.proofs.lines.effects.write_entries.Given as goal
+
+-- the entries so far
+abbrev pub invariant-loop-entry : goal.invariant-loop-entry
+invariant-loop-entry l = HasPassed (turns_entry_away l.file l.csr l.value) decimal l.initial.out.items
+    l.out.items l.is_first (range_with_len 0 l.entry-counter)

@@ -1,0 +1,205 @@
+//! What each event of a script does to a register, as rows.
+
+ghost use Rattle.std.specs.Prelude.{◌≡◌, ◌++◌, [], ◌∷◌, if◌then◌else◌, codes, OnOk, OnErr};
+ghost use Rattle.std.specs.Io.{StartsWith};
+ghost use Rattle.pmp_core.specs.RegisterValue.{register_value};
+ghost use Rattle.pmp_core.specs.RegisterWrite.{written};
+ghost use Rattle.pmp_text.specs.Effects.{effect_text, reason_text, value_text, reasons_text, entries_text};
+ghost use Rattle.pmp_text.specs.Effects.{event_fields, place_text, effect_row};
+ghost use Rattle.pmp_text.specs.Names.{register_name};
+ghost use Rattle.pmp_text.specs.Reports.{fields_after};
+
+use crate::lines::hexadecimal::Hex;
+use crate::lines::{NoMemory, append_line};
+use crate::names::RegisterName;
+use pmp_core::{Csr, Event, RegFile, WriteReason};
+
+/// Where an event stands in a script.
+#[derive(Clone, Copy, Debug, PartialEq, Eq)]
+pub struct EventPlace {
+    /// The number of the event among all, from 1 on.
+    pub number: u64,
+    /// The number of its publication, from 1 on.
+    pub publication: u64,
+    /// The number of its line, from 1 on.
+    pub line: u64,
+}
+
+fn effect_word(value: u64, before: u64, after: u64) -> &'static str
+    ensures { result.now ≡ effect_text value before after }
+{
+    if after == value {
+        "stored"
+    } else if after == before {
+        "kept"
+    } else {
+        "part"
+    }
+}
+
+fn reason_word(reason: WriteReason) -> &'static str
+    ensures { result.now ≡ reason_text reason }
+{
+    match reason {
+        WriteReason::Absent => "absent",
+        WriteReason::Bits => "bits",
+        WriteReason::Locked => "locked",
+        WriteReason::Tor => "tor",
+        WriteReason::Reserved => "reserved",
+        WriteReason::Lockdown => "lockdown",
+        WriteReason::Sticky => "sticky",
+        WriteReason::Bypass => "bypass",
+    }
+}
+
+/// What parts a word from the one before it.
+fn space_unless(is_first: bool) -> &'static str
+    ensures { result.now ≡ (if is_first then [] else codes " ") }
+{
+    if is_first { "" } else { " " }
+}
+
+/// Appends a comma, the register's name, a comma and the value.
+fn write_value(out: &mut Vec<u8>, csr: Csr, value: u64) -> Result<(), NoMemory>
+    ensures ok { OnOk result (out.new.items ≡ out.old.items
+        ++ (codes "," ++ (register_name csr ++ (codes "," ++ value_text value)))) }
+    ensures err { OnErr result (out.new.items ≡ out.old.items) }
+{
+    let name = RegisterName(csr);
+    let value = Hex::<16>::new(value);
+    append_line(out, format_args!(",{name},0x{value}"))
+}
+
+/// Appends what the register reads before the write and after it, and the effect, each after a comma.
+fn write_reading(out: &mut Vec<u8>, file: &RegFile, csr: Csr, value: u64) -> Result<(), NoMemory>
+    ensures ok { let before = register_value file.now csr in
+        let after = register_value (written file.now csr value) csr in
+        OnOk result (out.new.items ≡ out.old.items ++ (codes "," ++ (value_text before ++ (codes ","
+        ++ (value_text after ++ (codes "," ++ effect_text value before after)))))) }
+    ensures err { OnErr result (out.new.items ≡ out.old.items) }
+{
+    let before = file.read(csr);
+    let mut next = *file;
+    next.step(Event::Write(csr, value));
+    let after = next.read(csr);
+    let effect = effect_word(value, before, after);
+    let before = Hex::<16>::new(before);
+    let after = Hex::<16>::new(after);
+    append_line(out, format_args!(",0x{before},0x{after},{effect}"))
+}
+
+/// Appends the reasons why the register doesn't read the value, parted by one space.
+fn write_reasons(out: &mut Vec<u8>, file: &RegFile, csr: Csr, value: u64) -> Result<(), NoMemory>
+    ensures ok { OnOk result (out.new.items ≡ out.old.items ++ reasons_text file.now csr value) }
+    ensures err { OnErr result (StartsWith out.new.items out.old.items) }
+{
+    let mut is_first = true;
+    for reason in WriteReason::ALL {
+        if file.turns_away(reason, csr, value) {
+            let space = space_unless(is_first);
+            let word = reason_word(reason);
+            append_line(out, format_args!("{space}{word}"))?;
+            is_first = false;
+        }
+    }
+    Ok(())
+}
+
+/// Appends the entries that turn the value away, parted by one space.
+fn write_entries(out: &mut Vec<u8>, file: &RegFile, csr: Csr, value: u64) -> Result<(), NoMemory>
+    ensures ok { OnOk result (out.new.items ≡ out.old.items ++ entries_text file.now csr value) }
+    ensures err { OnErr result (StartsWith out.new.items out.old.items) }
+{
+    let mut is_first = true;
+    for entry in 0..file.entries() {
+        if file.turns_entry_away(entry, csr, value) {
+            let space = space_unless(is_first);
+            append_line(out, format_args!("{space}{entry}"))?;
+            is_first = false;
+        }
+    }
+    Ok(())
+}
+
+/// Appends the reasons and then the entries, each after a comma, and LF.
+fn write_lists(out: &mut Vec<u8>, file: &RegFile, csr: Csr, value: u64) -> Result<(), NoMemory>
+    ensures ok { OnOk result (out.new.items ≡ out.old.items
+        ++ fields_after (reasons_text file.now csr value ∷ entries_text file.now csr value ∷ [])) }
+    ensures err { OnErr result (StartsWith out.new.items out.old.items) }
+{
+    append_line(out, ",")?;
+    write_reasons(out, file, csr, value)?;
+    append_line(out, ",")?;
+    write_entries(out, file, csr, value)?;
+    append_line(out, "\n")
+}
+
+/// Appends the fields of a write, each after a comma, and LF.
+fn write_fields(out: &mut Vec<u8>, file: &RegFile, csr: Csr, value: u64) -> Result<(), NoMemory>
+    ensures ok { OnOk result (out.new.items ≡ out.old.items
+        ++ fields_after (event_fields file.now (Event.Write csr value))) }
+    ensures err { OnErr result (StartsWith out.new.items out.old.items) }
+{
+    write_value(out, csr, value)?;
+    write_reading(out, file, csr, value)?;
+    write_lists(out, file, csr, value)
+}
+
+/// Appends the number of the event, a comma, that of its publication, a comma and that of its line.
+fn write_place(out: &mut Vec<u8>, place: &EventPlace) -> Result<(), NoMemory>
+    ensures ok { OnOk result (out.new.items ≡ out.old.items ++ place_text place.now) }
+    ensures err { OnErr result (out.new.items ≡ out.old.items) }
+{
+    let EventPlace {
+        number,
+        publication,
+        line,
+    } = *place;
+    append_line(out, format_args!("{number},{publication},{line}"))
+}
+
+/// Appends the fields of an event, each after a comma, and LF.
+fn write_event(out: &mut Vec<u8>, file: &RegFile, event: Event) -> Result<(), NoMemory>
+    ensures ok { OnOk result (out.new.items ≡ out.old.items ++ fields_after (event_fields file.now event)) }
+    ensures err { OnErr result (StartsWith out.new.items out.old.items) }
+{
+    match event {
+        Event::Write(csr, value) => write_fields(out, file, csr, value),
+        Event::Reset => append_line(out, ",reset,,,,reset,,\n"),
+    }
+}
+
+#[tactic(auto, unfolding(crate::specs::Effects::effect_row))]
+fn write_all(
+    out: &mut Vec<u8>,
+    place: &EventPlace,
+    file: &RegFile,
+    event: Event,
+) -> Result<(), NoMemory>
+    ensures ok { OnOk result (out.new.items ≡ out.old.items ++ effect_row place.now file.now event) }
+    ensures err { OnErr result (StartsWith out.new.items out.old.items) }
+{
+    write_place(out, place)?;
+    write_event(out, file, event)
+}
+
+/// Appends the row of an event that comes to this register file: `N,PUBLICATION,LINE,REGISTER,WRITTEN,BEFORE,AFTER,`
+/// `EFFECT,REASONS,ENTRIES` and LF. EFFECT is `stored` where the register then reads what was written, `kept` where it
+/// reads what it read before, and else `part`. A reset has `reset` for REGISTER and EFFECT, and nothing for what a
+/// write has besides.
+pub fn write_effect(
+    out: &mut Vec<u8>,
+    place: &EventPlace,
+    file: &RegFile,
+    event: Event,
+) -> Result<(), NoMemory>
+    ensures ok { OnOk result (out.new.items ≡ out.old.items ++ effect_row place.now file.now event) }
+    ensures err { OnErr result (out.new.items ≡ out.old.items) }
+{
+    let before = out.len();
+    let written = write_all(out, place, file, event);
+    if written.is_err() {
+        out.truncate(before);
+    }
+    written
+}
