@@ -14,4 +14,6 @@ pub mod Spans
 pub mod StoredBytes
 pub mod Reasons
 pub mod WordReasons
+pub mod AddressReasons
+pub mod MseccfgReasons
 pub mod ReasonsLaw

@@ -1,6 +1,6 @@
 -- The reasons for a write, one by one.
-use Rattle.std.proofs.Common.{◌≡◌, ℕ, zero, suc, ◌+◌, ◌-◌, ◌<◌, ◌≤◌, Bool, true, false, cond, List, [], ◌∷◌, length, get_or}
-use Rattle.std.proofs.Common.{refl, sym, ◌∙◌, arith}
+use Rattle.std.proofs.Common.{◌≡◌, ℕ, zero, suc, ◌+◌, ◌-◌, ◌<◌, ◌≤◌, Bool, true, false, cond, List, [], ◌∷◌, length}
+use Rattle.std.proofs.Common.{get_or, refl, sym, ◌∙◌, arith}
 use Rattle.std.specs.List.{range_with_len, list_any, filter}
 use Rattle.std.proofs.lemmas.Bool.{false≢true, false_from_ne_true, or_from}
 use Rattle.std.proofs.lemmas.List.Folds.{list_any_at}
@@ -42,7 +42,8 @@ none_at p a n i none low high =
     false_from_ne_true (p i) (λ t. false≢true (sym none
     ∙ list_any_at p (range_with_len a n) (i - a) 0 (omega (arith, length-range_with_len a n)) (rw place t)))
 
-pub none_in : (p : ℕ → Bool) (xs : List ℕ) → ((i : ℕ) → i < length xs → p (get_or xs i 0) ≡ false) → list_any p xs ≡ false
+pub none_in : (p : ℕ → Bool) (xs : List ℕ) → ((i : ℕ) → i < length xs → p (get_or xs i 0) ≡ false)
+    → list_any p xs ≡ false
 none_in p [] h = refl
 none_in p (x ∷ xs) h = or_from (p x) _ (h 0 (omega arith)) (none_in p xs (λ i near. h (suc i) (omega arith)))
 
@@ -82,7 +83,8 @@ has_none file csr value none =
       bypass = each 7 (omega arith);
     }
 
-pub no_reasons : (file : RegisterFile) (csr : Csr) (value : ℕ) → HasNone file csr value → write_reasons file csr value ≡ []
+pub no_reasons : (file : RegisterFile) (csr : Csr) (value : ℕ) → HasNone file csr value
+    → write_reasons file csr value ≡ []
 no_reasons file csr value h =
     none_all (λ reason. turns_away reason file csr value) h.absent h.bits h.locked h.tor h.reserved h.lockdown h.sticky
     h.bypass

@@ -1,0 +1,97 @@
+-- mseccfg is stored as written exactly where there is no reason.
+use Rattle.std.proofs.Common.{◌≡◌, ℕ, zero, suc, ◌+◌, ◌*◌, ◌/◌, ◌%◌, ◌<◌, Bool, true, false, not}
+use Rattle.std.proofs.Common.{◌&&◌, ◌||◌, ◌==◌, length, refl, sym, ap, ◌∙◌, arith}
+use Rattle.std.proofs.lemmas.Bool.{not-false, and_right, or_parts, or_from}
+use Rattle.std.proofs.lemmas.Bool.{eqb-true}
+use Rattle.pmp_core.specs.declared.csr.Csr.TheVariants.{Mseccfg}
+use Rattle.pmp_core.specs.Configuration.{bit_of}
+use Rattle.pmp_core.specs.RegisterFile.{RegisterFile, is_frozen}
+use Rattle.pmp_core.specs.RegisterValue.{register_value}
+use Rattle.pmp_core.specs.RegisterWrite.{is_any_locked, written}
+use Rattle.pmp_core.proofs.Reasons.{none_between, HasNone}
+use Rattle.pmp_core.proofs.StoredBytes.{not_same}
+
+bit_is : (r : ℕ) → r < 2 → bit_of (r == 1) ≡ r
+bit_is zero low = refl
+bit_is (suc zero) low = refl
+bit_is (suc (suc r)) low = absurd (omega arith)
+
+-- a bit that stays, and one that doesn't rise
+stays : (before new : Bool) → (before && not new) ≡ false → (before || new) ≡ new
+stays true true h = refl
+stays false new h = refl
+stays true false h = absurd cc
+
+rises : (before any new : Bool) → (new && not before && any) ≡ false → (new && (before || not any)) ≡ new
+rises before any false h = refl
+rises true any true h = refl
+rises false false true h = refl
+rises false true true h = absurd cc
+
+was_kept : (before new : Bool) → (before || new) ≡ new → (before && not new) ≡ false
+was_kept true true h = refl
+was_kept false new h = refl
+was_kept true false h = absurd cc
+
+has_risen : (before any new : Bool) → (new && (before || not any)) ≡ new → (new && not before && any) ≡ false
+has_risen before any false h = refl
+has_risen true any true h = refl
+has_risen false false true h = refl
+has_risen false true true h = absurd cc
+
+three_bits : (value : ℕ) → value / 8 ≡ 0
+    → bit_of (value % 2 == 1) + 2 * bit_of (value / 2 % 2 == 1) + 4 * bit_of (value / 4 % 2 == 1) ≡ value
+three_bits value few = rw (
+  bit_is (value % 2) (omega arith),
+  bit_is (value / 2 % 2) (omega arith),
+  bit_is (value / 4 % 2) (omega arith),
+) (omega arith)
+
+-- three bits are of the number that they make
+one_of_three : (a b c : ℕ) → a < 2 → b < 2 → c < 2 → ((a + 2 * b + 4 * c) % 2 ≡ a)
+    × ((a + 2 * b + 4 * c) / 2 % 2 ≡ b) × ((a + 2 * b + 4 * c) / 4 % 2 ≡ c) × ((a + 2 * b + 4 * c) / 8 ≡ 0)
+one_of_three a b c ha hb hc = (omega arith, omega arith, omega arith, omega arith)
+
+bit_low : (b : Bool) → bit_of b < 2
+bit_low true = omega arith
+bit_low false = omega arith
+
+bit_back : (b : Bool) → (bit_of b == 1) ≡ b
+bit_back true = refl
+bit_back false = refl
+
+bits_of_value : (a b c : Bool) (value : ℕ) → bit_of a + 2 * bit_of b + 4 * bit_of c ≡ value
+    → (a ≡ (value % 2 == 1)) × (b ≡ (value / 2 % 2 == 1)) × (c ≡ (value / 4 % 2 == 1)) × (value / 8 ≡ 0)
+bits_of_value a b c value same =
+    let each = one_of_three (bit_of a) (bit_of b) (bit_of c) (bit_low a) (bit_low b) (bit_low c) in (
+      sym (bit_back a) ∙ ap (λ (n : ℕ). n == 1) (sym each.0) ∙ ap (λ (n : ℕ). n % 2 == 1) same,
+      sym (bit_back b) ∙ ap (λ (n : ℕ). n == 1) (sym each.1) ∙ ap (λ (n : ℕ). n / 2 % 2 == 1) same,
+      sym (bit_back c) ∙ ap (λ (n : ℕ). n == 1) (sym each.2) ∙ ap (λ (n : ℕ). n / 4 % 2 == 1) same,
+      sym (ap (λ (n : ℕ). n / 8) same) ∙ each.3,
+    )
+
+module _ (file : RegisterFile) (value : ℕ) where
+  pub mseccfg_stored : HasNone file Mseccfg value → register_value (written file Mseccfg value) Mseccfg ≡ value
+  mseccfg_stored none =
+      let sticky = or_parts _ _ none.sticky in
+      rw (
+        stays file.mseccfg.mml (value % 2 == 1) sticky.0,
+        stays file.mseccfg.mmwp (value / 2 % 2 == 1) sticky.1,
+        rises file.mseccfg.rlb (is_any_locked file.entries) (value / 4 % 2 == 1) none.bypass,
+      ) (three_bits value (eqb-true _ 0 (not-false _ none.bits)))
+
+  pub mseccfg_reasonless : register_value (written file Mseccfg value) Mseccfg ≡ value → HasNone file Mseccfg value
+  mseccfg_reasonless same =
+      let each = bits_of_value (file.mseccfg.mml || (value % 2 == 1)) (file.mseccfg.mmwp || (value / 2 % 2 == 1))
+      ((value / 4 % 2 == 1) && (file.mseccfg.rlb || not (is_any_locked file.entries))) value same in
+      record {
+        absent = refl;
+        bits = not_same (value / 8) 0 each.3;
+        locked = none_between (λ k. is_frozen file k && false) 0 (length file.entries)
+            (λ k _ inside. and_right _ false refl);
+        tor = none_between (λ k. false) 0 (length file.entries) (λ k _ inside. refl);
+        reserved = none_between (λ k. false) 0 (length file.entries) (λ k _ inside. refl);
+        lockdown = none_between (λ k. false) 0 (length file.entries) (λ k _ inside. refl);
+        sticky = or_from _ _ (was_kept _ _ each.0) (was_kept _ _ each.1);
+        bypass = has_risen _ _ _ each.2;
+      }
