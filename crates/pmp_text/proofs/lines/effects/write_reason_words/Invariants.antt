@@ -2,7 +2,7 @@ use Rattle.std.proofs.Common.{take}
 use Rattle.pmp_core.specs.WriteReasons.{turns_away, all_reasons}
 use Rattle.pmp_text.specs.Effects.{reason_text}
 use Rattle.pmp_text.proofs.Words.{HasPassed}
-use Rattle.pmp_text.proofs.lines.effects.write_reasons.Given as goal
+use Rattle.pmp_text.proofs.lines.effects.write_reason_words.Given as goal
 
 -- the reasons so far
 abbrev pub invariant-loop-reason : goal.invariant-loop-reason

@@ -2,7 +2,7 @@ use Rattle.std.proofs.Common.{decimal}
 use Rattle.std.specs.List.{range_with_len}
 use Rattle.pmp_core.specs.WriteReasons.{turns_entry_away}
 use Rattle.pmp_text.proofs.Words.{HasPassed}
-use Rattle.pmp_text.proofs.lines.effects.write_entries.Given as goal
+use Rattle.pmp_text.proofs.lines.effects.write_entry_numbers.Given as goal
 
 -- the entries so far
 abbrev pub invariant-loop-entry : goal.invariant-loop-entry

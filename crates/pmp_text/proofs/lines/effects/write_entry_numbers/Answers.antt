@@ -2,8 +2,8 @@ use Rattle.std.proofs.Common.{◌≡◌, ◌++◌, ℕ, Bool, decimal, sym, ◌�
 use Rattle.std.specs.List.{range_with_len}
 use Rattle.pmp_core.specs.WriteReasons.{turns_entry_away}
 use Rattle.pmp_text.proofs.Words.{range_more, space_unless, passed_more, not_passed}
-use Rattle.pmp_text.proofs.lines.effects.write_entries.Goals as goal
-use Rattle.pmp_text.proofs.lines.effects.write_entries.Goals.{
+use Rattle.pmp_text.proofs.lines.effects.write_entry_numbers.Goals as goal
+use Rattle.pmp_text.proofs.lines.effects.write_entry_numbers.Goals.{
   then-turns_entry_away+in_ok-append_line,
   else-turns_entry_away,
 }

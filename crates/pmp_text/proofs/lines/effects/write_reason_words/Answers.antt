@@ -5,8 +5,8 @@ use Rattle.pmp_core.specs.declared.write_reasons.WriteReason.TheVariants.{Absent
 use Rattle.pmp_core.specs.WriteReasons.{turns_away, all_reasons}
 use Rattle.pmp_text.specs.Effects.{reason_text}
 use Rattle.pmp_text.proofs.Words.{space_unless, passed_more, not_passed}
-use Rattle.pmp_text.proofs.lines.effects.write_reasons.Goals as goal
-use Rattle.pmp_text.proofs.lines.effects.write_reasons.Goals.{
+use Rattle.pmp_text.proofs.lines.effects.write_reason_words.Goals as goal
+use Rattle.pmp_text.proofs.lines.effects.write_reason_words.Goals.{
   then-turns_away+in_ok-append_line,
   else-turns_away,
 }
