@@ -3,6 +3,7 @@ pub mod Bounds
 pub mod Cuts
 pub mod Digits
 pub mod EntryRows
+pub mod EventLines
 pub mod Fields
 pub mod LeastFaults
 pub mod LeastRows

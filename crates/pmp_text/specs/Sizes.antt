@@ -1,5 +1,5 @@
 -- How much a script says.
-use Rattle.std.specs.Prelude.{◌≡◌, ℕ, ◌+◌, ◌≤◌, List, length, sum_by, Ok}
+use Rattle.std.specs.Prelude.{◌≡◌, ℕ, ◌+◌, ◌≤◌, List, length, map, sum_by, Ok}
 use Rattle.pmp_core.specs.declared.event.Event.{Event}
 use Rattle.pmp_text.specs.Scripts.{script_meaning}
 use Rattle.pmp_text.specs.Contents.{ScriptContents}
@@ -13,3 +13,8 @@ script_size batches = length batches + sum_by (λ batch. length batch) batches
 abbrev pub ScriptSizeLaw : Type 0
 ScriptSizeLaw = (text : List ℕ) → (script : ScriptContents) → script_meaning text ≡ Ok script
     → (script_size script.batches ≤ length text) × (length text ≤ script_limit)
+
+-- each event of a script has a line
+abbrev pub EventLinesLaw : Type 0
+EventLinesLaw = (text : List ℕ) → (script : ScriptContents) → script_meaning text ≡ Ok script
+    → map (λ batch. length batch) script.batches ≡ map (λ lines. length lines) script.lines

@@ -2,7 +2,7 @@
 
 ghost use Rattle.pmp_text.specs.Faults.{FirstFaultLaw, LeastFaultLaw};
 ghost use Rattle.pmp_text.specs.Names.{NamesReadBackLaw};
-ghost use Rattle.pmp_text.specs.Sizes.{ScriptSizeLaw};
+ghost use Rattle.pmp_text.specs.Sizes.{EventLinesLaw, ScriptSizeLaw};
 ghost use Rattle.pmp_text.specs.TraceFaults.{FirstRowFaultLaw, LeastRowFaultLaw, RowOrderLaw};
 ghost use Rattle.pmp_text.specs.Versions.{VersionOneLaw, VersionTwoLaw};
 
@@ -18,6 +18,11 @@ pub fn law_least_fault()
 /// A script has no more publications and events than bytes.
 pub fn law_script_size()
     ensures { ScriptSizeLaw }
+{}
+
+/// Each event of a script has a line: there are as many events as lines in each of its publications.
+pub fn law_event_lines()
+    ensures { EventLinesLaw }
 {}
 
 /// The fault of a trace's rows is that of the least faulty row: a row has it, and no row before it has any.

@@ -89,7 +89,12 @@ fn write_reading(out: &mut Vec<u8>, file: &RegFile, csr: Csr, value: u64) -> Res
 }
 
 /// Appends the reasons why the register doesn't read the value, parted by one space.
-fn write_reason_words(out: &mut Vec<u8>, file: &RegFile, csr: Csr, value: u64) -> Result<(), NoMemory>
+fn write_reason_words(
+    out: &mut Vec<u8>,
+    file: &RegFile,
+    csr: Csr,
+    value: u64,
+) -> Result<(), NoMemory>
     ensures ok { OnOk result (out.new.items ≡ out.old.items ++ reasons_text file.now csr value) }
     ensures err { OnErr result (StartsWith out.new.items out.old.items) }
 {
@@ -106,7 +111,12 @@ fn write_reason_words(out: &mut Vec<u8>, file: &RegFile, csr: Csr, value: u64) -
 }
 
 /// Appends the entries that turn the value away, parted by one space.
-fn write_entry_numbers(out: &mut Vec<u8>, file: &RegFile, csr: Csr, value: u64) -> Result<(), NoMemory>
+fn write_entry_numbers(
+    out: &mut Vec<u8>,
+    file: &RegFile,
+    csr: Csr,
+    value: u64,
+) -> Result<(), NoMemory>
     ensures ok { OnOk result (out.new.items ≡ out.old.items ++ entries_text file.now csr value) }
     ensures err { OnErr result (StartsWith out.new.items out.old.items) }
 {
