@@ -37,7 +37,7 @@ with_after app = with_rule app after_rule
 unfoldable pub with_checkers : App → App
 with_checkers app = with_rule app checkers_rule
 
--- a command of a script
+-- a command of a script: `NAME SCRIPT`, as `writes` is
 abbrev pub script_app : (name : Text) → App
 script_app name = with_word (new_app name) (codes "script")
 
@@ -76,8 +76,8 @@ with_command program command = with_subcommand program command.top
 -- the program, with a subcommand for each thing that it does
 abbrev pub pmp_app : App
 pmp_app =
-    with_command (with_command (with_command (with_command (with_command top_app check_app) audit_app)
-    (file_app (codes "dump"))) (file_app (codes "map"))) (file_app (codes "entries"))
+    with_command (with_command (with_command (with_command (with_command (with_command top_app check_app) audit_app)
+    (file_app (codes "dump"))) (file_app (codes "map"))) (file_app (codes "entries"))) (script_app (codes "writes"))
 
 -- clap takes the words, and what it finds in them asks for that
 abbrev pub WordsAskFor : List Text → Asked → Type 0

@@ -34,6 +34,7 @@ pub data Task : Type 0 where
   Dump : (after : Option ℕ) → Task
   Map : (after : Option ℕ) → Task
   Entries : (after : Option ℕ) → Task
+  Writes : Task
 
 abbrev pub access_task : Access → AccessTask
 access_task access = record { mode = access.mode; kind = access.kind; start = access.start; length = access.length }
@@ -44,6 +45,7 @@ task_of (request.Audit trace checkers) = Audit trace.now (option_map (λ checker
 task_of (request.Dump after) = Dump after
 task_of (request.Map after) = Map after
 task_of (request.Entries after) = Entries after
+task_of request.Writes = Writes
 
 -- a task, and the path of the script
 pub record Asked : Type 0 where
@@ -116,6 +118,7 @@ task_in name.Audit rows = audit_in rows
 task_in name.Dump rows = result_map Dump (after_of (first_of (codes "after") rows))
 task_in name.Map rows = result_map Map (after_of (first_of (codes "after") rows))
 task_in name.Entries rows = result_map Entries (after_of (first_of (codes "after") rows))
+task_in name.Writes rows = Ok Writes
 
 -- the command that a word names
 abbrev pub command_named : Text → Option CommandName
@@ -124,7 +127,8 @@ command_named word =
     else (if bytes_eq word (codes "audit") then Some name.Audit
     else (if bytes_eq word (codes "dump") then Some name.Dump
     else (if bytes_eq word (codes "map") then Some name.Map
-    else (if bytes_eq word (codes "entries") then Some name.Entries else None))))
+    else (if bytes_eq word (codes "entries") then Some name.Entries
+    else (if bytes_eq word (codes "writes") then Some name.Writes else None)))))
 
 abbrev pub asked_with : (script : Result Text Refusal) → Result Task Refusal → Result Asked Refusal
 asked_with (Err refusal) task = Err refusal

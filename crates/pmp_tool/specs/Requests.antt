@@ -8,11 +8,12 @@ use Rattle.pmp_audit.specs.Map.{MapSays}
 use Rattle.pmp_audit.specs.RegisterDump.{DumpSays}
 use Rattle.pmp_audit.specs.SharedAudit.{SharedAuditRefuses}
 use Rattle.pmp_audit.specs.TraceAudit.{AuditRefuses, AuditSays}
+use Rattle.pmp_audit.specs.WriteList.{WritesRefuse, WritesSay}
 use Rattle.pmp_tool.specs.declared.checkers.Checkers.{Checkers}
 use Rattle.pmp_tool.specs.declared.command.Request.{Request}
-use Rattle.pmp_tool.specs.declared.command.Request.TheVariants.{Check, Audit, Dump, Map, Entries}
+use Rattle.pmp_tool.specs.declared.command.Request.TheVariants.{Check, Audit, Dump, Map, Entries, Writes}
 use Rattle.pmp_tool.specs.declared.run.Outcome.{Outcome}
-use Rattle.pmp_tool.specs.declared.run.Outcome.TheVariants.{Decided, Audited, Listed}
+use Rattle.pmp_tool.specs.declared.run.Outcome.TheVariants.{Decided, Audited, Listed, Replayed}
 use Rattle.pmp_tool.specs.Inputs.{AreBytesOf, Inputs}
 
 -- which text goes with which outcome of a request of this script
@@ -23,6 +24,7 @@ RequestSays traces script (Audit path checkers) (Audited summary) text =
 RequestSays traces script (Dump after) Listed text = DumpSays script after tt text
 RequestSays traces script (Map after) Listed text = MapSays script after tt text
 RequestSays traces script (Entries after) Listed text = EntriesSay script after tt text
+RequestSays traces script Writes (Replayed summary) text = WritesSay script summary text
 RequestSays _ _ _ _ _ = ⊥
 
 -- which faults an audit is refused for; several checkers may lack a place
@@ -38,3 +40,4 @@ RequestRefuses traces script (Audit path checkers) fault =
 RequestRefuses traces script (Dump after) fault = FileRefuses script after fault
 RequestRefuses traces script (Map after) fault = FileRefuses script after fault
 RequestRefuses traces script (Entries after) fault = FileRefuses script after fault
+RequestRefuses traces script Writes fault = WritesRefuse script fault

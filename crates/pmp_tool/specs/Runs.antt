@@ -17,7 +17,7 @@ use Rattle.pmp_tool.specs.declared.failure.Failure.TheVariants.{Words}
 use Rattle.pmp_tool.specs.declared.refusal.Refusal.{Refusal}
 use Rattle.pmp_tool.specs.declared.refusal.Refusal.TheVariants.{Memory, Output}
 use Rattle.pmp_tool.specs.declared.run.Outcome.{Outcome}
-use Rattle.pmp_tool.specs.declared.run.Outcome.TheVariants.{Decided, Audited, Told}
+use Rattle.pmp_tool.specs.declared.run.Outcome.TheVariants.{Decided, Audited, Replayed, Told}
 use Rattle.pmp_tool.specs.CommandLines.{IsRefusedCommandLine, MayAskForText, WordsAskFor, WordsAreRefused}
 use Rattle.pmp_tool.specs.Commands.{asked}
 use Rattle.pmp_tool.specs.Failures.{refused, unaudited}
@@ -77,8 +77,9 @@ pub data Fails (words : List Text) (scripts traces : Inputs) (before after : Opt
   no_command : (command : Command) (failure : Failure) → WordsAskFor words (asked command)
       → CommandFails scripts traces command before after failure → Fails words scripts traces before after failure
 
--- accesses end well where all are allowed, and all else does
+-- accesses end well where all are allowed, writes where none is turned away, and all else does
 abbrev pub outcome_status : Outcome → ℕ
 outcome_status (Decided decision) = if decision.allowed then 0 else 1
 outcome_status (Audited summary) = if summary.faults == 0 then 0 else 1
+outcome_status (Replayed summary) = if summary.turned_away == 0 then 0 else 1
 outcome_status _ = 0

@@ -27,6 +27,7 @@ pub enum Request<'a> {
     Map(Option<u64>),
     /// The same.
     Entries(Option<u64>),
+    Writes,
 }
 
 /// What the program's words ask for.
@@ -45,6 +46,7 @@ enum CommandName {
     Dump,
     Map,
     Entries,
+    Writes,
 }
 
 /// The command that a word names.
@@ -57,6 +59,7 @@ fn read_name(word: &str) -> Option<CommandName>
         "dump" => Some(CommandName::Dump),
         "map" => Some(CommandName::Map),
         "entries" => Some(CommandName::Entries),
+        "writes" => Some(CommandName::Writes),
         _ => None,
     }
 }
@@ -82,6 +85,7 @@ fn read_request<'a>(name: CommandName, words: &ArgMatches<'a>) -> Result<Request
         CommandName::Dump => Ok(Request::Dump(read_after(words)?)),
         CommandName::Map => Ok(Request::Map(read_after(words)?)),
         CommandName::Entries => Ok(Request::Entries(read_after(words)?)),
+        CommandName::Writes => Ok(Request::Writes),
     }
 }
 

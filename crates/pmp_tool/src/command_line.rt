@@ -4,7 +4,7 @@ ghost use Rattle.std.specs.Prelude.{◌≡◌, map, false, IfOk, IfErr, string_b
 ghost use Rattle.clap.specs.Words.{HasKind, app_of, fault_of, new_app, rule_of};
 ghost use Rattle.pmp_tool.specs.Building.{Changes, IsCommand, IsLocal, IsTaken};
 ghost use Rattle.pmp_tool.specs.CommandLines.{after_rule, audit_app, check_app, checkers_rule, file_app};
-ghost use Rattle.pmp_tool.specs.CommandLines.{pmp_app, top_app, with_after, with_checkers, with_command, with_word};
+ghost use Rattle.pmp_tool.specs.CommandLines.{pmp_app, script_app, top_app, with_after, with_checkers, with_command, with_word};
 ghost use Rattle.pmp_tool.specs.CommandLines.{word_rule};
 
 use crate::help;
@@ -33,14 +33,15 @@ fn pmp<'a>(alloc: Global) -> Result<Command<'a>, AllocError>
     let program = with_command(program, map)?;
     let entries = of_file(alloc, "entries", help::ENTRIES, help::MORE_OF_ENTRIES)?;
     let program = with_command(program, entries)?;
+    let writes = of_script(alloc, "writes", help::WRITES, help::MORE_OF_WRITES)?;
+    let program = with_command(program, writes)?;
     Ok(program)
 }
 
 fn check<'a>(alloc: Global) -> Result<Command<'a>, AllocError>
     ensures { IfOk result (λ command. IsCommand command check_app) }
 {
-    let command = named(alloc, "check", help::CHECK, help::MORE_OF_CHECK);
-    let command = with_word(alloc, command, "script", "SCRIPT", help::SCRIPT)?;
+    let command = of_script(alloc, "check", help::CHECK, help::MORE_OF_CHECK)?;
     let command = with_word(alloc, command, "mode", "MODE", help::MODE)?;
     let command = with_word(alloc, command, "kind", "KIND", help::KIND)?;
     let command = with_word(alloc, command, "start", "START", help::START)?;
@@ -52,8 +53,7 @@ fn check<'a>(alloc: Global) -> Result<Command<'a>, AllocError>
 fn audit<'a>(alloc: Global) -> Result<Command<'a>, AllocError>
     ensures { IfOk result (λ command. IsCommand command audit_app) }
 {
-    let command = named(alloc, "audit", help::AUDIT, help::MORE_OF_AUDIT);
-    let command = with_word(alloc, command, "script", "SCRIPT", help::SCRIPT)?;
+    let command = of_script(alloc, "audit", help::AUDIT, help::MORE_OF_AUDIT)?;
     let command = with_word(alloc, command, "trace", "TRACE", help::TRACE)?;
     let command = with_checkers(alloc, command)?;
     Ok(command)
@@ -68,9 +68,17 @@ fn of_file<'a>(
 ) -> Result<Command<'a>, AllocError>
     ensures { IfOk result (λ command. IsCommand command (file_app name.entry.now)) }
 {
+    let command = of_script(alloc, name, about, more)?;
+    let command = with_after(alloc, command)?;
+    Ok(command)
+}
+
+/// A command of a script: `name SCRIPT`.
+fn of_script<'a>(alloc: Global, name: &'a str, about: &'a str, more: &'a str) -> Result<Command<'a>, AllocError>
+    ensures { IfOk result (λ command. IsCommand command (script_app name.entry.now)) }
+{
     let command = named(alloc, name, about, more);
     let command = with_word(alloc, command, "script", "SCRIPT", help::SCRIPT)?;
-    let command = with_after(alloc, command)?;
     Ok(command)
 }
 

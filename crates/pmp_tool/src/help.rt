@@ -18,6 +18,9 @@ pub const MAP: &str = "Writes which bytes each entry owns after publications of 
 pub const ENTRIES: &str =
     "Writes what each entry is and how it is locked, after publications of a script";
 
+pub const WRITES: &str =
+    "Writes what each write of a script changes, and why it isn't stored as written";
+
 pub const SCRIPT: &str =
     "The path of a script of at most 1048576 bytes, or stdin for standard input; it begins with pmp 1 for a unit of \
     16 entries, with pmp 2 for one of 64";
@@ -40,8 +43,9 @@ pub const CHECKERS: &str =
 
 pub const MORE: &str = "\
 Exit status:
-  0  every access is allowed, or what was asked for was written
-  1  the unit refuses an access
+  0  every access is allowed, every write is stored as written, or what was
+     asked for was written
+  1  the unit refuses an access, or doesn't store a write as written
   2  no answer: the words, the script or the trace are at fault
   3  no answer: memory, an input, the output or a place for a checker failed
 
@@ -149,4 +153,37 @@ Example:
   It answers 0,napot,00000000000000,00000000000007,---,---,locked,locked,1
 
 docs/FORMATS.md describes scripts, the entry lines, and every refusal with its
+number.";
+
+pub const MORE_OF_WRITES: &str = "\
+Each line is an event of the script, in order:
+N,PUBLICATION,LINE,REGISTER,WRITTEN,BEFORE,AFTER,EFFECT,REASONS,ENTRIES.
+  WRITTEN     the value that is written
+  BEFORE      the value that the register reads before
+  AFTER       the value that it reads after
+  EFFECT      stored, kept or part: AFTER is what was written, what was there
+              before, or neither
+  REASONS     why AFTER isn't what was written:
+    absent    it is not zero for an entry that the unit doesn't have
+    bits      the register doesn't have these bits
+    locked    it would change a locked entry
+    tor       it would change the low end of a locked entry's range
+    reserved  it has W without R, without machine-mode lockdown
+    lockdown  it would add a rule by which machine mode executes, under lockdown
+    sticky    it would clear lockdown or the allow-list policy
+    bypass    it would set rule-locking bypass, and an entry is locked
+  ENTRIES     the entries that are a reason
+A reset has the word reset for REGISTER and EFFECT.
+
+Exit status:
+  0  every write is stored as written
+  1  one isn't
+  2  no answer: the words or the script are at fault
+  3  no answer: memory, the script's input or the output failed
+
+Example:
+  printf 'pmp 1\nwrite mseccfg 8\npublish\n' | pmp writes stdin
+  It answers 1,1,2,mseccfg,0x0000000000000008,0x0000000000000000,0x0000000000000000,kept,bits,
+
+docs/FORMATS.md describes scripts, the event rows, and every refusal with its
 number.";

@@ -16,9 +16,8 @@ use crate::command::{Command, Request, read_command};
 use crate::command_line::parse_words;
 use crate::failure::Failure;
 use crate::inputs::Inputs;
-use pmp_audit::{
-    AuditFault, OpenGate, Summary, audit, audit_shared, check, dump, entries_of, map_of,
-};
+use pmp_audit::{AuditFault, OpenGate, Summary, WriteSummary};
+use pmp_audit::{audit, audit_shared, check, dump, entries_of, map_of, writes};
 use pmp_core::Decision;
 use pmp_text::write_out;
 use std::alloc::Global;
@@ -26,10 +25,11 @@ use std::io::Write;
 use std::sync::Wait;
 use std::thread::Threads;
 
-/// The exit status of texts and lists that were written, and of accesses that are all allowed.
+/// The exit status of texts and lists that were written, of accesses that are all allowed, and of writes that are all
+/// stored.
 const DONE: u8 = 0;
 
-/// The exit status of an access that is refused.
+/// The exit status of an access that is refused, and of a write that is turned away.
 const REFUSED: u8 = 1;
 
 /// Runs the program on its words, those after its own name, and answers its exit status: 0 where each access is
@@ -140,6 +140,10 @@ fn answer<R: Threads + Wait + Sync, I: Inputs, O: Write>(
             entries_of(alloc, &script, after, out)?;
             Ok(Outcome::Listed)
         }
+        Request::Writes => {
+            let summary = writes(alloc, &script, out)?;
+            Ok(Outcome::Replayed(summary))
+        }
     }
 }
 
@@ -171,6 +175,8 @@ enum Outcome {
     Audited(Summary),
     /// The registers, the runs or the entries were written.
     Listed,
+    /// What each write does was written.
+    Replayed(WriteSummary),
     /// A text of help or the version was written.
     Told,
 }
@@ -182,6 +188,7 @@ impl Outcome {
         match self {
             Outcome::Decided(decision) if !decision.allowed => REFUSED,
             Outcome::Audited(summary) if summary.faults > 0 => REFUSED,
+            Outcome::Replayed(summary) if summary.turned_away > 0 => REFUSED,
             _ => DONE,
         }
     }

@@ -6,8 +6,9 @@ use Rattle.pmp_audit.specs.EntryList.{EntriesSay}
 use Rattle.pmp_audit.specs.Map.{MapSays}
 use Rattle.pmp_audit.specs.RegisterDump.{DumpSays}
 use Rattle.pmp_audit.specs.TraceAudit.{AuditSays}
-use Rattle.pmp_tool.specs.declared.command.Request.TheVariants.{Audit, Check, Dump, Entries, Map}
-use Rattle.pmp_tool.specs.declared.run.Outcome.TheVariants.{Audited, Decided, Listed}
+use Rattle.pmp_audit.specs.WriteList.{WritesRefuse, WritesSay}
+use Rattle.pmp_tool.specs.declared.command.Request.TheVariants.{Audit, Check, Dump, Entries, Map, Writes}
+use Rattle.pmp_tool.specs.declared.run.Outcome.TheVariants.{Audited, Decided, Listed, Replayed}
 use Rattle.pmp_tool.specs.Requests.{AuditByRefuses}
 use Rattle.pmp_tool.specs.Runs.{no_script, no_trace}
 use Rattle.pmp_tool.proofs.Requesting.{not_answered}
@@ -86,3 +87,14 @@ returns-in_err-entries_of-in-Entries-clause-err g c =
     (not_answered _ _ c.args.command script c.in_ok-script.ensures.read (Entries c.in-Entries.after) c.in-Entries.is _ _
     (λ _. Listed) (EntriesSay script c.in-Entries.after) (λ done text says. says) (FileRefuses script c.in-Entries.after)
     (λ fault refuses. refuses) c.in_err-entries_of-in-Entries.field-0.0 refused)
+
+pub returns-in_err-summary-in-Writes-clause-err : goal.returns-in_err-summary-in-Writes-clause-err
+returns-in_err-summary-in-Writes-clause-err g c =
+    let p = err_from_is_err_and c.from_residual-in_err-summary-in-Writes.result
+    c.from_residual-in_err-summary-in-Writes.ensures.1 in
+    let script = c.in_ok-script.script.items in
+    let refused = rw c.deref-in-Writes.ensures.value at c.in_err-summary-in-Writes.ensures.err in
+    rw (p.1, p.2)
+    (not_answered _ _ c.args.command script c.in_ok-script.ensures.read Writes c.in-Writes.is _ _
+    Replayed (WritesSay script) (λ summary text says. says) (WritesRefuse script)
+    (λ fault refuses. refuses) c.in_err-summary-in-Writes.field-0.0 refused)
