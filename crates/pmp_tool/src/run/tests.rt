@@ -3,6 +3,8 @@
 mod audits;
 mod checks;
 mod dumps;
+mod effects;
+mod entries;
 mod errors;
 mod maps;
 mod refusals;
@@ -119,6 +121,7 @@ fn a_full_output_is_refused(rt: HostRuntime) -> Result<(), Fail> {
         "audit table trace",
         "dump table",
         "map table",
+        "entries table",
         "--help",
         "--version",
     ] {

@@ -254,3 +254,28 @@ fn a_script_is_too_long(rt: HostRuntime) -> Result<(), Fail> {
     let line = "pmp: refused 17 TooLong";
     assert_refused(&rt, &script, "check table U load 0x0 4", line, 2)
 }
+
+#[test]
+fn after_the_first_publications(rt: HostRuntime) -> Result<(), Fail> {
+    for (after, line, status) in [
+        ("--after 0", "1,fault,5,none,\n", 1),
+        ("--after 1", "1,allow,,rule,0\n", 0),
+        ("--after 0x2", "1,allow,,rule,1\n", 0),
+        ("", "1,allow,,rule,1\n", 0),
+    ] {
+        let words = format!(in rt.alloc(); "check table U load 0x80000000 4 {after}")?;
+        let answer = run(&rt, SCRIPT.as_bytes(), words.as_str())?;
+        assert_eq!(rt; answer.out.as_slice(), line.as_bytes(), "{after}");
+        assert!(rt; answer.err.is_empty(), "{after}");
+        assert_eq!(rt; answer.status, status, "{after}");
+    }
+    // All words are read before the access is made, and that before the script is asked.
+    for (words, line) in [
+        ("check table U load 0 4 --after 3", "pmp: refused 22 BadAfter"),
+        ("check table U load 0 0 --after 3", "pmp: refused 3 BadLength"),
+        ("check table U load 0 0 --after x", "pmp: refused 24 BadWord"),
+    ] {
+        assert_refused(&rt, SCRIPT.as_bytes(), words, line, 2)?;
+    }
+    Ok(())
+}
