@@ -8,3 +8,4 @@ pub mod Lists
 pub mod OneReport
 pub mod Reports
 pub mod WrittenAnswers
+pub mod WrittenEvents

@@ -6,12 +6,14 @@ pub mod SharedAudit
 pub mod AskedFile
 pub mod RegisterDump
 pub mod Map
+pub mod WriteList
 pub mod Since
 pub mod EntryList
 pub mod Fault
 -- The rest, which only private contracts cite.
 pub mod Replay
 pub mod Report
+pub mod EventRows
 pub mod SinceStep
 pub mod Working
 pub mod Rounds

@@ -13,6 +13,7 @@ mod replay;
 mod shared_audit;
 mod since;
 mod trace_audit;
+mod write_list;
 
 pub use access_check::check;
 pub use entry_list::entries_of;
@@ -22,6 +23,7 @@ pub use map::map_of;
 pub use register_dump::dump;
 pub use shared_audit::audit_shared;
 pub use trace_audit::{Summary, audit};
+pub use write_list::writes;
 
 #[cfg(test)]
 mod tests;

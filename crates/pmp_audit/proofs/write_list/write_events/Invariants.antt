@@ -1,0 +1,16 @@
+use Rattle.std.proofs.Common.{◌≡◌, ◌*◌, ◌≤◌}
+use Rattle.pmp_core.specs.RegisterFile.{reset_file}
+use Rattle.pmp_core.specs.Size.{count_of}
+use Rattle.pmp_audit.specs.EventRows.{AreWritten}
+use Rattle.pmp_audit.specs.WriteList.{events_of}
+use Rattle.pmp_audit.proofs.write_list.write_events.Given as goal
+
+-- the publications so far are written, and each has at most 64 events
+abbrev pub invariant-loop-index : goal.invariant-loop-index
+invariant-loop-index l = record {
+  written : AreWritten
+      (record { text = l.initial.out.items; file = reset_file (count_of l.script.size); done = 0 })
+      (record { text = l.out.items; file = l.file; done = l.done })
+      (events_of l.script l.index);
+  few : l.done ≤ 64 * l.index;
+}
