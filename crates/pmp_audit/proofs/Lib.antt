@@ -5,6 +5,7 @@ pub mod Merging
 pub mod Asking
 pub mod Dealing
 pub mod Lists
+pub mod OneEntryList
 pub mod OneReport
 pub mod Reports
 pub mod WrittenAnswers

@@ -1,5 +1,5 @@
 -- What a list of entries says.
-use Rattle.std.specs.Prelude.{ℕ, List, take, Option}
+use Rattle.std.specs.Prelude.{◌≡◌, ℕ, List, take, Option}
 use Rattle.pmp_core.specs.Size.{count_of}
 use Rattle.pmp_text.specs.Contents.{ScriptContents}
 use Rattle.pmp_text.specs.EntryRows.{IsEntryText}
@@ -16,3 +16,8 @@ pub record IsEntryList (script : ScriptContents) (done : ℕ) (text : List ℕ) 
 -- the entries of the file that is asked for
 abbrev pub EntriesSay : (script : List ℕ) → (after : Option ℕ) → Unit {0} → (text : List ℕ) → Type 0
 EntriesSay script after _ text = SaysOfScript IsEntryList script after text
+
+-- a script has one entry list
+abbrev pub OneEntryListLaw : Type 0
+OneEntryListLaw = (script : List ℕ) (after : Option ℕ) (text other : List ℕ)
+    → EntriesSay script after tt text → EntriesSay script after tt other → text ≡ other

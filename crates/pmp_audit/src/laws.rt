@@ -1,9 +1,10 @@
 //! Laws of the definitions, each the contract of a function that changes nothing.
 
+ghost use Rattle.pmp_audit.specs.EntryList.{OneEntryListLaw};
 ghost use Rattle.pmp_audit.specs.Since.{SinceLaw};
 ghost use Rattle.pmp_audit.specs.TraceAudit.{OneListOfDecisionsLaw, OneReportLaw};
 
-use pmp_core::laws::law_one_decision;
+use pmp_core::laws::{law_one_decision, law_one_span};
 
 /// Rows have one list of decisions that are each the manual's, however they are come by.
 pub fn law_one_list_of_decisions()
@@ -24,3 +25,10 @@ pub fn law_one_report()
 pub fn law_since()
     ensures { SinceLaw }
 {}
+
+/// A script has one entry list after each number of publications.
+pub fn law_one_entry_list()
+    ensures { OneEntryListLaw }
+{
+    law_one_span();
+}

@@ -1,0 +1,60 @@
+-- A script has one entry list.
+use Rattle.std.proofs.Common.{◌≡◌, ℕ, zero, suc, ◌+◌, ◌<◌, List, length, take, Option, None, refl, sym, ap, subst}
+use Rattle.std.proofs.Common.{◌∙◌, arith}
+use Rattle.std.specs.List.{flat_map, range_with_len, slice_index_or}
+use Rattle.pmp_core.specs.declared.span.Span.{Span}
+use Rattle.pmp_core.specs.RegisterFile.{RegisterFile}
+use Rattle.pmp_core.specs.Size.{count_of}
+use Rattle.pmp_core.specs.Span.{OneSpanLaw}
+use Rattle.pmp_core.proofs.Decisions.{least_once}
+use Rattle.pmp_text.specs.Contents.{ScriptContents}
+use Rattle.pmp_text.specs.EntryRows.{entry_row}
+use Rattle.pmp_text.specs.Reports.{file_of_script}
+use Rattle.pmp_audit.specs.EntryList.{IsEntryList, OneEntryListLaw}
+use Rattle.pmp_audit.specs.AskedFile.{asked_count}
+use Rattle.pmp_audit.specs.Since.{IsFrozenFrom}
+use Rattle.pmp_audit.proofs.FrozenSince.{length-file_after}
+
+-- pieces that are alike, place by place
+same_pieces : (one other : ℕ → List ℕ) (from count : ℕ) → ((i : ℕ) → i < from + count → one i ≡ other i)
+    → flat_map one (range_with_len from count) ≡ flat_map other (range_with_len from count)
+same_pieces one other from zero same = refl
+same_pieces one other from (suc count) same =
+    let first = same from (omega arith) in
+    let rest = same_pieces one other (from + 1) count (λ i below. same i (omega arith)) in
+    cc
+
+module _ (one_span : OneSpanLaw) where
+  module _ (script : ScriptContents) (done : ℕ) (text other : List ℕ) (one : IsEntryList script done text)
+      (two : IsEntryList script done other) where
+    abbrev file : RegisterFile
+    file = file_of_script script done
+
+    abbrev row : (i : ℕ) → Option Span → Option ℕ → List ℕ
+    row i = entry_row file i
+
+    same_row : (i : ℕ) → i < length file.entries
+        → row i (one.rows.span i) (slice_index_or one.since i None)
+        ≡ row i (two.rows.span i) (slice_index_or two.since i None)
+    same_row i below =
+        let n = count_of script.size in
+        let batches = take done script.batches in
+        let inside : i < n = omega (arith, length-file_after n batches) in
+        let span = one_span file.entries i _ _ (one.rows.spans i below) (two.rows.spans i below) in
+        let since = least_once (IsFrozenFrom n batches i) _ _ (one.since_are i inside) (two.since_are i inside) in
+        ap (λ (s : Option Span). row i s (slice_index_or one.since i None)) span
+        ∙ ap (λ (k : Option ℕ). row i (two.rows.span i) k) since
+
+    same_list : text ≡ other
+    same_list =
+        one.rows.rows
+        ∙ same_pieces (λ i. row i (one.rows.span i) (slice_index_or one.since i None))
+        (λ i. row i (two.rows.span i) (slice_index_or two.since i None)) 0 (length file.entries)
+        (λ i below. same_row i (omega arith))
+        ∙ sym two.rows.rows
+
+  pub one_entry_list : OneEntryListLaw
+  one_entry_list script after text other one two =
+      let same : two.contents ≡ one.contents = let both = sym two.script_means ∙ one.script_means in cc in
+      let two_is = subst (λ contents. IsEntryList contents (asked_count after contents) other) same two.text_is in
+      same_list one.contents (asked_count after one.contents) text other one.text_is two_is
