@@ -1,5 +1,5 @@
 -- Each event of a script has a line.
-use Rattle.std.proofs.Common.{◌≡◌, ℕ, suc, ◌<◌, ◌≤◌, List, [], ◌∷◌, length, map, Option, Some, None, Result, Ok, Err}
+use Rattle.std.proofs.Common.{◌≡◌, ℕ, suc, List, [], ◌∷◌, length, map, Option, Some, None, Ok}
 use Rattle.std.proofs.Common.{refl, sym, ap, ◌∙◌, inl, inr}
 use Rattle.std.specs.Prelude.{filter_map}
 use Rattle.std.proofs.lemmas.Bool.{cases_lt}
@@ -8,9 +8,9 @@ use Rattle.pmp_core.specs.declared.size.Size.{Size}
 use Rattle.pmp_text.specs.declared.script.ScriptFault.{ScriptFault}
 use Rattle.pmp_text.specs.Contents.{Publications, ScriptContents}
 use Rattle.pmp_text.specs.Limits.{script_limit}
-use Rattle.pmp_text.specs.Scripts.{Line, event_of, event_line_of, publications, fault_or_publications, for_unit}
+use Rattle.pmp_text.specs.Scripts.{Line, event_of, event_line_of, publications, fault_or_publications}
 use Rattle.pmp_text.specs.Scripts.{first_fault, first_unpublished, meaning_behind, lines_meaning, significant_lines}
-use Rattle.pmp_text.specs.Scripts.{size_named, script_meaning}
+use Rattle.pmp_text.specs.Scripts.{size_named}
 use Rattle.pmp_text.specs.Sizes.{EventLinesLaw}
 use Rattle.pmp_text.proofs.Bounds.{published_in, publications_in}
 use Rattle.pmp_text.proofs.Meanings.{long_script, by_lines}

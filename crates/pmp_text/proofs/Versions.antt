@@ -1,8 +1,8 @@
 -- What the version of a script makes of it.
-use Rattle.std.proofs.Common.{◌≡◌, ℕ, zero, suc, ◌+◌, ◌<◌, ◌≤◌, Bool, true, false, cond, ltb, List, [], ◌∷◌, ◌++◌, length, map}
-use Rattle.std.proofs.Common.{take, Result, Ok, Err, Option, Some, refl, sym, ap, subst, ◌∙◌, arith, inl, inr}
+use Rattle.std.proofs.Common.{◌≡◌, ℕ, zero, suc, ◌+◌, ◌≤◌, Bool, true, false, cond, ltb, List, [], ◌∷◌, ◌++◌, length}
+use Rattle.std.proofs.Common.{take, Result, Ok, Err, Some, refl, sym, ap, subst, ◌∙◌, arith, inl, inr}
 use Rattle.std.specs.Prelude.{◌↔◌, All, filter, codes}
-use Rattle.std.specs.List.{AllZip, list_all, flat_map}
+use Rattle.std.specs.List.{list_all}
 use Rattle.std.proofs.lemmas.Bool.{and_parts, and_from, cases_lt, cond-true, cond-false}
 use Rattle.std.proofs.lemmas.List.Elements.{All-head, All-tail}
 use Rattle.std.proofs.lemmas.List.Folds.{list_all-append}
@@ -10,7 +10,6 @@ use Rattle.pmp_core.specs.declared.decision.Decision.{Decision}
 use Rattle.pmp_core.specs.declared.event.Event.{Event}
 use Rattle.pmp_core.specs.declared.size.Size.{Size}
 use Rattle.pmp_core.specs.declared.size.Size.TheVariants.{Sixteen, SixtyFour}
-use Rattle.pmp_core.specs.Decision.{IsDecision}
 use Rattle.pmp_core.specs.Histories.{joined}
 use Rattle.pmp_core.specs.SizeLaw.{SizeLaw, writes_sixteen}
 use Rattle.pmp_text.specs.declared.script.ScriptFault.{ScriptFault}
@@ -24,8 +23,8 @@ use Rattle.pmp_text.specs.Scripts.{Line, at_line, counts, numbered_from, signifi
 use Rattle.pmp_text.specs.Scripts.{first_fault, first_unpublished, publications, fault_or_publications, size_named, for_unit}
 use Rattle.pmp_text.specs.Scripts.{meaning_behind, lines_meaning, script_meaning}
 use Rattle.pmp_text.specs.Steps.Progress.{nothing_read, resumed}
-use Rattle.pmp_text.specs.Versions.{is_version_one, lines_meaning_in_one, meaning_in_one, IsVersionOne, MeansAsInOne}
-use Rattle.pmp_text.specs.Versions.{VersionOneLaw, IsSameInTwo, in_sixty_four, ReportsAlike, VersionTwoLaw}
+use Rattle.pmp_text.specs.Versions.{is_version_one, lines_meaning_in_one, meaning_in_one}
+use Rattle.pmp_text.specs.Versions.{VersionOneLaw, IsSameInTwo, in_sixty_four, VersionTwoLaw}
 use Rattle.pmp_text.proofs.Bounds.{publications_in, published_in}
 use Rattle.pmp_text.proofs.Meanings.{long_script, with_size}
 

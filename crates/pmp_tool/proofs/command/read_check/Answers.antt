@@ -1,5 +1,4 @@
-use Rattle.std.proofs.Common.{◌≡◌, ◌∙◌, codes, ap, sym, Ok}
-use Rattle.std.proofs.lemmas.Result.{err_from_is_err_and}
+use Rattle.std.proofs.Common.{codes, ap, sym, Ok}
 use Rattle.clap.specs.Words.{first_of, found_of, rows_of}
 use Rattle.pmp_tool.specs.Commands.{check_with}
 use Rattle.pmp_tool.proofs.Matching.{word_is}
