@@ -5,10 +5,12 @@ ghost use Rattle.pmp_share.specs.declared.opening.TheConstants.{CHECKERS};
 
 use crate::count::{begin, end};
 use crate::outcome::{Outcome, Tried, Wrong, answered_if, require};
-use crate::texts::{LAST_ROW, REGISTERS, REPORT, RUNS, SCRIPT, TRACE};
+use crate::texts::{ENTRIES, LAST_ROW, REGISTERS, REPORT, RUNS, SCRIPT, TRACE};
 use crate::worked::{decision_after, page_load};
 use arrayvec::ArrayVec;
-use pmp_audit::{AuditFault, OpenGate, Summary, audit, audit_shared, check, dump, map_of};
+use pmp_audit::{
+    AuditFault, OpenGate, Summary, audit, audit_shared, check, dump, entries_of, map_of,
+};
 use pmp_share::ShareFault;
 use std::alloc::Global;
 use std::sync::Wait;
@@ -23,6 +25,7 @@ pub enum Answering {
     AuditByTwo,
     AuditByEight,
     MapOf,
+    EntriesOf,
     Dump,
 }
 
@@ -52,6 +55,7 @@ impl Answering {
         match self {
             Answering::Check => LAST_ROW,
             Answering::MapOf => RUNS,
+            Answering::EntriesOf => ENTRIES,
             Answering::Dump => REGISTERS,
             _ => REPORT,
         }
@@ -74,6 +78,7 @@ impl Answering {
             Answering::AuditByTwo => audits_by(rt, alloc, 2, output),
             Answering::AuditByEight => audits_by(rt, alloc, 8, output),
             Answering::MapOf => map_of(alloc, SCRIPT, Some(1), output).map(|()| true),
+            Answering::EntriesOf => entries_of(alloc, SCRIPT, Some(1), output).map(|()| true),
             Answering::Dump => dump(alloc, SCRIPT, Some(1), output).map(|()| true),
         }
     }

@@ -21,7 +21,7 @@ pub enum Case {
 }
 
 /// Each case, once.
-pub const CASES: [Case; 22] = [
+pub const CASES: [Case; 24] = [
     Case::Start,
     Case::Share(Sharing::Submit),
     Case::Share(Sharing::Publish),
@@ -37,12 +37,14 @@ pub const CASES: [Case; 22] = [
     Case::Append(Writing::Row),
     Case::Append(Writing::Runs),
     Case::Append(Writing::Registers),
+    Case::Append(Writing::Entries),
     Case::Answer(Answering::Check),
     Case::Answer(Answering::Audit),
     Case::Answer(Answering::AuditByOne),
     Case::Answer(Answering::AuditByTwo),
     Case::Answer(Answering::AuditByEight),
     Case::Answer(Answering::MapOf),
+    Case::Answer(Answering::EntriesOf),
     Case::Answer(Answering::Dump),
 ];
 
@@ -65,12 +67,14 @@ impl Case {
             Case::Append(Writing::Row) => "write_row",
             Case::Append(Writing::Runs) => "write_runs",
             Case::Append(Writing::Registers) => "write_registers",
+            Case::Append(Writing::Entries) => "write_entries",
             Case::Answer(Answering::Check) => "check",
             Case::Answer(Answering::Audit) => "audit",
             Case::Answer(Answering::AuditByOne) => "audit_shared_1",
             Case::Answer(Answering::AuditByTwo) => "audit_shared_2",
             Case::Answer(Answering::AuditByEight) => "audit_shared_8",
             Case::Answer(Answering::MapOf) => "map_of",
+            Case::Answer(Answering::EntriesOf) => "entries_of",
             Case::Answer(Answering::Dump) => "dump",
         }
     }

@@ -29,6 +29,25 @@ pub const RUNS: &[u8] = b"00000000000000,0000007fffffff,-,rwx,---
 00000080001000,ffffffffffffff,-,rwx,---
 ";
 
+/// The entries after the first publication.
+pub const ENTRIES: &[u8] = b"0,napot,00000080000000,00000080000fff,rwx,r--,-,-,
+1,off,-,-,rwx,---,-,-,
+2,off,-,-,rwx,---,-,-,
+3,off,-,-,rwx,---,-,-,
+4,off,-,-,rwx,---,-,-,
+5,off,-,-,rwx,---,-,-,
+6,off,-,-,rwx,---,-,-,
+7,off,-,-,rwx,---,-,-,
+8,off,-,-,rwx,---,-,-,
+9,off,-,-,rwx,---,-,-,
+10,off,-,-,rwx,---,-,-,
+11,off,-,-,rwx,---,-,-,
+12,off,-,-,rwx,---,-,-,
+13,off,-,-,rwx,---,-,-,
+14,off,-,-,rwx,---,-,-,
+15,off,-,-,rwx,---,-,-,
+";
+
 /// The registers after the first publication.
 pub const REGISTERS: &[u8] = b"pmpcfg0 0x0000000000000019
 pmpcfg2 0x0000000000000000

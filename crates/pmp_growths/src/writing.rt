@@ -2,10 +2,11 @@
 
 use crate::count::{begin, end};
 use crate::outcome::{Outcome, Tried, answered_if, require};
-use crate::texts::{LAST_ROW, REGISTERS, RUNS};
+use crate::texts::{ENTRIES, LAST_ROW, REGISTERS, RUNS};
 use crate::worked::{decision_after, file_after, page_load};
+use pmp_core::MAX_ENTRIES;
 use pmp_map::RunMap;
-use pmp_text::{write_registers, write_row, write_runs};
+use pmp_text::{write_entries, write_registers, write_row, write_runs};
 use std::alloc::Global;
 
 /// Which call is tried.
@@ -14,6 +15,7 @@ pub enum Writing {
     Row,
     Runs,
     Registers,
+    Entries,
 }
 
 impl Writing {
@@ -22,6 +24,7 @@ impl Writing {
             Writing::Row => LAST_ROW,
             Writing::Runs => RUNS,
             Writing::Registers => REGISTERS,
+            Writing::Entries => ENTRIES,
         }
     }
 }
@@ -39,6 +42,7 @@ pub fn appends(alloc: Global, case: Writing) -> Tried {
         Writing::Row => write_row(&mut out, 1, &access, &decision_after(2)),
         Writing::Runs => write_runs(&mut out, &file, &map),
         Writing::Registers => write_registers(&mut out, &file),
+        Writing::Entries => write_entries(&mut out, &file, &[None; MAX_ENTRIES]),
     };
     end(alloc)?;
     let added = out.as_slice().strip_prefix(OLD_BYTES);
