@@ -3,6 +3,8 @@
 #![tactic(auto)]
 
 #[cfg(test)]
+mod entry_rows;
+#[cfg(test)]
 mod inputs;
 #[cfg(test)]
 mod maps;
