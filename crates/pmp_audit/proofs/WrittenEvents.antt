@@ -1,18 +1,21 @@
 -- The rows of events, written one by one.
-use Rattle.std.proofs.Common.{◌≡◌, ℕ, suc, ◌+◌, ◌<◌, ◌≤◌, min, List, [], ◌∷◌, ◌++◌, length, map, take, get_or, fold}
+use Rattle.std.proofs.Common.{◌≡◌, ℕ, suc, cond, ◌+◌, ◌<◌, min, List, [], ◌∷◌, ◌++◌, length, map, take, get_or}
 use Rattle.std.proofs.Common.{refl, sym, ap, ◌∙◌, append_assoc, append-nil, arith}
-use Rattle.std.specs.List.{flat_map, range_with_len, slice_index_or, zip}
-use Rattle.std.proofs.lemmas.List.{take_all, take_more, length-append, length-map, get_or-map}
+use Rattle.std.specs.List.{count_by, enumerate_from, flat_map, range_with_len, slice_index_or, zip}
+use Rattle.std.proofs.lemmas.List.{take_all, take_more, take-append-le, length-append, length-map, get_or-map}
 use Rattle.std.proofs.lemmas.List.Concat.{flat_map-append}
+use Rattle.std.proofs.lemmas.List.Sums.{sum_by-cons}
 use Rattle.std.proofs.lemmas.Slice.Zip.{length-zip, get_or-zip}
 use Rattle.pmp_core.specs.declared.event.Event.{Event}
-use Rattle.pmp_core.specs.RegisterFile.{RegisterFile}
+use Rattle.pmp_core.specs.RegisterFile.{RegisterFile, reset_file}
 use Rattle.pmp_core.specs.RegisterWrite.{step}
 use Rattle.pmp_text.specs.Contents.{ScriptContents}
 use Rattle.pmp_text.specs.Effects.{effect_row}
 use Rattle.pmp_text.proofs.Words.{range_more}
-use Rattle.pmp_audit.specs.WriteList.{PlacedEvent, placed, events_of, rows_from}
-use Rattle.pmp_audit.specs.EventRows.{file_left, Written, AreWritten}
+use Rattle.pmp_audit.specs.declared.write_list.WriteSummary.{WriteSummary}
+use Rattle.pmp_audit.specs.WriteList.{PlacedEvent, placed, events_of, file_before, rows_text, is_turned_away}
+use Rattle.pmp_audit.specs.WriteList.{write_summary}
+use Rattle.pmp_audit.specs.EventRows.{file_left, rows_from, turned_from, Written, AreWritten}
 
 pub length-more : {X : Type 0} (xs : List X) (x : X) → length (xs ++ x ∷ []) ≡ length xs + 1
 length-more xs x = omega (arith, length-append xs (x ∷ []))
@@ -39,6 +42,11 @@ left-append : (file : RegisterFile) (xs ys : List PlacedEvent)
 left-append file [] ys = refl
 left-append file (it ∷ xs) ys = left-append (step file it.event) xs ys
 
+turned-append : (file : RegisterFile) (xs ys : List PlacedEvent)
+    → turned_from file (xs ++ ys) ≡ turned_from file xs + turned_from (file_left file xs) ys
+turned-append file [] ys = omega arith
+turned-append file (it ∷ xs) ys = let rest = turned-append (step file it.event) xs ys in omega arith
+
 counted-append : (n : ℕ) (xs ys : List PlacedEvent) → n + length (xs ++ ys) ≡ n + length xs + length ys
 counted-append n [] ys = omega arith
 counted-append n (x ∷ xs) ys = let rest = counted-append n xs ys in omega arith
@@ -48,37 +56,122 @@ nothing_written from = record {
   rows = sym (append-nil from.text);
   file_is = refl;
   counted = omega arith;
+  turned = omega arith;
 }
 
 pub written_then : (from mid to : Written) (xs ys : List PlacedEvent) → AreWritten from mid xs → AreWritten mid to ys
     → AreWritten from to (xs ++ ys)
 written_then from mid to xs ys first second =
-    let number : mid.done + 1 ≡ from.done + 1 + length xs = let c = first.counted in omega arith in
+    let n = from.summary.events + 1 in
+    let number : mid.summary.events + 1 ≡ n + length xs = let c = first.counted in omega arith in
     record {
-      rows = second.rows ∙ ap (λ (l : List ℕ). l ++ rows_from (mid.done + 1) mid.file ys) first.rows
-          ∙ append_assoc from.text (rows_from (from.done + 1) from.file xs) (rows_from (mid.done + 1) mid.file ys)
-          ∙ ap (λ (n : ℕ). from.text ++ (rows_from (from.done + 1) from.file xs ++ rows_from n mid.file ys)) number
-          ∙ ap (λ (file : RegisterFile). from.text ++ (rows_from (from.done + 1) from.file xs
-          ++ rows_from (from.done + 1 + length xs) file ys)) first.file_is
-          ∙ ap (λ (l : List ℕ). from.text ++ l) (sym (rows-append (from.done + 1) from.file xs ys));
+      rows = second.rows ∙ ap (λ (l : List ℕ). l ++ rows_from (mid.summary.events + 1) mid.file ys) first.rows
+          ∙ append_assoc from.text (rows_from n from.file xs) (rows_from (mid.summary.events + 1) mid.file ys)
+          ∙ ap (λ (m : ℕ). from.text ++ (rows_from n from.file xs ++ rows_from m mid.file ys)) number
+          ∙ ap (λ (file : RegisterFile). from.text ++ (rows_from n from.file xs
+          ++ rows_from (n + length xs) file ys)) first.file_is
+          ∙ ap (λ (l : List ℕ). from.text ++ l) (sym (rows-append n from.file xs ys));
       file_is = second.file_is ∙ ap (λ (file : RegisterFile). file_left file ys) first.file_is
           ∙ sym (left-append from.file xs ys);
-      counted = second.counted ∙ ap (λ (n : ℕ). n + length ys) first.counted
-          ∙ sym (counted-append from.done xs ys);
+      counted = second.counted ∙ ap (λ (m : ℕ). m + length ys) first.counted
+          ∙ sym (counted-append from.summary.events xs ys);
+      turned =
+          let one = first.turned in
+          let two = second.turned ∙ ap (λ (file : RegisterFile). mid.summary.turned_away + turned_from file ys)
+          first.file_is in
+          let both = turned-append from.file xs ys in
+          omega arith;
     }
 
 pub one_written : (from to : Written) (it : PlacedEvent)
     → to.text ≡ from.text ++ effect_row (record {
-      number = from.done + 1;
+      number = from.summary.events + 1;
       publication = it.publication;
       line = it.line;
-    }) from.file it.event → to.file ≡ step from.file it.event → to.done ≡ from.done + 1
+    }) from.file it.event → to.file ≡ step from.file it.event → to.summary.events ≡ from.summary.events + 1
+    → to.summary.turned_away ≡ from.summary.turned_away + cond (is_turned_away from.file it.event) 1 0
     → AreWritten from to (it ∷ [])
-one_written from to it row file done = record {
+one_written from to it row file counted turned = record {
   rows = row ∙ ap (λ (l : List ℕ). from.text ++ l) (sym (append-nil _));
   file_is = file;
-  counted = done;
+  counted = counted;
+  turned = turned ∙ ap (λ (m : ℕ). from.summary.turned_away + m) (omega arith);
 }
+
+-- ---- by places
+
+module _ (n : ℕ) where
+  abbrev row_at : List PlacedEvent → (k : ℕ) → PlacedEvent → List ℕ
+  row_at events k it = effect_row (record {
+    number = k + 1;
+    publication = it.publication;
+    line = it.line;
+  }) (file_before n events k) it.event
+
+  there : (before rest : List PlacedEvent) (it : PlacedEvent)
+      → file_before n (before ++ it ∷ rest) (length before) ≡ file_left (reset_file n) before
+  there before rest it =
+      ap (file_left (reset_file n)) (take-append-le (length before) before (it ∷ rest) (omega arith)
+      ∙ take_all (length before) before (omega arith))
+
+  module _ (it : PlacedEvent) (before rest : List PlacedEvent) where
+    moved : (before ++ it ∷ []) ++ rest ≡ before ++ it ∷ rest
+    moved = append_assoc before (it ∷ []) rest
+
+    next_file : file_left (reset_file n) (before ++ it ∷ []) ≡ step (file_left (reset_file n) before) it.event
+    next_file = left-append (reset_file n) before (it ∷ [])
+
+  rows_by_place : (before rest : List PlacedEvent)
+      → flat_map (λ (k, it). row_at (before ++ rest) k it) (enumerate_from (length before) rest)
+      ≡ rows_from (length before + 1) (file_left (reset_file n) before) rest
+  rows_by_place before [] = refl
+  rows_by_place before (it ∷ rest) =
+      let all = before ++ it ∷ rest in
+      let file = file_left (reset_file n) before in
+      let row : RegisterFile → List ℕ = λ f. effect_row (record {
+        number = length before + 1;
+        publication = it.publication;
+        line = it.line;
+      }) f it.event in
+      let tail : flat_map (λ (k, x). row_at all k x) (enumerate_from (length before + 1) rest)
+      ≡ rows_from (length before + 1 + 1) (step file it.event) rest =
+      rw (moved it before rest, length-more before it, next_file it before rest) at
+      (rows_by_place (before ++ it ∷ []) rest) in
+      ap (λ (f : RegisterFile). row f
+      ++ flat_map (λ (k, x). row_at all k x) (enumerate_from (length before + 1) rest)) (there before rest it)
+      ∙ ap (λ (l : List ℕ). row file ++ l) tail
+
+  turned_by_place : (before rest : List PlacedEvent)
+      → count_by (λ (k, it). is_turned_away (file_before n (before ++ rest) k) it.event)
+      (enumerate_from (length before) rest)
+      ≡ turned_from (file_left (reset_file n) before) rest
+  turned_by_place before [] = refl
+  turned_by_place before (it ∷ rest) =
+      let all = before ++ it ∷ rest in
+      let file = file_left (reset_file n) before in
+      let more = count_by (λ (k, x). is_turned_away (file_before n all k) x.event)
+      (enumerate_from (length before + 1) rest) in
+      let tail : more ≡ turned_from (step file it.event) rest =
+      rw (moved it before rest, length-more before it, next_file it before rest) at
+      (turned_by_place (before ++ it ∷ []) rest) in
+      sum_by-cons (λ (k, x). cond (is_turned_away (file_before n all k) x.event) 1 0)
+      (length before, it) (enumerate_from (length before + 1) rest)
+      ∙ ap (λ (f : RegisterFile). cond (is_turned_away f it.event) 1 0 + more) (there before rest it)
+      ∙ ap (λ (m : ℕ). cond (is_turned_away file it.event) 1 0 + m) tail
+
+  pub rows_all : (events : List PlacedEvent) → rows_from 1 (reset_file n) events ≡ rows_text n events
+  unfolding rows_text
+  rows_all events = sym (rows_by_place [] events)
+
+  pub summary_all : (events : List PlacedEvent) (summary : WriteSummary) → summary.events ≡ 0 + length events
+      → summary.turned_away ≡ 0 + turned_from (reset_file n) events → summary ≡ write_summary n events
+  unfolding write_summary
+  summary_all events summary all_counted all_turned =
+      let counted : summary.events ≡ length events = omega arith in
+      let turned : summary.turned_away ≡ turned_from (reset_file n) events = omega arith in
+      ap (λ (m : ℕ). record { events = m; turned_away = summary.turned_away }) counted
+      ∙ ap (λ (m : ℕ). record { events = length events; turned_away = m })
+      (turned ∙ sym (turned_by_place [] events))
 
 -- ---- the events of a publication
 

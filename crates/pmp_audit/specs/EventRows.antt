@@ -1,21 +1,37 @@
 -- The rows of events while they are written.
-use Rattle.std.specs.Prelude.{◌≡◌, ℕ, ◌+◌, List, ◌++◌, length, fold, map}
+use Rattle.std.specs.Prelude.{◌≡◌, ℕ, ◌+◌, List, [], ◌∷◌, ◌++◌, length, fold, map, if◌then◌else◌}
 use Rattle.pmp_core.specs.RegisterFile.{RegisterFile}
 use Rattle.pmp_core.specs.RegisterWrite.{step}
-use Rattle.pmp_audit.specs.WriteList.{PlacedEvent, rows_from}
+use Rattle.pmp_text.specs.Effects.{effect_row}
+use Rattle.pmp_audit.specs.declared.write_list.WriteSummary.{WriteSummary}
+use Rattle.pmp_audit.specs.WriteList.{PlacedEvent, is_turned_away}
 
 -- the file that events leave
 abbrev pub file_left : RegisterFile → List PlacedEvent → RegisterFile
 file_left file events = fold step file (map (λ it. it.event) events)
 
--- a text, a register file, and how many events are done
+-- the rows of events from this number on, from this file on
+abbrev pub rows_from : (number : ℕ) → RegisterFile → List PlacedEvent → List ℕ
+rows_from number file [] = []
+rows_from number file (it ∷ rest) =
+    effect_row (record { number = number; publication = it.publication; line = it.line }) file it.event
+    ++ rows_from (number + 1) (step file it.event) rest
+
+-- how many of them are turned away
+abbrev pub turned_from : RegisterFile → List PlacedEvent → ℕ
+turned_from file [] = 0
+turned_from file (it ∷ rest) =
+    (if is_turned_away file it.event then 1 else 0) + turned_from (step file it.event) rest
+
+-- a text, a register file, and what was counted
 pub record Written : Type 0 where
   pub text : List ℕ
   pub file : RegisterFile
-  pub done : ℕ
+  pub summary : WriteSummary
 
--- these events were done from here to there, and their rows joined the text
+-- these events were done from here to there and counted, and their rows joined the text
 pub record AreWritten (from to : Written) (events : List PlacedEvent) : Type 0 where
-  pub rows : to.text ≡ from.text ++ rows_from (from.done + 1) from.file events
+  pub rows : to.text ≡ from.text ++ rows_from (from.summary.events + 1) from.file events
   pub file_is : to.file ≡ file_left from.file events
-  pub counted : to.done ≡ from.done + length events
+  pub counted : to.summary.events ≡ from.summary.events + length events
+  pub turned : to.summary.turned_away ≡ from.summary.turned_away + turned_from from.file events

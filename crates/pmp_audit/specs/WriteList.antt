@@ -1,15 +1,19 @@
 -- What is said of a script's events, and when that is refused.
-use Rattle.std.specs.Prelude.{◌≡◌, ℕ, ◌+◌, List, [], ◌∷◌, ◌++◌, length, map, Ok, Err}
-use Rattle.std.specs.List.{flat_map, range_with_len, slice_index_or, zip}
+use Rattle.std.specs.Prelude.{◌≡◌, ℕ, ◌+◌, ◌==◌, Bool, false, not, List, [], length, map, take, count_by, Ok, Err}
+use Rattle.std.specs.List.{enumerate_from, flat_map, range_with_len, slice_index_or, zip}
 use Rattle.pmp_core.specs.declared.event.Event.{Event}
-use Rattle.pmp_core.specs.RegisterFile.{RegisterFile, reset_file}
-use Rattle.pmp_core.specs.RegisterWrite.{step}
+use Rattle.pmp_core.specs.declared.event.Event.TheVariants.{Write, Reset}
+use Rattle.pmp_core.specs.Histories.{replay}
+use Rattle.pmp_core.specs.RegisterFile.{RegisterFile}
+use Rattle.pmp_core.specs.RegisterValue.{register_value}
+use Rattle.pmp_core.specs.RegisterWrite.{written}
 use Rattle.pmp_core.specs.Size.{count_of}
 use Rattle.pmp_text.specs.Contents.{ScriptContents}
 use Rattle.pmp_text.specs.Effects.{effect_row}
 use Rattle.pmp_text.specs.Scripts.{script_meaning}
 use Rattle.pmp_audit.specs.declared.fault.AuditFault.{AuditFault}
 use Rattle.pmp_audit.specs.declared.fault.AuditFault.TheVariants.{Script}
+use Rattle.pmp_audit.specs.declared.write_list.WriteSummary.{WriteSummary}
 
 -- an event of a script, with the number of its publication and that of its line
 pub record PlacedEvent : Type 0 where
@@ -28,22 +32,38 @@ events_of script count =
     flat_map (λ index. placed (index + 1) (slice_index_or script.lines index []) (slice_index_or script.batches index []))
     (range_with_len 0 count)
 
--- the rows of events from this number on, each in the file that those before it leave
-abbrev pub rows_from : (number : ℕ) → RegisterFile → List PlacedEvent → List ℕ
-rows_from number file [] = []
-rows_from number file (it ∷ rest) =
-    effect_row (record { number = number; publication = it.publication; line = it.line }) file it.event
-    ++ rows_from (number + 1) (step file it.event) rest
+-- the events of all publications
+abbrev pub placed_events : ScriptContents → List PlacedEvent
+placed_events script = events_of script (length script.batches)
 
--- a row for each event, numbered from 1, from reset on
-abbrev pub writes_text : ScriptContents → List ℕ
-writes_text script = rows_from 1 (reset_file (count_of script.size)) (events_of script (length script.batches))
+-- the register file that the first k of these events leave
+abbrev pub file_before : (n : ℕ) → List PlacedEvent → (k : ℕ) → RegisterFile
+file_before n events k = replay n (map (λ it. it.event) (take k events))
 
--- the script means this, and the text has a row for each of its events
-pub record WritesSay (script : List ℕ) (answer : Unit {0}) (text : List ℕ) : Type 0 where
+-- a row for each event, numbered from 1, in the file that the events before it leave
+unfoldable pub rows_text : (n : ℕ) → List PlacedEvent → List ℕ
+rows_text n events = flat_map (λ (k, it).
+    effect_row (record { number = k + 1; publication = it.publication; line = it.line }) (file_before n events k) it.event)
+    (enumerate_from 0 events)
+
+-- a write that isn't stored as written, so that it has a reason
+abbrev pub is_turned_away : RegisterFile → Event → Bool
+is_turned_away file (Write csr value) = not (register_value (written file csr value) csr == value)
+is_turned_away file Reset = false
+
+-- how many events there are, and how many of them are such writes
+unfoldable pub write_summary : (n : ℕ) → List PlacedEvent → WriteSummary
+write_summary n events = record {
+  events = length events;
+  turned_away = count_by (λ (k, it). is_turned_away (file_before n events k) it.event) (enumerate_from 0 events);
+}
+
+-- the script means this, the text has a row for each of its events, and they are counted
+pub record WritesSay (script : List ℕ) (summary : WriteSummary) (text : List ℕ) : Type 0 where
   pub contents : ScriptContents
   pub script_means : script_meaning script ≡ Ok contents
-  pub rows : text ≡ writes_text contents
+  pub rows : text ≡ rows_text (count_of contents.size) (placed_events contents)
+  pub counted : summary ≡ write_summary (count_of contents.size) (placed_events contents)
 
 -- the script's own fault
 abbrev pub WritesRefuse : (script : List ℕ) → AuditFault → Type 0

@@ -1,11 +1,13 @@
 //! What each event of a script does to a register.
 
-ghost use Rattle.std.specs.Prelude.{◌≡◌, ◌+◌, ◌^◌, ◌<◌, ◌≤◌, IfOk, IfErr, OnOk, ◌++◌, length};
+ghost use Rattle.std.specs.Prelude.{◌≡◌, ◌+◌, ◌^◌, ◌<◌, ◌≤◌, IfOk, IfErr, ◌++◌, length, if◌then◌else◌};
+ghost use Rattle.pmp_core.specs.Size.{count_of};
 ghost use Rattle.pmp_text.specs.Limits.{script_limit};
 ghost use Rattle.pmp_text.specs.Sizes.{script_size};
 ghost use Rattle.pmp_audit.specs.Answers.{IsWritten, IsRefused};
 ghost use Rattle.pmp_audit.specs.EventRows.{AreWritten};
-ghost use Rattle.pmp_audit.specs.WriteList.{placed, writes_text, WritesSay, WritesRefuse};
+ghost use Rattle.pmp_audit.specs.WriteList.{placed, placed_events, rows_text, is_turned_away, write_summary};
+ghost use Rattle.pmp_audit.specs.WriteList.{WritesSay, WritesRefuse};
 
 use crate::answer::write_answer;
 use crate::fault::AuditFault;
@@ -15,11 +17,22 @@ use pmp_text::{EventPlace, NoMemory, Script, read_script, write_effect};
 use std::alloc::Global;
 use std::io::Write;
 
+/// How many events a script has, and how many of them are writes that the register doesn't read as they were written.
+#[derive(Clone, Copy, Debug, Default, PartialEq, Eq)]
+pub struct WriteSummary {
+    pub events: u64,
+    pub turned_away: u64,
+}
+
 /// Writes a row for each event of the script, in their order: what it wrote, what the register read before and after,
 /// and why that isn't what was written.
 ///
 /// The text is whole before its first byte is written, so every refusal but `Output` leaves the output untouched.
-pub fn writes<W: Write>(alloc: Global, script: &[u8], writer: &mut W) -> Result<(), AuditFault>
+pub fn writes<W: Write>(
+    alloc: Global,
+    script: &[u8],
+    writer: &mut W,
+) -> Result<WriteSummary, AuditFault>
     ensures ok { IfOk result
         (IsWritten (WritesSay script.now) (W.contents writer.old) (W.contents writer.new)) }
     ensures err { IfErr result
@@ -29,50 +42,86 @@ pub fn writes<W: Write>(alloc: Global, script: &[u8], writer: &mut W) -> Result<
     let script = read_script(alloc, script)?;
     law_script_size();
     let mut text = Vec::new(alloc);
-    write_events(&mut text, &script)?;
-    write_answer(writer, &text, ())
+    let summary = write_events(&mut text, &script)?;
+    write_answer(writer, &text, summary)
 }
 
 /// Appends the rows of all events.
-fn write_events(out: &mut Vec<u8>, script: &Script) -> Result<(), NoMemory>
+fn write_events(out: &mut Vec<u8>, script: &Script) -> Result<WriteSummary, NoMemory>
     requires { script_size script.now.batches ≤ script_limit }
-    ensures { OnOk result (out.new.items ≡ out.old.items ++ writes_text script.now) }
+    ensures rows { IfOk result (λ _. out.new.items ≡ out.old.items
+        ++ rows_text (count_of script.now.size) (placed_events script.now)) }
+    ensures counted { IfOk result
+        (λ summary. summary ≡ write_summary (count_of script.now.size) (placed_events script.now)) }
 {
     let mut file = RegFile::reset_of(script.size());
-    let mut done = 0;
+    let mut summary = WriteSummary::default();
     for index in 0..script.batches() {
         let lines = script.lines(index);
-        done = write_publication(out, &mut file, done, index + 1, lines, script.batch(index))?;
+        let events = script.batch(index);
+        summary = write_publication(out, &mut file, summary, index + 1, lines, events)?;
     }
-    Ok(())
+    Ok(summary)
 }
 
-/// Appends the rows of a publication's events, and does them. So many events stand before them, and the answer is how
-/// many there are then.
+/// Appends the rows of a publication's events, and does them. What stands before them is counted already.
 fn write_publication(
     out: &mut Vec<u8>,
     file: &mut RegFile,
-    done: u64,
+    before: WriteSummary,
     publication: u64,
     lines: &[u64],
     events: &[Event],
-) -> Result<u64, NoMemory>
-    requires { done + length events.now < 2 ^ 64 }
-    ensures { IfOk result (λ after. AreWritten
-        (record { text = out.old.items; file = file.old; done = done })
-        (record { text = out.new.items; file = file.new; done = after })
+) -> Result<WriteSummary, NoMemory>
+    requires room { before.events + length events.now < 2 ^ 64 }
+    requires within { before.turned_away ≤ before.events }
+    ensures written { IfOk result (λ after. AreWritten
+        (record { text = out.old.items; file = file.old; summary = before })
+        (record { text = out.new.items; file = file.new; summary = after })
         (placed publication lines.now events.now)) }
+    ensures within { IfOk result (λ after. after.turned_away ≤ after.events) }
 {
-    let mut number = done;
+    let mut summary = before;
     for (line, event) in lines.iter().zip(events) {
-        number += 1;
+        summary.count(file, *event);
         let place = EventPlace {
-            number,
+            number: summary.events,
             publication,
             line: *line,
         };
         write_effect(out, &place, file, *event)?;
         file.step(*event);
     }
-    Ok(number)
+    Ok(summary)
+}
+
+/// Whether the event is a write that the register doesn't read then.
+fn is_turned_away(file: &RegFile, event: Event) -> bool
+    ensures { result ≡ is_turned_away file.now event }
+{
+    match event {
+        Event::Write(csr, value) => {
+            let mut after = *file;
+            after.step(event);
+            after.read(csr) != value
+        }
+        Event::Reset => false,
+    }
+}
+
+impl WriteSummary {
+    /// One more event, which comes to this file.
+    fn count(&mut self, file: &RegFile, event: Event)
+        requires room { self.old.events + 1 < 2 ^ 64 }
+        requires within { self.old.turned_away ≤ self.old.events }
+        ensures events { self.new.events ≡ self.old.events + 1 }
+        ensures turned_away { self.new.turned_away
+            ≡ self.old.turned_away + (if is_turned_away file.now event then 1 else 0) }
+        ensures within { self.new.turned_away ≤ self.new.events }
+    {
+        self.events += 1;
+        if is_turned_away(file, event) {
+            self.turned_away += 1;
+        }
+    }
 }

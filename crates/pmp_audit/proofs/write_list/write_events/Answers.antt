@@ -1,16 +1,35 @@
-use Rattle.std.proofs.Common.{◌+◌, arith}
-use Rattle.pmp_audit.proofs.WrittenEvents.{length-placed, events_more, written_then}
+use Rattle.std.proofs.Common.{◌≡◌, ◌+◌, ◌++◌, ℕ, List, length, ap, ◌∙◌, arith}
+use Rattle.pmp_core.specs.Size.{count_of}
+use Rattle.pmp_audit.specs.WriteList.{placed_events}
+use Rattle.pmp_audit.proofs.WrittenEvents.{length-placed, events_more, written_then, rows_all, summary_all}
 use Rattle.pmp_audit.proofs.write_list.write_events.Goals as goal
 
 pub loop-index-preserved : goal.loop-index-preserved
 loop-index-preserved c =
     let index = c.loop-index.index in
-    let written = c.in_ok-done.ensures in
+    let written = c.in_ok-summary.ensures.written in
     let counted = written.counted in
-    let count = length-placed (index + 1) c.lines-lines.result.now c.batch.result.now in
-    let limit = c.batch.ensures.limit in
+    let count = length-placed (index + 1) c.lines-lines.result.now c.batch-events.result.now in
+    let limit = c.batch-events.ensures.limit in
     record {
       written = rw (events_more c.args.script.now index) (written_then _ _ _ _ _ c.loop-index.invariant.written
-          (rw (c.lines-lines.ensures, c.batch.ensures.events) at written));
+          (rw (c.lines-lines.ensures, c.batch-events.ensures.events) at written));
       few = omega arith;
+      within = c.in_ok-summary.ensures.within;
     }
+
+pub returns-clause-rows : goal.returns-clause-rows
+returns-clause-rows c =
+    let all : c.loop-index.index ≡ length c.args.script.now.batches =
+    omega (arith, c.batches-index-end.ensures) in
+    (rw all at c.loop-index.invariant.written.rows)
+    ∙ ap (λ (l : List ℕ). c.args.out.now.items ++ l)
+    (rows_all (count_of c.args.script.now.size) (placed_events c.args.script.now))
+
+pub returns-clause-counted : goal.returns-clause-counted
+returns-clause-counted c =
+    let all : c.loop-index.index ≡ length c.args.script.now.batches =
+    omega (arith, c.batches-index-end.ensures) in
+    let written = rw all at c.loop-index.invariant.written in
+    summary_all (count_of c.args.script.now.size) (placed_events c.args.script.now) c.loop-index.summary
+    written.counted written.turned

@@ -1,4 +1,4 @@
-use Rattle.std.proofs.Common.{◌≡◌, ◌*◌, ◌≤◌}
+use Rattle.std.proofs.Common.{◌*◌, ◌≤◌}
 use Rattle.pmp_core.specs.RegisterFile.{reset_file}
 use Rattle.pmp_core.specs.Size.{count_of}
 use Rattle.pmp_audit.specs.EventRows.{AreWritten}
@@ -9,8 +9,13 @@ use Rattle.pmp_audit.proofs.write_list.write_events.Given as goal
 abbrev pub invariant-loop-index : goal.invariant-loop-index
 invariant-loop-index l = record {
   written : AreWritten
-      (record { text = l.initial.out.items; file = reset_file (count_of l.script.size); done = 0 })
-      (record { text = l.out.items; file = l.file; done = l.done })
+      (record {
+        text = l.initial.out.items;
+        file = reset_file (count_of l.script.size);
+        summary = record { events = 0; turned_away = 0 };
+      })
+      (record { text = l.out.items; file = l.file; summary = l.summary })
       (events_of l.script l.index);
-  few : l.done ≤ 64 * l.index;
+  few : l.summary.events ≤ 64 * l.index;
+  within : l.summary.turned_away ≤ l.summary.events;
 }

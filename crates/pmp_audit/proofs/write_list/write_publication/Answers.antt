@@ -1,4 +1,4 @@
-use Rattle.std.proofs.Common.{◌+◌, ◌++◌, length, take, refl}
+use Rattle.std.proofs.Common.{length}
 use Rattle.std.proofs.lemmas.Slice.Zip.{zip_turn, zip_end}
 use Rattle.pmp_audit.proofs.WrittenEvents.{length-more, placed_more, all_placed, one_written, written_then}
 use Rattle.pmp_audit.proofs.write_list.write_publication.Goals as goal
@@ -13,15 +13,19 @@ loop-line-preserved c =
     c.loop-line.yielded_by (c.in-Some.line, c.in-Some.event) c.in-Some.is c.next.ensures.steps in
     let more = placed_more c.args.publication c.args.lines.now c.args.events.now (length done) c.in-Some.line.now
     c.in-Some.event.now turn.0 turn.1 turn.2 turn.3 in
-    rw (length-more, more) (written_then _ _ _ _ _ c.loop-line.invariant
-    (one_written _ _ _ c.in_ok-write_effect.ensures.ok c.step.ensures.step refl))
+    record {
+      written = rw (length-more, more) (written_then _ _ _ _ _ c.loop-line.invariant.written
+          (one_written _ _ _ (rw c.count.ensures.events at c.in_ok-write_effect.ensures.ok) c.step.ensures.step
+          c.count.ensures.events c.count.ensures.turned_away));
+      within = c.count.ensures.within;
+    }
 
-pub returns : goal.returns
-returns c =
+pub returns-clause-written : goal.returns-clause-written
+returns-clause-written c =
     let end = zip_end c.args.lines.now c.args.events.now c.loop-line.yielded c.into_iter-line-iterator.result
     c.loop-line.line-iterator c.next.new.self c.next.result
     (rw (c.into_iter-line-iterator.ensures.into_iter_gives, c.zip-line-items.ensures.first) c.iter.ensures.rest)
     (rw c.into_iter-line-iterator.ensures.into_iter_gives c.zip-line-items.ensures.second.0)
     c.loop-line.yielded_by c.in-None.is c.next.ensures.steps in
     rw (all_placed c.args.publication c.args.lines.now c.args.events.now (length c.loop-line.yielded) end) at
-    c.loop-line.invariant
+    c.loop-line.invariant.written
