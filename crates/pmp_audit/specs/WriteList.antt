@@ -29,7 +29,8 @@ placed publication lines events =
 -- the events of the first publications, which are numbered from 1
 abbrev pub events_of : ScriptContents → (count : ℕ) → List PlacedEvent
 events_of script count =
-    flat_map (λ index. placed (index + 1) (slice_index_or script.lines index []) (slice_index_or script.batches index []))
+    flat_map (λ index.
+    placed (index + 1) (slice_index_or script.lines index []) (slice_index_or script.batches index []))
     (range_with_len 0 count)
 
 -- the events of all publications
@@ -42,8 +43,10 @@ file_before n events k = replay n (map (λ it. it.event) (take k events))
 
 -- a row for each event, numbered from 1, in the file that the events before it leave
 unfoldable pub rows_text : (n : ℕ) → List PlacedEvent → List ℕ
-rows_text n events = flat_map (λ (k, it).
-    effect_row (record { number = k + 1; publication = it.publication; line = it.line }) (file_before n events k) it.event)
+rows_text n events =
+    flat_map (λ (k, it).
+    effect_row (record { number = k + 1; publication = it.publication; line = it.line })
+    (file_before n events k) it.event)
     (enumerate_from 0 events)
 
 -- a write that isn't stored as written, so that it has a reason
