@@ -27,9 +27,7 @@ use crate::rights::{default_rights_by, rule_rights};
 use crate::size::{MAX_ENTRIES, Size};
 use crate::span::{Span, span_in};
 use crate::write_reasons::WriteReason;
-use crate::{
-    decision_by_ranges, register_value, register_write, storage, write_reasons,
-};
+use crate::{decision_by_ranges, register_value, register_write, storage, write_reasons};
 use std::marker::Model;
 
 /// How many entries a unit of `Size::Sixteen` has.

@@ -74,7 +74,12 @@ fn of_file<'a>(
 }
 
 /// A command of a script: `name SCRIPT`.
-fn of_script<'a>(alloc: Global, name: &'a str, about: &'a str, more: &'a str) -> Result<Command<'a>, AllocError>
+fn of_script<'a>(
+    alloc: Global,
+    name: &'a str,
+    about: &'a str,
+    more: &'a str,
+) -> Result<Command<'a>, AllocError>
     ensures { IfOk result (λ command. IsCommand command (script_app name.entry.now)) }
 {
     let command = named(alloc, name, about, more);

@@ -16,8 +16,10 @@ use crate::command::{Command, Request, read_command};
 use crate::command_line::parse_words;
 use crate::failure::Failure;
 use crate::inputs::Inputs;
-use pmp_audit::{AuditFault, OpenGate, Summary, WriteSummary};
-use pmp_audit::{audit, audit_shared, check, dump, entries_of, map_of, writes};
+use pmp_audit::{
+    AuditFault, OpenGate, Summary, WriteSummary, audit, audit_shared, check, dump, entries_of,
+    map_of, writes,
+};
 use pmp_core::Decision;
 use pmp_text::write_out;
 use std::alloc::Global;

@@ -271,9 +271,18 @@ fn after_the_first_publications(rt: HostRuntime) -> Result<(), Fail> {
     }
     // All words are read before the access is made, and that before the script is asked.
     for (words, line) in [
-        ("check table U load 0 4 --after 3", "pmp: refused 22 BadAfter"),
-        ("check table U load 0 0 --after 3", "pmp: refused 3 BadLength"),
-        ("check table U load 0 0 --after x", "pmp: refused 24 BadWord"),
+        (
+            "check table U load 0 4 --after 3",
+            "pmp: refused 22 BadAfter",
+        ),
+        (
+            "check table U load 0 0 --after 3",
+            "pmp: refused 3 BadLength",
+        ),
+        (
+            "check table U load 0 0 --after x",
+            "pmp: refused 24 BadWord",
+        ),
     ] {
         assert_refused(&rt, SCRIPT.as_bytes(), words, line, 2)?;
     }

@@ -22,7 +22,8 @@ fn assert_entries<R: Abort + AllocGlobal + Threads + Wait + Sync>(
 }
 
 /// A locked TOR entry 1, whose low end is entry 0's address; the bypass; and a reset.
-const LOCKS: &str = "pmp 1\nwrite pmpaddr0 0x10\nwrite pmpaddr1 0x20\nwrite pmpcfg0 0x8900\npublish\npublish\n\
+const LOCKS: &str =
+    "pmp 1\nwrite pmpaddr0 0x10\nwrite pmpaddr1 0x20\nwrite pmpcfg0 0x8900\npublish\npublish\n\
     reset\npublish\nwrite mseccfg 4\nwrite pmpaddr1 0x20\nwrite pmpcfg0 0x8900\npublish\nwrite mseccfg 0\npublish\n";
 
 #[test]
@@ -33,7 +34,8 @@ fn locks_and_since_when(rt: HostRuntime) -> Result<(), Fail> {
     assert_entries(&rt, LOCKS, "entries table --after 2", locked, 16)?;
     let reset = "0,off,-,-,rwx,---,-,-,\n1,off,-,-,rwx,---,-,-,\n";
     assert_entries(&rt, LOCKS, "entries table --after 3", reset, 16)?;
-    let bypassed = "0,off,-,-,rwx,---,-,-,\n1,tor,00000000000000,0000000000007f,r--,r--,bypassed,-,\n";
+    let bypassed =
+        "0,off,-,-,rwx,---,-,-,\n1,tor,00000000000000,0000000000007f,r--,r--,bypassed,-,\n";
     assert_entries(&rt, LOCKS, "entries table --after 4", bypassed, 16)?;
     let again = "0,off,-,-,rwx,---,-,locked,\n\
         1,tor,00000000000000,0000000000007f,r--,r--,locked,locked,5\n";
