@@ -20,7 +20,8 @@ use Rattle.pmp_text.specs.Contents.{Publications}
 use Rattle.pmp_text.specs.Statements.{statement_of}
 use Rattle.pmp_text.specs.Scripts.{Line, at_line, counted, open_events, statement_fault, first_fault, event_of}
 use Rattle.pmp_text.specs.Scripts.{event_in, event_line_of}
-use Rattle.pmp_text.specs.Scripts.{publishes, is_publish, but_last, last_piece, fault_or_publications, size_of_version, size_named}
+use Rattle.pmp_text.specs.Scripts.{publishes, is_publish, but_last, last_piece, fault_or_publications, size_of_version}
+use Rattle.pmp_text.specs.Scripts.{size_named}
 use Rattle.pmp_text.specs.Scripts.{significant_lines, for_unit, meaning_behind, lines_meaning, script_meaning}
 use Rattle.pmp_text.specs.Scripts.{publications, first_unpublished}
 use Rattle.pmp_text.specs.Steps.Progress.{Progress, longer, nothing_read, published, after_statement, all_published}

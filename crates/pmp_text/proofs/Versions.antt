@@ -20,7 +20,8 @@ use Rattle.pmp_text.specs.Limits.{script_limit}
 use Rattle.pmp_text.specs.Lines.{words, lines}
 use Rattle.pmp_text.specs.Reports.{AreDecided, IsReport}
 use Rattle.pmp_text.specs.Scripts.{Line, at_line, counts, numbered_from, significant_from, significant_lines}
-use Rattle.pmp_text.specs.Scripts.{first_fault, first_unpublished, publications, fault_or_publications, size_named, for_unit}
+use Rattle.pmp_text.specs.Scripts.{first_fault, first_unpublished, publications, fault_or_publications, size_named}
+use Rattle.pmp_text.specs.Scripts.{for_unit}
 use Rattle.pmp_text.specs.Scripts.{meaning_behind, lines_meaning, script_meaning}
 use Rattle.pmp_text.specs.Steps.Progress.{nothing_read, resumed}
 use Rattle.pmp_text.specs.Versions.{is_version_one, lines_meaning_in_one, meaning_in_one}
@@ -198,7 +199,8 @@ module _ (law : SizeLaw) (batches : List (List Event)) (lines : List (List ℕ))
       let alike = law (joined (take row.after batches)) row.access (fewer_events batches row.after all) in
       ((alike.by_bytes decision).1 decided.0, decided_in_one rows decisions decided.1)
 
-  reports_alike : (trace text : List ℕ) → IsReport (of_size Sixteen) trace text ↔ IsReport (of_size SixtyFour) trace text
+  reports_alike : (trace text : List ℕ)
+      → IsReport (of_size Sixteen) trace text ↔ IsReport (of_size SixtyFour) trace text
   reports_alike trace text = (
     (λ said. record {
       rows = said.rows;

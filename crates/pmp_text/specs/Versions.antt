@@ -13,7 +13,8 @@ use Rattle.pmp_text.specs.Contents.{Publications, ScriptContents}
 use Rattle.pmp_text.specs.Limits.{script_limit}
 use Rattle.pmp_text.specs.Lines.{words, lines}
 use Rattle.pmp_text.specs.Reports.{IsReport, file_of_script}
-use Rattle.pmp_text.specs.Scripts.{Line, at_line, counts, significant_lines, first_fault, first_unpublished, publications}
+use Rattle.pmp_text.specs.Scripts.{Line, at_line, counts, significant_lines, first_fault, first_unpublished}
+use Rattle.pmp_text.specs.Scripts.{publications}
 use Rattle.pmp_text.specs.Scripts.{fault_or_publications, for_unit, script_meaning}
 
 -- ---- version 1

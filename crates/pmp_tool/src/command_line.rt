@@ -4,7 +4,8 @@ ghost use Rattle.std.specs.Prelude.{◌≡◌, map, false, IfOk, IfErr, string_b
 ghost use Rattle.clap.specs.Words.{HasKind, app_of, fault_of, new_app, rule_of};
 ghost use Rattle.pmp_tool.specs.Building.{Changes, IsCommand, IsLocal, IsTaken};
 ghost use Rattle.pmp_tool.specs.CommandLines.{after_rule, audit_app, check_app, checkers_rule, file_app};
-ghost use Rattle.pmp_tool.specs.CommandLines.{pmp_app, script_app, top_app, with_after, with_checkers, with_command, with_word};
+ghost use Rattle.pmp_tool.specs.CommandLines.{pmp_app, script_app, top_app, with_after, with_checkers, with_command};
+ghost use Rattle.pmp_tool.specs.CommandLines.{with_word};
 ghost use Rattle.pmp_tool.specs.CommandLines.{word_rule};
 
 use crate::help;

@@ -26,7 +26,8 @@ returns-in_err-decision-in-Check-clause-err g c =
     let script = c.in_ok-script.script.items in
     let refused = rw c.deref.ensures.value at c.in_err-decision-in-Check.ensures.err in
     rw (p.1, p.2)
-    (not_answered _ _ c.args.command script c.in_ok-script.ensures.read (Check c.in-Check.access c.in-Check.after) c.in-Check.is _ _
+    (not_answered _ _ c.args.command script c.in_ok-script.ensures.read
+    (Check c.in-Check.access c.in-Check.after) c.in-Check.is _ _
     Decided (CheckSays script c.in-Check.access c.in-Check.after) (λ decision text says. says)
     (FileRefuses script c.in-Check.after)
     (λ fault refuses. refuses) c.in_err-decision-in-Check.field-0.0 refused)
@@ -85,7 +86,8 @@ returns-in_err-entries_of-in-Entries-clause-err g c =
     let refused = rw c.deref-in-Entries.ensures.value at c.in_err-entries_of-in-Entries.ensures.err in
     rw (p.1, p.2)
     (not_answered _ _ c.args.command script c.in_ok-script.ensures.read (Entries c.in-Entries.after) c.in-Entries.is _ _
-    (λ _. Listed) (EntriesSay script c.in-Entries.after) (λ done text says. says) (FileRefuses script c.in-Entries.after)
+    (λ _. Listed) (EntriesSay script c.in-Entries.after) (λ done text says. says)
+    (FileRefuses script c.in-Entries.after)
     (λ fault refuses. refuses) c.in_err-entries_of-in-Entries.field-0.0 refused)
 
 pub returns-in_err-summary-in-Writes-clause-err : goal.returns-in_err-summary-in-Writes-clause-err
