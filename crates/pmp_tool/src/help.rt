@@ -149,7 +149,7 @@ Exit status:
   3  no answer: memory, the script's input or the output failed
 
 Example:
-  printf 'pmp 1\nwrite pmpcfg0 0x98\npublish\n' | pmp entries stdin
+  printf 'pmp 1\\nwrite pmpcfg0 0x98\\npublish\\n' | pmp entries stdin
   It answers 0,napot,00000000000000,00000000000007,---,---,locked,locked,1
 
 docs/FORMATS.md describes scripts, the entry lines, and every refusal with its
@@ -182,7 +182,7 @@ Exit status:
   3  no answer: memory, the script's input or the output failed
 
 Example:
-  printf 'pmp 1\nwrite mseccfg 8\npublish\n' | pmp writes stdin
+  printf 'pmp 1\\nwrite mseccfg 8\\npublish\\n' | pmp writes stdin
   It answers 1,1,2,mseccfg,0x0000000000000008,0x0000000000000000,0x0000000000000000,kept,bits,
 
 docs/FORMATS.md describes scripts, the event rows, and every refusal with its
