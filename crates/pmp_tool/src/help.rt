@@ -135,11 +135,11 @@ ENTRY,MATCHING,FIRST,LAST,MRIGHTS,SURIGHTS,LOCK,ADDRESS,SINCE.
               hexadecimal digits, or - and - where it matches none
   MRIGHTS     what machine mode may do where it decides: r, w and x, or -
   SURIGHTS    the same for supervisor and user mode
-  LOCK        locked where its lock bit is set; bypassed where the bit is set and
-              rule-locking bypass is on; else -
+  LOCK        locked where its lock bit is set and rule-locking bypass is off;
+              bypassed where both are on; else -
   ADDRESS     locked where its address register takes no write; else -
-  SINCE       where it is locked, the least number of publications after which it
-              was, with no reset behind them
+  SINCE       where LOCK is locked, the least number of publications after which
+              it was, with no reset behind them
 A locked entry keeps its configuration and its bytes through every later list of
 writes, until a reset.
 
@@ -170,9 +170,10 @@ N,PUBLICATION,LINE,REGISTER,WRITTEN,BEFORE,AFTER,EFFECT,REASONS,ENTRIES.
     tor       it would change the low end of a locked entry's range
     reserved  it has W without R, without machine-mode lockdown
     lockdown  it would add a rule by which machine mode executes, under lockdown
+              without rule-locking bypass
     sticky    it would clear lockdown or the allow-list policy
     bypass    it would set rule-locking bypass, and an entry is locked
-  ENTRIES     the entries that are a reason
+  ENTRIES     the entries for which locked, tor, reserved or lockdown holds
 A reset has the word reset for REGISTER and EFFECT.
 
 Exit status:
