@@ -1,4 +1,5 @@
-//! What a script's publications come to: accesses decided after them, and the registers and runs that they leave.
+//! What a script's publications come to: accesses decided after them, the registers, runs and entries that they leave,
+//! and what each write did.
 #![tactic(auto)]
 
 mod access_check;

@@ -73,11 +73,11 @@ turns_entry_away_by Lockdown file csr value i = adds_barred file csr value i
 turns_entry_away_by Sticky file csr value i = false
 turns_entry_away_by Bypass file csr value i = false
 
--- entry i doesn't take what the value has for it
+-- entry i is turned away by one of these
 abbrev pub turns_entry_away : RegisterFile → Csr → (value i : ℕ) → Bool
 turns_entry_away file csr value i = list_any (λ reason. turns_entry_away_by reason file csr value i) all_reasons
 
--- the entries that don't
+-- the entries that are
 abbrev pub entries_turned_away : RegisterFile → Csr → (value : ℕ) → List ℕ
 entries_turned_away file csr value =
     filter (turns_entry_away file csr value) (range_with_len 0 (length file.entries))

@@ -189,7 +189,7 @@ impl RegFile {
         write_reasons::turns_away(reason, self.in_use(), &self.mseccfg, csr, value)
     }
 
-    /// Whether the entry wouldn't take what the value has for it, if it were written now.
+    /// Whether `Locked`, `Tor`, `Reserved` or `Lockdown` would hold for the entry, if the value were written now.
     pub fn turns_entry_away(&self, entry: u8, csr: Csr, value: u64) -> bool
         requires { entry < length self.now.entries }
         ensures { result ≡ turns_entry_away self.now csr value entry }

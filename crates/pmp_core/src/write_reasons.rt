@@ -97,7 +97,7 @@ fn adds_barred(mseccfg: &MseccfgFields, old: &Configuration, byte: u8) -> bool
     mseccfg.mml && !mseccfg.rlb && is_barred(&new) && new.byte() != old.byte()
 }
 
-/// Whether this is a reason why the entry doesn't take what the value has for it.
+/// Whether this reason holds for the entry.
 fn turns_entry_away_by(
     reason: WriteReason,
     entries: &[Entry],
@@ -143,7 +143,7 @@ fn turns_some_entry_away(
     (0..entries.len()).any(|index| turns_entry_away_by(reason, entries, mseccfg, csr, value, index))
 }
 
-/// Whether the entry doesn't take what the value has for it.
+/// Whether some reason holds for the entry.
 pub fn turns_entry_away(
     entries: &[Entry],
     mseccfg: &MseccfgFields,

@@ -82,7 +82,7 @@ fn events_of_two_publications(rt: HostRuntime) -> Result<(), Fail> {
 }
 
 #[test]
-fn lines_and_words(rt: HostRuntime) {
+fn version_lines(rt: HostRuntime) {
     let alloc = rt.alloc();
     let texts = [
         (b"".as_slice(), refused(ScriptKind::BadVersion, 1)),
@@ -101,6 +101,16 @@ fn lines_and_words(rt: HostRuntime) {
         (b"pmp 12\n".as_slice(), refused(ScriptKind::BadVersion, 1)),
         (b"PMP 2\n".as_slice(), refused(ScriptKind::BadVersion, 1)),
         (b"pmp 1 1\n".as_slice(), refused(ScriptKind::BadVersion, 1)),
+    ];
+    for (text, expected) in texts {
+        assert_eq!(rt; outcome(alloc, text), expected, "of {:?}", text);
+    }
+}
+
+#[test]
+fn lines_and_words(rt: HostRuntime) {
+    let alloc = rt.alloc();
+    let texts = [
         (b"# first\n \t\n  pmp\t1  \npublish".as_slice(), Ok(1)),
         (b"pmp 1\r\npublish\r\n".as_slice(), Ok(1)),
         (b"pmp 1\r\npublish\r".as_slice(), Ok(1)),

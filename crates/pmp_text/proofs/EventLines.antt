@@ -1,4 +1,4 @@
--- Each event of a script has a line.
+-- Each publication of a script has as many lines as events.
 use Rattle.std.proofs.Common.{◌≡◌, ℕ, suc, List, [], ◌∷◌, length, map, Option, Some, None, Ok}
 use Rattle.std.proofs.Common.{refl, sym, ap, ◌∙◌, inl, inr}
 use Rattle.std.specs.Prelude.{filter_map}

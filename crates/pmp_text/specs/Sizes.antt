@@ -14,7 +14,7 @@ abbrev pub ScriptSizeLaw : Type 0
 ScriptSizeLaw = (text : List ℕ) → (script : ScriptContents) → script_meaning text ≡ Ok script
     → (script_size script.batches ≤ length text) × (length text ≤ script_limit)
 
--- each event of a script has a line
+-- each publication of a script has as many lines as events
 abbrev pub EventLinesLaw : Type 0
 EventLinesLaw = (text : List ℕ) → (script : ScriptContents) → script_meaning text ≡ Ok script
     → map (λ batch. length batch) script.batches ≡ map (λ lines. length lines) script.lines

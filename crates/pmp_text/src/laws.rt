@@ -20,7 +20,7 @@ pub fn law_script_size()
     ensures { ScriptSizeLaw }
 {}
 
-/// Each event of a script has a line: there are as many events as lines in each of its publications.
+/// Each publication of a script has as many lines as events.
 pub fn law_event_lines()
     ensures { EventLinesLaw }
 {}

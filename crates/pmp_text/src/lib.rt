@@ -1,4 +1,5 @@
-//! The texts of the unit: scripts and traces are read, reports and registers are written, all byte by byte.
+//! The texts of the unit: scripts and traces are read; reports, registers, runs, entries and events are written, all
+//! byte by byte.
 #![tactic(auto)]
 
 mod access_words;
