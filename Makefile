@@ -1,5 +1,6 @@
 # make                      builds the program, where that isn't done
-# make install PREFIX=..    puts the program, its man page and docs/FORMATS.md on a user's path
+# make library              builds the C library, where that isn't done
+# make install PREFIX=..    puts the program, its man page, docs/FORMATS.md and the C library with its header on a user's path
 # make uninstall PREFIX=..  takes them away
 # make soak SECONDS=..      lets a publisher and eight checkers run so long, and compares each answer with a replay
 # make test                 proves and tests everything, then tries the program, the launcher and the documents
@@ -7,44 +8,59 @@ PREFIX ?= /usr/local
 SECONDS ?= 600
 PROGRAM = crates/pmp_tool/out/pmp_tool
 GROWTHS = crates/pmp_growths/out/pmp_growths
+LIBRARY = crates/pmp_c/out/libpmp_c.a
 BIN = $(DESTDIR)$(PREFIX)/bin
 DOC = $(DESTDIR)$(PREFIX)/share/doc/pmp
 MAN = $(DESTDIR)$(PREFIX)/share/man/man1
+INCLUDE = $(DESTDIR)$(PREFIX)/include
+LIB = $(DESTDIR)$(PREFIX)/lib
 
-.PHONY: build test install uninstall soak soak-program bench bench-decide bench-threads bench-limits bench-audit
+.PHONY: build library test install uninstall soak soak-program bench bench-decide bench-threads bench-limits bench-audit
 
 # The launcher builds the program, and then the program says its version.
 build:
 	@./pmp --version
 
+library:
+	@mkdir -p bench/out
+	@echo "proving and building the C library; the log is bench/out/c-library.log"
+	@(cd crates/pmp_c && rt lib --jobs 2) >bench/out/c-library.log 2>&1 || { cat bench/out/c-library.log >&2; exit 1; }
+
 # rt ci builds the program from nothing.
 test:
 	rt ci
+	$(MAKE) library
+	checks/library $(LIBRARY)
 	checks/program $(PROGRAM)
 	checks/launcher
 	checks/documents $(PROGRAM)
 	checks/hostile $(PROGRAM)
 	checks/growths $(GROWTHS)
 
-install: build
-	@install -d "$(BIN)" "$(DOC)" "$(MAN)"
+install: build library
+	@install -d "$(BIN)" "$(DOC)" "$(MAN)" "$(INCLUDE)" "$(LIB)/pkgconfig"
 	@install -m 755 $(PROGRAM) "$(BIN)/pmp" && echo "installed $(BIN)/pmp"
 	@install -m 644 docs/FORMATS.md "$(DOC)/FORMATS.md" && echo "installed $(DOC)/FORMATS.md"
 	@install -m 644 docs/pmp.1 "$(MAN)/pmp.1" && echo "installed $(MAN)/pmp.1"
+	@install -m 644 include/tilvenka_pmp.h "$(INCLUDE)/tilvenka_pmp.h" && echo "installed $(INCLUDE)/tilvenka_pmp.h"
+	@install -m 644 $(LIBRARY) "$(LIB)/libpmp.a" && echo "installed $(LIB)/libpmp.a"
+	@sed 's|@PREFIX@|$(PREFIX)|' include/tilvenka_pmp.pc >"$(LIB)/pkgconfig/tilvenka_pmp.pc" \
+	    && echo "installed $(LIB)/pkgconfig/tilvenka_pmp.pc"
 
 uninstall:
-	rm -f "$(BIN)/pmp" "$(DOC)/FORMATS.md" "$(MAN)/pmp.1"
+	rm -f "$(BIN)/pmp" "$(DOC)/FORMATS.md" "$(MAN)/pmp.1" "$(INCLUDE)/tilvenka_pmp.h" "$(LIB)/libpmp.a" \
+	    "$(LIB)/pkgconfig/tilvenka_pmp.pc"
 	@rmdir "$(DOC)" 2>/dev/null || true
 
 # Proves and builds the library and the program, and compares their times with plain C.
 bench: bench-decide bench-threads bench-limits bench-audit
 
-bench-decide:
+bench-decide: library
 	@mkdir -p bench/out
 	@echo "proving and building the library; the log is bench/out/library.log"
 	@(cd crates/pmp_bench && rt lib --jobs 2) >bench/out/library.log 2>&1 || { cat bench/out/library.log >&2; exit 1; }
-	@for entries in 16 64; do gcc -O2 -std=c11 -Wall -Wextra -DENTRIES=$$entries bench/decide.c \
-	    crates/pmp_bench/out/libpmp_bench.a -o bench/out/decide-$$entries && bench/out/decide-$$entries || exit 1; done
+	@bench/qemu/fetch bench/out/qemu || echo "QEMU's source can't be fetched, so it isn't timed"
+	@for entries in 16 64; do bench/decide $$entries || exit 1; done
 
 bench-threads:
 	@mkdir -p bench/out

@@ -1,140 +1,116 @@
-/* Times the proved unit and its map beside a plain C unit of as many entries, over the same writes and accesses. */
+/* Times the proved unit beside a plain C unit of as many entries, and beside QEMU's where it is linked, over the same
+   writes and accesses. */
 #define _POSIX_C_SOURCE 199309L
-#include "plain_unit.h"
+#include "requests.h"
+#include "tilvenka_pmp.h"
 #include <stdio.h>
 #include <stdlib.h>
 #include <time.h>
 
-enum { COUNT = 100000, BUILDS = 1000, ROUNDS = 60, SMALL_FILES = 3000, SMALL_COUNT = 200 };
+enum { BUILDS = 1000, ROUNDS = 60, SMALL_FILES = 3000 };
 
-/* The proved unit of 16 or 64 entries: decides the requests after the writes from reset, and counts the allowed ones.
-   There must be as many answers as requests. */
+/* The peers. */
+
+static tilvenka_pmp_unit unit;
+
+static void prepare_library(const struct write *writes, size_t count) {
+    tilvenka_pmp_reset(&unit, ENTRIES);
+    for (size_t i = 0; i < count; i++)
+        tilvenka_pmp_write(&unit, writes[i].number, writes[i].value);
+    tilvenka_pmp_build(&unit);
+}
+
+/* The number that the peers answer by, of the library's. */
+static unsigned number_of_library(unsigned answer) {
+    if (answer == TILVENKA_PMP_NO_ACCESS)
+        return NO_ACCESS;
+    return answer % TILVENKA_PMP_FAULT + (tilvenka_pmp_is_allowed(answer) ? ALLOWED : 0);
+}
+
+static inline unsigned answer_of_library(struct request request) {
+    return tilvenka_pmp_decide(&unit, request.mode, request.kind, request.start, request.length);
+}
+
+static inline unsigned answer_near(struct request request) {
+    static uint32_t run;
+    tilvenka_pmp_found found =
+        tilvenka_pmp_decide_near(&unit, run, request.mode, request.kind, request.start, request.length);
+    run = found.run;
+    return found.answer;
+}
+
+static inline unsigned answer_by_registers(struct request request) {
+    return tilvenka_pmp_decide_by_registers(&unit, request.mode, request.kind, request.start, request.length);
+}
+
+static inline unsigned rights_of_page(struct request request) {
+    return tilvenka_pmp_rights(&unit, request.mode, request.start & ~UINT64_C(4095), 4096);
+}
+
+ASK_BY(ask_library, answer_of_library)
+ASK_BY(ask_near, answer_near)
+ASK_BY(ask_registers, answer_by_registers)
+ASK_BY(ask_rights, rights_of_page)
+
+static struct unit plain;
+
+static void prepare_plain(const struct write *writes, size_t count) {
+    reset(&plain);
+    for (size_t i = 0; i < count; i++)
+        write_register(&plain, &writes[i]);
+}
+
+static inline unsigned answer_of_plain(struct request request) {
+    return decide(&plain, &request);
+}
+
+ASK_BY(ask_plain, answer_of_plain)
+
+static unsigned number_of_plain(unsigned answer) {
+    return answer;
+}
+
+/* The crates below the library, called from Rattle, which decide all requests in one call. */
+
 size_t pmp_bench_decide(uint8_t entries, const struct write *writes, size_t write_count,
                         const struct request *requests, size_t request_count, uint16_t *answers, size_t answer_count);
-
-/* The same by a map, which is built once. */
 size_t pmp_bench_decide_by_map(uint8_t entries, const struct write *writes, size_t write_count,
                                const struct request *requests, size_t request_count, uint16_t *answers,
                                size_t answer_count);
-
-/* Builds the map after the writes so many times, and answers how many runs it has. */
 size_t pmp_bench_build(uint8_t entries, const struct write *writes, size_t write_count, uint32_t times);
 
-static __attribute__((noinline)) size_t plain_decide(uint8_t entries, const struct write *writes, size_t write_count,
-                                                     const struct request *requests, size_t request_count,
-                                                     uint16_t *answers, size_t answer_count) {
-    struct unit unit;
-    size_t allowed = 0;
-    (void)entries, (void)answer_count;
-    reset(&unit);
-    for (size_t i = 0; i < write_count; i++)
-        write_register(&unit, &writes[i]);
-    for (size_t i = 0; i < request_count; i++) {
-        unsigned answer = decide(&unit, &requests[i]);
-        allowed += answer >= ALLOWED;
-        answers[i] = answer;
-    }
-    return allowed;
+static void ask_map(const struct request *asked, size_t count, uint16_t *answers, enum pace pace) {
+    (void)pace;
+    pmp_bench_decide_by_map(ENTRIES, writes, write_count, asked, count, answers, count);
 }
 
-/* What both are given. */
-
-static struct write writes[COUNT + 2 * ENTRIES];
-static struct request requests[COUNT];
-static uint16_t answers[3][COUNT];
-static size_t write_count, request_count;
-
-static void add_write(uint16_t number, uint64_t value) {
-    writes[write_count++] = (struct write){number, value};
+static void ask_file(const struct request *asked, size_t count, uint16_t *answers, enum pace pace) {
+    (void)pace;
+    pmp_bench_decide(ENTRIES, writes, write_count, asked, count, answers, count);
 }
 
-/* The same configuration of the first entries. */
-static void configure(unsigned entries, uint64_t eight) {
-    for (unsigned first = 0; first < entries; first += 8)
-        add_write(PMPCFG0 + first / 4, entries - first < 8 ? eight >> 8 * (8 - (entries - first)) : eight);
+static void prepare_nothing(const struct write *ignored, size_t count) {
+    (void)ignored, (void)count;
 }
 
-static void set_regions(unsigned regions) {
-    write_count = 0;
-    for (unsigned entry = 0; entry < regions; entry++)
-        add_write(PMPADDR0 + entry, napot_of_page(region(entry)));
-    configure(regions, UINT64_C(0x1b1b1b1b1b1b1b1b));
-}
+static const struct peer library = {"libpmp", number_of_library, prepare_library, ask_library};
+static const struct peer near = {"near", number_of_library, prepare_library, ask_near};
+static const struct peer registers = {"registers", number_of_library, prepare_library, ask_registers};
+static const struct peer library_fill = {"libpmp", NULL, prepare_library, ask_rights};
+static const struct peer map = {"map", number_of_plain, prepare_nothing, ask_map};
+static const struct peer file = {"file", number_of_plain, prepare_nothing, ask_file};
+static const struct peer plain_c = {"plain C", number_of_plain, prepare_plain, ask_plain};
 
-/* Loads of eight bytes by user mode, this far from the start of a region's page. */
-static void set_loads(unsigned regions, uint64_t distance) {
-    request_count = COUNT;
-    for (size_t i = 0; i < COUNT; i++)
-        requests[i] = (struct request){region(below(regions)) + distance + 8 * below(512), 8, USER, LOAD};
-}
+/* QEMU's unit, and QEMU's names over the library: linked where QEMU's source could be fetched. */
+extern const struct peer qemu __attribute__((weak)), qemu_fill __attribute__((weak));
+extern const struct peer shim __attribute__((weak)), shim_fill __attribute__((weak));
 
-/* Words of four bytes with a word between each: the most runs, one more than twice as many. */
-static void set_comb(void) {
-    write_count = 0;
-    for (unsigned entry = 0; entry < ENTRIES; entry++)
-        add_write(PMPADDR0 + entry, 2 * entry + 1);
-    configure(ENTRIES, UINT64_C(0x1111111111111111));
-}
-
-/* Loads of four bytes by user mode, each inside a run of the comb. */
-static void set_words(void) {
-    request_count = COUNT;
-    for (size_t i = 0; i < COUNT; i++)
-        requests[i] = (struct request){4 * below(2 * ENTRIES + 1), 4, USER, LOAD};
-}
-
-/* Loads that begin anywhere in the comb and go on over a few words. */
-static void set_long_words(void) {
-    request_count = COUNT;
-    for (size_t i = 0; i < COUNT; i++)
-        requests[i] = (struct request){below(8 * ENTRIES - 4), 5 + below(28), USER, LOAD};
-}
-
-static void mix_modes_and_kinds(void) {
-    static const uint8_t modes[3] = {USER, SUPERVISOR, MACHINE};
-    for (size_t i = 0; i < request_count; i++) {
-        requests[i].mode = modes[below(3)];
-        requests[i].kind = below(3);
-    }
-}
-
-static void set_address_writes(void) {
-    set_regions(ENTRIES);
-    for (size_t i = 0; i < COUNT; i++)
-        add_write(PMPADDR0 + below(ENTRIES), napot_of_page(region(below(ENTRIES))));
-    request_count = 1;
-}
-
-/* Eight random configuration bytes, whose bits are all in the mask. */
-static void add_configurations(uint64_t mask) {
-    add_write(PMPCFG0 + 2 * below(ENTRIES / 8), (next_random() ^ next_random() << 32) & mask);
-}
-
-static void set_configuration_writes(void) {
-    set_regions(ENTRIES);
-    for (size_t i = 0; i < COUNT; i++)
-        add_configurations(UINT64_C(0x1f1f1f1f1f1f1f1f));
-    request_count = 1;
-}
-
-/* Ranges of every kind in the lowest bytes, which overlap, some of them locked. */
-static void set_small_file(void) {
-    write_count = 0;
-    for (unsigned i = 0; i < 40; i++) {
-        if (below(4) == 0)
-            add_configurations(below(8) ? UINT64_C(0x7f7f7f7f7f7f7f7f) : UINT64_MAX);
-        else
-            add_write(PMPADDR0 + below(ENTRIES), below(16) ? below(64) : next_random() << 16);
-    }
-    request_count = SMALL_COUNT;
-    for (size_t i = 0; i < SMALL_COUNT; i++)
-        requests[i] = (struct request){below(256), 1 + below(24), USER, LOAD};
-    mix_modes_and_kinds();
-}
+static const struct peer *const ALL[] = {&library, &near, &map, &file, &plain_c, &qemu, &shim};
+enum { PEERS = sizeof ALL / sizeof *ALL };
 
 /* The runs. */
 
-typedef size_t decider(uint8_t, const struct write *, size_t, const struct request *, size_t, uint16_t *, size_t);
+static uint16_t answers[2][COUNT];
 
 static double nanoseconds(void) {
     struct timespec time;
@@ -142,96 +118,203 @@ static double nanoseconds(void) {
     return 1e9 * time.tv_sec + time.tv_nsec;
 }
 
-static double run(decider *decider, uint16_t *answers, size_t *allowed) {
+static double time_of(const struct peer *peer, enum pace pace, uint16_t *told) {
     double before = nanoseconds();
-    *allowed = decider(ENTRIES, writes, write_count, requests, request_count, answers, request_count);
+    peer->ask(requests, request_count, told, pace);
     return nanoseconds() - before;
 }
 
-static decider *const deciders[] = {pmp_bench_decide_by_map, pmp_bench_decide, plain_decide};
-enum { DECIDERS = 3 };
-
-/* All answer the same, and each takes so long. */
-static void run_all(const char *name, double times[DECIDERS]) {
-    size_t allowed[DECIDERS], size = request_count * sizeof **answers;
-    for (unsigned i = 0; i < DECIDERS; i++)
-        times[i] = run(deciders[i], answers[i], &allowed[i]);
-    for (unsigned i = 1; i < DECIDERS; i++) {
-        if (allowed[i] != allowed[0] || memcmp(answers[i], answers[0], size) != 0) {
-            fprintf(stderr, "%s: the answers differ\n", name);
+/* Stops where the peer answers otherwise than the plain unit. One that tells no entry says what is allowed. */
+static void compare(const struct peer *peer, const char *name) {
+    plain_c.ask(requests, request_count, answers[0], FREE);
+    peer->ask(requests, request_count, answers[1], FREE);
+    for (size_t i = 0; i < request_count; i++) {
+        unsigned wanted = answers[0][i], told = answers[1][i];
+        bool is_same = peer->number_of ? peer->number_of(told) == wanted : (told != 0) == (wanted >= ALLOWED);
+        if (!is_same) {
+            fprintf(stderr, "%s: %s answers %u to number %zu, and plain C %u\n", name, peer->name, told, i, wanted);
             exit(1);
         }
     }
 }
 
-static void measure(const char *name) {
-    double best[DECIDERS] = {1e18, 1e18, 1e18}, times[DECIDERS];
+static double best_of(const struct peer *peer, enum pace pace) {
+    double best = 1e18;
     for (unsigned round = 0; round < ROUNDS; round++) {
-        run_all(name, times);
-        for (unsigned i = 0; i < DECIDERS; i++)
-            if (times[i] < best[i])
-                best[i] = times[i];
+        double time = time_of(peer, pace, answers[1]);
+        if (time < best)
+            best = time;
     }
-    printf("%-44s %9.2f %9.2f %9.2f\n", name, best[0] / COUNT, best[1] / COUNT, best[2] / COUNT);
+    return best / request_count;
+}
+
+static void print_row(const char *name, const double *times, unsigned count) {
+    printf("%-36s", name);
+    for (unsigned i = 0; i < count; i++) {
+        if (times[i] > 0)
+            printf(" %8.1f", times[i]);
+        else
+            printf(" %8s", "-");
+    }
+    printf("\n");
+}
+
+/* Times of all peers, and what the library takes of the plain unit's and of QEMU's time. */
+static void measure(const char *name, enum pace pace) {
+    double times[PEERS + 2] = {0};
+    prepare_plain(writes, write_count);
+    for (unsigned i = 0; i < PEERS; i++) {
+        bool is_whole = ALL[i] == &map || ALL[i] == &file;
+        if (ALL[i] == NULL || (is_whole && pace == IN_TURN))
+            continue;
+        ALL[i]->prepare(writes, write_count);
+        compare(ALL[i], name);
+        times[i] = best_of(ALL[i], pace);
+    }
+    times[PEERS] = times[0] / times[4];
+    times[PEERS + 1] = times[5] > 0 ? times[0] / times[5] : 0;
+    print_row(name, times, PEERS + 2);
+}
+
+static void measure_both(const char *name) {
+    char in_turn[64];
+    measure(name, FREE);
+    snprintf(in_turn, sizeof in_turn, "%s, in turn", name);
+    measure(in_turn, IN_TURN);
+}
+
+static void print_head(const char *what) {
+    printf("%2u entries, %-24s %8s %8s %8s %8s %8s %8s %8s %8s %8s\n", ENTRIES, what, "libpmp", "near", "map", "file",
+           "plain C", "QEMU", "shim", "/plain C", "/QEMU");
+}
+
+static void compare_small_files(void) {
+    static const struct peer *const exact[] = {&library, &near, &registers, &map, &file};
+    for (unsigned count = 0; count < SMALL_FILES; count++) {
+        set_small_file();
+        prepare_plain(writes, write_count);
+        for (unsigned i = 0; i < sizeof exact / sizeof *exact; i++) {
+            exact[i]->prepare(writes, write_count);
+            compare(exact[i], "small files");
+        }
+    }
+    printf("%d answers over small random files agree\n\n", SMALL_FILES * SMALL_COUNT);
+}
+
+static void measure_decisions(void) {
+    print_head("ns a decision");
+    set_regions(ENTRIES);
+    set_loads(ENTRIES, 0);
+    measure_both("a region each");
+    mix_modes_and_kinds();
+    measure_both("every mode and kind");
+    set_regions(1);
+    set_loads(1, 0);
+    measure_both("one region");
+    set_regions(ENTRIES);
+    set_loads(ENTRIES, 0x2000);
+    measure_both("no match");
+    set_loads(ENTRIES, 0);
+    for (size_t i = 0; i < COUNT; i++)
+        requests[i].start = (requests[i].start & ~UINT64_C(4095)) + 4092;
+    measure_both("across a region's end");
+    set_comb();
+    set_words();
+    measure_both("one word of the comb");
+    set_long_words();
+    measure_both("across words of the comb");
+}
+
+/* The rights of a page, which a TLB asks for where it takes the page in. */
+static void measure_fills(void) {
+    const struct peer *const fillers[] = {&library_fill, &qemu_fill, &shim_fill};
+    printf("\n%2u entries, %-24s %8s %8s %8s\n", ENTRIES, "ns a page's rights", "libpmp", "QEMU", "shim");
+    set_regions(ENTRIES);
+    set_loads(ENTRIES, 0);
+    double times[3] = {0};
+    for (unsigned i = 0; i < 3; i++) {
+        if (fillers[i] == NULL)
+            continue;
+        fillers[i]->prepare(writes, write_count);
+        times[i] = best_of(fillers[i], FREE);
+    }
+    print_row("a region each", times, 3);
+}
+
+/* The time of one call, which goes over the last WRITES of the writes. */
+static double time_of_writes(void (*run)(const struct write *, size_t)) {
+    double best = 1e18;
+    for (unsigned round = 0; round < ROUNDS; round++) {
+        prepare_library(writes, write_count - WRITES);
+        prepare_plain(writes, write_count - WRITES);
+        double before = nanoseconds();
+        run(writes + write_count - WRITES, WRITES);
+        double time = nanoseconds() - before;
+        if (time < best)
+            best = time;
+    }
+    return best / WRITES;
+}
+
+static void write_library(const struct write *some, size_t count) {
+    for (size_t i = 0; i < count; i++)
+        tilvenka_pmp_write(&unit, some[i].number, some[i].value);
+}
+
+static void write_and_build(const struct write *some, size_t count) {
+    for (size_t i = 0; i < count; i++) {
+        tilvenka_pmp_write(&unit, some[i].number, some[i].value);
+        tilvenka_pmp_build(&unit);
+    }
+}
+
+static void write_plain(const struct write *some, size_t count) {
+    for (size_t i = 0; i < count; i++)
+        write_register(&plain, &some[i]);
+}
+
+/* `step` of a register file: one request is decided after the writes. */
+static void write_file(const struct write *some, size_t count) {
+    struct request request = {0, 1, USER, LOAD};
+    pmp_bench_decide(ENTRIES, some, count, &request, 1, answers[0], 1);
+}
+
+static void measure_write(const char *name) {
+    const double times[4] = {time_of_writes(write_library), time_of_writes(write_and_build), time_of_writes(write_file),
+                             time_of_writes(write_plain)};
+    print_row(name, times, 4);
 }
 
 static void measure_build(const char *name) {
     double best = 1e18;
     for (unsigned round = 0; round < ROUNDS; round++) {
         double before = nanoseconds();
-        size_t runs = pmp_bench_build(ENTRIES, writes, write_count, BUILDS);
+        pmp_bench_build(ENTRIES, writes, write_count, BUILDS);
         double time = nanoseconds() - before;
-        if (runs != 2 * ENTRIES + 1)
-            exit(1);
         if (time < best)
             best = time;
     }
-    printf("%-44s %9.0f\n", name, best / BUILDS);
-}
-
-static void compare_small_files(void) {
-    double times[DECIDERS];
-    for (unsigned file = 0; file < SMALL_FILES; file++) {
-        set_small_file();
-        run_all("small files", times);
-    }
-    printf("%d answers over small random files agree\n\n", SMALL_FILES * SMALL_COUNT);
-}
-
-static void measure_decisions(void) {
-    printf("%2u entries, %-32s %9s %9s %9s\n", ENTRIES, "ns each, best of 60 rounds", "map", "file", "plain C");
-    set_regions(ENTRIES);
-    set_loads(ENTRIES, 0);
-    measure("decide, one of a region for each entry");
-    mix_modes_and_kinds();
-    measure("decide, the same in every mode and kind");
-    set_regions(1);
-    set_loads(1, 0);
-    measure("decide, one region");
-    set_regions(ENTRIES);
-    set_loads(ENTRIES, 0x2000);
-    measure("decide, no match with as many regions");
-    set_comb();
-    set_words();
-    measure("decide, one word of the comb");
-    set_long_words();
-    measure("decide, across the words of the comb");
+    printf("%-36s %8.0f\n", name, best / BUILDS);
 }
 
 static void measure_writes(void) {
+    printf("\n%2u entries, %-24s %8s %8s %8s %8s\n", ENTRIES, "ns a write", "libpmp", "+ build", "step", "plain C");
     set_address_writes();
-    measure("step, pmpaddr");
+    measure_write("pmpaddr");
     set_configuration_writes();
-    measure("step, pmpcfg");
+    measure_write("pmpcfg");
+    printf("\n%2u entries, %-24s %8s\n", ENTRIES, "ns a map", "build");
     set_regions(ENTRIES);
-    measure_build("build, the regions");
+    measure_build("a region each");
     set_comb();
-    measure_build("build, the comb");
+    measure_build("the comb");
+    printf("\n");
 }
 
 int main(void) {
     compare_small_files();
     measure_decisions();
+    measure_fills();
     measure_writes();
     return 0;
 }

@@ -1,0 +1,389 @@
+// library: calls each function of the library on rows whose answers were worked out by hand from the manual, on the
+// whole truth table of Smepmp, and on units of random bytes that lie beside pages which may not be touched. The last
+// line is 'N passed, M failed'.
+#define _GNU_SOURCE
+#include "tilvenka_pmp.h"
+#include <stdio.h>
+#include <stdlib.h>
+#include <string.h>
+#include <sys/mman.h>
+#include <unistd.h>
+
+enum { U = TILVENKA_PMP_USER, S = TILVENKA_PMP_SUPERVISOR, M = TILVENKA_PMP_MACHINE };
+enum { FETCH = TILVENKA_PMP_FETCH, LOAD = TILVENKA_PMP_LOAD, STORE = TILVENKA_PMP_STORE };
+enum { SPLIT = TILVENKA_PMP_SPLIT, NONE = TILVENKA_PMP_NO_MATCH, NO_ACCESS = TILVENKA_PMP_NO_ACCESS };
+enum { MSECCFG = 0x747, PMPCFG0 = 0x3a0, PMPADDR0 = 0x3b0, RANDOM_UNITS = 20000 };
+
+static const uint32_t MODES[3] = {U, S, M};
+static unsigned passed, failed;
+
+static void expect(bool is_right, const char *what, unsigned place) {
+    if (is_right) {
+        passed++;
+    } else {
+        failed++;
+        fprintf(stderr, "FAILED: %s, number %u\n", what, place);
+    }
+}
+
+// The answer of each way to decide, where they all agree, and else one that no access has.
+static uint32_t decide(tilvenka_pmp_unit *unit, uint32_t mode, uint32_t kind, uint64_t start, uint64_t length) {
+    uint32_t answer = tilvenka_pmp_decide_by_registers(unit, mode, kind, start, length);
+    bool is_same = true;
+    for (unsigned built = 0; built < 2; built++) {
+        is_same &= tilvenka_pmp_decide(unit, mode, kind, start, length) == answer;
+        for (uint32_t run = 0; run < 256; run += 5)
+            is_same &= tilvenka_pmp_decide_near(unit, run, mode, kind, start, length).answer == answer;
+        tilvenka_pmp_build(unit);
+        is_same &= tilvenka_pmp_is_built(unit);
+    }
+    return is_same ? answer : UINT32_MAX;
+}
+
+// Writes from reset, given as 'CSR=VALUE' in hexadecimal digits.
+static void write_all(tilvenka_pmp_unit *unit, const char *writes) {
+    unsigned csr;
+    unsigned long long value;
+    int length;
+    while (sscanf(writes, " %x=%llx%n", &csr, &value, &length) == 2) {
+        if (tilvenka_pmp_write(unit, csr, value) != TILVENKA_PMP_DONE)
+            abort();
+        writes += length;
+    }
+}
+
+static uint64_t read_csr(const tilvenka_pmp_unit *unit, uint32_t csr) {
+    uint64_t value = UINT64_MAX;
+    return tilvenka_pmp_read(unit, csr, &value) == TILVENKA_PMP_DONE ? value : UINT64_MAX;
+}
+
+static const struct decision {
+    const char *writes;
+    uint32_t mode, kind;
+    uint64_t start, length;
+    uint32_t answer;
+} DECISIONS[] = {
+    {"", M, LOAD, 0, 8, NONE},
+    {"", U, LOAD, 0, 8, NONE + 5 * 1024},
+    {"3b0=3 3a0=17", U, LOAD, 0x8, 8, SPLIT + 5 * 1024},
+    {"3b0=3 3a0=17", M, LOAD, 0x8, 8, SPLIT + 5 * 1024},
+    {"3b0=3 3a0=17", U, LOAD, 0xc, 4, 0},
+    {"3b0=200001ff 3a0=19", U, LOAD, 0x80000ff8, 8, 0},
+    {"3b0=200001ff 3a0=19", U, STORE, 0x80000ff8, 8, 7 * 1024},
+    {"3b0=200001ff 3a0=19", U, FETCH, 0x80000ff8, 8, 1 * 1024},
+    {"3b0=200001ff 3a0=19", M, STORE, 0x80000ff8, 8, 0},
+    {"3b0=200001ff 3a0=19", U, LOAD, 0x80000ffc, 8, SPLIT + 5 * 1024},
+    {"3b0=200001ff 3a0=19", M, LOAD, 0x80000ffc, 8, SPLIT + 5 * 1024},
+    {"3b0=ffffffffffffffff 3a0=19", U, LOAD, 0xffffffffffffff, 1, 0},
+    {"3b0=100 3b1=100 3a0=900", U, LOAD, 0x400, 4, NONE + 5 * 1024},
+    {"747=5 3b0=200001ff 3a0=9f", U, LOAD, 0x80000000, 4, 0},
+    {"747=5 3b0=200001ff 3a0=9f", M, STORE, 0x80000000, 4, 7 * 1024},
+    {"747=5 3b0=200001ff 3a0=9f", M, FETCH, 0x80000000, 4, 1 * 1024},
+    {"747=1", M, FETCH, 0, 4, NONE + 1 * 1024},
+    {"747=1", M, LOAD, 0, 4, NONE},
+    {"747=3", M, LOAD, 0, 4, NONE + 5 * 1024},
+    {"3b0=10 3b1=11 3a0=1111", U, LOAD, 0x40, 8, SPLIT + 5 * 1024},
+    {"3b0=20000004 3b1=200001ff 3a0=1910", U, LOAD, 0x80000010, 4, 5 * 1024},
+    {"3b0=20000004 3b1=200001ff 3a0=1910", U, LOAD, 0x80000014, 4, 1},
+    {"3b0=400 3b1=800 3a0=f00", U, LOAD, 0x1000, 8, 1},
+    {"3b0=400 3b1=800 3a0=f00", U, LOAD, 0xff8, 8, NONE + 5 * 1024},
+    {"3b0=400 3b1=800 3a0=f00", U, LOAD, 0xffc, 8, SPLIT + 1 + 5 * 1024},
+    {"3b0=ffffffffffffffff 3a0=f", U, LOAD, 0, 4, 0},
+    {"3b0=ffffffffffffffff 3a0=f", U, LOAD, 0xfffffffffffff8, 8, SPLIT + 5 * 1024},
+    {"3b0=ffffffffffffffff 3a0=f", U, LOAD, 0xfffffffffffffc, 1, NONE + 5 * 1024},
+    {"3b0=200001ff 3a0=99", M, STORE, 0x80000000, 4, 7 * 1024},
+    {"3b0=200001ff 3a0=99", M, LOAD, 0x80000000, 4, 0},
+    {"", U, LOAD, 0xffffffffffffff, 2, NO_ACCESS},
+    {"", U, LOAD, 0, 0, NO_ACCESS},
+    {"", U, LOAD, 0, 4097, NO_ACCESS},
+    {"", M, LOAD, UINT64_MAX, UINT64_MAX, NO_ACCESS},
+    {"", M, LOAD, 0, 4096, NONE},
+    {"", 2, LOAD, 0, 4, NO_ACCESS},
+    {"", 4, LOAD, 0, 4, NO_ACCESS},
+    {"", M, 3, 0, 4, NO_ACCESS},
+    {"", UINT32_MAX, UINT32_MAX, 0, 4, NO_ACCESS},
+};
+
+static void try_decisions(void) {
+    for (unsigned i = 0; i < sizeof DECISIONS / sizeof *DECISIONS; i++) {
+        const struct decision *row = &DECISIONS[i];
+        for (uint64_t entries = 16; entries <= 64; entries += 48) {
+            tilvenka_pmp_unit unit;
+            tilvenka_pmp_reset(&unit, entries);
+            write_all(&unit, row->writes);
+            uint32_t answer = decide(&unit, row->mode, row->kind, row->start, row->length);
+            expect(answer == row->answer, "decision", i);
+        }
+    }
+}
+
+static const struct reading {
+    const char *writes;
+    uint32_t csr;
+    uint64_t value;
+} READINGS[] = {
+    {"3b0=ffffffffffffffff 3a0=19", 0x3b0, 0x3fffffffffffff},
+    {"3b0=10 3b1=20 3a0=8900 3b0=0", 0x3b0, 0x10},
+    {"3a0=1a", 0x3a0, 0x18},
+    {"747=1 3a0=1a", 0x3a0, 0x1a},
+    {"747=7 747=0", MSECCFG, 3},
+    {"3a0=80 747=4", MSECCFG, 0},
+    {"3a0=80 3b0=5", 0x3b0, 0},
+    {"747=1 3a0=199c", 0x3a0, 0x1900},
+    {"747=5 3a0=199c", 0x3a0, 0x199c},
+    {"747=4 3a0=99 3a0=18", 0x3a0, 0x18},
+    {"747=4 3a0=99 747=0 747=4", MSECCFG, 0},
+    {"747=1 3a0=84", 0x3a0, 0},
+    {"747=1 3a0=8c", 0x3a0, 0},
+    {"747=1 3a0=8a", 0x3a0, 0},
+    {"747=1 3a0=8e", 0x3a0, 0},
+    {"747=1 3a0=8d", 0x3a0, 0},
+    {"747=1 3a0=88", 0x3a0, 0x88},
+    {"747=1 3a0=89", 0x3a0, 0x89},
+    {"747=1 3a0=8b", 0x3a0, 0x8b},
+    {"747=1 3a0=8f", 0x3a0, 0x8f},
+    {"3a0=8c 747=1", 0x3a0, 0x8c},
+};
+
+static void try_readings(void) {
+    for (unsigned i = 0; i < sizeof READINGS / sizeof *READINGS; i++) {
+        tilvenka_pmp_unit unit = {0}; // zeroed memory is a unit after reset
+        write_all(&unit, READINGS[i].writes);
+        expect(read_csr(&unit, READINGS[i].csr) == READINGS[i].value, "reading", i);
+    }
+}
+
+static void try_sizes(void) {
+    for (uint64_t entries = 16; entries <= 64; entries += 48) {
+        tilvenka_pmp_unit unit;
+        bool is_large = entries == 64;
+        tilvenka_pmp_reset(&unit, entries);
+        write_all(&unit, "3bf=10 3c0=20 3a4=89 3bf=0");
+        expect(read_csr(&unit, 0x3bf) == (is_large ? 0x10 : 0), "the last address", entries);
+        expect(read_csr(&unit, 0x3a4) == (is_large ? 0x89 : 0), "the third word", entries);
+        tilvenka_pmp_reset(&unit, entries);
+        write_all(&unit, "3ef=3fffffffffffff 3ae=1900000000000000");
+        uint32_t answer = decide(&unit, U, LOAD, 0xffffffffffffff, 1);
+        expect(answer == (is_large ? 63 : NONE + 5 * 1024), "the last byte", entries);
+    }
+}
+
+static uint32_t status_of(uint32_t csr) {
+    if (csr >= PMPCFG0 && csr < PMPADDR0)
+        return csr % 2 == 1 ? TILVENKA_PMP_ODD_CONFIGURATION : TILVENKA_PMP_DONE;
+    return (csr >= PMPADDR0 && csr < PMPADDR0 + 64) || csr == MSECCFG ? TILVENKA_PMP_DONE : TILVENKA_PMP_NO_REGISTER;
+}
+
+// Each number, whether it names a register or not. What is refused leaves the value and the unit as they were.
+static void try_numbers(void) {
+    static tilvenka_pmp_unit unit, before;
+    tilvenka_pmp_build(&unit);
+    for (uint32_t csr = 0; csr < 0x2000; csr++) {
+        uint32_t status = status_of(csr);
+        uint64_t value = 77;
+        bool is_right = tilvenka_pmp_read(&unit, csr, &value) == status;
+        is_right &= value == (status == TILVENKA_PMP_DONE ? 0 : 77);
+        before = unit;
+        is_right &= tilvenka_pmp_write(&unit, csr, 0) == status;
+        is_right &= status == TILVENKA_PMP_DONE || memcmp(&unit, &before, sizeof unit) == 0;
+        expect(is_right, "CSR number", csr);
+    }
+}
+
+// Smepmp's truth table: L, R, W, X, and what machine mode and the other modes then have.
+static const struct {
+    const char *bits, *machine, *others;
+} TRUTH[16] = {
+    {"----", "", ""},     {"---X", "", "x"},    {"--W-", "rw", "r"}, {"--WX", "rw", "rw"},
+    {"-R--", "", "r"},    {"-R-X", "", "rx"},   {"-RW-", "", "rw"},  {"-RWX", "", "rwx"},
+    {"L---", "", ""},     {"L--X", "x", ""},    {"L-W-", "x", "x"},  {"L-WX", "rx", "x"},
+    {"LR--", "r", ""},    {"LR-X", "rx", ""},   {"LRW-", "rw", ""},  {"LRWX", "r", "r"},
+};
+
+static uint32_t set_of(const char *letters) {
+    return (strchr(letters, 'r') ? TILVENKA_PMP_READ : 0) + (strchr(letters, 'w') ? TILVENKA_PMP_WRITE : 0)
+        + (strchr(letters, 'x') ? TILVENKA_PMP_EXECUTE : 0);
+}
+
+static uint64_t byte_of(const char *bits) {
+    return (strchr(bits, 'L') ? 128 : 0) + (strchr(bits, 'X') ? 4 : 0) + (strchr(bits, 'W') ? 2 : 0)
+        + (strchr(bits, 'R') ? 1 : 0);
+}
+
+// Whether the mode has exactly these rights to the page at 0x80000000, by the rights of the page and by each decision.
+static bool has(tilvenka_pmp_unit *unit, uint32_t mode, uint32_t rights) {
+    static const uint32_t needed[3] = {TILVENKA_PMP_EXECUTE, TILVENKA_PMP_READ, TILVENKA_PMP_WRITE};
+    static const uint32_t faults[3] = {1, 5, 7};
+    bool is_right = tilvenka_pmp_rights(unit, mode, 0x80000000, 4096) == rights;
+    for (uint32_t kind = 0; kind < 3; kind++) {
+        uint32_t answer = decide(unit, mode, kind, 0x80000000, 4);
+        is_right &= tilvenka_pmp_is_allowed(answer) == ((rights & needed[kind]) != 0);
+        is_right &= tilvenka_pmp_fault(answer) == (rights & needed[kind] ? 0 : faults[kind]);
+        is_right &= answer % TILVENKA_PMP_FAULT == 0;
+    }
+    return is_right && tilvenka_pmp_rights(unit, mode, 0x80000000, 4096) == rights;
+}
+
+static void try_truth_table(void) {
+    for (unsigned row = 0; row < 16; row++) {
+        uint64_t byte = byte_of(TRUTH[row].bits);
+        bool is_locked = byte >= 128;
+        for (unsigned lockdown = 0; lockdown < 2; lockdown++) {
+            tilvenka_pmp_unit unit = {0};
+            tilvenka_pmp_write(&unit, MSECCFG, lockdown ? 5 : 0);
+            tilvenka_pmp_write(&unit, PMPADDR0, 0x200001ff);
+            tilvenka_pmp_write(&unit, PMPCFG0, 0x18 | byte);
+            uint32_t bits = (byte & 3) == 2 ? 0 : byte & 7; // W without R is stored as no right
+            uint32_t machine = lockdown ? set_of(TRUTH[row].machine) : is_locked ? bits : 7;
+            uint32_t others = lockdown ? set_of(TRUTH[row].others) : bits;
+            bool is_right = has(&unit, M, machine) && has(&unit, S, others) && has(&unit, U, others);
+            expect(is_right, lockdown ? "row of the truth table" : "row without lockdown", row);
+        }
+    }
+}
+
+static const struct {
+    const char *writes;
+    uint32_t mode;
+    uint64_t start, length;
+    uint32_t rights;
+} RANGES[] = {
+    {"", U, 0, UINT64_C(1) << 56, 0},
+    {"", M, 0, UINT64_C(1) << 56, 7},
+    {"747=1", M, 0, UINT64_C(1) << 56, 3},
+    {"747=2", M, 0, UINT64_C(1) << 56, 0},
+    {"3b0=200001ff 3a0=19", U, 0x80000000, 4096, 1},
+    {"3b0=200001ff 3a0=19", M, 0x80000000, 4096, 7},
+    {"3b0=200001ff 3a0=19", U, 0x80000800, 4096, TILVENKA_PMP_MIXED},
+    {"3b0=200001ff 3a0=19", U, 0x7ffff000, 4096, 0},
+    {"3b0=200001ff 3a0=19", U, 0x7ffff000, 4097, TILVENKA_PMP_MIXED},
+    {"3b0=10 3b1=11 3a0=1111", U, 0x40, 4, 1},
+    {"3b0=10 3b1=11 3a0=1111", U, 0x40, 8, TILVENKA_PMP_MIXED},
+    {"", M, 0, 0, TILVENKA_PMP_NO_RANGE},
+    {"", M, 1, UINT64_C(1) << 56, TILVENKA_PMP_NO_RANGE},
+    {"", M, UINT64_MAX, UINT64_MAX, TILVENKA_PMP_NO_RANGE},
+    {"", 2, 0, 4096, TILVENKA_PMP_NO_RANGE},
+};
+
+static void try_ranges(void) {
+    for (unsigned i = 0; i < sizeof RANGES / sizeof *RANGES; i++) {
+        tilvenka_pmp_unit unit = {0};
+        write_all(&unit, RANGES[i].writes);
+        for (unsigned built = 0; built < 2; built++) {
+            uint32_t rights = tilvenka_pmp_rights(&unit, RANGES[i].mode, RANGES[i].start, RANGES[i].length);
+            expect(rights == RANGES[i].rights, "range", i);
+            tilvenka_pmp_build(&unit);
+        }
+    }
+}
+
+static void try_snapshot(void) {
+    tilvenka_pmp_unit unit = {0}, other;
+    tilvenka_pmp_registers saved, again;
+    write_all(&unit, "747=5 3b0=200001ff 3a0=199f 3b1=7");
+    memset(&saved, 0xff, sizeof saved);
+    memset(&other, 0xff, sizeof other);
+    tilvenka_pmp_save(&unit, &saved);
+    tilvenka_pmp_restore(&other, &saved);
+    tilvenka_pmp_save(&other, &again);
+    expect(memcmp(&saved, &again, sizeof saved) == 0 && !tilvenka_pmp_is_built(&other), "snapshot", 0);
+    expect(saved.addresses[0] == 0x200001ff && saved.addresses[1] == 7 && saved.configurations[0] == 0x9f
+               && saved.configurations[1] == 0x19 && saved.mseccfg == 5 && saved.entries == 16,
+           "snapshot", 1);
+}
+
+// Units of random bytes.
+
+static uint64_t next_random(void) {
+    static uint64_t state = UINT64_C(0x9e3779b97f4a7c15);
+    state ^= state >> 12;
+    state ^= state << 25;
+    state ^= state >> 27;
+    return state * UINT64_C(0x2545f4914f6cdd1d);
+}
+
+// A number that is often small, or near a power of two.
+static uint64_t next_number(void) {
+    uint64_t number = next_random() >> next_random() % 64;
+    return next_random() % 2 ? number : (UINT64_C(1) << next_random() % 64) - number % 8;
+}
+
+static void fill(uint8_t *bytes, size_t length) {
+    unsigned share = next_random() % 4;
+    for (size_t i = 0; i < length; i++)
+        bytes[i] = next_random() % 4 < share ? next_random() >> 32 : 0;
+}
+
+// Asks all that leaves the unit as it is, and whether it did.
+static bool ask(const tilvenka_pmp_unit *unit) {
+    static tilvenka_pmp_unit before;
+    tilvenka_pmp_registers saved;
+    uint64_t value;
+    before = *unit;
+    for (unsigned turn = 0; turn < 8; turn++) {
+        uint32_t mode = next_random() % 5, kind = next_random() % 4;
+        uint64_t start = next_number(), length = next_random() % 4 ? next_random() % 16 : next_number();
+        tilvenka_pmp_decide(unit, mode, kind, start, length);
+        tilvenka_pmp_decide_by_registers(unit, mode, kind, start, length);
+        tilvenka_pmp_decide_near(unit, next_number(), mode, kind, start, length);
+        tilvenka_pmp_rights(unit, mode, start, length);
+        tilvenka_pmp_read(unit, 0x3a0 + next_random() % 96, &value);
+    }
+    tilvenka_pmp_save(unit, &saved);
+    tilvenka_pmp_is_built(unit);
+    return memcmp(&before, unit, sizeof before) == 0;
+}
+
+// Whether the unit decides alike by its registers and by the map that is built of them, whatever they were.
+static bool agrees(tilvenka_pmp_unit *unit) {
+    bool is_same = true;
+    tilvenka_pmp_build(unit);
+    for (unsigned turn = 0; turn < 16; turn++) {
+        uint32_t mode = MODES[next_random() % 3], kind = next_random() % 3;
+        uint64_t address = unit->registers.addresses[next_random() % 64];
+        uint64_t start = turn % 2 ? next_number() : address * 4 - next_random() % 8;
+        uint64_t length = 1 + next_random() % 16;
+        uint32_t answer = tilvenka_pmp_decide_by_registers(unit, mode, kind, start, length);
+        is_same &= tilvenka_pmp_decide(unit, mode, kind, start, length) == answer;
+        is_same &= tilvenka_pmp_decide_near(unit, next_number(), mode, kind, start, length).answer == answer;
+    }
+    return is_same;
+}
+
+static bool try_random_unit(tilvenka_pmp_unit *unit) {
+    static tilvenka_pmp_unit other;
+    tilvenka_pmp_registers saved;
+    fill((uint8_t *)unit, sizeof *unit);
+    bool is_right = ask(unit);
+    uint32_t status = tilvenka_pmp_write(unit, 0x3a0 + next_random() % 96, next_number());
+    is_right &= status != TILVENKA_PMP_DONE || !tilvenka_pmp_is_built(unit);
+    is_right &= ask(unit) && agrees(unit) && ask(unit);
+    tilvenka_pmp_save(unit, &saved);
+    tilvenka_pmp_restore(&other, &saved);
+    return is_right && memcmp(&other.registers, &saved, sizeof saved) == 0;
+}
+
+// The unit ends right before a page that may not be touched, or begins right after one.
+static void try_random_units(void) {
+    size_t page = sysconf(_SC_PAGESIZE), room = (sizeof(tilvenka_pmp_unit) + page - 1) / page * page;
+    uint8_t *memory = mmap(NULL, room + 2 * page, PROT_NONE, MAP_PRIVATE | MAP_ANONYMOUS, -1, 0);
+    if (memory == MAP_FAILED || mprotect(memory + page, room, PROT_READ | PROT_WRITE) != 0)
+        abort();
+    for (unsigned i = 0; i < RANDOM_UNITS; i++) {
+        uint8_t *first = i % 2 ? memory + page : memory + page + room - sizeof(tilvenka_pmp_unit);
+        expect(try_random_unit((tilvenka_pmp_unit *)first), "random unit", i);
+    }
+}
+
+int main(void) {
+    try_decisions();
+    try_readings();
+    try_sizes();
+    try_numbers();
+    try_truth_table();
+    try_ranges();
+    try_snapshot();
+    try_random_units();
+    printf("%u passed, %u failed\n", passed, failed);
+    return failed != 0;
+}

@@ -1,0 +1,212 @@
+/* A memory bus of an RV64 hart with a software TLB, which asks libpmp where a page comes into the TLB and where a CSR
+ * is written. Reads a trace from standard input:
+ *
+ *     write CSR VALUE                  writes a CSR
+ *     fetch|load U|S|M ADDRESS LENGTH  reads up to 8 bytes, as instruction or as data
+ *     store U|S|M ADDRESS LENGTH VALUE
+ *     migrate                          saves the registers and takes them back into a unit of other memory
+ *     # ..                             a comment
+ *
+ * and prints what each line came to. A page whose rights are mixed stays out of the TLB: each access to it is decided.
+ * A page is asked for as physical memory, since this hart translates no address. */
+#include "tilvenka_pmp.h"
+
+#include <inttypes.h>
+#include <stdio.h>
+#include <stdlib.h>
+#include <string.h>
+
+#define RAM_START UINT64_C(0x80000000)
+enum { RAM_SIZE = 65536, PAGE = 4096, TLB_SIZE = 64, MODES = 4 };
+
+struct translation {
+    bool is_valid;
+    uint64_t page;
+    uint32_t rights;
+};
+
+struct hart {
+    tilvenka_pmp_unit pmp;
+    struct translation tlb[MODES][TLB_SIZE];
+    unsigned hits, fills;
+    uint8_t ram[RAM_SIZE];
+};
+
+struct access {
+    uint32_t mode, kind;
+    uint64_t address, length;
+};
+
+/* What may have changed the rights of pages: the map is built anew, and the TLB forgets. */
+static void flush(struct hart *hart) {
+    tilvenka_pmp_build(&hart->pmp);
+    memset(hart->tlb, 0, sizeof hart->tlb);
+}
+
+static uint32_t write_csr(struct hart *hart, uint32_t csr, uint64_t value) {
+    uint32_t status = tilvenka_pmp_write(&hart->pmp, csr, value);
+    if (status == TILVENKA_PMP_DONE)
+        flush(hart);
+    return status;
+}
+
+static void migrate(struct hart *hart) {
+    tilvenka_pmp_registers snapshot;
+    tilvenka_pmp_save(&hart->pmp, &snapshot);
+    memset(&hart->pmp, 0xaa, sizeof hart->pmp);
+    tilvenka_pmp_restore(&hart->pmp, &snapshot);
+    flush(hart);
+}
+
+static uint32_t right_of(uint32_t kind) {
+    static const uint32_t rights[3] = {TILVENKA_PMP_EXECUTE, TILVENKA_PMP_READ, TILVENKA_PMP_WRITE};
+    return rights[kind];
+}
+
+/* The page's rights, from the TLB or from the unit; only rights that hold for the whole page are kept. */
+static uint32_t page_rights(struct hart *hart, uint32_t mode, uint64_t page) {
+    struct translation *kept = &hart->tlb[mode][page / PAGE % TLB_SIZE];
+    if (kept->is_valid && kept->page == page) {
+        hart->hits++;
+        return kept->rights;
+    }
+    uint32_t rights = tilvenka_pmp_rights(&hart->pmp, mode, page, PAGE);
+    hart->fills++;
+    if (rights < TILVENKA_PMP_MIXED)
+        *kept = (struct translation){true, page, rights};
+    return rights;
+}
+
+/* The answer to an access: without a decision where the TLB has the right to it. */
+static uint32_t ask(struct hart *hart, const struct access *access) {
+    uint64_t page = access->address / PAGE * PAGE;
+    if (access->length - 1 < page + PAGE - access->address) {
+        uint32_t rights = page_rights(hart, access->mode, page);
+        if (rights < TILVENKA_PMP_MIXED && rights & right_of(access->kind))
+            return 0;
+    }
+    return tilvenka_pmp_decide(&hart->pmp, access->mode, access->kind, access->address, access->length);
+}
+
+/* The memory of the access, or NULL where the bus has none. */
+static uint8_t *memory_of(struct hart *hart, const struct access *access) {
+    uint64_t offset = access->address - RAM_START;
+    return offset <= RAM_SIZE && access->length <= RAM_SIZE - offset ? hart->ram + offset : NULL;
+}
+
+static void print_fault(uint32_t answer) {
+    if (answer == TILVENKA_PMP_NO_ACCESS) {
+        printf("no access\n");
+        return;
+    }
+    uint32_t cause = answer % TILVENKA_PMP_FAULT;
+    printf("fault %" PRIu32 ", ", tilvenka_pmp_fault(answer));
+    if (cause >= TILVENKA_PMP_NO_MATCH)
+        printf("no entry\n");
+    else if (cause >= TILVENKA_PMP_SPLIT)
+        printf("split by entry %" PRIu32 "\n", cause - TILVENKA_PMP_SPLIT);
+    else
+        printf("entry %" PRIu32 "\n", cause);
+}
+
+static void print_bytes(const uint8_t *bytes, uint64_t length) {
+    printf("0x");
+    for (uint64_t place = length; place > 0; place--)
+        printf("%02x", bytes[place - 1]);
+    printf("\n");
+}
+
+static void run_access(struct hart *hart, const struct access *access, uint64_t value) {
+    uint32_t answer = ask(hart, access);
+    uint8_t *memory = memory_of(hart, access);
+    if (!tilvenka_pmp_is_allowed(answer)) {
+        print_fault(answer);
+    } else if (memory == NULL) {
+        printf("no memory there\n");
+    } else if (access->kind == TILVENKA_PMP_STORE) {
+        for (uint64_t place = 0; place < access->length; place++)
+            memory[place] = value >> 8 * place;
+        printf("stored\n");
+    } else {
+        print_bytes(memory, access->length);
+    }
+}
+
+/* The trace. */
+
+static bool read_mode(const char *word, uint32_t *mode) {
+    static const char names[] = {'U', 'S', 0, 'M'};
+    for (*mode = 0; *mode < MODES; ++*mode)
+        if (names[*mode] != 0 && word[0] == names[*mode] && word[1] == 0)
+            return true;
+    return false;
+}
+
+static bool read_kind(const char *word, uint32_t *kind) {
+    static const char *const names[] = {"fetch", "load", "store"};
+    for (*kind = 0; *kind < 3; ++*kind)
+        if (strcmp(word, names[*kind]) == 0)
+            return true;
+    return false;
+}
+
+/* The words of a line, of which there are at most five. */
+struct words {
+    int count;
+    char word[5][32];
+};
+
+static struct words read_words(const char *line) {
+    struct words words = {0};
+    words.count = sscanf(line, "%31s %31s %31s %31s %31s", words.word[0], words.word[1], words.word[2], words.word[3],
+                         words.word[4]);
+    return words;
+}
+
+static uint64_t number(const char *word) {
+    return strtoull(word, NULL, 0);
+}
+
+static bool run_access_line(struct hart *hart, const struct words *words) {
+    struct access access;
+    if (words->count < 4 || !read_kind(words->word[0], &access.kind) || !read_mode(words->word[1], &access.mode))
+        return false;
+    access.address = number(words->word[2]);
+    access.length = number(words->word[3]);
+    if ((access.kind == TILVENKA_PMP_STORE) != (words->count == 5) || access.length > 8)
+        return false;
+    run_access(hart, &access, number(words->word[4]));
+    return true;
+}
+
+static bool run_line(struct hart *hart, const char *line) {
+    static const char *const written[] = {"written", "an odd configuration register", "no register of the unit"};
+    struct words words = read_words(line);
+    if (words.count == 3 && strcmp(words.word[0], "write") == 0) {
+        printf("%s\n", written[write_csr(hart, number(words.word[1]), number(words.word[2]))]);
+        return true;
+    }
+    if (words.count == 1 && strcmp(words.word[0], "migrate") == 0) {
+        migrate(hart);
+        printf("migrated\n");
+        return true;
+    }
+    return run_access_line(hart, &words);
+}
+
+int main(void) {
+    static struct hart hart; /* zeroed, so its unit is as after reset */
+    char line[128];
+    flush(&hart);
+    for (unsigned number = 1; fgets(line, sizeof line, stdin) != NULL; number++) {
+        if (line[0] == '#' || line[0] == '\n')
+            continue;
+        printf("%u: ", number);
+        if (!run_line(&hart, line)) {
+            printf("not understood\n");
+            return EXIT_FAILURE;
+        }
+    }
+    printf("%u hits of the TLB, %u fills\n", hart.hits, hart.fills);
+    return EXIT_SUCCESS;
+}

@@ -1,0 +1,146 @@
+/* The PMP unit of an RV64 hart with Smepmp 1.0, as the RISC-V Privileged Architecture, Volume II, 3.7 defines it.
+ *
+ * The caller owns the unit: a struct of plain numbers without pointers. It may be copied, and zeroed memory is a unit
+ * of sixteen entries after reset, whose map isn't built. No call keeps a pointer, allocates, or has a condition on the
+ * numbers that it is given: whatever they are, so is an answer. Pointers have to be valid and aligned, and two of one
+ * call may not overlap. Calls on different units need no lock. Calls on one unit may run at once where all of them take
+ * it as const.
+ *
+ * Link with libpmp.a. Addresses are byte addresses of physical memory unless said otherwise. */
+#ifndef TILVENKA_PMP_H
+#define TILVENKA_PMP_H
+
+#include <assert.h>
+#include <stdbool.h>
+#include <stddef.h>
+#include <stdint.h>
+
+#ifdef __cplusplus
+extern "C" {
+#define TILVENKA_PMP_ASSERT static_assert
+#else
+#define TILVENKA_PMP_ASSERT _Static_assert
+#endif
+
+enum {
+    TILVENKA_PMP_MAX_ENTRIES = 64,
+    /* The lengths of the map's tables. */
+    TILVENKA_PMP_PLACES = 217,
+    TILVENKA_PMP_ANSWERS = 16 * 129
+};
+
+/* The modes, as the manual numbers them (1.2). */
+enum { TILVENKA_PMP_USER = 0, TILVENKA_PMP_SUPERVISOR = 1, TILVENKA_PMP_MACHINE = 3 };
+
+/* The kinds of access. An AMO or a store-conditional is a store. */
+enum { TILVENKA_PMP_FETCH = 0, TILVENKA_PMP_LOAD = 1, TILVENKA_PMP_STORE = 2 };
+
+/* What a write or a read of a CSR came to. */
+enum {
+    TILVENKA_PMP_DONE = 0,
+    /* An odd pmpcfg register, which RV64 doesn't have (3.7.1). */
+    TILVENKA_PMP_ODD_CONFIGURATION = 1,
+    /* No register of the unit. */
+    TILVENKA_PMP_NO_REGISTER = 2
+};
+
+/* An answer is one number: where the access fails, 1024 times the code of its fault; and what decided, as an entry, as
+ * TILVENKA_PMP_SPLIT and an entry that has some of the bytes but not all, or as TILVENKA_PMP_NO_MATCH. */
+enum {
+    TILVENKA_PMP_SPLIT = 256,
+    TILVENKA_PMP_NO_MATCH = 512,
+    TILVENKA_PMP_FAULT = 1024,
+    /* The numbers name no access: a mode or kind that isn't one, a length that isn't 1 to 4096, an end above 2^56. */
+    TILVENKA_PMP_NO_ACCESS = 65535
+};
+
+/* What holds for every access inside a range: a set of the first three, or one of the others. */
+enum {
+    TILVENKA_PMP_READ = 1,
+    TILVENKA_PMP_WRITE = 2,
+    TILVENKA_PMP_EXECUTE = 4,
+    /* Not all bytes have the same entry, so that each access has to be decided. */
+    TILVENKA_PMP_MIXED = 8,
+    /* The numbers name no range: a mode that isn't one, a length of 0, an end above 2^56. */
+    TILVENKA_PMP_NO_RANGE = 65535
+};
+
+/* All registers. What a register lacks is ignored: bits 63 to 54 of an address, bits 6 and 5 of a configuration byte,
+ * all of mseccfg but MML, MMWP and RLB. */
+typedef struct tilvenka_pmp_registers {
+    uint64_t addresses[TILVENKA_PMP_MAX_ENTRIES]; /* pmpaddr0 and so on: bits 55 to 2 of a byte address */
+    uint8_t configurations[TILVENKA_PMP_MAX_ENTRIES];
+    uint64_t mseccfg;
+    uint64_t entries; /* 64, or else 16 */
+} tilvenka_pmp_registers;
+
+/* The map is the library's own; where `runs` is 0 it isn't built. */
+typedef struct tilvenka_pmp_map {
+    uint64_t starts[TILVENKA_PMP_PLACES];
+    uint64_t runs;
+    uint16_t answers[TILVENKA_PMP_ANSWERS];
+} tilvenka_pmp_map;
+
+typedef struct tilvenka_pmp_unit {
+    tilvenka_pmp_registers registers;
+    tilvenka_pmp_map map;
+} tilvenka_pmp_unit;
+
+TILVENKA_PMP_ASSERT(sizeof(tilvenka_pmp_registers) == 592, "the registers are laid out otherwise");
+TILVENKA_PMP_ASSERT(sizeof(tilvenka_pmp_unit) == 592 + 8 * 217 + 8 + 2 * 16 * 129, "the unit is laid out otherwise");
+
+typedef struct tilvenka_pmp_found {
+    uint32_t answer;
+    uint32_t run; /* to be handed to the next call */
+} tilvenka_pmp_found;
+
+/* Resets the unit, which has 64 entries from now on where `entries` is 64, and else 16. The map isn't built. */
+void tilvenka_pmp_reset(tilvenka_pmp_unit *unit, uint64_t entries);
+
+/* Writes the CSR with this number, 0x3a0 to 0x3ef or 0x747, as firmware does in machine mode: locks, reserved bits and
+ * sticky bits as 3.7.1 and Smepmp say. After TILVENKA_PMP_DONE the map isn't built; else nothing changed. */
+uint32_t tilvenka_pmp_write(tilvenka_pmp_unit *unit, uint32_t csr, uint64_t value);
+
+/* Reads the CSR with this number. Unless it is TILVENKA_PMP_DONE, `value` stays. */
+uint32_t tilvenka_pmp_read(const tilvenka_pmp_unit *unit, uint32_t csr, uint64_t *value);
+
+/* Builds the map, by which a decision is a search in place of a walk: once after the last of several writes. */
+void tilvenka_pmp_build(tilvenka_pmp_unit *unit);
+
+bool tilvenka_pmp_is_built(const tilvenka_pmp_unit *unit);
+
+/* Decides an access, by the map where it is built, and else by the registers. The answer is the same. */
+uint32_t tilvenka_pmp_decide(const tilvenka_pmp_unit *unit, uint32_t mode, uint32_t kind, uint64_t start,
+                             uint64_t length);
+
+/* The same by the registers alone: slower, and independent of the map. */
+uint32_t tilvenka_pmp_decide_by_registers(const tilvenka_pmp_unit *unit, uint32_t mode, uint32_t kind, uint64_t start,
+                                          uint64_t length);
+
+/* The same, where the access is likely to be in the run of the one before: looks there first. Any `run` will do. */
+tilvenka_pmp_found tilvenka_pmp_decide_near(const tilvenka_pmp_unit *unit, uint32_t run, uint32_t mode, uint32_t kind,
+                                            uint64_t start, uint64_t length);
+
+/* What holds for every access of the mode inside the range. It serves a TLB fill: a page is a range of 4096 bytes. */
+uint32_t tilvenka_pmp_rights(const tilvenka_pmp_unit *unit, uint32_t mode, uint64_t start, uint64_t length);
+
+/* A snapshot: all registers, with zeros for what a unit of sixteen lacks. */
+void tilvenka_pmp_save(const tilvenka_pmp_unit *unit, tilvenka_pmp_registers *registers);
+
+/* Takes a snapshot back, whatever its numbers are; a reserved combination of R and W is stored as a write stores it.
+ * The map isn't built. */
+void tilvenka_pmp_restore(tilvenka_pmp_unit *unit, const tilvenka_pmp_registers *registers);
+
+static inline bool tilvenka_pmp_is_allowed(uint32_t answer) {
+    return answer < TILVENKA_PMP_FAULT;
+}
+
+/* The exception code of a failed access: 1, 5 or 7 (3.1.15). */
+static inline uint32_t tilvenka_pmp_fault(uint32_t answer) {
+    return answer / TILVENKA_PMP_FAULT;
+}
+
+#ifdef __cplusplus
+}
+#endif
+#endif
