@@ -17,8 +17,8 @@ struct request {
     uint8_t kind;
 };
 
-/* An answer is the entry of the rule, SPLIT and the entry that it is split by, or NO_MATCH; and ALLOWED more where it is
-   allowed. */
+/* An answer is the entry of the rule, SPLIT and the entry that it is split by, or NO_MATCH; and ALLOWED more where it
+   is allowed. */
 enum { SPLIT = 256, NO_MATCH = 512, NO_ACCESS = 513, ALLOWED = 1024 };
 
 /* How requests come: one after the other as fast as they are answered, or each only once the one before is. */
