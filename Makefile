@@ -31,6 +31,7 @@ test:
 	rt ci
 	$(MAKE) library
 	checks/library $(LIBRARY)
+	checks/worked $(PROGRAM)
 	checks/program $(PROGRAM)
 	checks/launcher
 	checks/documents $(PROGRAM)

@@ -1,10 +1,6 @@
 //! Answers written to vectors, and to outputs that fail.
 
-mod entries;
-mod firmware;
-mod maps;
 mod sharing;
-mod versions;
 
 use crate::access_check::check;
 use crate::fault::AuditFault;

@@ -89,21 +89,3 @@ impl fmt::Display for FaultLine {
         }
     }
 }
-
-#[cfg(test)]
-mod tests {
-    use super::*;
-
-    #[test]
-    fn the_longest_line_is_written(rt: HostRuntime) {
-        let line = FaultLine {
-            refusal: Refusal::Unpublished,
-            place: Some(Place::ScriptLine(u64::MAX)),
-        };
-        let mut out = Vec::new(rt.alloc());
-        assert_eq!(rt; line.write_to(&mut out), Ok(()));
-        let wanted = b"pmp: script line 18446744073709551615: refused 16 Unpublished\n".as_slice();
-        assert_eq!(rt; wanted.len(), LONGEST_LINE);
-        assert_eq!(rt; out.as_slice(), wanted);
-    }
-}

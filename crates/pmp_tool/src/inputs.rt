@@ -69,24 +69,3 @@ fn read_trace_at<R: Files + AllocGlobal>(runtime: &R, path: &str) -> Result<Vec<
 {
     read_trace_bytes(runtime.alloc(), &mut fs::open(runtime, path)?)
 }
-
-#[cfg(test)]
-mod tests {
-    use super::*;
-
-    #[test]
-    fn opens_paths(rt: HostRuntime) {
-        let mut inputs = SystemInputs::new(&rt);
-        for (path, want) in [
-            ("/dev/null", Ok(0)),
-            ("/dev/zero", Err(InputFault::TooLong)),
-            ("/dev", Err(InputFault::Input)),
-            ("no/such/script", Err(InputFault::Input)),
-        ] {
-            let answer = inputs.script(path).map(|bytes| bytes.len());
-            assert_eq!(rt; answer, want);
-            let answer = inputs.trace(path).map(|bytes| bytes.len());
-            assert_eq!(rt; answer, want);
-        }
-    }
-}

@@ -195,6 +195,3 @@ impl Outcome {
         }
     }
 }
-
-#[cfg(test)]
-mod tests;

@@ -17,7 +17,7 @@ use std::sync::atomic::{AtomicBool, AtomicU64, Ordering};
 use std::thread::Threads;
 
 /// Asserts that with every number of workers an audit answers and writes what the audit on one thread does.
-pub fn assert_shared<R: Threads + Wait + Sync + Abort>(
+fn assert_shared<R: Threads + Wait + Sync + Abort>(
     rt: &R,
     alloc: Global,
     script: &[u8],
