@@ -24,9 +24,8 @@ extern "C" {
 
 enum {
     TILVENKA_PMP_MAX_ENTRIES = 64,
-    /* The lengths of the map's tables. */
-    TILVENKA_PMP_PLACES = 217,
-    TILVENKA_PMP_ANSWERS = 16 * 129
+    /* How many runs the map has room for. */
+    TILVENKA_PMP_PLACES = 217
 };
 
 /* The modes, as the manual numbers them (1.2). */
@@ -78,7 +77,7 @@ typedef struct tilvenka_pmp_registers {
 typedef struct tilvenka_pmp_map {
     uint64_t starts[TILVENKA_PMP_PLACES];
     uint64_t runs;
-    uint16_t answers[TILVENKA_PMP_ANSWERS];
+    uint16_t answers[TILVENKA_PMP_PLACES][16];
 } tilvenka_pmp_map;
 
 typedef struct tilvenka_pmp_unit {
@@ -87,7 +86,7 @@ typedef struct tilvenka_pmp_unit {
 } tilvenka_pmp_unit;
 
 TILVENKA_PMP_ASSERT(sizeof(tilvenka_pmp_registers) == 592, "the registers are laid out otherwise");
-TILVENKA_PMP_ASSERT(sizeof(tilvenka_pmp_unit) == 592 + 8 * 217 + 8 + 2 * 16 * 129, "the unit is laid out otherwise");
+TILVENKA_PMP_ASSERT(sizeof(tilvenka_pmp_unit) == 592 + 8 * 217 + 8 + 32 * 217, "the unit is laid out otherwise");
 
 typedef struct tilvenka_pmp_found {
     uint32_t answer;
