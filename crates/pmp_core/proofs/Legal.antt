@@ -44,7 +44,7 @@ unreserved c = by_test (is_reserved c) refl
     by_test true e = rw e refl
     by_test false e = rw e e
 
-stored_unreserved : (rlb : Bool) (old : Configuration) (byte : ℕ) → is_reserved old ≡ false
+pub stored_unreserved : (rlb : Bool) (old : Configuration) (byte : ℕ) → is_reserved old ≡ false
     → is_reserved (stored_over false rlb old byte) ≡ false
 stored_unreserved rlb old byte h =
     elim (old.locked && not rlb) as (λ kept. is_reserved (cond kept old (without_reserved (configuration_of byte)))

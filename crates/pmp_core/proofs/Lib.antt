@@ -12,6 +12,7 @@ pub mod Changes
 pub mod Stored
 pub mod Spans
 pub mod StoredBytes
+pub mod Saved
 pub mod Reasons
 pub mod WordReasons
 pub mod AddressReasons

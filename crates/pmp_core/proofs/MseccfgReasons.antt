@@ -56,7 +56,7 @@ bit_low : (b : Bool) → bit_of b < 2
 bit_low true = omega arith
 bit_low false = omega arith
 
-bit_back : (b : Bool) → (bit_of b == 1) ≡ b
+pub bit_back : (b : Bool) → (bit_of b == 1) ≡ b
 bit_back true = refl
 bit_back false = refl
 

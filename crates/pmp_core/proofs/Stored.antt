@@ -13,7 +13,7 @@ use Rattle.pmp_core.specs.Size.{count_of, size_with, used, padded, empty_range, 
 use Rattle.pmp_core.proofs.Legal.{reset_legal}
 use Rattle.pmp_core.proofs.Places.{length-ranges_of}
 
-few : (size : Size) → count_of size ≤ 64
+pub few : (size : Size) → count_of size ≤ 64
 few Sixteen = omega arith
 few SixtyFour = omega arith
 

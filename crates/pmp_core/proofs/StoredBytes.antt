@@ -18,11 +18,11 @@ is_barred_byte byte =
     let new = configuration_of byte in
     is_barred new.locked new.read new.write new.execute
 
-bit_le : (b : Bool) → bit_of b ≤ 1
+pub bit_le : (b : Bool) → bit_of b ≤ 1
 bit_le true = omega arith
 bit_le false = omega arith
 
-field_le : (m : AddressMatching) → field_of m ≤ 3
+pub field_le : (m : AddressMatching) → field_of m ≤ 3
 field_le Off = omega arith
 field_le Tor = omega arith
 field_le Na4 = omega arith

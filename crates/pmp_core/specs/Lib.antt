@@ -18,5 +18,6 @@ pub mod Lock
 pub mod LockLaw
 pub mod Size
 pub mod SizeLaw
+pub mod SavedRegisters
 -- How decisions are computed: a law says that they are the same.
 pub mod Ranges

@@ -4,16 +4,20 @@ ghost use Rattle.std.specs.Prelude.{◌≡◌, ℕ, ◌<◌, List, Option, lengt
 ghost use Rattle.pmp_core.specs.declared.access.Access.{Access};
 ghost use Rattle.pmp_core.specs.declared.decision.Decision.{Decision};
 ghost use Rattle.pmp_core.specs.declared.entry.Entry.{Entry};
-ghost use Rattle.pmp_core.specs.RegisterFile.{RegisterFile, HasAddresses};
+ghost use Rattle.pmp_core.specs.declared.saved_registers.SavedRegisters.{SavedRegisters};
+ghost use Rattle.pmp_core.specs.RegisterFile.{RegisterFile, HasAddresses, IsLegal, reset_file};
 ghost use Rattle.pmp_core.specs.Matching.{Matches};
 ghost use Rattle.pmp_core.specs.Decision.{IsOwner, IsDecider, IsDecision};
 ghost use Rattle.pmp_core.specs.Rights.{BarredRulesLaw, StoreLaw};
 ghost use Rattle.pmp_core.specs.Histories.{LegalLaw};
 ghost use Rattle.pmp_core.specs.LockLaw.{LockLaw};
 ghost use Rattle.pmp_core.specs.SizeLaw.{SizeLaw};
+ghost use Rattle.pmp_core.specs.SavedRegisters.{restored_file, zero_registers, SavedLaw};
 ghost use Rattle.pmp_core.specs.Span.{OneSpanLaw};
 ghost use Rattle.pmp_core.specs.WriteReasons.{WriteReasonsLaw};
 ghost use Rattle.pmp_core.specs.Ranges.{decision_of};
+
+use crate::register_file::ENTRIES;
 
 /// What is computed from the entries' ranges is the manual's decision.
 pub fn law_decided_by_ranges()
@@ -76,4 +80,12 @@ pub fn law_sizes()
 /// what was written. So the reasons are all that there are.
 pub fn law_write_reasons()
     ensures { WriteReasonsLaw }
+{}
+
+/// The saving law: the registers of a legal file of sixteen or of sixty-four entries restore it. Whatever numbers are
+/// restored, the file is legal; zeros are the unit of sixteen after reset.
+pub fn law_saved()
+    ensures kept { SavedLaw }
+    ensures legal { (saved : SavedRegisters) → IsLegal (restored_file saved) }
+    ensures zero { restored_file zero_registers ≡ reset_file ENTRIES }
 {}

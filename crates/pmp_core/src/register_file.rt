@@ -11,6 +11,7 @@ ghost use Rattle.pmp_core.specs.RegisterWrite.{step, is_address_frozen};
 ghost use Rattle.pmp_core.specs.RegisterValue.{register_value};
 ghost use Rattle.pmp_core.specs.WriteReasons.{turns_away, turns_entry_away};
 ghost use Rattle.pmp_core.specs.Ranges.{AreRanges, ranges_of, decision_of};
+ghost use Rattle.pmp_core.specs.SavedRegisters.{saved_registers, restored_file};
 ghost use Rattle.pmp_core.specs.Size.{count_of};
 
 use crate::access::{Access, Mode};
@@ -24,10 +25,13 @@ use crate::mseccfg::MseccfgFields;
 use crate::perms::Perms;
 use crate::range::ByteRange;
 use crate::rights::{default_rights_by, rule_rights};
+use crate::saved_registers::SavedRegisters;
 use crate::size::{MAX_ENTRIES, Size};
 use crate::span::{Span, span_in};
 use crate::write_reasons::WriteReason;
-use crate::{decision_by_ranges, register_value, register_write, storage, write_reasons};
+use crate::{
+    decision_by_ranges, register_value, register_write, saved_registers, storage, write_reasons,
+};
 use std::marker::Model;
 
 /// How many entries a unit of `Size::Sixteen` has.
@@ -103,6 +107,32 @@ impl RegFile {
             entries: [Entry::RESET; MAX_ENTRIES],
             mseccfg: MseccfgFields::RESET,
             ranges: [ByteRange::EMPTY; MAX_ENTRIES],
+        }
+    }
+
+    /// The unit's registers as plain numbers.
+    pub fn save(&self) -> SavedRegisters
+        ensures saved { result ≡ saved_registers self.now }
+        ensures restored { restored_file result ≡ self.now }
+    {
+        saved_registers::save(self.in_use(), &self.mseccfg)
+    }
+
+    /// The unit that the numbers stand for, whatever they are. Bits that a register doesn't have are left out, and so
+    /// are registers of entries that the unit doesn't have; where MML is clear, an entry with W and without R has no
+    /// rights, as a write stores it (Volume II, 3.7.1).
+    pub fn restore(saved: &SavedRegisters) -> RegFile
+        ensures { result ≡ restored_file saved.now }
+    {
+        let size = saved.size();
+        let mut entries = [Entry::RESET; MAX_ENTRIES];
+        let mut ranges = [ByteRange::EMPTY; MAX_ENTRIES];
+        storage::restore(saved, size, &mut entries, &mut ranges);
+        RegFile {
+            size,
+            entries,
+            mseccfg: MseccfgFields::from_value(saved.mseccfg),
+            ranges,
         }
     }
 

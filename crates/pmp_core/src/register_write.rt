@@ -34,7 +34,7 @@ fn without_reserved(configuration: Configuration) -> Configuration
 }
 
 /// What a byte leaves that is written over a configuration.
-fn stored_over(old: Configuration, byte: u8, mseccfg: &MseccfgFields) -> Configuration
+pub fn stored_over(old: Configuration, byte: u8, mseccfg: &MseccfgFields) -> Configuration
     ensures { result ≡ stored_over mseccfg.now.mml mseccfg.now.rlb old byte }
 {
     if old.locked && !mseccfg.rlb {
