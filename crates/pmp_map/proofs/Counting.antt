@@ -2,6 +2,7 @@
 use Rattle.std.proofs.Common.{◌≡◌, ℕ, ◌+◌, ◌*◌, ◌<◌, ◌≤◌, List, slice_index, inl, inr, arith}
 use Rattle.std.proofs.Math.Nat.{mul-le-mul_left, mul-suc}
 use Rattle.std.proofs.lemmas.Bool.{cases_lt}
+use Rattle.pmp_map.specs.declared.search.TheConstants.{PLACES}
 use Rattle.pmp_map.specs.Search.{IsRising, IsBetween}
 
 -- one where the start is at or below the byte, and else zero
@@ -10,7 +11,12 @@ pub record Passed (start byte passed : ℕ) : Type 0 where
   pub from : start ≤ byte → passed ≡ 1
   pub below : byte < start → passed ≡ 0
 
-module _ (starts : List ℕ) (byte low stride : ℕ) (rising : IsRising starts) (wide : 0 < stride)
+-- the place that five tests give
+pub counted_inside : (low stride count places : ℕ) → count ≤ 5 → low + 6 * stride < places
+    → low + stride * count + stride < places
+counted_inside low stride count places few inside = omega (arith, mul-le-mul_left stride few)
+
+module _ (starts : List ℕ) (byte low stride : ℕ) (inside : low + 6 * stride < PLACES) (rising : IsRising starts)
     (between : IsBetween starts byte low (6 * stride)) where
   abbrev start_of : ℕ → ℕ
   start_of k = slice_index starts (low + stride * k)
@@ -24,12 +30,12 @@ module _ (starts : List ℕ) (byte low stride : ℕ) (rising : IsRising starts) 
   starts_rise : (i j : ℕ) → i ≤ j → j ≤ 5 → start_of i ≤ start_of j
   starts_rise i j ordered few = rising (low + stride * i) (low + stride * j)
       (omega (arith, mul-le-mul_left stride ordered))
-      (omega (arith, mul-le-mul_left stride few, between.0))
+      (omega (arith, mul-le-mul_left stride few, inside))
 
   none_yet : Reached 0 0
   none_yet =
       let same : low + stride * 0 ≡ low = omega arith in
-      record { most = omega arith; from = rw same between.1; to = λ less. absurd (omega arith) }
+      record { most = omega arith; from = rw same between.0; to = λ less. absurd (omega arith) }
 
   one_more : (n count passed : ℕ) → n < 5 → Reached n count → Passed (start_of (n + 1)) byte passed
       → Reached (n + 1) (count + passed)
@@ -52,16 +58,15 @@ module _ (starts : List ℕ) (byte low stride : ℕ) (rising : IsRising starts) 
 
   all_tested : (count : ℕ) → Reached 5 count → IsBetween starts byte (low + stride * count) stride
   all_tested count done = (
-    omega (arith, mul-le-mul_left stride done.most, between.0),
     done.from,
-    λ inside. elim (cases_lt count 5) [
+    elim (cases_lt count 5) [
       | inl lt ↦ let next : low + stride * count + stride ≡ low + stride * (count + 1) = omega (
         arith,
         mul-suc stride count,
       ) in rw next (done.to lt)
       | inr le ↦ let last : count ≡ 5 = omega (arith, done.most) in
           let next : low + stride * count + stride ≡ low + 6 * stride = rw last (omega arith) in
-          rw next (between.2 (omega (arith, next)))
+          rw next between.1
     ],
   )
 

@@ -8,4 +8,5 @@ pub mod Pushes
 pub mod KeptRights
 pub mod LeastOwner
 pub mod Decided
+pub mod Starts
 pub mod Lookups

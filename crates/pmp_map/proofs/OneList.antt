@@ -1,10 +1,14 @@
 -- Where each byte has one owner, there is one list of runs.
 use Rattle.std.proofs.Common.{◌≡◌, ℕ, zero, suc, ◌+◌, ◌<◌, ◌≤◌, List, length, Option, sym, ap, ◌∙◌, arith, add-one, inl}
-use Rattle.std.proofs.Common.{inr}
+use Rattle.std.proofs.Common.{inr, ◌^◌}
 use Rattle.std.proofs.lemmas.Bool.{cases_lt}
 use Rattle.std.proofs.lemmas.List.{get_or_default, same_lists}
+use Rattle.pmp_core.specs.declared.entry.Entry.{Entry}
+use Rattle.pmp_core.specs.Decision.{IsOwner}
+use Rattle.pmp_core.specs.Matching.{Matches}
+use Rattle.pmp_core.proofs.Decisions.{least_once}
 use Rattle.pmp_map.specs.declared.run.Run.{Run}
-use Rattle.pmp_map.specs.Runs.{run_at, AreRunsTo}
+use Rattle.pmp_map.specs.Runs.{run_at, AreRunsTo, AreRuns}
 use Rattle.pmp_map.proofs.Order.{start_at, start_past, starts_rise, start_below}
 
 abbrev run_of : (first last : ℕ) → Option ℕ → Run
@@ -83,10 +87,15 @@ module _ (to : ℕ) (Owns : ℕ → Option ℕ → Type 0) (once : (byte : ℕ) 
     | inr long ↦ omega (arith, not_longer other one q p long)
   ]
 
-  pub one_list : (one other : List Run) → AreRunsTo to Owns one → AreRunsTo to Owns other → one ≡ other
+  one_list : (one other : List Run) → AreRunsTo to Owns one → AreRunsTo to Owns other → one ≡ other
   one_list one other p q =
       let lengths = same_length one other p q in
       same_lists one other lengths (λ k d inside.
       get_or_default one k d _ inside
       ∙ same_run one other p q k inside (omega arith) (same_starts one other p q k (omega arith) (omega arith))
       ∙ sym (get_or_default other k d _ (omega arith)))
+
+-- a register file has one list of runs
+pub one_list_of_runs : (entries : List Entry) (one other : List Run) → AreRuns entries one → AreRuns entries other
+    → one ≡ other
+one_list_of_runs entries = one_list (2 ^ 56) (IsOwner entries) (λ byte. least_once (λ i. Matches entries i byte))

@@ -26,6 +26,10 @@ pub record AreRunsTo (to : ℕ) (Owns : ℕ → Option ℕ → Type 0) (runs : L
   -- neighbours have different owners
   pub apart : (k : ℕ) → k + 1 < length runs → (run_at to runs k).owner ≢ (run_at to runs (k + 1)).owner
 
+-- run k of all bytes; past the last, one that begins at their end
+abbrev pub map_run : List Run → ℕ → Run
+map_run = run_at (2 ^ 56)
+
 -- the runs of all bytes
 abbrev pub AreRuns : List Entry → List Run → Type 0
 AreRuns entries = AreRunsTo (2 ^ 56) (IsOwner entries)

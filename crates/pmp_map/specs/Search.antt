@@ -1,12 +1,23 @@
--- Where the search stands in a table of starts.
-use Rattle.std.specs.Prelude.{ℕ, ◌+◌, ◌<◌, ◌≤◌, List, slice_index}
-use Rattle.pmp_map.specs.declared.search.TheConstants.{PLACES}
+-- Tables of where runs begin, and the place of a byte in them.
+use Rattle.std.specs.Prelude.{◌≡◌, ℕ, ◌+◌, ◌-◌, ◌<◌, ◌≤◌, List, slice_index}
+use Rattle.pmp_map.specs.declared.run.Run.{Run}
+use Rattle.pmp_map.specs.declared.search.TheConstants.{PLACES, SHORT}
+use Rattle.pmp_map.specs.Runs.{map_run}
+
+-- where each run begins; past the last, the end of all bytes
+abbrev pub AreStarts : List Run → List ℕ → Type 0
+AreStarts runs starts = (k : ℕ) → k < PLACES → slice_index starts k ≡ (map_run runs k).first
 
 -- no start lies below one before it
 abbrev pub IsRising : List ℕ → Type 0
 IsRising starts = (i j : ℕ) → i ≤ j → j < PLACES → slice_index starts i ≤ slice_index starts j
 
--- the byte lies from the start at `low` on, and below the one at `low + width`, if there is one
+-- the byte lies from the start at `low` on, and below the one at `low + width`
 abbrev pub IsBetween : (starts : List ℕ) (byte low width : ℕ) → Type 0
-IsBetween starts byte low width = (low + width ≤ PLACES) × (slice_index starts low ≤ byte)
-    × (low + width < PLACES → byte < slice_index starts (low + width))
+IsBetween starts byte low width = (slice_index starts low ≤ byte) × (byte < slice_index starts (low + width))
+
+-- the starts of so many runs rise, and the byte lies between the first and the last of those that are searched
+pub record IsWithin (starts : List ℕ) (runs byte : ℕ) : Type 0 where
+  pub rising : IsRising starts
+  pub whole : IsBetween starts byte 0 (PLACES - 1)
+  pub short : runs ≤ SHORT → byte < slice_index starts SHORT

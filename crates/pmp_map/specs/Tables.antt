@@ -1,20 +1,12 @@
 -- What a map keeps of its register file.
-use Rattle.std.specs.Prelude.{◌≡◌, ℕ, ◌^◌, ◌<◌, ◌≤◌, Some, List, length, slice_index, slice_get}
+use Rattle.std.specs.Prelude.{◌≡◌, ℕ, ◌<◌, ◌≤◌, Some, List, length, slice_get}
 use Rattle.pmp_core.specs.RegisterFile.{RegisterFile, HasAddresses}
 use Rattle.pmp_map.specs.declared.run.Run.{Run}
 use Rattle.pmp_map.specs.declared.answers.Answers.{Answers}
 use Rattle.pmp_map.specs.declared.run.TheConstants.{RUNS}
-use Rattle.pmp_map.specs.declared.search.TheConstants.{PLACES}
-use Rattle.pmp_map.specs.Runs.{run_at, AreRuns, HasOwnersBelow}
+use Rattle.pmp_map.specs.Runs.{map_run, AreRuns, HasOwnersBelow}
+use Rattle.pmp_map.specs.Search.{AreStarts}
 use Rattle.pmp_map.specs.Answers.{answers_of}
-
--- run k of all bytes; past the last, one that begins at their end
-abbrev pub map_run : List Run → ℕ → Run
-map_run = run_at (2 ^ 56)
-
--- where each run begins; past the last, the end of all bytes
-abbrev pub AreStarts : List Run → List ℕ → Type 0
-AreStarts runs starts = (k : ℕ) → k < PLACES → slice_index starts k ≡ (map_run runs k).first
 
 -- what each run answers
 abbrev pub AreAnswers : RegisterFile → List Run → List Answers → Type 0

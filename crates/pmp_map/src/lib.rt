@@ -15,3 +15,4 @@ mod tables;
 
 pub use run::{RUNS, Run};
 pub use run_map::RunMap;
+pub use search::{PLACES, SHORT, place_of};

@@ -1,9 +1,12 @@
 //! The map.
 
-ghost use Rattle.std.specs.Prelude.{◌≡◌, ◌+◌, ◌*◌, ◌<◌, ◌≤◌, ◌^◌, length};
+ghost use Rattle.std.specs.Prelude.{◌≡◌, ◌+◌, ◌*◌, ◌<◌, ◌≤◌, ◌^◌, List, length};
 ghost use Rattle.pmp_core.specs.Decision.{IsOwner, IsDecision};
 ghost use Rattle.pmp_core.specs.Ranges.{decision_of};
+ghost use Rattle.pmp_map.specs.declared.run.Run.{Run};
+ghost use Rattle.pmp_map.specs.Owners.{IsLeft};
 ghost use Rattle.pmp_map.specs.Runs.{AreRuns, HasOwnersBelow};
+ghost use Rattle.pmp_map.specs.Search.{AreStarts};
 
 use crate::answers::Answers;
 use crate::run::{RUNS, Run};
@@ -73,6 +76,27 @@ impl RunMap {
         self.runs[place_of(&self.starts, self.runs.len(), byte)].owner
     }
 
+    /// Where each run begins, in its order; past the last, the end of the address space.
+    pub fn starts(&self) -> &[u64; PLACES]
+        ensures { (runs : List Run) → AreRuns self.now.entries runs → AreStarts runs result.now }
+    {
+        &self.starts
+    }
+
+    /// Decides an access that leaves the run in which it begins (Volume II, 3.7.1.3): rare, and out of the way of the
+    /// others.
+    #[cold]
+    #[inline(never)]
+    fn decide_straddling(&self, place: usize, access: &Access) -> Decision
+        requires { (runs : List Run) → AreRuns self.now.entries runs → IsLeft runs place access.now }
+        ensures by_bytes { IsDecision self.now access.now result }
+        ensures computed { result ≡ decision_of self.now access.now }
+    {
+        let last_byte = access.start + access.length - 1;
+        let last = place_of(&self.starts, self.runs.len(), last_byte);
+        refuse_straddling(&self.runs[place..last + 1])
+    }
+
     /// Decides an access as the register file does that the map was built from (Volume II, 3.7.1.3). The contract
     /// alone reads `file`.
     pub fn decide(&self, file: &RegFile, access: &Access) -> Decision
@@ -80,13 +104,11 @@ impl RunMap {
         ensures by_bytes { IsDecision file.now access.now result }
         ensures computed { result ≡ decision_of file.now access.now }
     {
-        let count = self.runs.len();
-        let place = place_of(&self.starts, count, access.start);
-        let end = access.start + access.length;
-        if end <= self.starts[place + 1] {
-            return self.answers[place].decision(access);
+        let place = place_of(&self.starts, self.runs.len(), access.start);
+        if access.start + access.length <= self.starts[place + 1] {
+            self.answers[place].decision(access)
+        } else {
+            self.decide_straddling(place, access)
         }
-        let last = place_of(&self.starts, count, end - 1);
-        refuse_straddling(&self.runs[place..last + 1])
     }
 }

@@ -1,10 +1,11 @@
 //! Finding the run of a byte.
 
-ghost use Rattle.std.specs.Prelude.{◌≡◌, ◌+◌, ◌*◌, ◌<◌, ◌≤◌, slice_index};
-ghost use Rattle.pmp_map.specs.Search.{IsBetween, IsRising};
+ghost use Rattle.std.specs.Prelude.{◌≡◌, ◌+◌, ◌*◌, ◌<◌, ◌≤◌};
+ghost use Rattle.pmp_map.specs.Search.{IsRising, IsBetween, IsWithin};
 
-/// How many places a table of starts has, more than there are runs: six times six times six.
-pub const PLACES: usize = 216;
+/// How long a table of starts is, more than there are runs: the six times six times six places that a search tells
+/// apart, and one after them.
+pub const PLACES: usize = 6 * 6 * 6 + 1;
 
 /// Tables with no more runs than this are searched by two counts in place of three.
 pub const SHORT: usize = 36;
@@ -22,10 +23,10 @@ fn passed(start: u64, byte: u64) -> usize
 /// The place of the byte among the six from `low` on that lie `stride` apart: counts the starts at or below it.
 #[inline(always)]
 fn count_from(starts: &[u64; PLACES], low: usize, stride: usize, byte: u64) -> usize
-    requires rising { IsRising starts.now }
-    requires stride { 0 < stride }
-    requires between { IsBetween starts.now byte low (6 * stride) }
-    ensures { IsBetween starts.now byte result stride }
+    requires { low + 6 * stride < PLACES }
+    ensures inside { result + stride < PLACES }
+    ensures between { IsRising starts.now → IsBetween starts.now byte low (6 * stride)
+        → IsBetween starts.now byte result stride }
 {
     let count = passed(starts[low + stride], byte)
         + passed(starts[low + 2 * stride], byte)
@@ -35,16 +36,13 @@ fn count_from(starts: &[u64; PLACES], low: usize, stride: usize, byte: u64) -> u
     low + stride * count
 }
 
-/// The place whose start is at or below the byte, and the next place's above it. Counts tests in place of branching on
-/// them; the one branch is the same at every look-up of a map.
+/// The place of the byte in a table of where so many runs begin: that of the run that has it. Any table and any number
+/// have a place, before the last. Counts tests in place of branching on them; the one branch is the same at every
+/// look-up of a map.
 #[inline]
 pub fn place_of(starts: &[u64; PLACES], runs: usize, byte: u64) -> usize
-    requires rising { IsRising starts.now }
-    requires first { slice_index starts.now 0 ≤ byte }
-    requires past { runs ≤ SHORT → byte < slice_index starts.now SHORT }
-    ensures inside { result < PLACES }
-    ensures from { slice_index starts.now result ≤ byte }
-    ensures to { result + 1 < PLACES → byte < slice_index starts.now (result + 1) }
+    ensures inside { result + 1 < PLACES }
+    ensures between { IsWithin starts.now runs byte → IsBetween starts.now byte result 1 }
 {
     let far = if runs > SHORT {
         count_from(starts, 0, 36, byte)

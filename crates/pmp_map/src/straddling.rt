@@ -15,8 +15,6 @@ fn least_owner(runs: &[Run]) -> Option<u8>
 }
 
 /// Refuses an access that has bytes of each of these runs, of which there are several.
-#[cold]
-#[inline(never)]
 pub fn refuse_straddling(runs: &[Run]) -> Decision
     ensures { result ≡ refusal_by (least_owner runs.now) }
 {

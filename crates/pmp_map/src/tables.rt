@@ -3,7 +3,8 @@
 ghost use Rattle.std.specs.Prelude.{◌≤◌, ◌^◌, length};
 ghost use Rattle.pmp_map.specs.Owners.{IsOwnerIn};
 ghost use Rattle.pmp_map.specs.Runs.{AreRunsTo, HasOwnersBelow};
-ghost use Rattle.pmp_map.specs.Tables.{AreStarts, AreAnswers};
+ghost use Rattle.pmp_map.specs.Search.{AreStarts};
+ghost use Rattle.pmp_map.specs.Tables.{AreAnswers};
 
 use crate::answers::Answers;
 use crate::cuts::stretch_from;

@@ -1,6 +1,6 @@
 use Rattle.std.proofs.Common.{◌≡◌, ℕ, ◌<◌, ◌≤◌, ◌^◌, length, slice_index}
 use Rattle.pmp_map.specs.declared.search.TheConstants.{PLACES}
-use Rattle.pmp_map.specs.Tables.{map_run}
+use Rattle.pmp_map.specs.Runs.{map_run}
 use Rattle.pmp_map.proofs.tables.starts_of.Given as goal
 
 abbrev pub invariant-loop-place : goal.invariant-loop-place

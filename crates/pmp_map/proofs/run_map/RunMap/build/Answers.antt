@@ -1,6 +1,7 @@
 use Rattle.std.proofs.Common.{◌^◌, ◌≤◌, length}
 use Rattle.pmp_map.specs.declared.run.TheConstants.{RUNS}
-use Rattle.pmp_map.specs.Tables.{AreStarts, AreAnswers}
+use Rattle.pmp_map.specs.Tables.{AreAnswers}
+use Rattle.pmp_map.specs.Search.{AreStarts}
 use Rattle.pmp_map.specs.Runs.{HasOwnersBelow}
 use Rattle.pmp_map.proofs.Entries.{runs_by_entries, owners_below}
 use Rattle.pmp_map.proofs.run_map.RunMap.build.Goals as goal

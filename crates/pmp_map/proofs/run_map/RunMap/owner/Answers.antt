@@ -1,21 +1,14 @@
 use Rattle.std.proofs.Common.{◌^◌, None}
 use Rattle.std.proofs.lemmas.List.{get_or_default}
 use Rattle.pmp_map.specs.declared.run.Run.{Run}
-use Rattle.pmp_map.proofs.Lookups.{IsPlaceOf, rising, past_all, found}
+use Rattle.pmp_map.proofs.Starts.{IsPlaceOf}
+use Rattle.pmp_map.proofs.Lookups.{placed}
 use Rattle.pmp_map.proofs.run_map.RunMap.owner.Goals as goal
 use Rattle.pmp_map.proofs.run_map.RunMap.owner.Goals.{After-place_of}
 
 place : (c : After-place_of) → IsPlaceOf c.self.inside.runs.items c.args.byte c.place_of.result
-place c =
-    let at = c.place_of.ensures in
-    found c.self.inside c.self.invariant c.args.byte c.place_of.result c.requires at.inside at.from at.to
-
-pub place_of-requires-clause-rising : goal.place_of-requires-clause-rising
-place_of-requires-clause-rising c = rising c.self.inside c.self.invariant
-
-pub place_of-requires-clause-past : goal.place_of-requires-clause-past
-place_of-requires-clause-past c =
-    past_all c.self.inside c.self.invariant c.len.result c.args.byte c.len.ensures.value c.requires
+place c = placed c.self.inside c.self.invariant c.len.result c.args.byte c.place_of.result c.len.ensures.value
+    c.requires c.place_of.ensures.inside c.place_of.ensures.between
 
 pub bounds-deref-place_of : goal.bounds-deref-place_of
 bounds-deref-place_of c = rw c.deref.ensures.0 ((place c).inside)
