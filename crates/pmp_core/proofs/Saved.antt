@@ -1,6 +1,7 @@
 -- Registers saved and restored.
 use Rattle.std.proofs.Common.{◌≡◌, ℕ, ◌+◌, ◌*◌, ◌/◌, ◌%◌, ◌^◌, ◌<◌, ◌≤◌, Bool, true, false}
-use Rattle.std.proofs.Common.{List, length, map, replicate, slice_index, ◌++◌, drop, refl, sym, ap, ◌∙◌, inl, inr, arith}
+use Rattle.std.proofs.Common.{List, length, map, replicate, slice_index, ◌++◌, drop, refl, sym, ap, ◌∙◌, inl, inr}
+use Rattle.std.proofs.Common.{arith}
 use Rattle.std.specs.List.{range_with_len}
 use Rattle.std.proofs.lemmas.Bool.{cases_lt}
 use Rattle.std.proofs.lemmas.List.{get_or_past, take_at}
@@ -138,7 +139,8 @@ size_back SixtyFour = refl
 module _ (file : RegisterFile) (size : Size) (legal : IsLegal file) (count : length file.entries ≡ count_of size) where
   address_at : (k : ℕ) → k < 64 → slice_index (saved_registers file).addresses k ≡ (entry_at file.entries k).address
   unfolding saved_registers
-  address_at k inside = get_or-map-range_with_len (λ i. (entry_at file.entries i).address) 0 64 k k 0 inside (omega arith)
+  address_at k inside =
+      get_or-map-range_with_len (λ i. (entry_at file.entries i).address) 0 64 k k 0 inside (omega arith)
 
   byte_at_entry : (k : ℕ) → k < 64
       → slice_index (saved_registers file).configurations k ≡ byte_of (entry_at file.entries k).configuration
@@ -189,7 +191,8 @@ pub restored_stored : (saved : SavedRegisters) (size : Size) (entries : List Ent
     (new ++ drop (count_of size) entries) (ranges_of new ++ drop (count_of size) ranges))
 restored_stored saved size entries ranges stored =
     stored_again (reset_file (count_of size)) size entries ranges stored (mseccfg_fields saved.mseccfg)
-    (restored_entries saved (count_of size)) (length-restored saved (count_of size)) (entries_legal saved (count_of size))
+    (restored_entries saved (count_of size)) (length-restored saved (count_of size))
+    (entries_legal saved (count_of size))
 
 pub used_restored : (saved : SavedRegisters) (size : Size) (rest : List Entry)
     → used size (restored_entries saved (count_of size) ++ rest) ≡ restored_entries saved (count_of size)
