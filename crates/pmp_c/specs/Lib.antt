@@ -1,0 +1,10 @@
+-- What a reader has to believe: what the numbers at the boundary mean.
+pub mod Request
+pub mod Answer
+pub mod Status
+pub mod Unit
+-- What private contracts cite: rows of answers, and a unit's tables.
+pub mod Columns
+pub mod Rows
+pub mod Causes
+pub mod Tables

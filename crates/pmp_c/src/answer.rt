@@ -1,0 +1,59 @@
+//! Answers as numbers.
+
+ghost use Rattle.std.specs.Prelude.{◌≡◌, ◌+◌, ◌*◌, ◌≤◌};
+ghost use Rattle.pmp_core.specs.FaultCode.{access_fault_code};
+ghost use Rattle.pmp_c.specs.Answer.{cause_number, number_by, answer_number};
+
+use pmp_core::{Access, Cause, Decision, Kind};
+
+/// The answer where the numbers name no access.
+pub const NO_ACCESS: u16 = 65535;
+
+fn cause_number(cause: Cause) -> u16
+    ensures number { result ≡ cause_number cause }
+    ensures most { result ≤ 512 }
+{
+    match cause {
+        Cause::Rule(entry) => u16::from(entry),
+        Cause::Split(entry) => 256 + u16::from(entry),
+        Cause::NoMatch => 512,
+    }
+}
+
+fn fault_code(kind: Kind) -> u16
+    ensures code { result ≡ access_fault_code kind }
+    ensures most { result ≤ 7 }
+{
+    match kind {
+        Kind::Fetch => 1,
+        Kind::Load => 5,
+        Kind::Store => 7,
+    }
+}
+
+/// The number of an answer to an access of this kind.
+pub fn number_by(kind: Kind, cause: Cause, allowed: bool) -> u16
+    ensures { result ≡ number_by kind cause allowed }
+{
+    let cause = cause_number(cause);
+    if allowed {
+        cause
+    } else {
+        cause + 1024 * fault_code(kind)
+    }
+}
+
+/// The number that answers the access.
+pub fn answer_number(access: &Access, decision: &Decision) -> u16
+    ensures { result ≡ answer_number access.now decision.now }
+{
+    number_by(access.kind, decision.cause, decision.allowed)
+}
+
+/// The number that refuses an access of this kind which is split by the entry with this number.
+pub fn split_number(kind: Kind, entry: u16) -> u16
+    requires { entry ≤ 512 }
+    ensures { result ≡ 256 + entry + 1024 * access_fault_code kind }
+{
+    256 + entry + 1024 * fault_code(kind)
+}

@@ -1,0 +1,183 @@
+//! The unit behind a C interface: a plain struct of numbers, which its caller owns.
+//!
+//! No function has a condition on its numbers: whatever they are, the answer is defined. The definitions that the
+//! contracts cite are in `specs/` and in those of `pmp_core`.
+//!
+//! An access is named by its mode (0 user, 1 supervisor, 3 machine), its kind (0 fetch, 1 load, 2 store), the byte
+//! address of its first byte, and its length in bytes. An answer is the number of the cause (`i` for the rule of entry
+//! `i`, 256 + `i` for a split by entry `i`, 512 where no entry matches), and 1,024 times the exception code of a
+//! refusal; 65,535 answers numbers that name no access.
+#![tactic(auto)]
+
+ghost use Rattle.std.specs.Prelude.{◌≡◌, ◌<◌, ◌↔◌, IsTrue, MatchResult};
+ghost use Rattle.pmp_core.specs.declared.access.Access.{Access};
+ghost use Rattle.pmp_core.specs.Csr.{numbered};
+ghost use Rattle.pmp_core.specs.Ranges.{decision_of};
+ghost use Rattle.pmp_core.specs.RegisterFile.{reset_file};
+ghost use Rattle.pmp_core.specs.RegisterValue.{register_value};
+ghost use Rattle.pmp_core.specs.RegisterWrite.{written};
+ghost use Rattle.pmp_core.specs.SavedRegisters.{saved_registers, restored_file, saved_size};
+ghost use Rattle.pmp_core.specs.Size.{count_of};
+ghost use Rattle.pmp_c.specs.Answer.{answer_number};
+ghost use Rattle.pmp_c.specs.Request.{IsNamed};
+ghost use Rattle.pmp_c.specs.Status.{status_number};
+ghost use Rattle.pmp_c.specs.Unit.{file_of_unit, IsUnit};
+
+mod answer;
+mod request;
+mod row;
+mod status;
+mod tables;
+mod unit;
+
+use crate::answer::NO_ACCESS;
+use crate::request::Request;
+use crate::status::{TAKEN, csr_of, refusal_status};
+use pmp_core::{Event, RegFile, SavedRegisters};
+pub use tables::Tables;
+pub use unit::{Found, Unit};
+
+/// Resets a unit of so many entries: 64, and every other number means 16 (Volume II, 3.7.1). All registers are zero.
+#[unsafe(no_mangle)]
+pub extern "C" fn tilvenka_pmp_reset(unit: &mut Unit, entries: u64)
+    ensures file { file_of_unit unit.new ≡ reset_file (count_of (saved_size entries)) }
+    ensures unit { IsUnit unit.new }
+{
+    unit.registers.entries = entries;
+    let size = unit.registers.size();
+    unit.set_file(&RegFile::reset_of(size));
+}
+
+/// Writes a register (Volume II, 3.7.1 and Smepmp), by its CSR number. The map is then to be built again. Answers 0,
+/// or 1 for an odd `pmpcfg` and 2 for what is no PMP register: these change nothing.
+#[unsafe(no_mangle)]
+pub extern "C" fn tilvenka_pmp_write(unit: &mut Unit, csr: u32, value: u64) -> u32
+    ensures status { result ≡ status_number (numbered csr) }
+    ensures effect { MatchResult (numbered csr)
+        (λ named. (file_of_unit unit.new ≡ written (file_of_unit unit.old) named value) × IsUnit unit.new)
+        (λ fault. unit.new ≡ unit.old) }
+{
+    match csr_of(csr) {
+        Ok(csr) => {
+            let mut file = unit.file();
+            file.step(Event::Write(csr, value));
+            unit.set_file(&file);
+            TAKEN
+        }
+        Err(fault) => refusal_status(fault),
+    }
+}
+
+/// Reads a register, by its CSR number. Answers as a write does.
+#[unsafe(no_mangle)]
+pub extern "C" fn tilvenka_pmp_read(unit: &Unit, csr: u32, value: &mut u64) -> u32
+    ensures status { result ≡ status_number (numbered csr) }
+    ensures value { MatchResult (numbered csr)
+        (λ named. value.new ≡ register_value (file_of_unit unit.now) named)
+        (λ fault. value.new ≡ value.old) }
+{
+    match csr_of(csr) {
+        Ok(csr) => {
+            *value = unit.file().read(csr);
+            TAKEN
+        }
+        Err(fault) => refusal_status(fault),
+    }
+}
+
+/// Builds the map, by which decisions are faster.
+#[unsafe(no_mangle)]
+pub extern "C" fn tilvenka_pmp_build(unit: &mut Unit)
+    ensures registers { unit.new.registers ≡ unit.old.registers }
+    ensures unit { IsUnit unit.new }
+    ensures built { 0 < unit.new.map.runs }
+{
+    unit.build();
+}
+
+/// Whether the map is built.
+#[unsafe(no_mangle)]
+pub extern "C" fn tilvenka_pmp_is_built(unit: &Unit) -> bool
+    ensures { IsTrue result ↔ 0 < unit.now.map.runs }
+{
+    unit.is_built()
+}
+
+/// Decides an access (Volume II, 3.7.1.3), by the map where it is built.
+#[unsafe(no_mangle)]
+pub extern "C" fn tilvenka_pmp_decide(
+    unit: &Unit,
+    mode: u32,
+    kind: u32,
+    start: u64,
+    length: u64,
+) -> u32
+    ensures answer { (access : Access) → IsNamed access mode kind start length → IsUnit unit.now
+        → result ≡ answer_number access (decision_of (file_of_unit unit.now) access) }
+    ensures none { ((access : Access) → ¬ (IsNamed access mode kind start length)) → result ≡ NO_ACCESS }
+{
+    match Request::new(mode, kind, start, length) {
+        Some(request) => u32::from(unit.answer(&request)),
+        None => u32::from(NO_ACCESS),
+    }
+}
+
+/// The same, which tries a run first: that of the last answer, or any number.
+#[unsafe(no_mangle)]
+pub extern "C" fn tilvenka_pmp_decide_near(
+    unit: &Unit,
+    near: u32,
+    mode: u32,
+    kind: u32,
+    start: u64,
+    length: u64,
+) -> Found
+    ensures answer { (access : Access) → IsNamed access mode kind start length → IsUnit unit.now
+        → result.answer ≡ answer_number access (decision_of (file_of_unit unit.now) access) }
+    ensures none { ((access : Access) → ¬ (IsNamed access mode kind start length)) → result.answer ≡ NO_ACCESS }
+{
+    match Request::new(mode, kind, start, length) {
+        Some(request) => unit.answer_near(near, &request),
+        None => Found {
+            answer: u32::from(NO_ACCESS),
+            run: near,
+        },
+    }
+}
+
+/// Decides an access by the registers, whatever the map holds.
+#[unsafe(no_mangle)]
+pub extern "C" fn tilvenka_pmp_decide_by_registers(
+    unit: &Unit,
+    mode: u32,
+    kind: u32,
+    start: u64,
+    length: u64,
+) -> u32
+    ensures answer { (access : Access) → IsNamed access mode kind start length
+        → result ≡ answer_number access (decision_of (file_of_unit unit.now) access) }
+    ensures none { ((access : Access) → ¬ (IsNamed access mode kind start length)) → result ≡ NO_ACCESS }
+{
+    match Request::new(mode, kind, start, length) {
+        Some(request) => u32::from(unit.answer_by_registers(&request.access)),
+        None => u32::from(NO_ACCESS),
+    }
+}
+
+/// Writes the registers out, with zeros for what the unit doesn't have.
+#[unsafe(no_mangle)]
+pub extern "C" fn tilvenka_pmp_save(unit: &Unit, registers: &mut SavedRegisters)
+    ensures saved { registers.new ≡ saved_registers (file_of_unit unit.now) }
+    ensures restored { restored_file registers.new ≡ file_of_unit unit.now }
+{
+    *registers = unit.file().save();
+}
+
+/// Sets the registers: every choice of numbers stands for a unit. The map is then to be built again.
+#[unsafe(no_mangle)]
+pub extern "C" fn tilvenka_pmp_restore(unit: &mut Unit, registers: &SavedRegisters)
+    ensures file { file_of_unit unit.new ≡ restored_file registers.now }
+    ensures unit { IsUnit unit.new }
+{
+    unit.set_file(&RegFile::restore(registers));
+}

@@ -1,0 +1,30 @@
+//! Register numbers, and what is said of them.
+
+ghost use Rattle.std.specs.Prelude.{◌≡◌, Err};
+ghost use Rattle.pmp_core.specs.Csr.{numbered};
+ghost use Rattle.pmp_c.specs.Status.{status_number};
+
+use pmp_core::{Csr, CsrFault};
+
+/// The status of a call that took the register's number.
+pub const TAKEN: u32 = 0;
+
+/// The status of a call that didn't.
+pub fn refusal_status(fault: CsrFault) -> u32
+    ensures { result ≡ status_number (Err fault) }
+{
+    match fault {
+        CsrFault::OddCfg => 1,
+        CsrFault::NotPmp => 2,
+    }
+}
+
+/// The register with this CSR number.
+pub fn csr_of(number: u32) -> Result<Csr, CsrFault>
+    ensures { result ≡ numbered number }
+{
+    match u16::try_from(number) {
+        Ok(short) => Csr::from_number(short),
+        Err(_) => Err(CsrFault::NotPmp),
+    }
+}

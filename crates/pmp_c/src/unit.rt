@@ -1,0 +1,107 @@
+//! The unit.
+
+ghost use Rattle.std.specs.Prelude.{◌≡◌, ◌<◌, nat_lt};
+ghost use Rattle.pmp_core.specs.Ranges.{decision_of};
+ghost use Rattle.pmp_c.specs.Answer.{answer_number};
+ghost use Rattle.pmp_c.specs.Unit.{file_of_unit, IsUnit};
+
+use crate::answer::answer_number;
+use crate::request::Request;
+use crate::tables::Tables;
+use pmp_core::{Access, RegFile, SavedRegisters};
+
+/// A unit. All zero it is one of sixteen entries after reset, whose map isn't built.
+#[repr(C)]
+#[derive(Clone, Copy, Debug, PartialEq, Eq)]
+pub struct Unit {
+    pub registers: SavedRegisters,
+    /// Empty from a write until it is built.
+    pub map: Tables,
+}
+
+/// An answer, and the run that it was found in.
+#[repr(C)]
+#[derive(Clone, Copy, Debug, PartialEq, Eq)]
+pub struct Found {
+    pub answer: u32,
+    /// 0 where the map isn't built.
+    pub run: u32,
+}
+
+impl Unit {
+    /// The unit's register file.
+    pub fn file(&self) -> RegFile
+        ensures { result ≡ file_of_unit self.now }
+    {
+        RegFile::restore(&self.registers)
+    }
+
+    /// Sets the registers to those of the file, and empties the map.
+    pub fn set_file(&mut self, file: &RegFile)
+        ensures file { file_of_unit self.new ≡ file.now }
+        ensures unit { IsUnit self.new }
+    {
+        self.registers = file.save();
+        self.map.runs = 0;
+    }
+
+    /// Builds the map.
+    pub fn build(&mut self)
+        ensures registers { self.new.registers ≡ self.old.registers }
+        ensures unit { IsUnit self.new }
+        ensures built { 0 < self.new.map.runs }
+    {
+        self.map = Tables::of_file(&self.file());
+    }
+
+    /// Whether the map is built.
+    #[inline(always)]
+    pub fn is_built(&self) -> bool
+        ensures { result ≡ nat_lt 0 self.now.map.runs }
+    {
+        self.map.runs > 0
+    }
+
+    /// The answer by the registers, without the map.
+    #[cold]
+    #[inline(never)]
+    pub fn answer_by_registers(&self, access: &Access) -> u16
+        ensures { result ≡ answer_number access.now (decision_of (file_of_unit self.now) access.now) }
+    {
+        answer_number(access, &self.file().decide(access))
+    }
+
+    /// The answer, by the map where it is built.
+    #[inline(always)]
+    pub fn answer(&self, request: &Request) -> u16
+        ensures { IsUnit self.now
+            → result ≡ answer_number request.now.access (decision_of (file_of_unit self.now) request.now.access) }
+    {
+        if self.is_built() {
+            let place = self.map.place_of(request.access.start);
+            self.map.answer_at(place, request)
+        } else {
+            self.answer_by_registers(&request.access)
+        }
+    }
+
+    /// The same, which tries a run first.
+    #[inline(always)]
+    pub fn answer_near(&self, near: u32, request: &Request) -> Found
+        ensures { IsUnit self.now
+            → result.answer ≡ answer_number request.now.access (decision_of (file_of_unit self.now) request.now.access) }
+    {
+        if self.is_built() {
+            let place = self.map.place_near(near as usize, request.access.start);
+            Found {
+                answer: u32::from(self.map.answer_at(place, request)),
+                run: place as u32,
+            }
+        } else {
+            Found {
+                answer: u32::from(self.answer_by_registers(&request.access)),
+                run: 0,
+            }
+        }
+    }
+}
