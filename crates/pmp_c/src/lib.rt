@@ -158,10 +158,7 @@ pub extern "C" fn tilvenka_pmp_decide_by_registers(
         → result ≡ answer_number access (decision_of (file_of_unit unit.now) access) }
     ensures none { ((access : Access) → ¬ (IsNamed access mode kind start length)) → result ≡ NO_ACCESS }
 {
-    match Request::new(mode, kind, start, length) {
-        Some(request) => u32::from(unit.answer_by_registers(&request.access)),
-        None => u32::from(NO_ACCESS),
-    }
+    u32::from(unit.answer_by_registers(mode, kind, start, length))
 }
 
 /// Writes the registers out, with zeros for what the unit doesn't have.

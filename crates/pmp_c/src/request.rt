@@ -1,16 +1,14 @@
 //! What is asked, as numbers.
 
-ghost use Rattle.std.specs.Prelude.{◌≡◌, ℕ, IfSome, None};
+ghost use Rattle.std.specs.Prelude.{◌≡◌, ◌+◌, ◌<◌, ◌≤◌, ◌^◌, IfSome, None};
 ghost use Rattle.pmp_core.specs.declared.access.Access.{Access};
 ghost use Rattle.pmp_core.specs.declared.access.Kind.{Kind};
 ghost use Rattle.pmp_core.specs.declared.access.Mode.{Mode};
 ghost use Rattle.pmp_c.specs.Request.{IsNamed, mode_number, kind_number};
-ghost use Rattle.pmp_c.specs.Columns.{column_of};
 
-use pmp_core::{Access, Kind, Mode};
+use pmp_core::{ADDRESS_LIMIT, Access, Kind, MAX_LENGTH, Mode};
 
 /// The mode of this level.
-#[inline(always)]
 pub fn mode_of(number: u32) -> Option<Mode>
     ensures some { IfSome result (λ mode. mode_number mode ≡ number) }
     ensures none { result ≡ None → (mode : Mode) → ¬ (mode_number mode ≡ number) }
@@ -23,8 +21,8 @@ pub fn mode_of(number: u32) -> Option<Mode>
     }
 }
 
-#[inline(always)]
-fn kind_of(number: u32) -> Option<Kind>
+/// The kind with this number.
+pub fn kind_of(number: u32) -> Option<Kind>
     ensures some { IfSome result (λ kind. kind_number kind ≡ number) }
     ensures none { result ≡ None → (kind : Kind) → ¬ (kind_number kind ≡ number) }
 {
@@ -36,26 +34,47 @@ fn kind_of(number: u32) -> Option<Kind>
     }
 }
 
-/// An access, and where its answer stands in a row.
+/// The access that these numbers name, if they name one.
+pub fn access_of(mode: u32, kind: u32, start: u64, length: u64) -> Option<Access>
+    ensures named { IfSome result (λ access. IsNamed access mode kind start length) }
+    ensures none { result ≡ None → (access : Access) → ¬ (IsNamed access mode kind start length) }
+{
+    Access::new(mode_of(mode)?, kind_of(kind)?, start, length).ok()
+}
+
+/// Numbers that name an access. They stay numbers, so that an answer takes no branch on the mode or the kind.
 #[derive(Clone, Copy, Debug, PartialEq, Eq)]
 pub struct Request {
-    pub access: Access,
-    /// Kept as a number, so that an answer takes no branch on the mode or the kind.
-    pub column: usize,
-    pub ghost column_is: { column ≡ column_of access.mode access.kind },
+    pub mode: u32,
+    pub kind: u32,
+    pub start: u64,
+    pub length: u64,
+    pub ghost level: { mode < 4 },
+    pub ghost known: { kind < 3 },
+    pub ghost not_empty: { 0 < length },
+    pub ghost inside: { start + length ≤ 2 ^ 56 },
 }
 
 impl Request {
-    /// The access that these numbers name, if they name one.
+    /// The request of these numbers, if they name an access.
     #[inline(always)]
     pub fn new(mode: u32, kind: u32, start: u64, length: u64) -> Option<Request>
-        ensures named { IfSome result (λ request. IsNamed request.access mode kind start length) }
+        ensures same { IfSome result (λ request. (access : Access) → IsNamed access mode kind start length
+            → IsNamed access request.mode request.kind request.start request.length) }
+        ensures some { IfSome result (λ request. (access : Access) × IsNamed access mode kind start length) }
         ensures none { result ≡ None → (access : Access) → ¬ (IsNamed access mode kind start length) }
     {
-        let access = Access::new(mode_of(mode)?, kind_of(kind)?, start, length).ok()?;
+        if mode > 3 || mode == 2 || kind > 2 {
+            return None;
+        }
+        if length == 0 || length > MAX_LENGTH || start > ADDRESS_LIMIT - length {
+            return None;
+        }
         Some(Request {
-            access,
-            column: (4 * mode + kind) as usize,
+            mode,
+            kind,
+            start,
+            length,
         })
     }
 }

@@ -1,6 +1,7 @@
 //! The tables by which a unit answers.
 
 ghost use Rattle.std.specs.Prelude.{◌≡◌, ◌+◌, ◌<◌, ◌≤◌, length, slice_index};
+ghost use Rattle.pmp_core.specs.declared.access.Access.{Access};
 ghost use Rattle.pmp_core.specs.RegisterFile.{RegisterFile};
 ghost use Rattle.pmp_core.specs.Ranges.{decision_of};
 ghost use Rattle.pmp_map.specs.declared.run.TheConstants.{RUNS};
@@ -8,12 +9,13 @@ ghost use Rattle.pmp_map.specs.declared.search.TheConstants.{PLACES};
 ghost use Rattle.pmp_map.specs.Runs.{HasOwnersBelow};
 ghost use Rattle.pmp_c.specs.Answer.{answer_number};
 ghost use Rattle.pmp_c.specs.Causes.{IsLeastCause};
+ghost use Rattle.pmp_c.specs.Request.{IsNamed, kind_number};
 ghost use Rattle.pmp_c.specs.Tables.{AreTables, AreRows, IsFound};
 
 use crate::answer::{NO_ACCESS, split_number};
-use crate::request::Request;
+use crate::request::{Request, kind_of};
 use crate::row::{Row, row_of};
-use pmp_core::{Access, RegFile};
+use pmp_core::RegFile;
 use pmp_map::{PLACES, Run, RunMap, place_of};
 
 /// Where each run of a register file's map begins, and what it answers.
@@ -89,33 +91,40 @@ impl Tables {
         }
     }
 
-    /// The answer to an access that begins in the run at this place and leaves it: rare, and out of the way of the
-    /// others.
+    /// The answer to an access of this kind that begins in the run at this place and leaves it: rare, and out of the
+    /// way of the others.
     #[cold]
     #[inline(never)]
-    fn answer_straddling(&self, place: usize, access: &Access) -> u16
+    fn answer_straddling(&self, place: usize, kind: u32, last_byte: u64) -> u16
         requires { place + 1 < PLACES }
-        ensures { (file : RegisterFile) → AreTables file self.now → IsFound self.now access.now.start place
-            → slice_index self.now.starts (place + 1) < access.now.start + access.now.length
-            → result ≡ answer_number access.now (decision_of file access.now) }
+        ensures { (file : RegisterFile) (access : Access) → AreTables file self.now
+            → IsFound self.now access.start place
+            → slice_index self.now.starts (place + 1) < access.start + access.length
+            → kind_number access.kind ≡ kind → access.start + access.length ≡ last_byte + 1
+            → result ≡ answer_number access (decision_of file access) }
     {
-        let last = self.place_of(access.start + access.length - 1);
-        split_number(access.kind, least_cause(&self.rows, place, last + 1))
+        let last = self.place_of(last_byte);
+        let least = least_cause(&self.rows, place, last + 1);
+        match kind_of(kind) {
+            Some(kind) => split_number(kind, least),
+            None => NO_ACCESS,
+        }
     }
 
     /// The answer to an access that begins in the run at this place.
     #[inline(always)]
     pub fn answer_at(&self, place: usize, request: &Request) -> u16
         requires { place + 1 < PLACES }
-        ensures { (file : RegisterFile) → AreTables file self.now
-            → IsFound self.now request.now.access.start place
-            → result ≡ answer_number request.now.access (decision_of file request.now.access) }
+        ensures { (file : RegisterFile) (access : Access) → AreTables file self.now
+            → IsFound self.now access.start place
+            → IsNamed access request.now.mode request.now.kind request.now.start request.now.length
+            → result ≡ answer_number access (decision_of file access) }
     {
-        let access = &request.access;
-        if access.start + access.length <= self.starts[place + 1] {
-            self.rows[place][request.column]
+        let end = request.start + request.length;
+        if end <= self.starts[place + 1] {
+            self.rows[place][(4 * request.mode + request.kind) as usize]
         } else {
-            self.answer_straddling(place, access)
+            self.answer_straddling(place, request.kind, end - 1)
         }
     }
 }

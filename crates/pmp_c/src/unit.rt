@@ -1,14 +1,16 @@
 //! The unit.
 
 ghost use Rattle.std.specs.Prelude.{◌≡◌, ◌<◌, nat_lt};
+ghost use Rattle.pmp_core.specs.declared.access.Access.{Access};
 ghost use Rattle.pmp_core.specs.Ranges.{decision_of};
 ghost use Rattle.pmp_c.specs.Answer.{answer_number};
+ghost use Rattle.pmp_c.specs.Request.{IsNamed};
 ghost use Rattle.pmp_c.specs.Unit.{file_of_unit, IsUnit};
 
-use crate::answer::answer_number;
-use crate::request::Request;
+use crate::answer::{NO_ACCESS, answer_number};
+use crate::request::{Request, access_of};
 use crate::tables::Tables;
-use pmp_core::{Access, RegFile, SavedRegisters};
+use pmp_core::{RegFile, SavedRegisters};
 
 /// A unit. All zero it is one of sixteen entries after reset, whose map isn't built.
 #[repr(C)]
@@ -65,41 +67,53 @@ impl Unit {
     /// The answer by the registers, without the map.
     #[cold]
     #[inline(never)]
-    pub fn answer_by_registers(&self, access: &Access) -> u16
-        ensures { result ≡ answer_number access.now (decision_of (file_of_unit self.now) access.now) }
+    pub fn answer_by_registers(&self, mode: u32, kind: u32, start: u64, length: u64) -> u16
+        ensures answer { (access : Access) → IsNamed access mode kind start length
+            → result ≡ answer_number access (decision_of (file_of_unit self.now) access) }
+        ensures none { ((access : Access) → ¬ (IsNamed access mode kind start length)) → result ≡ NO_ACCESS }
     {
-        answer_number(access, &self.file().decide(access))
+        match access_of(mode, kind, start, length) {
+            Some(access) => answer_number(&access, &self.file().decide(&access)),
+            None => NO_ACCESS,
+        }
     }
 
     /// The answer, by the map where it is built.
     #[inline(always)]
     pub fn answer(&self, request: &Request) -> u16
-        ensures { IsUnit self.now
-            → result ≡ answer_number request.now.access (decision_of (file_of_unit self.now) request.now.access) }
+        ensures { (access : Access)
+            → IsNamed access request.now.mode request.now.kind request.now.start request.now.length → IsUnit self.now
+            → result ≡ answer_number access (decision_of (file_of_unit self.now) access) }
     {
         if self.is_built() {
-            let place = self.map.place_of(request.access.start);
-            self.map.answer_at(place, request)
+            self.map
+                .answer_at(self.map.place_of(request.start), request)
         } else {
-            self.answer_by_registers(&request.access)
+            self.answer_by_registers(request.mode, request.kind, request.start, request.length)
         }
     }
 
     /// The same, which tries a run first.
     #[inline(always)]
     pub fn answer_near(&self, near: u32, request: &Request) -> Found
-        ensures { IsUnit self.now
-            → result.answer ≡ answer_number request.now.access (decision_of (file_of_unit self.now) request.now.access) }
+        ensures { (access : Access)
+            → IsNamed access request.now.mode request.now.kind request.now.start request.now.length → IsUnit self.now
+            → result.answer ≡ answer_number access (decision_of (file_of_unit self.now) access) }
     {
         if self.is_built() {
-            let place = self.map.place_near(near as usize, request.access.start);
+            let place = self.map.place_near(near as usize, request.start);
             Found {
                 answer: u32::from(self.map.answer_at(place, request)),
                 run: place as u32,
             }
         } else {
             Found {
-                answer: u32::from(self.answer_by_registers(&request.access)),
+                answer: u32::from(self.answer_by_registers(
+                    request.mode,
+                    request.kind,
+                    request.start,
+                    request.length,
+                )),
                 run: 0,
             }
         }

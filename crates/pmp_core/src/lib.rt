@@ -27,7 +27,7 @@ mod span;
 mod storage;
 mod write_reasons;
 
-pub use access::{ADDRESS_LIMIT, Access, AccessFault, Kind, Mode};
+pub use access::{ADDRESS_LIMIT, Access, AccessFault, Kind, MAX_LENGTH, Mode};
 pub use configuration::AddressMatching;
 pub use csr::{Csr, CsrFault};
 pub use decision::{Cause, Decision, fault_code};

@@ -1,13 +1,23 @@
-use Rattle.std.proofs.Common.{◌∙◌, arith}
+use Rattle.std.proofs.Common.{◌≡◌, ◌+◌, ◌-◌, ◌*◌, ◌∙◌, refl, sym, ap, arith}
+use Rattle.pmp_core.specs.declared.access.Kind.{Kind}
+use Rattle.pmp_core.specs.FaultCode.{access_fault_code}
 use Rattle.pmp_c.proofs.Answering.{rises, refused}
+use Rattle.pmp_c.proofs.Naming.{kind_once}
 use Rattle.pmp_c.proofs.tables.Tables.answer_straddling.Goals as goal
 
-pub returns : goal.returns
-returns c = λ file are found long.
-    let access = c.args.access.now in
-    let rise = rises file c.args.self.now are access c.args.place c.requires found long c.place_of-last.result
-    c.place_of-last.ensures.inside c.place_of-last.ensures.found in
+pub returns-in-Some : goal.returns-in-Some
+returns-in-Some c = λ file access are found long kind_is last_is.
+    let tables = c.args.self.now in
+    let place = c.args.place in
+    let last = c.place_of-last.result in
+    let end_is : c.args.last_byte ≡ access.start + access.length - 1 = omega arith in
+    let last_found = rw end_is at c.place_of-last.ensures.found in
+    let rise = rises file tables are access place c.requires found long last c.place_of-last.ensures.inside last_found in
+    let kind : c.in-Some.kind ≡ access.kind = kind_once c.in-Some.kind access.kind (c.in-Some.ensures.some ∙ sym kind_is) in
     c.split_number.ensures
-    ∙ refused file c.args.self.now are access c.args.place c.requires found long c.place_of-last.result
-    c.place_of-last.ensures.inside c.place_of-last.ensures.found c.least_cause.result
-    (c.least_cause.ensures.least (omega arith))
+    ∙ ap (λ (k : Kind). 256 + c.least_cause-least.result + 1024 * access_fault_code k) kind
+    ∙ refused file tables are access place c.requires found long last c.place_of-last.ensures.inside last_found
+    c.least_cause-least.result (c.least_cause-least.ensures.least (omega arith))
+
+pub returns-in-None : goal.returns-in-None
+returns-in-None c = λ file access are found long kind_is last_is. absurd (c.in-None.ensures.none refl access.kind kind_is)

@@ -4,5 +4,8 @@ use Rattle.pmp_c.specs.Unit.{file_of_unit}
 use Rattle.pmp_c.proofs.unit.Unit.answer_near.Goals as goal
 
 pub returns-then-is_built : goal.returns-then-is_built
-returns-then-is_built c = λ is_unit.
-    c.from.ensures ∙ c.answer_at.ensures (file_of_unit c.args.self.now) (is_unit (ltb-true _ _ (sym c.is_built.ensures ∙ c.if-is_built.true))) c.place_near-place.ensures.found
+returns-then-is_built c = λ access named is_unit.
+    c.from.ensures
+    ∙ c.answer_at.ensures (file_of_unit c.args.self.now) access
+    (is_unit (ltb-true _ _ (sym c.is_built.ensures ∙ c.if-is_built.true)))
+    (rw named.start_is c.place_near-place.ensures.found) named
