@@ -32,11 +32,11 @@ use Rattle.pmp_c.specs.Tables.{AreTables, IsFound}
 
 -- ---- causes
 
-fault_most : (allowed : Bool) → fault_number Fetch allowed ≤ 7
+pub fault_most : (allowed : Bool) → fault_number Fetch allowed ≤ 7
 fault_most true = omega arith
 fault_most false = omega arith
 
-cause_most : (owner : Option ℕ) → IfSome owner (λ i. i < 256) → cause_number (whole_cause owner) ≤ 512
+pub cause_most : (owner : Option ℕ) → IfSome owner (λ i. i < 256) → cause_number (whole_cause owner) ≤ 512
 cause_most None small = omega arith
 cause_most (Some i) small = omega arith
 
@@ -64,7 +64,7 @@ unowned_by_cause (Some i) small high = absurd (omega arith)
 module _ (file : RegisterFile) (tables : Tables) (are : AreTables file tables) where
   -- ---- places
 
-  run_found : (byte place : ℕ) → byte < 2 ^ 56 → place + 1 < PLACES → IsFound tables byte place
+  pub run_found : (byte place : ℕ) → byte < 2 ^ 56 → place + 1 < PLACES → IsFound tables byte place
       → IsPlaceOf are.list byte place
   run_found byte place = place_found file.entries are.list tables.starts are.runs_are are.few are.starts_are tables.runs
       byte place are.count
@@ -75,7 +75,7 @@ module _ (file : RegisterFile) (tables : Tables) (are : AreTables file tables) w
   row_cause_at : (k : ℕ) → k < length are.list → cause_at tables.rows k ≡ cause_number (whole_cause (owner_at k))
   row_cause_at k inside = row_cause file (owner_at k) (row_at tables.rows k) (are.rows_are k inside)
 
-  computed : (access : Access) (decision : Decision) → IsDecision file access decision
+  pub computed : (access : Access) (decision : Decision) → IsDecision file access decision
       → decision ≡ decision_of file access
   computed access decision decided = one_decision file access decision (decision_of file access) decided
       (decided_by_ranges file access are.addresses)

@@ -87,7 +87,7 @@ named_alike answer one other mode kind start length p q = ap answer (named_once 
 
 -- ---- some access
 
-mode_with : (n : ℕ) → n ≤ 3 → n ≢ 2 → (mode : Mode) × (mode_number mode ≡ n)
+pub mode_with : (n : ℕ) → n ≤ 3 → n ≢ 2 → (mode : Mode) × (mode_number mode ≡ n)
 mode_with zero few other = (U, refl)
 mode_with (suc zero) few other = (S, refl)
 mode_with (suc (suc zero)) few other = absurd (other refl)

@@ -11,6 +11,7 @@
 
 ghost use Rattle.std.specs.Prelude.{◌≡◌, ◌<◌, ◌↔◌, IsTrue, MatchResult};
 ghost use Rattle.pmp_core.specs.declared.access.Access.{Access};
+ghost use Rattle.pmp_core.specs.declared.access.Mode.{Mode};
 ghost use Rattle.pmp_core.specs.Csr.{numbered};
 ghost use Rattle.pmp_core.specs.Ranges.{decision_of};
 ghost use Rattle.pmp_core.specs.RegisterFile.{reset_file};
@@ -19,12 +20,14 @@ ghost use Rattle.pmp_core.specs.RegisterWrite.{written};
 ghost use Rattle.pmp_core.specs.SavedRegisters.{saved_registers, restored_file, saved_size};
 ghost use Rattle.pmp_core.specs.Size.{count_of};
 ghost use Rattle.pmp_c.specs.Answer.{answer_number};
+ghost use Rattle.pmp_c.specs.RangeRights.{IsRangeOf, AreRangeRights};
 ghost use Rattle.pmp_c.specs.Request.{IsNamed};
 ghost use Rattle.pmp_c.specs.Status.{status_number};
 ghost use Rattle.pmp_c.specs.Unit.{file_of_unit, IsUnit};
 
 mod answer;
 mod request;
+mod rights;
 mod row;
 mod status;
 mod tables;
@@ -33,7 +36,7 @@ mod unit;
 use crate::answer::NO_ACCESS;
 use crate::request::Request;
 use crate::status::{TAKEN, csr_of, refusal_status};
-use pmp_core::{Event, RegFile, SavedRegisters};
+use pmp_core::{ADDRESS_LIMIT, Event, RegFile, SavedRegisters};
 pub use tables::Tables;
 pub use unit::{Found, Unit};
 
@@ -159,6 +162,23 @@ pub extern "C" fn tilvenka_pmp_decide_by_registers(
     ensures none { ((access : Access) → ¬ (IsNamed access mode kind start length)) → result ≡ NO_ACCESS }
 {
     u32::from(unit.answer_by_registers(mode, kind, start, length))
+}
+
+/// What a mode may do in a whole range of bytes, as a page: R is 1, W is 2, X is 4; 8 where no one owner has all of its
+/// bytes; 65,535 where the numbers name no mode, or no range that ends at or below `2^56`.
+#[unsafe(no_mangle)]
+pub extern "C" fn tilvenka_pmp_rights(unit: &Unit, mode: u32, start: u64, length: u64) -> u32
+    ensures rights { (named : Mode) → IsRangeOf named mode start length → IsUnit unit.now
+        → AreRangeRights (file_of_unit unit.now) named start length result }
+    ensures none { ((named : Mode) → ¬ (IsRangeOf named mode start length)) → result ≡ NO_ACCESS }
+{
+    if mode > 3 || mode == 2 || length == 0 {
+        return u32::from(NO_ACCESS);
+    }
+    if length > ADDRESS_LIMIT || start > ADDRESS_LIMIT - length {
+        return u32::from(NO_ACCESS);
+    }
+    unit.rights(mode, start, length)
 }
 
 /// Writes the registers out, with zeros for what the unit doesn't have.

@@ -1,7 +1,8 @@
 //! The tables by which a unit answers.
 
-ghost use Rattle.std.specs.Prelude.{◌≡◌, ◌+◌, ◌<◌, ◌≤◌, length, slice_index};
+ghost use Rattle.std.specs.Prelude.{◌≡◌, ◌+◌, ◌<◌, ◌≤◌, ◌^◌, length, slice_index};
 ghost use Rattle.pmp_core.specs.declared.access.Access.{Access};
+ghost use Rattle.pmp_core.specs.declared.access.Mode.{Mode};
 ghost use Rattle.pmp_core.specs.RegisterFile.{RegisterFile};
 ghost use Rattle.pmp_core.specs.Ranges.{decision_of};
 ghost use Rattle.pmp_map.specs.declared.run.TheConstants.{RUNS};
@@ -9,11 +10,13 @@ ghost use Rattle.pmp_map.specs.declared.search.TheConstants.{PLACES};
 ghost use Rattle.pmp_map.specs.Runs.{HasOwnersBelow};
 ghost use Rattle.pmp_c.specs.Answer.{answer_number};
 ghost use Rattle.pmp_c.specs.Causes.{IsLeastCause};
+ghost use Rattle.pmp_c.specs.RangeRights.{IsRangeOf, AreRangeRights};
 ghost use Rattle.pmp_c.specs.Request.{IsNamed, kind_number};
 ghost use Rattle.pmp_c.specs.Tables.{AreTables, AreRows, IsFound};
 
 use crate::answer::{NO_ACCESS, split_number};
 use crate::request::{Request, kind_of};
+use crate::rights::{MIXED, row_rights};
 use crate::row::{Row, row_of};
 use pmp_core::RegFile;
 use pmp_map::{PLACES, Run, RunMap, place_of};
@@ -125,6 +128,22 @@ impl Tables {
             self.rows[place][(4 * request.mode + request.kind) as usize]
         } else {
             self.answer_straddling(place, request.kind, end - 1)
+        }
+    }
+
+    /// What the mode of this level may do in the whole range.
+    #[inline(always)]
+    pub fn rights(&self, mode: u32, start: u64, length: u64) -> u32
+        requires level { mode < 4 }
+        requires inside { start + length ≤ 2 ^ 56 }
+        ensures { (file : RegisterFile) (named : Mode) → AreTables file self.now → IsRangeOf named mode start length
+            → AreRangeRights file named start length result }
+    {
+        let place = self.place_of(start);
+        if start + length <= self.starts[place + 1] {
+            row_rights(&self.rows[place], mode)
+        } else {
+            MIXED
         }
     }
 }

@@ -1,9 +1,11 @@
 //! The unit.
 
-ghost use Rattle.std.specs.Prelude.{◌≡◌, ◌<◌, nat_lt};
+ghost use Rattle.std.specs.Prelude.{◌≡◌, ◌+◌, ◌<◌, ◌≤◌, ◌^◌, nat_lt};
 ghost use Rattle.pmp_core.specs.declared.access.Access.{Access};
+ghost use Rattle.pmp_core.specs.declared.access.Mode.{Mode};
 ghost use Rattle.pmp_core.specs.Ranges.{decision_of};
 ghost use Rattle.pmp_c.specs.Answer.{answer_number};
+ghost use Rattle.pmp_c.specs.RangeRights.{IsRangeOf, AreRangeRights};
 ghost use Rattle.pmp_c.specs.Request.{IsNamed};
 ghost use Rattle.pmp_c.specs.Unit.{file_of_unit, IsUnit};
 
@@ -116,6 +118,33 @@ impl Unit {
                 )),
                 run: 0,
             }
+        }
+    }
+
+    /// What the mode of this level may do in the whole range, by a map that is built for it.
+    #[cold]
+    #[inline(never)]
+    fn rights_by_registers(&self, mode: u32, start: u64, length: u64) -> u32
+        requires level { mode < 4 }
+        requires inside { start + length ≤ 2 ^ 56 }
+        ensures { (named : Mode) → IsRangeOf named mode start length
+            → AreRangeRights (file_of_unit self.now) named start length result }
+    {
+        Tables::of_file(&self.file()).rights(mode, start, length)
+    }
+
+    /// What the mode of this level may do in the whole range, by the map where it is built.
+    #[inline(always)]
+    pub fn rights(&self, mode: u32, start: u64, length: u64) -> u32
+        requires level { mode < 4 }
+        requires inside { start + length ≤ 2 ^ 56 }
+        ensures { (named : Mode) → IsRangeOf named mode start length → IsUnit self.now
+            → AreRangeRights (file_of_unit self.now) named start length result }
+    {
+        if self.is_built() {
+            self.map.rights(mode, start, length)
+        } else {
+            self.rights_by_registers(mode, start, length)
         }
     }
 }
