@@ -10,6 +10,8 @@ pub mod LeastRows
 pub mod Leasts
 pub mod Lefts
 pub mod Meanings
+pub mod Numbered
+pub mod Picture
 pub mod Prefixes
 pub mod RecordsLeft
 pub mod Rows

@@ -6,6 +6,7 @@ mod effects;
 mod entries;
 mod hexadecimal;
 mod marks;
+mod picture;
 mod registers;
 mod report;
 mod runs;
@@ -13,6 +14,7 @@ mod runs;
 use arrayvec::ArrayString;
 pub use effects::{EventPlace, write_effect};
 pub use entries::write_entries;
+pub use picture::write_picture;
 pub use registers::write_registers;
 pub use report::write_row;
 pub use runs::write_runs;
@@ -20,8 +22,8 @@ use std::alloc::AllocError;
 use std::fmt;
 use std::fmt::{Display, Write};
 
-/// Room for a line, or for a part of one. An entry's has at most 82 bytes, and no other has more.
-const LINE: usize = 96;
+/// Room for a line, or for a part of one. One of a picture has at most 107 bytes, and no other has more.
+const LINE: usize = 128;
 
 /// No memory for a text.
 #[derive(Clone, Copy, Debug, PartialEq, Eq)]

@@ -29,7 +29,7 @@ impl fmt::Display for Owner {
 }
 
 /// What the run's owner gives the mode, or what the mode may do where there is none.
-fn run_rights(file: &RegFile, run: &Run, mode: Mode) -> Perms
+pub fn run_rights(file: &RegFile, run: &Run, mode: Mode) -> Perms
     requires { IfSome run.now.owner (λ entry. entry < length file.now.entries) }
     ensures { result ≡ perms_of (owned_rights file.now run.now.owner mode) }
 {

@@ -1,0 +1,109 @@
+-- The bands of a picture, one after another, and what stands above them.
+use Rattle.std.proofs.Common.{◌≡◌, ℕ, ◌+◌, ◌*◌, ◌/◌, ◌%◌, ◌^◌, ◌==◌, ◌<◌, ◌≤◌, Bool, true, false, List, [], ◌∷◌, ◌++◌}
+use Rattle.std.proofs.Common.{length, get_or, take, refl, sym, ap, ◌∙◌, append_assoc, arith}
+use Rattle.std.specs.List.{enumerate_from, flat_map}
+use Rattle.std.proofs.lemmas.List.{flat_map_more, get_or_default, length-take-le, take_more}
+use Rattle.pmp_core.specs.declared.entry.Entry.{Entry}
+use Rattle.pmp_core.specs.declared.mseccfg.MseccfgFields.{MseccfgFields}
+use Rattle.pmp_core.specs.Configuration.{bit_of}
+use Rattle.pmp_core.specs.Decision.{IsOwner}
+use Rattle.pmp_core.specs.Mseccfg.{mseccfg_value}
+use Rattle.pmp_core.specs.RegisterFile.{RegisterFile}
+use Rattle.pmp_map.specs.declared.run.Run.{Run}
+use Rattle.pmp_map.specs.Runs.{AreRuns, run_at}
+use Rattle.pmp_map.proofs.Order.{start_most}
+use Rattle.pmp_text.specs.Picture.{band, bands}
+use Rattle.pmp_text.proofs.Numbered.{enumerate_from-push}
+
+-- a text that was appended after another
+joined : (old first last text more : List ℕ) → first ≡ old ++ text → last ≡ first ++ more
+    → last ≡ old ++ (text ++ more)
+joined old first last text more one other = other ∙ ap (λ (l : List ℕ). l ++ more) one ∙ append_assoc old text more
+
+-- six texts that were appended one after another
+pub six_texts : (old t₁ t₂ t₃ t₄ t₅ new a b c d e f : List ℕ) → t₁ ≡ old ++ a → t₂ ≡ t₁ ++ b → t₃ ≡ t₂ ++ c
+    → t₄ ≡ t₃ ++ d → t₅ ≡ t₄ ++ e → new ≡ t₅ ++ f → new ≡ old ++ (a ++ (b ++ (c ++ (d ++ (e ++ f)))))
+six_texts old t₁ t₂ t₃ t₄ t₅ new a b c d e f first second third fourth fifth last =
+    joined old t₁ new a (b ++ (c ++ (d ++ (e ++ f)))) first
+    (joined t₁ t₂ new b (c ++ (d ++ (e ++ f))) second
+    (joined t₂ t₃ new c (d ++ (e ++ f)) third
+    (joined t₃ t₄ new d (e ++ f) fourth (joined t₄ t₅ new e f fifth last))))
+
+-- three texts that were appended to none
+pub three_texts : (none t₁ t₂ new a b c : List ℕ) → none ≡ [] → t₁ ≡ none ++ a → t₂ ≡ t₁ ++ b → new ≡ t₂ ++ c
+    → new ≡ a ++ (b ++ c)
+three_texts none t₁ t₂ new a b c empty first second last =
+    joined none t₁ new a (b ++ c) first (joined t₁ t₂ new b c second last)
+    ∙ ap (λ (l : List ℕ). l ++ (a ++ (b ++ c))) empty
+
+bit_0 : (mml mmwp rlb : Bool) → ((bit_of mml + 2 * bit_of mmwp + 4 * bit_of rlb) % 2 == 1) ≡ mml
+bit_0 true true true = refl
+bit_0 true true false = refl
+bit_0 true false true = refl
+bit_0 true false false = refl
+bit_0 false true true = refl
+bit_0 false true false = refl
+bit_0 false false true = refl
+bit_0 false false false = refl
+
+bit_1 : (mml mmwp rlb : Bool) → ((bit_of mml + 2 * bit_of mmwp + 4 * bit_of rlb) / 2 % 2 == 1) ≡ mmwp
+bit_1 true true true = refl
+bit_1 true true false = refl
+bit_1 true false true = refl
+bit_1 true false false = refl
+bit_1 false true true = refl
+bit_1 false true false = refl
+bit_1 false false true = refl
+bit_1 false false false = refl
+
+bit_2 : (mml mmwp rlb : Bool) → ((bit_of mml + 2 * bit_of mmwp + 4 * bit_of rlb) / 4 % 2 == 1) ≡ rlb
+bit_2 true true true = refl
+bit_2 true true false = refl
+bit_2 true false true = refl
+bit_2 true false false = refl
+bit_2 false true true = refl
+bit_2 false true false = refl
+bit_2 false false true = refl
+bit_2 false false false = refl
+
+-- the value of mseccfg has its bits
+module _ (bits : ℕ) (mseccfg : MseccfgFields) (is : bits ≡ mseccfg_value mseccfg) where
+  pub lockdown_bit : (bits % 2 == 1) ≡ mseccfg.mml
+  lockdown_bit = rw is (bit_0 mseccfg.mml mseccfg.mmwp mseccfg.rlb)
+
+  pub policy_bit : (bits / 2 % 2 == 1) ≡ mseccfg.mmwp
+  policy_bit = rw is (bit_1 mseccfg.mml mseccfg.mmwp mseccfg.rlb)
+
+  pub bypass_bit : (bits / 4 % 2 == 1) ≡ mseccfg.rlb
+  bypass_bit = rw is (bit_2 mseccfg.mml mseccfg.mmwp mseccfg.rlb)
+
+-- a run isn't empty, and ends in memory
+module _ (entries : List Entry) (runs : List Run) (are : AreRuns entries runs) (k : ℕ) (inside : k < length runs)
+    (none : Run) where
+  same_run : run_at (2 ^ 56) runs k ≡ get_or runs k none
+  same_run = get_or_default runs k _ none inside
+
+  pub is_proper : (get_or runs k none).first ≤ (get_or runs k none).last
+  is_proper = rw same_run at (are.proper k inside)
+
+  pub ends_in_memory : (get_or runs k none).last < 2 ^ 56
+  ends_in_memory =
+      let last : (run_at (2 ^ 56) runs k).last < 2 ^ 56 =
+      omega (arith, are.gapless k inside, start_most (2 ^ 56) (IsOwner entries) runs are (k + 1)) in
+      rw same_run at last
+
+-- a band more
+pub bands_grow : (file : RegisterFile) (runs : List Run) (place : ℕ) (none : Run) → place < length runs
+    → (before text longer : List ℕ) → longer ≡ text ++ band file place (get_or runs place none)
+    → text ≡ before ++ bands file (take place runs) → longer ≡ before ++ bands file (take (place + 1) runs)
+unfolding bands
+bands_grow file runs place none inside before text longer one so_far =
+    let line : ℕ × Run → List ℕ = λ (place, run). band file place run in
+    let run = get_or runs place none in
+    let places : 0 + length (take place runs) ≡ place =
+    omega (arith, length-take-le place runs (omega arith)) in
+    one ∙ ap (λ (l : List ℕ). l ++ band file place run) so_far
+    ∙ flat_map_more line before (enumerate_from 0 (take place runs)) (place, run)
+    ∙ ap (λ (n : ℕ). before ++ flat_map line (enumerate_from 0 (take place runs) ++ (n, run) ∷ [])) (sym places)
+    ∙ ap (λ numbered. before ++ flat_map line numbered) (sym (enumerate_from-push 0 (take place runs) run))
+    ∙ ap (λ first. before ++ flat_map line (enumerate_from 0 first)) (sym (take_more runs place none inside))

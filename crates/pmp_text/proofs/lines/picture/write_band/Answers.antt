@@ -1,0 +1,39 @@
+use Rattle.std.proofs.Common.{◌≡◌, [], ◌∷◌, ◌+◌, ◌-◌, ◌++◌, List, ℕ, ap, codes, ◌∙◌}
+use Rattle.std.proofs.lemmas.Result.{on_ok_weaker}
+use Rattle.pmp_core.specs.declared.access.Mode.TheVariants.{M, U}
+use Rattle.pmp_map.specs.Answers.{owned_rights}
+use Rattle.pmp_text.specs.Picture.{band, drawn_band, ends, extent, permissions, strip}
+use Rattle.pmp_text.specs.RunLines.{rights_text}
+use Rattle.pmp_text.specs.Steps.Marks.{perms_text}
+use Rattle.pmp_text.proofs.Picture.{six_texts}
+use Rattle.pmp_text.proofs.RunLines.{text_of_perms}
+use Rattle.pmp_text.proofs.lines.picture.write_band.Goals as goal
+
+pub returns : goal.returns
+unfolding band
+returns c =
+    let file = c.args.file.now in
+    let run = c.args.run.now in
+    let machine = perms_text c.run_rights.result in
+    let others = perms_text c.run_rights-2.result in
+    let sign = c.lock_sign.result.now in
+    let machine_is = ap perms_text c.run_rights.ensures ∙ text_of_perms (owned_rights file run.owner M) in
+    let others_is = ap perms_text c.run_rights-2.ensures ∙ text_of_perms (owned_rights file run.owner U) in
+    let band_is =
+    ap (λ (m : List ℕ). drawn_band c.args.place run m others sign) machine_is
+    ∙ ap (λ (o : List ℕ). drawn_band c.args.place run (rights_text (owned_rights file run.owner M)) o sign) others_is
+    ∙ ap (λ (s : List ℕ). drawn_band c.args.place run (rights_text (owned_rights file run.owner M))
+    (rights_text (owned_rights file run.owner U)) s) c.lock_sign.ensures in
+    let ends_are : c.append_line-2.new.out.items
+    ≡ c.append_line.new.out.items ++ ends c.new-first.result.value c.new-last.result.value =
+    c.in_ok-append_line-2.ensures.ok in
+    on_ok_weaker c.append_text-2.result
+    (λ last. six_texts c.args.out.now.items c.append_line.new.out.items c.append_line-2.new.out.items
+    c.append_line-3.new.out.items c.append_line-4.new.out.items c.append_text.new.out.items
+    c.append_text-2.new.out.items (strip c.args.place others) (ends run.first run.last)
+    (extent (run.last + 1 - run.first) run.owner) (permissions machine others) sign (codes "</g>" ++ 10 ∷ [])
+    c.in_ok-append_line.ensures.ok (rw (c.new-first.ensures, c.new-last.ensures) at ends_are)
+    c.in_ok-append_line-3.ensures.ok
+    c.in_ok-append_line-4.ensures.ok c.in_ok-append_text.ensures.ok last
+    ∙ ap (λ (l : List ℕ). c.args.out.now.items ++ l) band_is)
+    c.append_text-2.ensures.ok

@@ -1,0 +1,118 @@
+-- The text of a picture of a register file's runs, an SVG document.
+use Rattle.std.specs.Prelude.{◌≡◌, ℕ, ◌+◌, ◌-◌, ◌*◌, ◌/◌, ◌%◌, ◌^◌, ◌==◌, Bool, List, [], ◌∷◌, ◌++◌, length, Option}
+use Rattle.std.specs.Prelude.{Some, None, if◌then◌else◌, codes, decimal}
+use Rattle.std.specs.List.{enumerate_from, flat_map}
+use Rattle.pmp_core.specs.declared.access.Mode.TheVariants.{M, U}
+use Rattle.pmp_core.specs.declared.mseccfg.MseccfgFields.{MseccfgFields}
+use Rattle.pmp_core.specs.RegisterFile.{RegisterFile, is_frozen}
+use Rattle.pmp_map.specs.declared.run.Run.{Run}
+use Rattle.pmp_map.specs.Answers.{owned_rights}
+use Rattle.pmp_map.specs.Runs.{AreRuns}
+use Rattle.pmp_text.specs.declared.lines.picture.TheConstants.{FOOT, LEGEND, LOCK, STYLE}
+use Rattle.pmp_text.specs.Hexadecimal.{hex_text}
+use Rattle.pmp_text.specs.RunLines.{rights_text}
+
+-- ---- a run
+
+-- how many there are of the largest unit that parts the bytes evenly
+abbrev pub size_text : (bytes : ℕ) → List ℕ
+size_text bytes =
+    if bytes % 2 ^ 50 == 0 then decimal (bytes / 2 ^ 50) ++ codes " PiB"
+    else (if bytes % 2 ^ 40 == 0 then decimal (bytes / 2 ^ 40) ++ codes " TiB"
+    else (if bytes % 2 ^ 30 == 0 then decimal (bytes / 2 ^ 30) ++ codes " GiB"
+    else (if bytes % 2 ^ 20 == 0 then decimal (bytes / 2 ^ 20) ++ codes " MiB"
+    else (if bytes % 2 ^ 10 == 0 then decimal (bytes / 2 ^ 10) ++ codes " KiB"
+    else decimal bytes ++ codes " bytes"))))
+
+abbrev pub owner_name : Option ℕ → List ℕ
+owner_name None = codes "no entry"
+owner_name (Some entry) = codes "entry " ++ decimal entry
+
+-- the strip in this place, in the colour of these rights
+abbrev pub strip : (place : ℕ) → (rights : List ℕ) → List ℕ
+strip place rights =
+    codes "<g class='su" ++ (rights ++ (codes "' transform='translate(0," ++ (decimal (24 * place)
+    ++ codes ")'><rect y='-17' width='928' height='24'/>")))
+
+-- the first and the last byte, in fourteen digits
+abbrev pub ends : (first last : ℕ) → List ℕ
+ends first last =
+    codes "<text x='8'>0x" ++ (hex_text 14 first ++ (codes "</text><text x='148'>0x" ++ (hex_text 14 last
+    ++ codes "</text>")))
+
+-- the size and the owner
+abbrev pub extent : (bytes : ℕ) → Option ℕ → List ℕ
+extent bytes owner =
+    codes "<text x='292'>" ++ (size_text bytes ++ (codes "</text><text x='496'>" ++ (owner_name owner
+    ++ codes "</text>")))
+
+-- the rights of machine mode and of the others
+abbrev pub permissions : (machine others : List ℕ) → List ℕ
+permissions machine others =
+    codes "<text x='592'>" ++ (machine ++ (codes "</text><text x='700'>" ++ (others ++ codes "</text>")))
+
+-- a lock, and the word for it, where the owner is frozen
+abbrev pub lock_sign : RegisterFile → Option ℕ → List ℕ
+lock_sign file None = []
+lock_sign file (Some entry) = if is_frozen file entry then LOCK.now else []
+
+-- a band of these rights and with this sign
+abbrev pub drawn_band : (place : ℕ) → Run → (machine others sign : List ℕ) → List ℕ
+drawn_band place run machine others sign =
+    strip place others ++ (ends run.first run.last ++ (extent (run.last + 1 - run.first) run.owner
+    ++ (permissions machine others ++ (sign ++ (codes "</g>" ++ 10 ∷ [])))))
+
+-- the band of the run in this place
+unfoldable pub band : RegisterFile → (place : ℕ) → Run → List ℕ
+band file place run =
+    drawn_band place run (rights_text (owned_rights file run.owner M)) (rights_text (owned_rights file run.owner U))
+    (lock_sign file run.owner)
+
+-- ---- the document
+
+-- for so many bands of 24 units
+abbrev pub opening : (bands : ℕ) → List ℕ
+opening bands =
+    let height = decimal (24 * bands + 176) in
+    codes "<svg xmlns='http://www.w3.org/2000/svg' width='960' height='" ++ (height
+    ++ (codes "' viewBox='0 0 960 " ++ (height ++ (codes "'>" ++ 10 ∷ []))))
+
+abbrev pub title : (publications : ℕ) → List ℕ
+title publications = codes "PMP memory map, publications done: " ++ decimal publications
+
+-- the title for who hears the picture, and for who sees it
+abbrev pub spoken_title : (publications : ℕ) → List ℕ
+spoken_title publications = codes "<title>" ++ (title publications ++ (codes "</title>" ++ 10 ∷ []))
+
+abbrev pub large_title : (publications : ℕ) → List ℕ
+large_title publications =
+    codes "<text class='large' x='16' y='36'>" ++ (title publications ++ (codes "</text>" ++ 10 ∷ []))
+
+abbrev pub switch_text : Bool → List ℕ
+switch_text is_on = if is_on then codes "on" else codes "off"
+
+-- of these words
+abbrev pub settings_line : (lockdown policy bypass : List ℕ) → List ℕ
+settings_line lockdown policy bypass =
+    codes "<text x='16' y='62'>Lockdown (MML) " ++ (lockdown ++ (codes ", allow-list policy (MMWP) " ++ (policy
+    ++ (codes ", rule-locking bypass (RLB) " ++ (bypass ++ (codes "</text>" ++ 10 ∷ []))))))
+
+-- the bits MML, MMWP and RLB of mseccfg (Smepmp)
+abbrev pub settings : MseccfgFields → List ℕ
+settings mseccfg = settings_line (switch_text mseccfg.mml) (switch_text mseccfg.mmwp) (switch_text mseccfg.rlb)
+
+-- what stands above the bands
+unfoldable pub head : RegisterFile → (publications bands : ℕ) → List ℕ
+head file publications bands =
+    opening bands ++ (spoken_title publications ++ (STYLE.now ++ (large_title publications
+    ++ (settings file.mseccfg ++ LEGEND.now))))
+
+-- a band for each run, from the top down
+unfoldable pub bands : RegisterFile → List Run → List ℕ
+bands file runs = flat_map (λ (place, run). band file place run) (enumerate_from 0 runs)
+
+-- the picture of the file's runs, of which there is one list
+pub record IsPicture (file : RegisterFile) (publications : ℕ) (text : List ℕ) : Type 0 where
+  pub runs : List Run
+  pub runs_are : AreRuns file.entries runs
+  pub drawn : text ≡ head file publications (length runs) ++ (bands file runs ++ FOOT.now)

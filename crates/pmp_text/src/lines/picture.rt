@@ -1,0 +1,297 @@
+//! The runs of a register file as a picture, an SVG document.
+
+ghost use Rattle.std.specs.Prelude.{◌≡◌, ◌^◌, ◌<◌, ◌≤◌, ◌++◌, IfSome, List, ℕ, length, OnOk, OnErr, Some, decimal};
+ghost use Rattle.pmp_map.specs.declared.run.TheConstants.{RUNS};
+ghost use Rattle.pmp_map.specs.Runs.{AreRuns, HasOwnersBelow};
+ghost use Rattle.pmp_text.specs.Picture.{IsPicture, band, bands, head, lock_sign, owner_name};
+ghost use Rattle.pmp_text.specs.Picture.{settings, size_text, switch_text, title};
+
+use crate::lines::hexadecimal::Hex;
+use crate::lines::marks::Marks;
+use crate::lines::runs::run_rights;
+use crate::lines::{NoMemory, append_line};
+use pmp_core::{Csr, Mode, RegFile};
+use pmp_map::{RUNS, Run, RunMap};
+use std::fmt;
+
+/// What the picture shows, for who hears it; the colour for each set of rights of supervisor and user mode; the ground.
+const STYLE: &str = "\
+<desc>One band for each run of bytes that have one owner, from byte 0 down to byte 2^56 - 1, not to scale. A band has
+the first and the last byte of its run, its size, its owner, what machine mode may do there, what supervisor and user
+mode may do there, and a lock where the owner is locked.</desc>
+<style>
+text{font-family:monospace;font-size:13px;fill:#111}
+.large{font-size:20px;font-weight:bold}
+rect{fill:#fff}
+g rect{stroke:#fff}
+path{fill:#111}
+.su--- rect{fill:#dcdfe4}
+.su--x rect{fill:#e2d0ff}
+.sur-- rect{fill:#c9e2ff}
+.sur-x rect{fill:#c4edcb}
+.surw- rect{fill:#ffe9a3}
+.surwx rect{fill:#ffc4ba}
+</style>
+<rect width='960' height='100%'/>
+";
+
+/// What the bands and their colours mean, the names of their columns, and where the bands begin.
+const LEGEND: &str = "\
+<text x='16' y='86'>One band for each run of bytes that have one owner, from byte 0 down to byte 2^56 - 1; \
+not to scale.</text>
+<text x='16' y='117'>Colour: what supervisor and user mode may do</text>
+<g class='su---' transform='translate(380,117)'><rect y='-17' width='88' height='24'/><text x='8'>--- none</text></g>
+<g class='su--x' transform='translate(476,117)'><rect y='-17' width='64' height='24'/><text x='20'>--x</text></g>
+<g class='sur--' transform='translate(548,117)'><rect y='-17' width='64' height='24'/><text x='20'>r--</text></g>
+<g class='sur-x' transform='translate(620,117)'><rect y='-17' width='64' height='24'/><text x='20'>r-x</text></g>
+<g class='surw-' transform='translate(692,117)'><rect y='-17' width='64' height='24'/><text x='20'>rw-</text></g>
+<g class='surwx' transform='translate(764,117)'><rect y='-17' width='64' height='24'/><text x='20'>rwx</text></g>
+<g transform='translate(16,152)'>
+<text x='8'>First byte</text><text x='148'>Last byte</text><text x='292'>Size</text><text x='496'>Owner</text>
+<text x='592'>Machine</text><text x='700'>Supervisor, user</text><text x='846'>Lock</text>
+</g>
+<g transform='translate(16,177)'>
+";
+
+/// The sign of a lock, and the word.
+const LOCK: &str = "<path d='M846-6h12v8h-12zM848-6v-3a4 4 0 0 1 8 0v3h-2v-3a2 2 0 0 0-4 0v3z'/>\
+<text x='864'>locked</text>";
+
+/// The end of the bands and of the document.
+const FOOT: &str = "</g>\n</svg>\n";
+
+const KIB: u64 = 1 << 10;
+
+const MIB: u64 = 1 << 20;
+
+const GIB: u64 = 1 << 30;
+
+const TIB: u64 = 1 << 40;
+
+const PIB: u64 = 1 << 50;
+
+/// How many units the bytes are, and the unit's name behind a space: the largest of which they are a whole number.
+fn in_units(bytes: u64) -> (u64, &'static str)
+    ensures { decimal result.0 ++ result.1.now ≡ size_text bytes }
+{
+    if bytes % PIB == 0 {
+        (bytes / PIB, " PiB")
+    } else if bytes % TIB == 0 {
+        (bytes / TIB, " TiB")
+    } else if bytes % GIB == 0 {
+        (bytes / GIB, " GiB")
+    } else if bytes % MIB == 0 {
+        (bytes / MIB, " MiB")
+    } else if bytes % KIB == 0 {
+        (bytes / KIB, " KiB")
+    } else {
+        (bytes, " bytes")
+    }
+}
+
+/// So many bytes, in the largest unit of which they are a whole number.
+#[derive(Clone, Copy)]
+struct Size(u64);
+
+impl fmt::Display for Size {
+    ghost output = { λ size. Some (size_text size.0) };
+
+    fn fmt<W: fmt::Write>(&self, f: &mut fmt::Formatter<W>) -> fmt::Result {
+        let (count, unit) = in_units(self.0);
+        write!(f, "{count}{unit}")
+    }
+}
+
+/// A run's owner, in words.
+#[derive(Clone, Copy)]
+struct OwnerName(Option<u8>);
+
+impl fmt::Display for OwnerName {
+    ghost output = { λ owner. Some (owner_name owner.0) };
+
+    fn fmt<W: fmt::Write>(&self, f: &mut fmt::Formatter<W>) -> fmt::Result {
+        match self.0 {
+            Some(entry) => write!(f, "entry {entry}"),
+            None => write!(f, "no entry"),
+        }
+    }
+}
+
+/// What is shown, and after how many publications.
+#[derive(Clone, Copy)]
+struct Title(u64);
+
+impl fmt::Display for Title {
+    ghost output = { λ shown. Some (title shown.0) };
+
+    fn fmt<W: fmt::Write>(&self, f: &mut fmt::Formatter<W>) -> fmt::Result {
+        let publications = self.0;
+        write!(f, "PMP memory map, publications done: {publications}")
+    }
+}
+
+/// Whether a bit of `mseccfg` is set.
+fn switch_word(is_on: bool) -> &'static str
+    ensures { result.now ≡ switch_text is_on }
+{
+    if is_on { "on" } else { "off" }
+}
+
+/// The sign of a lock, where the owner is frozen.
+fn lock_sign(file: &RegFile, owner: Option<u8>) -> &'static str
+    requires { IfSome owner (λ entry. entry < length file.now.entries) }
+    ensures { result.now ≡ lock_sign file.now owner }
+{
+    match owner {
+        Some(entry) if file.is_locked(entry) => LOCK,
+        _ => "",
+    }
+}
+
+fn append_text(out: &mut Vec<u8>, text: &str) -> Result<(), NoMemory>
+    ensures ok { OnOk result (out.new.items ≡ out.old.items ++ text.now) }
+    ensures err { OnErr result (out.new.items ≡ out.old.items) }
+{
+    out.extend_from_slice(text.as_bytes())?;
+    Ok(())
+}
+
+/// The bits of `mseccfg`.
+#[derive(Clone, Copy)]
+struct Switches {
+    lockdown: bool,
+    policy: bool,
+    bypass: bool,
+}
+
+fn read_switches(file: &RegFile) -> Switches
+    ensures lockdown { result.lockdown ≡ file.now.mseccfg.mml }
+    ensures policy { result.policy ≡ file.now.mseccfg.mmwp }
+    ensures bypass { result.bypass ≡ file.now.mseccfg.rlb }
+{
+    let bits = file.read(Csr::Mseccfg);
+    Switches {
+        lockdown: bits % 2 == 1,
+        policy: bits / 2 % 2 == 1,
+        bypass: bits / 4 % 2 == 1,
+    }
+}
+
+/// Appends the line of the bits of `mseccfg`.
+fn write_settings(out: &mut Vec<u8>, file: &RegFile) -> Result<(), NoMemory>
+    ensures { OnOk result (out.new.items ≡ out.old.items ++ settings file.now.mseccfg) }
+{
+    let switches = read_switches(file);
+    let lockdown = switch_word(switches.lockdown);
+    let policy = switch_word(switches.policy);
+    let bypass = switch_word(switches.bypass);
+    append_line(
+        out,
+        format_args!(
+            "<text x='16' y='62'>Lockdown (MML) {lockdown}, allow-list policy (MMWP) {policy}, \
+            rule-locking bypass (RLB) {bypass}</text>\n"
+        ),
+    )
+}
+
+/// Appends what stands above so many bands.
+fn write_head(
+    out: &mut Vec<u8>,
+    file: &RegFile,
+    publications: u64,
+    bands: usize,
+) -> Result<(), NoMemory>
+    requires { bands ≤ RUNS }
+    ensures { OnOk result (out.new.items ≡ out.old.items ++ head file.now publications bands) }
+{
+    let height = 24 * bands + 176;
+    let title = Title(publications);
+    append_line(
+        out,
+        format_args!(
+            "<svg xmlns='http://www.w3.org/2000/svg' width='960' height='{height}' viewBox='0 0 960 {height}'>\n"
+        ),
+    )?;
+    append_line(out, format_args!("<title>{title}</title>\n"))?;
+    append_text(out, STYLE)?;
+    append_line(
+        out,
+        format_args!("<text class='large' x='16' y='36'>{title}</text>\n"),
+    )?;
+    write_settings(out, file)?;
+    append_text(out, LEGEND)
+}
+
+/// Appends the band of the run in this place.
+fn write_band(out: &mut Vec<u8>, file: &RegFile, place: usize, run: &Run) -> Result<(), NoMemory>
+    requires place { place < RUNS }
+    requires proper { run.now.first ≤ run.now.last }
+    requires inside { run.now.last < 2 ^ 56 }
+    requires owner { IfSome run.now.owner (λ entry. entry < length file.now.entries) }
+    ensures { OnOk result (out.new.items ≡ out.old.items ++ band file.now place run.now) }
+{
+    let top = 24 * place;
+    let first = Hex::<14>::new(run.first);
+    let last = Hex::<14>::new(run.last);
+    let size = Size(run.last + 1 - run.first);
+    let owner = OwnerName(run.owner);
+    let machine = Marks(run_rights(file, run, Mode::M));
+    let others = Marks(run_rights(file, run, Mode::U));
+    append_line(
+        out,
+        format_args!(
+            "<g class='su{others}' transform='translate(0,{top})'><rect y='-17' width='928' height='24'/>"
+        ),
+    )?;
+    append_line(
+        out,
+        format_args!("<text x='8'>0x{first}</text><text x='148'>0x{last}</text>"),
+    )?;
+    append_line(
+        out,
+        format_args!("<text x='292'>{size}</text><text x='496'>{owner}</text>"),
+    )?;
+    append_line(
+        out,
+        format_args!("<text x='592'>{machine}</text><text x='700'>{others}</text>"),
+    )?;
+    append_text(out, lock_sign(file, run.owner))?;
+    append_text(out, "</g>\n")
+}
+
+/// Appends a band for each run, from the top down.
+fn write_bands(out: &mut Vec<u8>, file: &RegFile, runs: &[Run]) -> Result<(), NoMemory>
+    requires few { length runs.now ≤ RUNS }
+    requires runs { AreRuns file.now.entries runs.now }
+    requires owners { HasOwnersBelow (length file.now.entries) runs.now }
+    ensures { OnOk result (out.new.items ≡ out.old.items ++ bands file.now runs.now) }
+{
+    for (place, run) in runs.iter().enumerate() {
+        write_band(out, file, place, run)?;
+    }
+    Ok(())
+}
+
+/// Appends a picture of the register file's runs, an SVG document with one band for each from the top down, which shows
+/// what a line of `write_runs` says, its size, and whether its owner is frozen. It tells how many publications are done
+/// and which of lockdown, allow-list policy and rule-locking bypass are on. The map is the one that was built from this
+/// file.
+pub fn write_picture(
+    out: &mut Vec<u8>,
+    file: &RegFile,
+    map: &RunMap,
+    publications: u64,
+) -> Result<(), NoMemory>
+    requires { map.now ≡ file.now }
+    ensures ok { OnOk result
+        ((text : List ℕ) × IsPicture file.now publications text × (out.new.items ≡ out.old.items ++ text)) }
+    ensures err { OnErr result (out.new.items ≡ out.old.items) }
+{
+    let runs = map.runs();
+    let mut text = Vec::new(*out.allocator());
+    write_head(&mut text, file, publications, runs.len())?;
+    write_bands(&mut text, file, runs)?;
+    append_text(&mut text, FOOT)?;
+    out.extend_from_slice(&text)?;
+    Ok(())
+}
