@@ -1,6 +1,6 @@
--- Lists side by side, numbered, and one element more.
+-- Lists side by side, and one element more.
 use Rattle.std.proofs.Common.{◌≡◌, ℕ, ◌+◌, List, [], ◌∷◌, ◌++◌, length, refl, ap, ◌∙◌, arith}
-use Rattle.std.specs.List.{AllZip, zip, enumerate_from}
+use Rattle.std.specs.List.{AllZip, zip}
 
 module _ {A B : Type 0} (R : A → B → Type 0) where
   pub AllZip-push : (xs : List A) (ys : List B) (x : A) (y : B)
@@ -41,12 +41,3 @@ module _ {A B : Type 0} where
   length-zip [] ys same = refl
   length-zip (a ∷ xs) [] same = absurd (omega arith)
   length-zip (a ∷ xs) (b ∷ ys) same = let rest = length-zip xs ys (omega arith) in omega arith
-
-pub enumerate_from-push : {A : Type 0} (n : ℕ) (xs : List A) (x : A)
-    → enumerate_from n (xs ++ x ∷ []) ≡ enumerate_from n xs ++ (n + length xs, x) ∷ []
-enumerate_from-push n [] x = let same : n ≡ n + 0 = omega arith in ap (λ (m : ℕ). (m, x) ∷ []) same
-enumerate_from-push n (a ∷ xs) x =
-    let same : n + 1 + length xs ≡ n + length (a ∷ xs) = omega arith in
-    let rest = enumerate_from-push (n + 1) xs x
-    ∙ ap (λ (m : ℕ). enumerate_from (n + 1) xs ++ (m, x) ∷ []) same in
-    ap (λ more. (n, a) ∷ more) rest

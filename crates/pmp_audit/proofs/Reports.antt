@@ -14,10 +14,11 @@ use Rattle.pmp_text.specs.Scripts.{script_meaning}
 use Rattle.pmp_text.specs.TraceFaults.{IsInOrder, afters}
 use Rattle.pmp_text.specs.Traces.{trace_meaning}
 use Rattle.pmp_text.specs.Traces.{row_fields}
+use Rattle.pmp_text.proofs.Numbered.{enumerate_from-push}
 use Rattle.pmp_audit.specs.declared.trace_audit.Summary.{Summary}
 use Rattle.pmp_audit.specs.Report.{IsReported}
 use Rattle.pmp_audit.specs.TraceAudit.{AuditSays, summary_of}
-use Rattle.pmp_audit.proofs.Lists.{AllZip-push, enumerate_from-push, length-all_zip, length-zip, zip-push}
+use Rattle.pmp_audit.proofs.Lists.{AllZip-push, length-all_zip, length-zip, zip-push}
 
 -- ---- one row more
 

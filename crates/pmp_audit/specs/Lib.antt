@@ -6,6 +6,7 @@ pub mod SharedAudit
 pub mod AskedFile
 pub mod RegisterDump
 pub mod Map
+pub mod Picture
 pub mod WriteList
 pub mod Since
 pub mod EntryList

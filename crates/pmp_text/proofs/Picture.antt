@@ -5,9 +5,8 @@ use Rattle.std.specs.List.{enumerate_from, flat_map}
 use Rattle.std.proofs.lemmas.List.{flat_map_more, get_or_default, length-take-le, take_more}
 use Rattle.pmp_core.specs.declared.entry.Entry.{Entry}
 use Rattle.pmp_core.specs.declared.mseccfg.MseccfgFields.{MseccfgFields}
-use Rattle.pmp_core.specs.Configuration.{bit_of}
 use Rattle.pmp_core.specs.Decision.{IsOwner}
-use Rattle.pmp_core.specs.Mseccfg.{mseccfg_value}
+use Rattle.pmp_core.specs.Mseccfg.{mseccfg_fields, mseccfg_value}
 use Rattle.pmp_core.specs.RegisterFile.{RegisterFile}
 use Rattle.pmp_map.specs.declared.run.Run.{Run}
 use Rattle.pmp_map.specs.Runs.{AreRuns, run_at}
@@ -36,46 +35,21 @@ three_texts none t₁ t₂ new a b c empty first second last =
     joined none t₁ new a (b ++ c) first (joined t₁ t₂ new b c second last)
     ∙ ap (λ (l : List ℕ). l ++ (a ++ (b ++ c))) empty
 
-bit_0 : (mml mmwp rlb : Bool) → ((bit_of mml + 2 * bit_of mmwp + 4 * bit_of rlb) % 2 == 1) ≡ mml
-bit_0 true true true = refl
-bit_0 true true false = refl
-bit_0 true false true = refl
-bit_0 true false false = refl
-bit_0 false true true = refl
-bit_0 false true false = refl
-bit_0 false false true = refl
-bit_0 false false false = refl
-
-bit_1 : (mml mmwp rlb : Bool) → ((bit_of mml + 2 * bit_of mmwp + 4 * bit_of rlb) / 2 % 2 == 1) ≡ mmwp
-bit_1 true true true = refl
-bit_1 true true false = refl
-bit_1 true false true = refl
-bit_1 true false false = refl
-bit_1 false true true = refl
-bit_1 false true false = refl
-bit_1 false false true = refl
-bit_1 false false false = refl
-
-bit_2 : (mml mmwp rlb : Bool) → ((bit_of mml + 2 * bit_of mmwp + 4 * bit_of rlb) / 4 % 2 == 1) ≡ rlb
-bit_2 true true true = refl
-bit_2 true true false = refl
-bit_2 true false true = refl
-bit_2 true false false = refl
-bit_2 false true true = refl
-bit_2 false true false = refl
-bit_2 false false true = refl
-bit_2 false false false = refl
+by_bits : (mml mmwp rlb : Bool) → let mseccfg : MseccfgFields =
+    record { mml = mml; mmwp = mmwp; rlb = rlb } in mseccfg_fields (mseccfg_value mseccfg) ≡ mseccfg
+by_bits true true true = refl
+by_bits true true false = refl
+by_bits true false true = refl
+by_bits true false false = refl
+by_bits false true true = refl
+by_bits false true false = refl
+by_bits false false true = refl
+by_bits false false false = refl
 
 -- the value of mseccfg has its bits
-module _ (bits : ℕ) (mseccfg : MseccfgFields) (is : bits ≡ mseccfg_value mseccfg) where
-  pub lockdown_bit : (bits % 2 == 1) ≡ mseccfg.mml
-  lockdown_bit = rw is (bit_0 mseccfg.mml mseccfg.mmwp mseccfg.rlb)
-
-  pub policy_bit : (bits / 2 % 2 == 1) ≡ mseccfg.mmwp
-  policy_bit = rw is (bit_1 mseccfg.mml mseccfg.mmwp mseccfg.rlb)
-
-  pub bypass_bit : (bits / 4 % 2 == 1) ≡ mseccfg.rlb
-  bypass_bit = rw is (bit_2 mseccfg.mml mseccfg.mmwp mseccfg.rlb)
+pub bits_of_value : (bits : ℕ) (mseccfg : MseccfgFields) → bits ≡ mseccfg_value mseccfg
+    → mseccfg_fields bits ≡ mseccfg
+bits_of_value bits mseccfg is = ap mseccfg_fields is ∙ by_bits mseccfg.mml mseccfg.mmwp mseccfg.rlb
 
 -- a run isn't empty, and ends in memory
 module _ (entries : List Entry) (runs : List Run) (are : AreRuns entries runs) (k : ℕ) (inside : k < length runs)

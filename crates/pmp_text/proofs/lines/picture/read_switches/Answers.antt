@@ -1,11 +1,15 @@
-use Rattle.pmp_text.proofs.Picture.{bypass_bit, lockdown_bit, policy_bit}
+use Rattle.std.proofs.Common.{ap}
+use Rattle.pmp_text.proofs.Picture.{bits_of_value}
 use Rattle.pmp_text.proofs.lines.picture.read_switches.Goals as goal
 
 pub returns-clause-lockdown : goal.returns-clause-lockdown
-returns-clause-lockdown c = lockdown_bit c.read-bits.result c.args.file.now.mseccfg c.read-bits.ensures
+returns-clause-lockdown c =
+    ap (λ m. m.mml) (bits_of_value c.read-bits.result c.args.file.now.mseccfg c.read-bits.ensures)
 
 pub returns-clause-policy : goal.returns-clause-policy
-returns-clause-policy c = policy_bit c.read-bits.result c.args.file.now.mseccfg c.read-bits.ensures
+returns-clause-policy c =
+    ap (λ m. m.mmwp) (bits_of_value c.read-bits.result c.args.file.now.mseccfg c.read-bits.ensures)
 
 pub returns-clause-bypass : goal.returns-clause-bypass
-returns-clause-bypass c = bypass_bit c.read-bits.result c.args.file.now.mseccfg c.read-bits.ensures
+returns-clause-bypass c =
+    ap (λ m. m.rlb) (bits_of_value c.read-bits.result c.args.file.now.mseccfg c.read-bits.ensures)
