@@ -68,7 +68,8 @@ allowed_low cause Load false low = grind (arith, nat_tests)
 allowed_low cause Store false low = grind (arith, nat_tests)
 
 module _ (file : RegisterFile) (tables : Tables) (are : AreTables file tables) (mode : Mode) (start size place : ℕ)
-    (full : 0 < size) (ends : start + size ≤ 2 ^ 56) (places : place + 1 < PLACES) (is_found : IsFound tables start place) where
+    (full : 0 < size) (ends : start + size ≤ 2 ^ 56) (places : place + 1 < PLACES)
+    (is_found : IsFound tables start place) where
   abbrev owner_at : ℕ → Option ℕ
   owner_at k = (map_run are.list k).owner
 

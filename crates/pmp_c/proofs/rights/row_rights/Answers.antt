@@ -27,7 +27,8 @@ module _ (file : RegisterFile) (owner : Option ℕ) (row : List ℕ) (is : IsRow
 pub returns : goal.returns
 returns c = λ file owner named is mode_is.
     let row = c.args.row.now in
-    let load = bit_at file owner row is named Load (4 * c.args.mode + 1) c.allowed.result (omega arith) c.allowed.ensures in
+    let load = bit_at file owner row is named Load (4 * c.args.mode + 1) c.allowed.result (omega arith)
+    c.allowed.ensures in
     let store = bit_at file owner row is named Store (4 * c.args.mode + 2) c.allowed-2.result (omega arith)
     c.allowed-2.ensures in
     let fetch = bit_at file owner row is named Fetch (4 * c.args.mode) c.allowed-3.result (omega arith)

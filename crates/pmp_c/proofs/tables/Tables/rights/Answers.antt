@@ -17,5 +17,5 @@ returns-then-start-length c = λ file named are range.
 
 pub returns-else-start-length : goal.returns-else-start-length
 returns-else-start-length c = λ file named are range.
-    mixed_rights file c.args.self.now are named c.args.start c.args.length c.place_of-place.result range.full range.inside
-    c.place_of-place.ensures.inside c.place_of-place.ensures.found c.if-start-length.false
+    mixed_rights file c.args.self.now are named c.args.start c.args.length c.place_of-place.result range.full
+    range.inside c.place_of-place.ensures.inside c.place_of-place.ensures.found c.if-start-length.false
