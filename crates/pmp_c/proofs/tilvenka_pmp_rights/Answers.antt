@@ -4,5 +4,5 @@ use Rattle.pmp_c.proofs.tilvenka_pmp_rights.Goals as goal
 
 pub returns-clause-none : goal.returns-clause-none
 returns-clause-none c = λ none.
-    let mode = mode_with c.args.mode c.if-mode-gt3.false c.if-mode-eq2.false in
+    let mode = mode_with c.args.mode (omega arith) (λ two. omega arith) in
     absurd (none mode.0 (record { mode_is = mode.1; full = omega arith; inside = omega arith }))
