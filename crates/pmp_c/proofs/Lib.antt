@@ -1,3 +1,4 @@
 pub mod Answering
 pub mod Naming
 pub mod Ranging
+pub mod Numbering

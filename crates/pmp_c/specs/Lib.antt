@@ -1,6 +1,7 @@
 -- What a reader has to believe: what the numbers at the boundary mean.
 pub mod Request
 pub mod Answer
+pub mod AnswerLaw
 pub mod RangeRights
 pub mod Status
 pub mod Unit

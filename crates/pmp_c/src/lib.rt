@@ -26,6 +26,7 @@ ghost use Rattle.pmp_c.specs.Status.{status_number};
 ghost use Rattle.pmp_c.specs.Unit.{file_of_unit, IsUnit};
 
 mod answer;
+pub mod laws;
 mod request;
 mod rights;
 mod row;
