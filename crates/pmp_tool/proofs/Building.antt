@@ -11,7 +11,7 @@ use Rattle.clap.specs.declared.builder.command.Command.{Command}
 use Rattle.clap.specs.declared.builder.command.Command.TheViews.{out-Command}
 use Rattle.pmp_tool.specs.Building.{Changes, IsCommand, IsTaken}
 use Rattle.pmp_tool.specs.CommandLines.{after_rule, checkers_rule, pmp_app, with_after, with_checkers, with_command}
-use Rattle.pmp_tool.specs.CommandLines.{with_word, word_rule}
+use Rattle.pmp_tool.specs.CommandLines.{with_views, with_word, word_rule}
 
 same_globals : (old added : Bool) → added ≡ false → (old || added) ≡ old
 same_globals old added none = rw none (or-false old)
@@ -41,11 +41,11 @@ command_added old new sub local added = (added.shape local, added.globals ∙ sa
 
 -- clap's exact statements hold of the program's command
 is_exact : is_simple_and_free pmp_app ≡ true
-unfolding clap_on_literals with_word with_after with_checkers with_command
+unfolding clap_on_literals with_word with_after with_checkers with_command with_views
 is_exact = refl
 
 is_read : is_simple pmp_app ≡ true
-unfolding clap_on_literals with_word with_after with_checkers with_command
+unfolding clap_on_literals with_word with_after with_checkers with_command with_views
 is_read = refl
 
 abbrev Fails : List Text → Result ArgMatches Error → App → Type 0

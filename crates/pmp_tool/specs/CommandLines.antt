@@ -51,7 +51,7 @@ check_app =
 abbrev pub audit_app : App
 audit_app = with_checkers (with_word (script_app (codes "audit")) (codes "trace"))
 
--- `NAME SCRIPT [--after N]`, as `dump`, `map` and `entries` are
+-- `NAME SCRIPT [--after N]`, as `dump`, `map`, `picture` and `entries` are
 abbrev pub file_app : (name : Text) → App
 file_app name = with_after (script_app name)
 
@@ -73,11 +73,16 @@ top_app = as_top (new_app (codes "pmp"))
 unfoldable pub with_command : (program command : App) → App
 with_command program command = with_subcommand program command.top
 
+-- a program with a command more for each view of a register file
+unfoldable pub with_views : App → App
+with_views program =
+    with_command (with_command (with_command (with_command program (file_app (codes "dump")))
+    (file_app (codes "map"))) (file_app (codes "picture"))) (file_app (codes "entries"))
+
 -- the program, with a subcommand for each thing that it does
 abbrev pub pmp_app : App
 pmp_app =
-    with_command (with_command (with_command (with_command (with_command (with_command top_app check_app) audit_app)
-    (file_app (codes "dump"))) (file_app (codes "map"))) (file_app (codes "entries"))) (script_app (codes "writes"))
+    with_command (with_views (with_command (with_command top_app check_app) audit_app)) (script_app (codes "writes"))
 
 -- clap takes the words, and what it finds in them asks for that
 abbrev pub WordsAskFor : List Text → Asked → Type 0

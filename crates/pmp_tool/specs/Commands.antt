@@ -15,6 +15,8 @@ use Rattle.pmp_tool.specs.declared.command.CommandName.{CommandName}
 use Rattle.pmp_tool.specs.declared.command.CommandName.TheVariants as name
 use Rattle.pmp_tool.specs.declared.command.Request.{Request}
 use Rattle.pmp_tool.specs.declared.command.Request.TheVariants as request
+use Rattle.pmp_tool.specs.declared.command.View.{View}
+use Rattle.pmp_tool.specs.declared.command.View.TheVariants.{Registers, Runs, Picture, Entries}
 use Rattle.pmp_tool.specs.declared.refusal.Refusal.{Refusal}
 use Rattle.pmp_tool.specs.declared.refusal.Refusal.TheVariants.{BadWord}
 use Rattle.pmp_tool.specs.Checkers.{checkers_given}
@@ -31,9 +33,7 @@ pub record AccessTask : Type 0 where
 pub data Task : Type 0 where
   Check : AccessTask → (after : Option ℕ) → Task
   Audit : (trace : Text) (checkers : Option ℕ) → Task
-  Dump : (after : Option ℕ) → Task
-  Map : (after : Option ℕ) → Task
-  Entries : (after : Option ℕ) → Task
+  Show : View → (after : Option ℕ) → Task
   Writes : Task
 
 abbrev pub access_task : Access → AccessTask
@@ -42,9 +42,7 @@ access_task access = record { mode = access.mode; kind = access.kind; start = ac
 abbrev pub task_of : Request → Task
 task_of (request.Check access after) = Check (access_task access) after
 task_of (request.Audit trace checkers) = Audit trace.now (option_map (λ checkers. checkers.count) checkers)
-task_of (request.Dump after) = Dump after
-task_of (request.Map after) = Map after
-task_of (request.Entries after) = Entries after
+task_of (request.Show view after) = Show view after
 task_of request.Writes = Writes
 
 -- a task, and the path of the script
@@ -115,9 +113,7 @@ audit_in rows =
 abbrev pub task_in : CommandName → List Row → Result Task Refusal
 task_in name.Check rows = check_in rows
 task_in name.Audit rows = audit_in rows
-task_in name.Dump rows = result_map Dump (after_of (first_of (codes "after") rows))
-task_in name.Map rows = result_map Map (after_of (first_of (codes "after") rows))
-task_in name.Entries rows = result_map Entries (after_of (first_of (codes "after") rows))
+task_in (name.Show view) rows = result_map (Show view) (after_of (first_of (codes "after") rows))
 task_in name.Writes rows = Ok Writes
 
 -- the command that a word names
@@ -125,10 +121,11 @@ abbrev pub command_named : Text → Option CommandName
 command_named word =
     if bytes_eq word (codes "check") then Some name.Check
     else (if bytes_eq word (codes "audit") then Some name.Audit
-    else (if bytes_eq word (codes "dump") then Some name.Dump
-    else (if bytes_eq word (codes "map") then Some name.Map
-    else (if bytes_eq word (codes "entries") then Some name.Entries
-    else (if bytes_eq word (codes "writes") then Some name.Writes else None)))))
+    else (if bytes_eq word (codes "dump") then Some (name.Show Registers)
+    else (if bytes_eq word (codes "map") then Some (name.Show Runs)
+    else (if bytes_eq word (codes "picture") then Some (name.Show Picture)
+    else (if bytes_eq word (codes "entries") then Some (name.Show Entries)
+    else (if bytes_eq word (codes "writes") then Some name.Writes else None))))))
 
 abbrev pub asked_with : (script : Result Text Refusal) → Result Task Refusal → Result Asked Refusal
 asked_with (Err refusal) task = Err refusal

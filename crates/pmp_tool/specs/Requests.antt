@@ -5,25 +5,33 @@ use Rattle.pmp_audit.specs.AccessCheck.{CheckSays}
 use Rattle.pmp_audit.specs.AskedFile.{FileRefuses}
 use Rattle.pmp_audit.specs.EntryList.{EntriesSay}
 use Rattle.pmp_audit.specs.Map.{MapSays}
+use Rattle.pmp_audit.specs.Picture.{PictureSays}
 use Rattle.pmp_audit.specs.RegisterDump.{DumpSays}
 use Rattle.pmp_audit.specs.SharedAudit.{SharedAuditRefuses}
 use Rattle.pmp_audit.specs.TraceAudit.{AuditRefuses, AuditSays}
 use Rattle.pmp_audit.specs.WriteList.{WritesRefuse, WritesSay}
 use Rattle.pmp_tool.specs.declared.checkers.Checkers.{Checkers}
 use Rattle.pmp_tool.specs.declared.command.Request.{Request}
-use Rattle.pmp_tool.specs.declared.command.Request.TheVariants.{Check, Audit, Dump, Map, Entries, Writes}
+use Rattle.pmp_tool.specs.declared.command.Request.TheVariants.{Check, Audit, Show, Writes}
+use Rattle.pmp_tool.specs.declared.command.View.{View}
+use Rattle.pmp_tool.specs.declared.command.View.TheVariants.{Registers, Runs, Picture, Entries}
 use Rattle.pmp_tool.specs.declared.run.Outcome.{Outcome}
 use Rattle.pmp_tool.specs.declared.run.Outcome.TheVariants.{Decided, Audited, Listed, Replayed}
 use Rattle.pmp_tool.specs.Inputs.{AreBytesOf, Inputs}
+
+-- which text shows this of the file that is asked for
+abbrev pub ViewSays : View → (script : List ℕ) → (after : Option ℕ) → Unit {0} → (text : List ℕ) → Type 0
+ViewSays Registers = DumpSays
+ViewSays Runs = MapSays
+ViewSays Picture = PictureSays
+ViewSays Entries = EntriesSay
 
 -- which text goes with which outcome of a request of this script
 abbrev pub RequestSays : (traces : Inputs) (script : List ℕ) → Request → Outcome → (text : List ℕ) → Type 0
 RequestSays traces script (Check access after) (Decided decision) text = CheckSays script access after decision text
 RequestSays traces script (Audit path checkers) (Audited summary) text =
     (trace : List ℕ) × AreBytesOf (traces path.now) trace × AuditSays script trace summary text
-RequestSays traces script (Dump after) Listed text = DumpSays script after tt text
-RequestSays traces script (Map after) Listed text = MapSays script after tt text
-RequestSays traces script (Entries after) Listed text = EntriesSay script after tt text
+RequestSays traces script (Show view after) Listed text = ViewSays view script after tt text
 RequestSays traces script Writes (Replayed summary) text = WritesSay script summary text
 RequestSays _ _ _ _ _ = ⊥
 
@@ -37,7 +45,5 @@ abbrev pub RequestRefuses : (traces : Inputs) (script : List ℕ) → Request �
 RequestRefuses traces script (Check access after) fault = FileRefuses script after fault
 RequestRefuses traces script (Audit path checkers) fault =
     (trace : List ℕ) × AreBytesOf (traces path.now) trace × AuditByRefuses checkers script trace fault
-RequestRefuses traces script (Dump after) fault = FileRefuses script after fault
-RequestRefuses traces script (Map after) fault = FileRefuses script after fault
-RequestRefuses traces script (Entries after) fault = FileRefuses script after fault
+RequestRefuses traces script (Show view after) fault = FileRefuses script after fault
 RequestRefuses traces script Writes fault = WritesRefuse script fault

@@ -14,6 +14,16 @@ use clap::ArgMatches;
 use pmp_core::Access;
 use pmp_text::{read_kind, read_mode, read_word_number};
 
+/// What is shown of a register file.
+#[derive(Clone, Copy, Debug, PartialEq, Eq)]
+pub enum View {
+    Registers,
+    Runs,
+    /// The runs, as a picture.
+    Picture,
+    Entries,
+}
+
 /// What is asked for of a script.
 #[derive(Clone, Copy)]
 pub enum Request<'a> {
@@ -21,12 +31,8 @@ pub enum Request<'a> {
     Check(Access, Option<u64>),
     /// The path of the trace, and how many checkers decide its rows, where that is said.
     Audit(&'a str, Option<Checkers>),
-    /// How many publications are taken, where not all are.
-    Dump(Option<u64>),
-    /// The same.
-    Map(Option<u64>),
-    /// The same.
-    Entries(Option<u64>),
+    /// What is shown, and how many publications are taken before it, where not all are.
+    Show(View, Option<u64>),
     Writes,
 }
 
@@ -43,9 +49,7 @@ pub struct Command<'a> {
 enum CommandName {
     Check,
     Audit,
-    Dump,
-    Map,
-    Entries,
+    Show(View),
     Writes,
 }
 
@@ -56,9 +60,10 @@ fn read_name(word: &str) -> Option<CommandName>
     match word {
         "check" => Some(CommandName::Check),
         "audit" => Some(CommandName::Audit),
-        "dump" => Some(CommandName::Dump),
-        "map" => Some(CommandName::Map),
-        "entries" => Some(CommandName::Entries),
+        "dump" => Some(CommandName::Show(View::Registers)),
+        "map" => Some(CommandName::Show(View::Runs)),
+        "picture" => Some(CommandName::Show(View::Picture)),
+        "entries" => Some(CommandName::Show(View::Entries)),
         "writes" => Some(CommandName::Writes),
         _ => None,
     }
@@ -82,9 +87,7 @@ fn read_request<'a>(name: CommandName, words: &ArgMatches<'a>) -> Result<Request
     match name {
         CommandName::Check => read_check(words),
         CommandName::Audit => read_audit(words),
-        CommandName::Dump => Ok(Request::Dump(read_after(words)?)),
-        CommandName::Map => Ok(Request::Map(read_after(words)?)),
-        CommandName::Entries => Ok(Request::Entries(read_after(words)?)),
+        CommandName::Show(view) => Ok(Request::Show(view, read_after(words)?)),
         CommandName::Writes => Ok(Request::Writes),
     }
 }

@@ -5,7 +5,7 @@ ghost use Rattle.clap.specs.Words.{HasKind, app_of, fault_of, new_app, rule_of};
 ghost use Rattle.pmp_tool.specs.Building.{Changes, IsCommand, IsLocal, IsTaken};
 ghost use Rattle.pmp_tool.specs.CommandLines.{after_rule, audit_app, check_app, checkers_rule, file_app};
 ghost use Rattle.pmp_tool.specs.CommandLines.{pmp_app, script_app, top_app, with_after, with_checkers, with_command};
-ghost use Rattle.pmp_tool.specs.CommandLines.{with_word};
+ghost use Rattle.pmp_tool.specs.CommandLines.{with_views, with_word};
 ghost use Rattle.pmp_tool.specs.CommandLines.{word_rule};
 
 use crate::help;
@@ -28,14 +28,25 @@ fn pmp<'a>(alloc: Global) -> Result<Command<'a>, AllocError>
     let program = top(alloc)?;
     let program = with_command(program, check(alloc)?)?;
     let program = with_command(program, audit(alloc)?)?;
+    let program = with_views(alloc, program)?;
+    let writes = of_script(alloc, "writes", help::WRITES, help::MORE_OF_WRITES)?;
+    let program = with_command(program, writes)?;
+    Ok(program)
+}
+
+/// The program with a command more for each view of a register file.
+#[tactic(auto, unfolding(crate::specs::CommandLines::with_views))]
+fn with_views<'a>(alloc: Global, program: Command<'a>) -> Result<Command<'a>, AllocError>
+    ensures { IfOk result (Changes with_views program.entry) }
+{
     let dump = of_file(alloc, "dump", help::DUMP, help::MORE_OF_DUMP)?;
     let program = with_command(program, dump)?;
     let map = of_file(alloc, "map", help::MAP, help::MORE_OF_MAP)?;
     let program = with_command(program, map)?;
+    let picture = of_file(alloc, "picture", help::PICTURE, help::MORE_OF_PICTURE)?;
+    let program = with_command(program, picture)?;
     let entries = of_file(alloc, "entries", help::ENTRIES, help::MORE_OF_ENTRIES)?;
     let program = with_command(program, entries)?;
-    let writes = of_script(alloc, "writes", help::WRITES, help::MORE_OF_WRITES)?;
-    let program = with_command(program, writes)?;
     Ok(program)
 }
 

@@ -15,6 +15,9 @@ pub const DUMP: &str = "Writes the unit's registers after publications of a scri
 
 pub const MAP: &str = "Writes which bytes each entry owns after publications of a script";
 
+pub const PICTURE: &str =
+    "Draws which bytes each entry owns after publications of a script, as an SVG document";
+
 pub const ENTRIES: &str =
     "Writes what each entry is and how it is locked, after publications of a script";
 
@@ -123,6 +126,28 @@ Example:
   It answers 00000000000000,ffffffffffffff,-,rwx,---
 
 docs/FORMATS.md describes scripts, the run lines, and every refusal with its
+number.";
+
+pub const MORE_OF_PICTURE: &str = "\
+A number is 1 to 20 decimal digits, or 0x and 1 to 16 hexadecimal digits.
+
+The document has a band for each line of pmp map, from byte 0 at the top to the
+last byte at the bottom, not to scale. A band shows the first and last byte, the
+size, the owner, what machine mode and what supervisor and user mode may do
+there, and a lock where the owner is locked. Its colour is by what supervisor
+and user mode may do. Above the bands stand how many publications are done, and
+whether lockdown, allow-list policy and rule-locking bypass are on.
+
+Exit status:
+  0  the document was written
+  2  no answer: the words or the script are at fault
+  3  no answer: memory, the script's input or the output failed
+
+Example:
+  echo 'pmp 1' | pmp picture stdin
+  It answers <svg xmlns='http://www.w3.org/2000/svg' width='960' height='200' viewBox='0 0 960 200'>
+
+docs/FORMATS.md describes scripts, the document, and every refusal with its
 number.";
 
 pub const MORE_OF_ENTRIES: &str = "\

@@ -3,22 +3,23 @@
 ghost use Rattle.std.specs.Prelude.{◌≡◌, ℕ, ◌≤◌, List, map, IfOk, IfErr, string_bytes};
 ghost use Rattle.std.specs.Io.KnownBytes.{Appends, Keeps};
 ghost use Rattle.pmp_audit.specs.Answers.{IsRefused, IsWritten};
+ghost use Rattle.pmp_audit.specs.AskedFile.{FileRefuses};
 ghost use Rattle.pmp_audit.specs.TraceAudit.{AuditSays};
 ghost use Rattle.pmp_tool.specs.Failures.{Tells, failure_status};
-ghost use Rattle.pmp_tool.specs.Requests.{AuditByRefuses};
+ghost use Rattle.pmp_tool.specs.Requests.{AuditByRefuses, ViewSays};
 ghost use Rattle.pmp_tool.specs.Runs.{Answers, CommandAnswers, CommandFails, Fails, TextFails, outcome_status};
 ghost use Rattle.pmp_tool.specs.declared.failure.Failure.{Failure};
 ghost use Rattle.pmp_tool.specs.declared.run.Outcome.{Outcome};
 ghost use Rattle.pmp_tool.specs.declared.run.Outcome.TheVariants.{Told};
 
 use crate::checkers::Checkers;
-use crate::command::{Command, Request, read_command};
+use crate::command::{Command, Request, View, read_command};
 use crate::command_line::parse_words;
 use crate::failure::Failure;
 use crate::inputs::Inputs;
 use pmp_audit::{
     AuditFault, OpenGate, Summary, WriteSummary, audit, audit_shared, check, dump, entries_of,
-    map_of, writes,
+    map_of, picture_of, writes,
 };
 use pmp_core::Decision;
 use pmp_text::write_out;
@@ -35,12 +36,12 @@ const DONE: u8 = 0;
 const REFUSED: u8 = 1;
 
 /// Runs the program on its words, those after its own name, and answers its exit status: 0 where each access is
-/// allowed, or the registers, the runs or a text of help were written, 1 where an access is refused, 2 or 3 where
+/// allowed, or what is shown or a text of help was written, 1 where an access is refused, 2 or 3 where
 /// there is no answer, with a text on `err` that says why.
 ///
 /// `rt` makes the threads of an audit by several checkers, for which the call may wait.
 ///
-/// `out` gets the report rows, the register lines, the run lines or the text. A text on `err` is handed over whole, by
+/// `out` gets the report rows, the lines, the picture or the text. A text on `err` is handed over whole, by
 /// one write. Where it can't be written, or not wholly, the status is the same.
 #[tactic(auto, using(crate::proofs::Running::keeps_at_two))]
 pub fn run_tool<R: Threads + Wait + Sync, I: Inputs, O: Write, E: Write>(
@@ -130,22 +131,36 @@ fn answer<R: Threads + Wait + Sync, I: Inputs, O: Write>(
             let trace = inputs.trace(trace)?;
             Ok(Outcome::Audited(audit_by(rt, alloc, checkers, &script, &trace, out)?))
         }
-        Request::Dump(after) => {
-            dump(alloc, &script, after, out)?;
-            Ok(Outcome::Listed)
-        }
-        Request::Map(after) => {
-            map_of(alloc, &script, after, out)?;
-            Ok(Outcome::Listed)
-        }
-        Request::Entries(after) => {
-            entries_of(alloc, &script, after, out)?;
+        Request::Show(view, after) => {
+            show(alloc, view, &script, after, out)?;
             Ok(Outcome::Listed)
         }
         Request::Writes => {
             let summary = writes(alloc, &script, out)?;
             Ok(Outcome::Replayed(summary))
         }
+    }
+}
+
+/// Shows this of the register file after so many publications, or after all.
+fn show<O: Write>(
+    alloc: Global,
+    view: View,
+    script: &[u8],
+    after: Option<u64>,
+    out: &mut O,
+) -> Result<(), AuditFault>
+    ensures ok { IfOk result
+        (IsWritten (ViewSays view script.now after) (O.contents out.old) (O.contents out.new)) }
+    ensures err { IfErr result
+        (IsRefused (ViewSays view script.now after) (O.contents out.old) (O.contents out.new)
+        (FileRefuses script.now after)) }
+{
+    match view {
+        View::Registers => dump(alloc, script, after, out),
+        View::Runs => map_of(alloc, script, after, out),
+        View::Picture => picture_of(alloc, script, after, out),
+        View::Entries => entries_of(alloc, script, after, out),
     }
 }
 
@@ -175,7 +190,7 @@ fn audit_by<R: Threads + Wait + Sync, O: Write>(
 enum Outcome {
     Decided(Decision),
     Audited(Summary),
-    /// The registers, the runs or the entries were written.
+    /// What is shown of a register file was written.
     Listed,
     /// What each write does was written.
     Replayed(WriteSummary),

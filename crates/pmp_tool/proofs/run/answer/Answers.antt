@@ -2,14 +2,11 @@ use Rattle.std.proofs.lemmas.Result.{err_from_is_err_and}
 use Rattle.std.proofs.KnownBytes.{Keeps-refl}
 use Rattle.pmp_audit.specs.AccessCheck.{CheckSays}
 use Rattle.pmp_audit.specs.AskedFile.{FileRefuses}
-use Rattle.pmp_audit.specs.EntryList.{EntriesSay}
-use Rattle.pmp_audit.specs.Map.{MapSays}
-use Rattle.pmp_audit.specs.RegisterDump.{DumpSays}
 use Rattle.pmp_audit.specs.TraceAudit.{AuditSays}
 use Rattle.pmp_audit.specs.WriteList.{WritesRefuse, WritesSay}
-use Rattle.pmp_tool.specs.declared.command.Request.TheVariants.{Audit, Check, Dump, Entries, Map, Writes}
+use Rattle.pmp_tool.specs.declared.command.Request.TheVariants.{Audit, Check, Show, Writes}
 use Rattle.pmp_tool.specs.declared.run.Outcome.TheVariants.{Audited, Decided, Listed, Replayed}
-use Rattle.pmp_tool.specs.Requests.{AuditByRefuses}
+use Rattle.pmp_tool.specs.Requests.{AuditByRefuses, ViewSays}
 use Rattle.pmp_tool.specs.Runs.{no_script, no_trace}
 use Rattle.pmp_tool.proofs.Requesting.{not_answered}
 use Rattle.pmp_tool.proofs.run.answer.Goals as goal
@@ -56,39 +53,18 @@ returns-in_err-audit_by-in-Audit-clause-err g c =
     (AuditByRefuses c.in-Audit.checkers script trace)
     (λ fault refuses. (trace, read, refuses)) c.in_err-audit_by-in-Audit.field-0.0 refused)
 
-pub returns-in_err-dump-in-Dump-clause-err : goal.returns-in_err-dump-in-Dump-clause-err
-returns-in_err-dump-in-Dump-clause-err g c =
-    let p = err_from_is_err_and c.from_residual-in_err-dump-in-Dump.result
-    c.from_residual-in_err-dump-in-Dump.ensures.1 in
+pub returns-in_err-show-in-Show-clause-err : goal.returns-in_err-show-in-Show-clause-err
+returns-in_err-show-in-Show-clause-err g c =
+    let p = err_from_is_err_and c.from_residual-in_err-show-in-Show.result
+    c.from_residual-in_err-show-in-Show.ensures.1 in
     let script = c.in_ok-script.script.items in
-    let refused = rw c.deref-in-Dump.ensures.value at c.in_err-dump-in-Dump.ensures.err in
+    let refused = rw c.deref-in-Show.ensures.value at c.in_err-show-in-Show.ensures.err in
     rw (p.1, p.2)
-    (not_answered _ _ c.args.command script c.in_ok-script.ensures.read (Dump c.in-Dump.after) c.in-Dump.is _ _
-    (λ _. Listed) (DumpSays script c.in-Dump.after) (λ done text says. says) (FileRefuses script c.in-Dump.after)
-    (λ fault refuses. refuses) c.in_err-dump-in-Dump.field-0.0 refused)
-
-pub returns-in_err-map_of-in-Map-clause-err : goal.returns-in_err-map_of-in-Map-clause-err
-returns-in_err-map_of-in-Map-clause-err g c =
-    let p = err_from_is_err_and c.from_residual-in_err-map_of-in-Map.result
-    c.from_residual-in_err-map_of-in-Map.ensures.1 in
-    let script = c.in_ok-script.script.items in
-    let refused = rw c.deref-in-Map.ensures.value at c.in_err-map_of-in-Map.ensures.err in
-    rw (p.1, p.2)
-    (not_answered _ _ c.args.command script c.in_ok-script.ensures.read (Map c.in-Map.after) c.in-Map.is _ _
-    (λ _. Listed) (MapSays script c.in-Map.after) (λ done text says. says) (FileRefuses script c.in-Map.after)
-    (λ fault refuses. refuses) c.in_err-map_of-in-Map.field-0.0 refused)
-
-pub returns-in_err-entries_of-in-Entries-clause-err : goal.returns-in_err-entries_of-in-Entries-clause-err
-returns-in_err-entries_of-in-Entries-clause-err g c =
-    let p = err_from_is_err_and c.from_residual-in_err-entries_of-in-Entries.result
-    c.from_residual-in_err-entries_of-in-Entries.ensures.1 in
-    let script = c.in_ok-script.script.items in
-    let refused = rw c.deref-in-Entries.ensures.value at c.in_err-entries_of-in-Entries.ensures.err in
-    rw (p.1, p.2)
-    (not_answered _ _ c.args.command script c.in_ok-script.ensures.read (Entries c.in-Entries.after) c.in-Entries.is _ _
-    (λ _. Listed) (EntriesSay script c.in-Entries.after) (λ done text says. says)
-    (FileRefuses script c.in-Entries.after)
-    (λ fault refuses. refuses) c.in_err-entries_of-in-Entries.field-0.0 refused)
+    (not_answered _ _ c.args.command script c.in_ok-script.ensures.read
+    (Show c.in-Show.view c.in-Show.after) c.in-Show.is _ _
+    (λ _. Listed) (ViewSays c.in-Show.view script c.in-Show.after) (λ done text says. says)
+    (FileRefuses script c.in-Show.after)
+    (λ fault refuses. refuses) c.in_err-show-in-Show.field-0.0 refused)
 
 pub returns-in_err-summary-in-Writes-clause-err : goal.returns-in_err-summary-in-Writes-clause-err
 returns-in_err-summary-in-Writes-clause-err g c =
