@@ -1,5 +1,5 @@
 -- Lists side by side, and one element more.
-use Rattle.std.proofs.Common.{◌≡◌, ℕ, ◌+◌, List, [], ◌∷◌, ◌++◌, length, refl, ap, ◌∙◌, arith}
+use Rattle.std.proofs.Common.{◌≡◌, List, [], ◌∷◌, ◌++◌, length, refl, ap, arith}
 use Rattle.std.specs.List.{AllZip, zip}
 
 module _ {A B : Type 0} (R : A → B → Type 0) where
