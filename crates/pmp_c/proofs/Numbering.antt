@@ -6,8 +6,8 @@ use Rattle.pmp_core.specs.declared.decision.Cause.{Cause}
 use Rattle.pmp_core.specs.declared.decision.Cause.TheVariants.{Rule, Split, NoMatch}
 use Rattle.pmp_core.specs.declared.decision.Decision.{Decision}
 use Rattle.pmp_core.specs.FaultCode.{access_fault_code}
-use Rattle.pmp_c.specs.Answer.{cause_number, number_by}
-use Rattle.pmp_c.specs.AnswerLaw.{IsByteCause, AnswerLaw}
+use Rattle.pmp_c.specs.Answer.{cause_number, fault_number, number_by}
+use Rattle.pmp_c.specs.AnswerLaw.{IsByteCause, AnswerLaw, NoAccessLaw}
 
 cause_low : (cause : Cause) → IsByteCause cause → cause_number cause ≤ 512
 cause_low (Rule i) low = omega arith
@@ -44,3 +44,15 @@ answer_once access one other p q e =
     let decision : Bool → Cause → Decision = λ allowed cause. record { allowed = allowed; cause = cause } in
     ap (λ (allowed : Bool). decision allowed one.cause) same.0
     ∙ ap (decision other.allowed) (cause_once one.cause other.cause p q same.1)
+
+fault_low : (kind : Kind) (allowed : Bool) → fault_number kind allowed ≤ 7
+fault_low kind true = omega arith
+fault_low Fetch false = omega arith
+fault_low Load false = omega arith
+fault_low Store false = omega arith
+
+pub never_no_access : NoAccessLaw
+never_no_access access decision low e =
+    let cause = cause_low decision.cause low in
+    let fault = fault_low access.kind decision.allowed in
+    absurd (omega (arith, cause, fault, e))

@@ -22,10 +22,9 @@ use Rattle.pmp_map.specs.Runs.{map_run}
 use Rattle.pmp_map.proofs.Order.{start_at, start_past, in_run}
 use Rattle.pmp_map.proofs.Starts.{IsPlaceOf}
 use Rattle.pmp_map.proofs.Decided.{decided_whole}
-use Rattle.pmp_c.specs.declared.rights.TheConstants.{MIXED}
 use Rattle.pmp_c.specs.declared.tables.Tables.{Tables}
 use Rattle.pmp_c.specs.Answer.{fault_number}
-use Rattle.pmp_c.specs.RangeRights.{IsOwnedBy, AreRangeRights}
+use Rattle.pmp_c.specs.RangeRights.{IsOwnedBy, AreRangeRights, mixed_number}
 use Rattle.pmp_c.specs.Tables.{AreTables, IsFound}
 use Rattle.pmp_c.proofs.Answering.{run_found, computed}
 
@@ -133,7 +132,7 @@ module _ (file : RegisterFile) (tables : Tables) (are : AreTables file tables) (
         (all next (omega (arith, meet, at.here.1)) (omega (arith, next_start))) in
         are.runs_are.apart place next_inside (first ∙ sym second)
 
-    pub mixed_rights : AreRangeRights file mode start size MIXED
+    pub mixed_rights : AreRangeRights file mode start size mixed_number
     mixed_rights = record {
       owned = λ owner all. absurd (two_owners owner all);
       mixed = λ none. refl;

@@ -19,6 +19,10 @@ fault_number kind allowed = if allowed then 0 else access_fault_code kind
 abbrev pub number_by : Kind → Cause → (allowed : Bool) → ℕ
 number_by kind cause allowed = cause_number cause + 1024 * fault_number kind allowed
 
+-- what is answered where numbers name no access
+abbrev pub no_access : ℕ
+no_access = 65535
+
 -- the number that answers the access
 abbrev pub answer_number : Access → Decision → ℕ
 answer_number access decision = number_by access.kind decision.cause decision.allowed

@@ -9,7 +9,6 @@ use Rattle.pmp_core.specs.Perms.{right_of}
 use Rattle.pmp_core.specs.Ranges.{decision_of}
 use Rattle.pmp_core.specs.Rights.{perms_of}
 use Rattle.pmp_map.specs.Answers.{owned_rights}
-use Rattle.pmp_c.specs.declared.rights.TheConstants.{MIXED}
 use Rattle.pmp_c.specs.Request.{mode_number}
 
 -- the number is that of the mode, and the range has a byte and ends at or below 2^56
@@ -17,6 +16,13 @@ pub record IsRangeOf (mode : Mode) (number start length : ℕ) : Type 0 where
   pub mode_is : mode_number mode ≡ number
   pub full : 0 < length
   pub inside : start + length ≤ 2 ^ 56
+
+-- what is answered where no one owner has all bytes, and where numbers name no range: none of them has the bit of a right
+abbrev pub mixed_number : ℕ
+mixed_number = 8
+
+abbrev pub no_range : ℕ
+no_range = 16
 
 -- all bytes of the range have this owner
 abbrev pub IsOwnedBy : List Entry → (start length : ℕ) → Option ℕ → Type 0
@@ -28,8 +34,8 @@ pub record AreRangeRights (file : RegisterFile) (mode : Mode) (start length numb
   pub owned : (owner : Option ℕ) → IsOwnedBy file.entries start length owner
       → number ≡ (perms_of (owned_rights file owner mode)).0
   -- else mixed
-  pub mixed : ((owner : Option ℕ) → ¬ (IsOwnedBy file.entries start length owner)) → number ≡ MIXED
+  pub mixed : ((owner : Option ℕ) → ¬ (IsOwnedBy file.entries start length owner)) → number ≡ mixed_number
   -- where it isn't mixed, every access of the mode in the range is allowed where the bit of its kind is set
-  pub accesses : number < MIXED → (access : Access) → access.mode ≡ mode → start ≤ access.start
+  pub accesses : number < mixed_number → (access : Access) → access.mode ≡ mode → start ≤ access.start
       → access.start + access.length ≤ start + length
       → (decision_of file access).allowed ≡ (number / (right_of access.kind).0 % 2 == 1)

@@ -19,8 +19,8 @@ ghost use Rattle.pmp_core.specs.RegisterValue.{register_value};
 ghost use Rattle.pmp_core.specs.RegisterWrite.{written};
 ghost use Rattle.pmp_core.specs.SavedRegisters.{saved_registers, restored_file, saved_size};
 ghost use Rattle.pmp_core.specs.Size.{count_of};
-ghost use Rattle.pmp_c.specs.Answer.{answer_number};
-ghost use Rattle.pmp_c.specs.RangeRights.{IsRangeOf, AreRangeRights};
+ghost use Rattle.pmp_c.specs.Answer.{answer_number, no_access};
+ghost use Rattle.pmp_c.specs.RangeRights.{IsRangeOf, AreRangeRights, no_range};
 ghost use Rattle.pmp_c.specs.Request.{IsNamed};
 ghost use Rattle.pmp_c.specs.Status.{status_number};
 ghost use Rattle.pmp_c.specs.Unit.{file_of_unit, IsUnit};
@@ -36,6 +36,7 @@ mod unit;
 
 use crate::answer::NO_ACCESS;
 use crate::request::Request;
+use crate::rights::NO_RANGE;
 use crate::status::{TAKEN, csr_of, refusal_status};
 use pmp_core::{ADDRESS_LIMIT, Event, RegFile, SavedRegisters};
 pub use tables::Tables;
@@ -45,6 +46,7 @@ pub use unit::{Found, Unit};
 #[unsafe(no_mangle)]
 pub extern "C" fn tilvenka_pmp_reset(unit: &mut Unit, entries: u64)
     ensures file { file_of_unit unit.new ≡ reset_file (count_of (saved_size entries)) }
+    ensures unbuilt { unit.new.map.runs ≡ 0 }
     ensures unit { IsUnit unit.new }
 {
     unit.registers.entries = entries;
@@ -58,7 +60,8 @@ pub extern "C" fn tilvenka_pmp_reset(unit: &mut Unit, entries: u64)
 pub extern "C" fn tilvenka_pmp_write(unit: &mut Unit, csr: u32, value: u64) -> u32
     ensures status { result ≡ status_number (numbered csr) }
     ensures effect { MatchResult (numbered csr)
-        (λ named. (file_of_unit unit.new ≡ written (file_of_unit unit.old) named value) × IsUnit unit.new)
+        (λ named. (file_of_unit unit.new ≡ written (file_of_unit unit.old) named value) × (unit.new.map.runs ≡ 0)
+        × IsUnit unit.new)
         (λ fault. unit.new ≡ unit.old) }
 {
     match csr_of(csr) {
@@ -118,7 +121,7 @@ pub extern "C" fn tilvenka_pmp_decide(
 ) -> u32
     ensures answer { (access : Access) → IsNamed access mode kind start length → IsUnit unit.now
         → result ≡ answer_number access (decision_of (file_of_unit unit.now) access) }
-    ensures none { ((access : Access) → ¬ (IsNamed access mode kind start length)) → result ≡ NO_ACCESS }
+    ensures none { ((access : Access) → ¬ (IsNamed access mode kind start length)) → result ≡ no_access }
 {
     match Request::new(mode, kind, start, length) {
         Some(request) => u32::from(unit.answer(&request)),
@@ -138,7 +141,7 @@ pub extern "C" fn tilvenka_pmp_decide_near(
 ) -> Found
     ensures answer { (access : Access) → IsNamed access mode kind start length → IsUnit unit.now
         → result.answer ≡ answer_number access (decision_of (file_of_unit unit.now) access) }
-    ensures none { ((access : Access) → ¬ (IsNamed access mode kind start length)) → result.answer ≡ NO_ACCESS }
+    ensures none { ((access : Access) → ¬ (IsNamed access mode kind start length)) → result.answer ≡ no_access }
 {
     match Request::new(mode, kind, start, length) {
         Some(request) => unit.answer_near(near, &request),
@@ -160,24 +163,24 @@ pub extern "C" fn tilvenka_pmp_decide_by_registers(
 ) -> u32
     ensures answer { (access : Access) → IsNamed access mode kind start length
         → result ≡ answer_number access (decision_of (file_of_unit unit.now) access) }
-    ensures none { ((access : Access) → ¬ (IsNamed access mode kind start length)) → result ≡ NO_ACCESS }
+    ensures none { ((access : Access) → ¬ (IsNamed access mode kind start length)) → result ≡ no_access }
 {
     u32::from(unit.answer_by_registers(mode, kind, start, length))
 }
 
 /// What a mode may do in a whole range of bytes, as a page: R is 1, W is 2, X is 4; 8 where no one owner has all of its
-/// bytes; 65,535 where the numbers name no mode, or no range that ends at or below `2^56`.
+/// bytes; 16 where the numbers name no mode, or no range that ends at or below `2^56`.
 #[unsafe(no_mangle)]
 pub extern "C" fn tilvenka_pmp_rights(unit: &Unit, mode: u32, start: u64, length: u64) -> u32
     ensures rights { (named : Mode) → IsRangeOf named mode start length → IsUnit unit.now
         → AreRangeRights (file_of_unit unit.now) named start length result }
-    ensures none { ((named : Mode) → ¬ (IsRangeOf named mode start length)) → result ≡ NO_ACCESS }
+    ensures none { ((named : Mode) → ¬ (IsRangeOf named mode start length)) → result ≡ no_range }
 {
     if mode > 3 || mode == 2 || length == 0 {
-        return u32::from(NO_ACCESS);
+        return NO_RANGE;
     }
     if length > ADDRESS_LIMIT || start > ADDRESS_LIMIT - length {
-        return u32::from(NO_ACCESS);
+        return NO_RANGE;
     }
     unit.rights(mode, start, length)
 }
@@ -195,6 +198,7 @@ pub extern "C" fn tilvenka_pmp_save(unit: &Unit, registers: &mut SavedRegisters)
 #[unsafe(no_mangle)]
 pub extern "C" fn tilvenka_pmp_restore(unit: &mut Unit, registers: &SavedRegisters)
     ensures file { file_of_unit unit.new ≡ restored_file registers.now }
+    ensures unbuilt { unit.new.map.runs ≡ 0 }
     ensures unit { IsUnit unit.new }
 {
     unit.set_file(&RegFile::restore(registers));

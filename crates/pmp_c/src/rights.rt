@@ -14,6 +14,9 @@ use crate::row::Row;
 /// The rights in a range of whose bytes no one owner has all.
 pub const MIXED: u32 = 8;
 
+/// The rights where the numbers name no range.
+pub const NO_RANGE: u32 = 16;
+
 /// 1 where the answer allows, and else 0.
 #[inline(always)]
 fn allowed(answer: u16) -> u32

@@ -4,7 +4,7 @@ ghost use Rattle.std.specs.Prelude.{◌≡◌, ◌+◌, ◌<◌, ◌≤◌, ◌^
 ghost use Rattle.pmp_core.specs.declared.access.Access.{Access};
 ghost use Rattle.pmp_core.specs.declared.access.Mode.{Mode};
 ghost use Rattle.pmp_core.specs.Ranges.{decision_of};
-ghost use Rattle.pmp_c.specs.Answer.{answer_number};
+ghost use Rattle.pmp_c.specs.Answer.{answer_number, no_access};
 ghost use Rattle.pmp_c.specs.RangeRights.{IsRangeOf, AreRangeRights};
 ghost use Rattle.pmp_c.specs.Request.{IsNamed};
 ghost use Rattle.pmp_c.specs.Unit.{file_of_unit, IsUnit};
@@ -43,6 +43,7 @@ impl Unit {
     /// Sets the registers to those of the file, and empties the map.
     pub fn set_file(&mut self, file: &RegFile)
         ensures file { file_of_unit self.new ≡ file.now }
+        ensures unbuilt { self.new.map.runs ≡ 0 }
         ensures unit { IsUnit self.new }
     {
         self.registers = file.save();
@@ -72,7 +73,7 @@ impl Unit {
     pub fn answer_by_registers(&self, mode: u32, kind: u32, start: u64, length: u64) -> u16
         ensures answer { (access : Access) → IsNamed access mode kind start length
             → result ≡ answer_number access (decision_of (file_of_unit self.now) access) }
-        ensures none { ((access : Access) → ¬ (IsNamed access mode kind start length)) → result ≡ NO_ACCESS }
+        ensures none { ((access : Access) → ¬ (IsNamed access mode kind start length)) → result ≡ no_access }
     {
         match access_of(mode, kind, start, length) {
             Some(access) => answer_number(&access, &self.file().decide(&access)),

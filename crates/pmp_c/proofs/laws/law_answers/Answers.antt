@@ -1,5 +1,8 @@
-use Rattle.pmp_c.proofs.Numbering.{answer_once}
+use Rattle.pmp_c.proofs.Numbering.{answer_once, never_no_access}
 use Rattle.pmp_c.proofs.laws.law_answers.Goals as goal
 
-pub returns : goal.returns
-returns c = answer_once
+pub returns-clause-different : goal.returns-clause-different
+returns-clause-different c = answer_once
+
+pub returns-clause-access : goal.returns-clause-access
+returns-clause-access c = never_no_access
