@@ -9,6 +9,8 @@ SECONDS ?= 600
 PROGRAM = crates/pmp_tool/out/pmp_tool
 GROWTHS = crates/pmp_growths/out/pmp_growths
 LIBRARY = crates/pmp_c/out/libpmp_c.a
+# The man page has the program's version, as checks/documents says.
+VERSION = $(shell sed -n 's/^\.TH PMP 1 "" "pmp \([0-9.]*\)".*/\1/p' docs/pmp.1)
 BIN = $(DESTDIR)$(PREFIX)/bin
 DOC = $(DESTDIR)$(PREFIX)/share/doc/pmp
 MAN = $(DESTDIR)$(PREFIX)/share/man/man1
@@ -45,7 +47,7 @@ install: build library
 	@install -m 644 docs/pmp.1 "$(MAN)/pmp.1" && echo "installed $(MAN)/pmp.1"
 	@install -m 644 include/tilvenka_pmp.h "$(INCLUDE)/tilvenka_pmp.h" && echo "installed $(INCLUDE)/tilvenka_pmp.h"
 	@install -m 644 $(LIBRARY) "$(LIB)/libpmp.a" && echo "installed $(LIB)/libpmp.a"
-	@sed 's|@PREFIX@|$(PREFIX)|' include/tilvenka_pmp.pc >"$(LIB)/pkgconfig/tilvenka_pmp.pc" \
+	@sed 's|@PREFIX@|$(PREFIX)|; s|@VERSION@|$(VERSION)|' include/tilvenka_pmp.pc >"$(LIB)/pkgconfig/tilvenka_pmp.pc" \
 	    && echo "installed $(LIB)/pkgconfig/tilvenka_pmp.pc"
 
 uninstall:

@@ -50,6 +50,8 @@ static void write_all(tilvenka_pmp_unit *unit, const char *writes) {
             abort();
         writes += length;
     }
+    if (*writes != 0)
+        abort();
 }
 
 static uint64_t read_csr(const tilvenka_pmp_unit *unit, uint32_t csr) {

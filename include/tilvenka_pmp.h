@@ -2,9 +2,12 @@
  *
  * The caller owns the unit: a struct of plain numbers without pointers. It may be copied, and zeroed memory is a unit
  * of sixteen entries after reset, whose map isn't built. No call keeps a pointer, allocates, or has a condition on the
- * numbers that it is given: whatever they are, so is an answer. Pointers have to be valid and aligned, and two of one
- * call may not overlap. Calls on different units need no lock. Calls on one unit may run at once where all of them take
- * it as const.
+ * numbers that it is given: whatever they are, the answer is defined. Pointers have to be valid and aligned, and two of
+ * one call may not overlap. Reset, restore and save also take memory that holds nothing yet. Calls on different units
+ * need no lock. Calls on one unit may run at once where all of them take it as const.
+ *
+ * Decisions and rights go by the map where it is built. So change the registers by these calls alone: whoever writes to
+ * the struct itself, or takes a whole unit from elsewhere, builds the map before the next decision.
  *
  * Link with libpmp.a. Addresses are byte addresses of physical memory unless said otherwise. */
 #ifndef TILVENKA_PMP_H
@@ -18,17 +21,20 @@
 #ifdef __cplusplus
 extern "C" {
 #define TILVENKA_PMP_ASSERT static_assert
+#define TILVENKA_PMP_ALIGNMENT alignof
 #else
 #define TILVENKA_PMP_ASSERT _Static_assert
+#define TILVENKA_PMP_ALIGNMENT _Alignof
 #endif
 
 enum {
     TILVENKA_PMP_MAX_ENTRIES = 64,
-    /* How many runs the map has room for. */
+    /* How long the map's tables are. A map has at most 129 runs. */
     TILVENKA_PMP_PLACES = 217
 };
 
-/* The modes, as the manual numbers them (1.2). */
+/* The modes, as the manual numbers them (1.2). It is the effective mode that is asked for: that of MPP for loads and
+ * stores under MPRV (3.1.6.3), and supervisor mode where a page table is walked. */
 enum { TILVENKA_PMP_USER = 0, TILVENKA_PMP_SUPERVISOR = 1, TILVENKA_PMP_MACHINE = 3 };
 
 /* The kinds of access. An AMO or a store-conditional is a store. */
@@ -53,7 +59,8 @@ enum {
     TILVENKA_PMP_NO_ACCESS = 65535
 };
 
-/* What holds for every access inside a range: a set of the first three, or one of the others. */
+/* What holds for every access inside a range: a set of the first three, or else one of the others, which have none of
+ * their bits. */
 enum {
     TILVENKA_PMP_READ = 1,
     TILVENKA_PMP_WRITE = 2,
@@ -61,7 +68,7 @@ enum {
     /* Not all bytes have the same entry, so that each access has to be decided. */
     TILVENKA_PMP_MIXED = 8,
     /* The numbers name no range: a mode that isn't one, a length of 0, an end above 2^56. */
-    TILVENKA_PMP_NO_RANGE = 65535
+    TILVENKA_PMP_NO_RANGE = 16
 };
 
 /* All registers. What a register lacks is ignored: bits 63 to 54 of an address, bits 6 and 5 of a configuration byte,
@@ -77,7 +84,7 @@ typedef struct tilvenka_pmp_registers {
 typedef struct tilvenka_pmp_map {
     uint64_t starts[TILVENKA_PMP_PLACES];
     uint64_t runs;
-    uint16_t answers[TILVENKA_PMP_PLACES][16];
+    uint16_t rows[TILVENKA_PMP_PLACES][16];
 } tilvenka_pmp_map;
 
 typedef struct tilvenka_pmp_unit {
@@ -86,12 +93,20 @@ typedef struct tilvenka_pmp_unit {
 } tilvenka_pmp_unit;
 
 TILVENKA_PMP_ASSERT(sizeof(tilvenka_pmp_registers) == 592, "the registers are laid out otherwise");
+TILVENKA_PMP_ASSERT(offsetof(tilvenka_pmp_registers, configurations) == 512, "the bytes lie elsewhere");
+TILVENKA_PMP_ASSERT(offsetof(tilvenka_pmp_registers, mseccfg) == 576, "mseccfg lies elsewhere");
+TILVENKA_PMP_ASSERT(offsetof(tilvenka_pmp_registers, entries) == 584, "the size lies elsewhere");
+TILVENKA_PMP_ASSERT(offsetof(tilvenka_pmp_map, runs) == 8 * 217, "the number of runs lies elsewhere");
+TILVENKA_PMP_ASSERT(offsetof(tilvenka_pmp_map, rows) == 8 * 217 + 8, "the rows lie elsewhere");
+TILVENKA_PMP_ASSERT(TILVENKA_PMP_ALIGNMENT(tilvenka_pmp_unit) == 8, "the unit is aligned otherwise");
 TILVENKA_PMP_ASSERT(sizeof(tilvenka_pmp_unit) == 592 + 8 * 217 + 8 + 32 * 217, "the unit is laid out otherwise");
 
 typedef struct tilvenka_pmp_found {
     uint32_t answer;
-    uint32_t run; /* to be handed to the next call */
+    uint32_t run; /* to be handed to the next call, as `near` */
 } tilvenka_pmp_found;
+
+TILVENKA_PMP_ASSERT(sizeof(tilvenka_pmp_found) == 8, "what is found is laid out otherwise");
 
 /* Resets the unit, which has 64 entries from now on where `entries` is 64, and else 16. The map isn't built. */
 void tilvenka_pmp_reset(tilvenka_pmp_unit *unit, uint64_t entries);
@@ -116,11 +131,12 @@ uint32_t tilvenka_pmp_decide(const tilvenka_pmp_unit *unit, uint32_t mode, uint3
 uint32_t tilvenka_pmp_decide_by_registers(const tilvenka_pmp_unit *unit, uint32_t mode, uint32_t kind, uint64_t start,
                                           uint64_t length);
 
-/* The same, where the access is likely to be in the run of the one before: looks there first. Any `run` will do. */
-tilvenka_pmp_found tilvenka_pmp_decide_near(const tilvenka_pmp_unit *unit, uint32_t run, uint32_t mode, uint32_t kind,
-                                            uint64_t start, uint64_t length);
+/* The same, where the access is likely to be in the run of the one before: looks there first. Any `near` will do. */
+tilvenka_pmp_found tilvenka_pmp_decide_near(const tilvenka_pmp_unit *unit, uint32_t near, uint32_t mode,
+                                            uint32_t kind, uint64_t start, uint64_t length);
 
-/* What holds for every access of the mode inside the range. It serves a TLB fill: a page is a range of 4096 bytes. */
+/* What holds for every access of the mode inside the range. It serves a TLB fill: a page is a range of 4096 bytes.
+ * Where the map isn't built, each call builds one for itself, which takes microseconds. */
 uint32_t tilvenka_pmp_rights(const tilvenka_pmp_unit *unit, uint32_t mode, uint64_t start, uint64_t length);
 
 /* A snapshot: all registers, with zeros for what a unit of sixteen lacks. */
@@ -134,7 +150,8 @@ static inline bool tilvenka_pmp_is_allowed(uint32_t answer) {
     return answer < TILVENKA_PMP_FAULT;
 }
 
-/* The exception code of a failed access: 1, 5 or 7 (3.1.15). */
+/* The exception code of a failed access: 1, 5 or 7 (3.1.15). It is 0 of one that is allowed, and 63, which is no code,
+ * of TILVENKA_PMP_NO_ACCESS: beyond 2^56 a hart raises the access fault of its kind. */
 static inline uint32_t tilvenka_pmp_fault(uint32_t answer) {
     return answer / TILVENKA_PMP_FAULT;
 }

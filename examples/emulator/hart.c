@@ -77,7 +77,7 @@ static uint32_t page_rights(struct hart *hart, uint32_t mode, uint64_t page) {
     return rights;
 }
 
-/* The answer to an access: without a decision where the TLB has the right to it. */
+/* The answer to an access. Where the TLB has the right to it, nothing is decided, and 0 says no more than "allowed". */
 static uint32_t ask(struct hart *hart, const struct access *access) {
     uint64_t page = access->address / PAGE * PAGE;
     if (access->length - 1 < page + PAGE - access->address) {
@@ -182,7 +182,7 @@ static bool run_access_line(struct hart *hart, const struct words *words) {
 static bool run_line(struct hart *hart, const char *line) {
     static const char *const written[] = {"written", "an odd configuration register", "no register of the unit"};
     struct words words = read_words(line);
-    if (words.count == 3 && strcmp(words.word[0], "write") == 0) {
+    if (words.count == 3 && strcmp(words.word[0], "write") == 0 && number(words.word[1]) <= UINT32_MAX) {
         printf("%s\n", written[write_csr(hart, number(words.word[1]), number(words.word[2]))]);
         return true;
     }
