@@ -3,7 +3,8 @@
 # make install PREFIX=..    puts the program, its man page, docs/FORMATS.md and the C library with its header on a user's path
 # make uninstall PREFIX=..  takes them away
 # make soak SECONDS=..      lets a publisher and eight checkers run so long, and compares each answer with a replay
-# make test                 proves and tests everything, then tries the program, the launcher and the documents
+# make test                 proves and tests everything, has the prover refuse the wrong bodies, then tries the program, the
+#                           libraries, the launcher and the documents
 PREFIX ?= /usr/local
 SECONDS ?= 600
 PROGRAM = crates/pmp_tool/out/pmp_tool
@@ -17,6 +18,10 @@ MAN = $(DESTDIR)$(PREFIX)/share/man/man1
 INCLUDE = $(DESTDIR)$(PREFIX)/include
 LIB = $(DESTDIR)$(PREFIX)/lib
 
+# How many checks run side by side: one a processor, as far as memory goes, since each takes up to 3.5 GB. Given so, rt
+# ci has one process for each, which is less work than several for one.
+LANES = $(shell awk -v most="$$(nproc)" '/^MemAvailable/ { n = int($$2 / 3500000); print n < 1 ? 1 : n < most ? n : most }' /proc/meminfo)
+
 .PHONY: build library test install uninstall soak soak-program bench bench-decide bench-threads bench-limits bench-audit
 
 # The launcher builds the program, and then the program says its version.
@@ -26,12 +31,14 @@ build:
 library:
 	@mkdir -p bench/out
 	@echo "proving and building the C library; the log is bench/out/c-library.log"
-	@(cd crates/pmp_c && rt lib --jobs 2) >bench/out/c-library.log 2>&1 || { cat bench/out/c-library.log >&2; exit 1; }
+	@(cd crates/pmp_c && rt lib --jobs 1) >bench/out/c-library.log 2>&1 || { cat bench/out/c-library.log >&2; exit 1; }
 
-# rt ci builds the program from nothing.
+# rt ci proves and builds from nothing, and keeps no work; checks/wrong-bodies goes over what building keeps.
 test:
-	rt ci
+	RT_JOBS=$(LANES) rt ci
+	./pmp --version
 	$(MAKE) library
+	LANES=$(LANES) checks/wrong-bodies
 	checks/library $(LIBRARY)
 	checks/worked $(PROGRAM)
 	checks/program $(PROGRAM)
@@ -61,14 +68,14 @@ bench: bench-decide bench-threads bench-limits bench-audit
 bench-decide: library
 	@mkdir -p bench/out
 	@echo "proving and building the library; the log is bench/out/library.log"
-	@(cd crates/pmp_bench && rt lib --jobs 2) >bench/out/library.log 2>&1 || { cat bench/out/library.log >&2; exit 1; }
+	@(cd crates/pmp_bench && rt lib --jobs 1) >bench/out/library.log 2>&1 || { cat bench/out/library.log >&2; exit 1; }
 	@bench/qemu/fetch bench/out/qemu || echo "QEMU's source can't be fetched, so it isn't timed"
 	@for entries in 16 64; do bench/decide $$entries || exit 1; done
 
 bench-threads:
 	@mkdir -p bench/out
 	@echo "proving and building the program; the log is bench/out/threads.log"
-	@(cd crates/pmp_bench_threads && rt run --jobs 2) >bench/out/threads.log 2>&1 \
+	@(cd crates/pmp_bench_threads && rt run --jobs 1) >bench/out/threads.log 2>&1 \
 	    || { cat bench/out/threads.log >&2; exit 1; }
 	gcc -O2 -std=c11 -Wall -Wextra -pthread bench/threads.c -o bench/out/threads
 	crates/pmp_bench_threads/out/pmp_bench_threads run
@@ -91,4 +98,4 @@ soak: soak-program
 soak-program:
 	@mkdir -p bench/out
 	@echo "proving and building the program; the log is bench/out/soak.log"
-	@(cd crates/pmp_soak && rt run --jobs 2) >bench/out/soak.log 2>&1 || { cat bench/out/soak.log >&2; exit 1; }
+	@(cd crates/pmp_soak && rt run --jobs 1) >bench/out/soak.log 2>&1 || { cat bench/out/soak.log >&2; exit 1; }

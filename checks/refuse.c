@@ -14,7 +14,7 @@
 #include <stdlib.h>
 #include <unistd.h>
 
-enum { BEGINNING = 7777777, END = 7777778, TURNS = 1000 };
+enum { BEGINNING = 7777777, END = 7777778, TURNS = 600000 };
 
 // The C library's own.
 extern void *__libc_malloc(size_t size);
@@ -50,7 +50,7 @@ static long other_threads(void) {
     return count;
 }
 
-// A thread that was joined may be listed for a moment more.
+// A thread that was joined may be listed for a moment more, and on a busy machine for longer.
 static void tell(void) {
     char line[128];
     long threads = other_threads();
