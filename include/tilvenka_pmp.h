@@ -9,6 +9,9 @@
  * Decisions and rights go by the map where it is built. So change the registers by these calls alone: whoever writes to
  * the struct itself, or takes a whole unit from elsewhere, builds the map before the next decision.
  *
+ * It is for 64-bit hosts of either byte order, whose own order a saved struct has. Bytes of a unit may differ where its
+ * registers don't, so compare and hash what tilvenka_pmp_save gives.
+ *
  * Link with libpmp.a. Addresses are byte addresses of physical memory unless said otherwise. */
 #ifndef TILVENKA_PMP_H
 #define TILVENKA_PMP_H
@@ -135,15 +138,16 @@ uint32_t tilvenka_pmp_decide_by_registers(const tilvenka_pmp_unit *unit, uint32_
 tilvenka_pmp_found tilvenka_pmp_decide_near(const tilvenka_pmp_unit *unit, uint32_t near, uint32_t mode,
                                             uint32_t kind, uint64_t start, uint64_t length);
 
-/* What holds for every access of the mode inside the range. It serves a TLB fill: a page is a range of 4096 bytes.
- * Where the map isn't built, each call builds one for itself, which takes microseconds. */
+/* What holds for every access of the mode inside the range. It serves a TLB fill: a page is a range of 4096 bytes. An
+ * access that goes on into the next page isn't covered by the rights of both: it has to be decided. Where the map isn't
+ * built, each call builds one for itself, which takes microseconds, and 16 KiB of the stack. */
 uint32_t tilvenka_pmp_rights(const tilvenka_pmp_unit *unit, uint32_t mode, uint64_t start, uint64_t length);
 
 /* A snapshot: all registers, with zeros for what a unit of sixteen lacks. */
 void tilvenka_pmp_save(const tilvenka_pmp_unit *unit, tilvenka_pmp_registers *registers);
 
-/* Takes a snapshot back, whatever its numbers are; a reserved combination of R and W is stored as a write stores it.
- * The map isn't built. */
+/* Takes a snapshot back, whatever its numbers are and whatever the unit's locks; a reserved combination of R and W is
+ * stored as a write stores it. The map isn't built. */
 void tilvenka_pmp_restore(tilvenka_pmp_unit *unit, const tilvenka_pmp_registers *registers);
 
 static inline bool tilvenka_pmp_is_allowed(uint32_t answer) {
