@@ -121,7 +121,8 @@ uint32_t tilvenka_pmp_write(tilvenka_pmp_unit *unit, uint32_t csr, uint64_t valu
 /* Reads the CSR with this number. Unless it is TILVENKA_PMP_DONE, `value` stays. */
 uint32_t tilvenka_pmp_read(const tilvenka_pmp_unit *unit, uint32_t csr, uint64_t *value);
 
-/* Builds the map, by which a decision is a search in place of a walk: once after the last of several writes. */
+/* Builds the map, by which a decision is a search in place of a walk: once after the last of several writes. That takes
+ * 48 KiB of the stack, as tilvenka_pmp_rights does without a map; other calls take at most 12. */
 void tilvenka_pmp_build(tilvenka_pmp_unit *unit);
 
 bool tilvenka_pmp_is_built(const tilvenka_pmp_unit *unit);
@@ -140,7 +141,7 @@ tilvenka_pmp_found tilvenka_pmp_decide_near(const tilvenka_pmp_unit *unit, uint3
 
 /* What holds for every access of the mode inside the range. It serves a TLB fill: a page is a range of 4096 bytes. An
  * access that goes on into the next page isn't covered by the rights of both: it has to be decided. Where the map isn't
- * built, each call builds one for itself, which takes microseconds, and 16 KiB of the stack. */
+ * built, each call builds one for itself, which takes microseconds. */
 uint32_t tilvenka_pmp_rights(const tilvenka_pmp_unit *unit, uint32_t mode, uint64_t start, uint64_t length);
 
 /* A snapshot: all registers, with zeros for what a unit of sixteen lacks. */
