@@ -1,5 +1,5 @@
 -- Numbers of answers tell decisions apart.
-use Rattle.std.proofs.Common.{◌≡◌, ◌≤◌, Bool, true, false, refl, ap, ◌∙◌, arith}
+use Rattle.std.proofs.Common.{◌≡◌, ◌↔◌, ◌≤◌, ◌<◌, ◌+◌, ◌*◌, ◌/◌, ◌%◌, ℕ, Bool, true, false, refl, ap, ◌∙◌, arith}
 use Rattle.pmp_core.specs.declared.access.Kind.{Kind}
 use Rattle.pmp_core.specs.declared.access.Kind.TheVariants.{Fetch, Load, Store}
 use Rattle.pmp_core.specs.declared.decision.Cause.{Cause}
@@ -7,7 +7,7 @@ use Rattle.pmp_core.specs.declared.decision.Cause.TheVariants.{Rule, Split, NoMa
 use Rattle.pmp_core.specs.declared.decision.Decision.{Decision}
 use Rattle.pmp_core.specs.FaultCode.{access_fault_code}
 use Rattle.pmp_c.specs.Answer.{cause_number, fault_number, number_by}
-use Rattle.pmp_c.specs.AnswerLaw.{IsByteCause, AnswerLaw, NoAccessLaw}
+use Rattle.pmp_c.specs.AnswerLaw.{IsByteCause, AnswerLaw, NoAccessLaw, ReadingLaw}
 
 cause_low : (cause : Cause) → IsByteCause cause → cause_number cause ≤ 512
 cause_low (Rule i) low = omega arith
@@ -56,3 +56,23 @@ never_no_access access decision low e =
     let cause = cause_low decision.cause low in
     let fault = fault_low access.kind decision.allowed in
     absurd (omega (arith, cause, fault, e))
+
+parted : (cause fault : ℕ) → cause ≤ 512
+    → ((cause + 1024 * fault) / 1024 ≡ fault) × ((cause + 1024 * fault) % 1024 ≡ cause)
+parted cause fault low = (omega arith, omega arith)
+
+below : (kind : Kind) (allowed : Bool) (cause : ℕ) → cause ≤ 512
+    → (cause + 1024 * fault_number kind allowed) < 1024 ↔ allowed ≡ true
+below kind true cause low = ((λ _. refl), (λ _. omega arith))
+below kind false cause low =
+    ((λ small. absurd (omega (arith, code_some kind))), (λ no. absurd (search arith)))
+
+pub read_off : ReadingLaw
+read_off access decision low =
+    let cause = cause_low decision.cause low in
+    let parts = parted (cause_number decision.cause) (fault_number access.kind decision.allowed) cause in
+    record {
+      allowed = below access.kind decision.allowed (cause_number decision.cause) cause;
+      fault = parts.0;
+      cause = parts.1;
+    }

@@ -1,10 +1,10 @@
 -- A number answers one decision.
-use Rattle.std.specs.Prelude.{◌≡◌, ◌<◌}
+use Rattle.std.specs.Prelude.{◌≡◌, ◌↔◌, ◌<◌, ◌/◌, ◌%◌, true}
 use Rattle.pmp_core.specs.declared.access.Access.{Access}
 use Rattle.pmp_core.specs.declared.decision.Cause.{Cause}
 use Rattle.pmp_core.specs.declared.decision.Cause.TheVariants.{Rule, Split, NoMatch}
 use Rattle.pmp_core.specs.declared.decision.Decision.{Decision}
-use Rattle.pmp_c.specs.Answer.{answer_number, no_access}
+use Rattle.pmp_c.specs.Answer.{answer_number, cause_number, fault_number, no_access}
 
 -- the entry's number is a byte, as that of every entry is
 abbrev pub IsByteCause : Cause → Type 0
@@ -21,3 +21,13 @@ NoAccessLaw = (access : Access) (decision : Decision) → IsByteCause decision.c
 abbrev pub AnswerLaw : Type 0
 AnswerLaw = (access : Access) (one other : Decision) → IsByteCause one.cause → IsByteCause other.cause
     → answer_number access one ≡ answer_number access other → one ≡ other
+
+-- what the header's inline functions read off an answer: whether the access is allowed, the code of its fault, and what
+-- decided
+pub record IsReadOff (access : Access) (decision : Decision) : Type 0 where
+  pub allowed : answer_number access decision < 1024 ↔ decision.allowed ≡ true
+  pub fault : answer_number access decision / 1024 ≡ fault_number access.kind decision.allowed
+  pub cause : answer_number access decision % 1024 ≡ cause_number decision.cause
+
+abbrev pub ReadingLaw : Type 0
+ReadingLaw = (access : Access) (decision : Decision) → IsByteCause decision.cause → IsReadOff access decision

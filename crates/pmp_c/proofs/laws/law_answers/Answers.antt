@@ -1,4 +1,4 @@
-use Rattle.pmp_c.proofs.Numbering.{answer_once, never_no_access}
+use Rattle.pmp_c.proofs.Numbering.{answer_once, never_no_access, read_off}
 use Rattle.pmp_c.proofs.laws.law_answers.Goals as goal
 
 pub returns-clause-different : goal.returns-clause-different
@@ -6,3 +6,6 @@ returns-clause-different c = answer_once
 
 pub returns-clause-access : goal.returns-clause-access
 returns-clause-access c = never_no_access
+
+pub returns-clause-reading : goal.returns-clause-reading
+returns-clause-reading c = read_off
