@@ -46,6 +46,7 @@ pub use unit::{Found, Unit};
 #[unsafe(no_mangle)]
 pub extern "C" fn tilvenka_pmp_reset(unit: &mut Unit, entries: u64)
     ensures file { file_of_unit unit.new ≡ reset_file (count_of (saved_size entries)) }
+    ensures registers { unit.new.registers ≡ saved_registers (reset_file (count_of (saved_size entries))) }
     ensures unbuilt { unit.new.map.runs ≡ 0 }
     ensures unit { IsUnit unit.new }
 {
@@ -198,6 +199,7 @@ pub extern "C" fn tilvenka_pmp_save(unit: &Unit, registers: &mut SavedRegisters)
 #[unsafe(no_mangle)]
 pub extern "C" fn tilvenka_pmp_restore(unit: &mut Unit, registers: &SavedRegisters)
     ensures file { file_of_unit unit.new ≡ restored_file registers.now }
+    ensures registers { unit.new.registers ≡ saved_registers (restored_file registers.now) }
     ensures unbuilt { unit.new.map.runs ≡ 0 }
     ensures unit { IsUnit unit.new }
 {

@@ -4,6 +4,7 @@ ghost use Rattle.std.specs.Prelude.{◌≡◌, ◌+◌, ◌<◌, ◌≤◌, ◌^
 ghost use Rattle.pmp_core.specs.declared.access.Access.{Access};
 ghost use Rattle.pmp_core.specs.declared.access.Mode.{Mode};
 ghost use Rattle.pmp_core.specs.Ranges.{decision_of};
+ghost use Rattle.pmp_core.specs.SavedRegisters.{saved_registers};
 ghost use Rattle.pmp_c.specs.Answer.{answer_number, no_access};
 ghost use Rattle.pmp_c.specs.RangeRights.{IsRangeOf, AreRangeRights};
 ghost use Rattle.pmp_c.specs.Request.{IsNamed};
@@ -43,6 +44,7 @@ impl Unit {
     /// Sets the registers to those of the file, and empties the map.
     pub fn set_file(&mut self, file: &RegFile)
         ensures file { file_of_unit self.new ≡ file.now }
+        ensures registers { self.new.registers ≡ saved_registers file.now }
         ensures unbuilt { self.new.map.runs ≡ 0 }
         ensures unit { IsUnit self.new }
     {
