@@ -67,8 +67,6 @@ bench: bench-decide bench-threads bench-limits bench-audit
 
 bench-decide: library
 	@mkdir -p bench/out
-	@echo "proving and building the library; the log is bench/out/library.log"
-	@(cd crates/pmp_bench && rt lib --jobs 1) >bench/out/library.log 2>&1 || { cat bench/out/library.log >&2; exit 1; }
 	@bench/qemu/fetch bench/out/qemu || echo "QEMU's source can't be fetched, so it isn't timed"
 	@for entries in 16 64; do bench/decide $$entries || exit 1; done
 

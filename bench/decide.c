@@ -70,43 +70,18 @@ static unsigned number_of_plain(unsigned answer) {
     return answer;
 }
 
-/* The crates below the library, called from Rattle, which decide all requests in one call. */
-
-size_t pmp_bench_decide(uint8_t entries, const struct write *writes, size_t write_count,
-                        const struct request *requests, size_t request_count, uint16_t *answers, size_t answer_count);
-size_t pmp_bench_decide_by_map(uint8_t entries, const struct write *writes, size_t write_count,
-                               const struct request *requests, size_t request_count, uint16_t *answers,
-                               size_t answer_count);
-size_t pmp_bench_build(uint8_t entries, const struct write *writes, size_t write_count, uint32_t times);
-
-static void ask_map(const struct request *asked, size_t count, uint16_t *answers, enum pace pace) {
-    (void)pace;
-    pmp_bench_decide_by_map(ENTRIES, writes, write_count, asked, count, answers, count);
-}
-
-static void ask_file(const struct request *asked, size_t count, uint16_t *answers, enum pace pace) {
-    (void)pace;
-    pmp_bench_decide(ENTRIES, writes, write_count, asked, count, answers, count);
-}
-
-static void prepare_nothing(const struct write *ignored, size_t count) {
-    (void)ignored, (void)count;
-}
-
 static const struct peer library = {"libpmp", number_of_library, prepare_library, ask_library};
 static const struct peer near = {"near", number_of_library, prepare_library, ask_near};
 static const struct peer registers = {"registers", number_of_library, prepare_library, ask_registers};
 static const struct peer library_fill = {"libpmp", NULL, prepare_library, ask_rights};
-static const struct peer map = {"map", number_of_plain, prepare_nothing, ask_map};
-static const struct peer file = {"file", number_of_plain, prepare_nothing, ask_file};
 static const struct peer plain_c = {"plain C", number_of_plain, prepare_plain, ask_plain};
 
 /* QEMU's unit, and QEMU's names over the library: linked where QEMU's source could be fetched. */
 extern const struct peer qemu __attribute__((weak)), qemu_fill __attribute__((weak));
 extern const struct peer shim __attribute__((weak)), shim_fill __attribute__((weak));
 
-static const struct peer *const ALL[] = {&library, &near, &map, &file, &plain_c, &qemu, &shim};
-enum { PEERS = sizeof ALL / sizeof *ALL };
+static const struct peer *const ALL[] = {&library, &near, &registers, &plain_c, &qemu, &shim};
+enum { LIBRARY = 0, PLAIN_C = 3, QEMU = 4, PEERS = sizeof ALL / sizeof *ALL };
 
 /* The runs. */
 
@@ -152,9 +127,9 @@ static void print_row(const char *name, const double *times, unsigned count) {
     printf("%-36s", name);
     for (unsigned i = 0; i < count; i++) {
         if (times[i] > 0)
-            printf(" %8.1f", times[i]);
+            printf(" %9.1f", times[i]);
         else
-            printf(" %8s", "-");
+            printf(" %9s", "-");
     }
     printf("\n");
 }
@@ -164,15 +139,14 @@ static void measure(const char *name, enum pace pace) {
     double times[PEERS + 2] = {0};
     prepare_plain(writes, write_count);
     for (unsigned i = 0; i < PEERS; i++) {
-        bool is_whole = ALL[i] == &map || ALL[i] == &file;
-        if (ALL[i] == NULL || (is_whole && pace == IN_TURN))
+        if (ALL[i] == NULL)
             continue;
         ALL[i]->prepare(writes, write_count);
         compare(ALL[i], name);
         times[i] = best_of(ALL[i], pace);
     }
-    times[PEERS] = times[0] / times[4];
-    times[PEERS + 1] = times[5] > 0 ? times[0] / times[5] : 0;
+    times[PEERS] = times[LIBRARY] / times[PLAIN_C];
+    times[PEERS + 1] = times[QEMU] > 0 ? times[LIBRARY] / times[QEMU] : 0;
     print_row(name, times, PEERS + 2);
 }
 
@@ -184,12 +158,12 @@ static void measure_both(const char *name) {
 }
 
 static void print_head(const char *what) {
-    printf("%2u entries, %-24s %8s %8s %8s %8s %8s %8s %8s %8s %8s\n", ENTRIES, what, "libpmp", "near", "map", "file",
+    printf("%2u entries, %-24s %9s %9s %9s %9s %9s %9s %9s %9s\n", ENTRIES, what, "libpmp", "near", "registers",
            "plain C", "QEMU", "shim", "/plain C", "/QEMU");
 }
 
 static void compare_small_files(void) {
-    static const struct peer *const exact[] = {&library, &near, &registers, &map, &file};
+    static const struct peer *const exact[] = {&library, &near, &registers};
     for (unsigned count = 0; count < SMALL_FILES; count++) {
         set_small_file();
         prepare_plain(writes, write_count);
@@ -228,7 +202,7 @@ static void measure_decisions(void) {
 /* The rights of a page, which a TLB asks for where it takes the page in. */
 static void measure_fills(void) {
     const struct peer *const fillers[] = {&library_fill, &qemu_fill, &shim_fill};
-    printf("\n%2u entries, %-24s %8s %8s %8s\n", ENTRIES, "ns a page's rights", "libpmp", "QEMU", "shim");
+    printf("\n%2u entries, %-24s %9s %9s %9s\n", ENTRIES, "ns a page's rights", "libpmp", "QEMU", "shim");
     set_regions(ENTRIES);
     set_loads(ENTRIES, 0);
     double times[3] = {0};
@@ -273,37 +247,33 @@ static void write_plain(const struct write *some, size_t count) {
         write_register(&plain, &some[i]);
 }
 
-/* `step` of a register file: one request is decided after the writes. */
-static void write_file(const struct write *some, size_t count) {
-    struct request request = {0, 1, USER, LOAD};
-    pmp_bench_decide(ENTRIES, some, count, &request, 1, answers[0], 1);
-}
-
 static void measure_write(const char *name) {
-    const double times[4] = {time_of_writes(write_library), time_of_writes(write_and_build), time_of_writes(write_file),
+    const double times[3] = {time_of_writes(write_library), time_of_writes(write_and_build),
                              time_of_writes(write_plain)};
-    print_row(name, times, 4);
+    print_row(name, times, 3);
 }
 
 static void measure_build(const char *name) {
     double best = 1e18;
+    prepare_library(writes, write_count);
     for (unsigned round = 0; round < ROUNDS; round++) {
         double before = nanoseconds();
-        pmp_bench_build(ENTRIES, writes, write_count, BUILDS);
+        for (unsigned i = 0; i < BUILDS; i++)
+            tilvenka_pmp_build(&unit);
         double time = nanoseconds() - before;
         if (time < best)
             best = time;
     }
-    printf("%-36s %8.0f\n", name, best / BUILDS);
+    printf("%-36s %9.0f\n", name, best / BUILDS);
 }
 
 static void measure_writes(void) {
-    printf("\n%2u entries, %-24s %8s %8s %8s %8s\n", ENTRIES, "ns a write", "libpmp", "+ build", "step", "plain C");
+    printf("\n%2u entries, %-24s %9s %9s %9s\n", ENTRIES, "ns a write", "libpmp", "+ build", "plain C");
     set_address_writes();
     measure_write("pmpaddr");
     set_configuration_writes();
     measure_write("pmpcfg");
-    printf("\n%2u entries, %-24s %8s\n", ENTRIES, "ns a map", "build");
+    printf("\n%2u entries, %-24s %9s\n", ENTRIES, "ns a map", "build");
     set_regions(ENTRIES);
     measure_build("a region each");
     set_comb();
