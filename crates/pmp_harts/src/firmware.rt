@@ -1,13 +1,13 @@
 //! What firmware writes.
 
-ghost use Rattle.std.specs.Prelude.{◌≡◌, [], ◌∷◌, ◌++◌, OnOk};
+ghost use Rattle.std.specs.Prelude.{◌≡◌, [], ◌∷◌, ◌++◌, IfOk, OnOk};
 
 use pmp_core::{Csr, Event};
-use pmp_share::{Batch, Publisher, ShareFault};
+use pmp_share::{Batch, Notice, Publisher, ShareFault};
 use std::sync::Wait;
 
 /// Entry 0 lets every mode read a page.
-pub const OPEN_PAGE: [Event; 2] = [
+const OPEN_PAGE: [Event; 2] = [
     Event::Write(Csr::Addr(0), 0x200001ff),
     Event::Write(Csr::Cfg(0), 0x19),
 ];
@@ -32,4 +32,13 @@ pub fn program<R: Wait>(
     let batch = Batch::of(writes).map_err(|_| ShareFault::Full)?;
     publisher.submit(&batch)?;
     publisher.publish(rt)
+}
+
+/// Opens the page, and tells another hart of it.
+pub fn open_page<R: Wait>(rt: &R, publisher: &mut Publisher) -> Result<Notice, ShareFault>
+    ensures unit { publisher.new.unit ≡ publisher.old.unit }
+    ensures told { IfOk result (λ notice. notice.unit ≡ publisher.old.unit) }
+{
+    program(rt, publisher, &OPEN_PAGE)?;
+    publisher.tell()
 }

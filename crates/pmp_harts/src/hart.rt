@@ -8,8 +8,8 @@ ghost use Rattle.pmp_share.specs.Looks.{latest};
 ghost use Rattle.pmp_share.specs.Object.{Decides};
 
 use arrayvec::ArrayVec;
-use pmp_core::{Access, Decision};
-use pmp_share::{Checker, GROUP_ACCESSES, Notice};
+use pmp_core::{Access, AccessFault, Decision, Kind, Mode};
+use pmp_share::{Checker, GROUP_ACCESSES, Notice, ShareFault};
 use std::snapshot::Snapshot;
 use std::thread::Promise;
 
@@ -34,4 +34,23 @@ pub fn decide_after(checker: &mut Checker, notice: Notice, accesses: &[Access]) 
 {
     checker.learn(notice);
     checker.decide_group(accesses)
+}
+
+/// Three loads by user mode, as of a page walk.
+fn page_walk() -> Result<[Access; 3], AccessFault> {
+    let first = Access::new(Mode::U, Kind::Load, 0x80000000, 8)?;
+    let second = Access::new(Mode::U, Kind::Load, 0x80000008, 8)?;
+    let third = Access::new(Mode::U, Kind::Load, 0x80000ff8, 8)?;
+    Ok([first, second, third])
+}
+
+/// Takes in a notice and then walks the page.
+pub fn decide_walk(checker: &mut Checker, notice: Notice) -> Result<Answers, ShareFault>
+    requires { notice.unit ≡ checker.old.unit }
+    ensures { checker.new.unit ≡ checker.old.unit }
+{
+    match page_walk() {
+        Ok(accesses) => Ok(decide_after(checker, notice, &accesses)),
+        Err(_) => Err(ShareFault::NoPlace),
+    }
 }

@@ -2,21 +2,20 @@
 //! decides on a thread of its own.
 #![tactic(auto)]
 
-ghost use Rattle.std.specs.Prelude.{◌≡◌};
+ghost use Rattle.std.specs.Prelude.{◌≡◌, IfOk};
 
 mod firmware;
 mod hart;
 
-use firmware::{MOVE_RULE, OPEN_PAGE, program};
-use hart::{Answers, SameUnit, decide_after};
-use pmp_core::{Access, Kind, Mode};
+use firmware::{MOVE_RULE, open_page, program};
+use hart::{Answers, SameUnit, decide_walk};
 use pmp_share::{Checker, Notice, Publisher, ShareFault, start};
 use std::alloc::Global;
 use std::process::ExitCode;
 use std::snapshot::Snapshot;
 use std::sync::Wait;
 use std::thread;
-use std::thread::Threads;
+use std::thread::{PromisedHandle, SpawnError, Threads};
 
 fn main(rt: HostRuntime) -> ExitCode {
     let Ok((decisions, events)) = run(&rt, rt.alloc()) else {
@@ -39,23 +38,6 @@ fn run<R: Threads + Wait>(rt: &R, alloc: Global) -> Result<Answers, ShareFault> 
     answers
 }
 
-/// Three loads by user mode, as of a page walk.
-fn page_walk() -> Option<[Access; 3]> {
-    let first = Access::new(Mode::U, Kind::Load, 0x80000000, 8).ok()?;
-    let second = Access::new(Mode::U, Kind::Load, 0x80000008, 8).ok()?;
-    let third = Access::new(Mode::U, Kind::Load, 0x80000ff8, 8).ok()?;
-    Some([first, second, third])
-}
-
-/// What hart 1 does in its thread.
-fn walk(mut checker: Checker, opened: Notice, accesses: [Access; 3]) -> Checker
-    requires { opened.unit ≡ checker.unit }
-    ensures { result.unit ≡ checker.unit }
-{
-    let _ = decide_after(&mut checker, opened, &accesses);
-    checker
-}
-
 /// Hart 0 opens a page and then moves its rule, while hart 1 walks it. Answers what hart 1 may do in the end.
 fn both_harts<R: Threads + Wait>(
     rt: &R,
@@ -64,16 +46,57 @@ fn both_harts<R: Threads + Wait>(
 ) -> Result<Answers, ShareFault>
     requires { checker.unit ≡ publisher.old.unit }
 {
-    let accesses = page_walk().ok_or(ShareFault::NoPlace)?;
-    program(rt, publisher, &OPEN_PAGE)?;
-    let opened = publisher.tell()?;
+    match open_page(rt, publisher) {
+        Ok(opened) => walk_meanwhile(rt, publisher, send_out(rt, checker, opened)?),
+        Err(fault) => Err(fault),
+    }
+}
+
+/// A thread of its own for hart 1. Without one its checker is dropped.
+fn send_out<R: Threads>(
+    rt: &R,
+    checker: Checker,
+    opened: Notice,
+) -> Result<PromisedHandle<Checker, SameUnit>, ShareFault>
+    requires { opened.unit ≡ checker.unit }
+    ensures { IfOk result (λ hart. hart.promise.0.value ≡ checker) }
+{
     let same_unit = SameUnit(Snapshot::of(&checker));
-    let hart = thread::spawn_with(rt, same_unit, move || walk(checker, opened, accesses));
+    match thread::spawn_with(rt, same_unit, move || walk(checker, opened)) {
+        Ok(hart) => Ok(hart),
+        Err(unsent) => Err(no_place(unsent)),
+    }
+}
+
+fn no_place<F: Drop>(_unsent: SpawnError<F>) -> ShareFault {
+    ShareFault::NoPlace
+}
+
+/// What hart 1 does in its thread.
+fn walk(mut checker: Checker, opened: Notice) -> Checker
+    requires { opened.unit ≡ checker.unit }
+    ensures { result.unit ≡ checker.unit }
+{
+    let _ = decide_walk(&mut checker, opened);
+    checker
+}
+
+/// Moves the rule while hart 1 walks the page.
+fn walk_meanwhile<R: Threads + Wait>(
+    rt: &R,
+    publisher: &mut Publisher,
+    hart: PromisedHandle<Checker, SameUnit>,
+) -> Result<Answers, ShareFault>
+    requires { hart.promise.0.value.unit ≡ publisher.old.unit }
+{
     let moved = program(rt, publisher, &MOVE_RULE);
-    let Ok(hart) = hart else {
-        return Err(ShareFault::NoPlace);
-    };
     let mut checker = hart.join(rt);
-    moved?;
-    Ok(decide_after(&mut checker, publisher.tell()?, &accesses))
+    moved.and(walk_again(publisher, &mut checker))
+}
+
+/// Walks once more, with all that is published.
+fn walk_again(publisher: &mut Publisher, checker: &mut Checker) -> Result<Answers, ShareFault>
+    requires { checker.old.unit ≡ publisher.old.unit }
+{
+    decide_walk(checker, publisher.tell()?)
 }
