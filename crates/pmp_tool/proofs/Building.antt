@@ -1,43 +1,49 @@
 -- What clap reads of a command that is built up step by step.
 use Rattle.std.proofs.Common.{◌≡◌, ◌||◌, ap, refl, ◌∙◌, Bool, true, false, List, Result, Ok, Err, IfOk, IfErr, subst}
 use Rattle.std.proofs.Math.Bool.{or-false}
-use Rattle.clap.specs.Words.{AddsArg, AddsSubcommand, App, FailsBy, HasKind, HasMatchesOf, Text, app_of, fault_of}
-use Rattle.clap.specs.Words.{is_simple, is_simple_and_free, rule_of, with_rule}
+use Rattle.std.proofs.lemmas.Result.{IfOk-weaker}
+use Rattle.std.specs.declared.alloc.AllocError.{AllocError}
+use Rattle.clap.specs.Words.{AddsArg, AddsSubcommand, App, FailsBy, HasKind, HasMatchesOf, Rule, Text, app_of}
+use Rattle.clap.specs.Words.{fault_of, is_simple, is_simple_and_free, rule_of, with_rule, with_subcommand}
 use Rattle.clap.specs.declared.error.Error.{Error}
 use Rattle.clap.specs.declared.parser.matches.ArgMatches.{ArgMatches}
 use Rattle.clap.proofs.OnLiterals.{clap_on_literals}
 use Rattle.clap.specs.declared.builder.arg.Arg.{Arg}
 use Rattle.clap.specs.declared.builder.command.Command.{Command}
 use Rattle.clap.specs.declared.builder.command.Command.TheViews.{out-Command}
-use Rattle.pmp_tool.specs.Building.{Changes, IsCommand, IsTaken}
-use Rattle.pmp_tool.specs.CommandLines.{after_rule, checkers_rule, pmp_app, with_after, with_checkers, with_command}
-use Rattle.pmp_tool.specs.CommandLines.{with_views, with_word, word_rule}
+use Rattle.pmp_tool.specs.Building.{Builds, IsCommand, IsTaken}
+use Rattle.pmp_tool.specs.CommandLines.{pmp_app, with_after, with_checkers, with_command, with_views, with_word}
 
 same_globals : (old added : Bool) → added ≡ false → (old || added) ≡ old
 same_globals old added none = rw none (or-false old)
 
-pub word_added : (old new : Command) (arg : Arg) (id : Text) → rule_of arg ≡ word_rule id → arg.global ≡ false
-    → AddsArg old arg new → Changes (λ app. with_word app id) old new
-unfolding with_word
-word_added old new arg id rule local added =
-    (added.shape local ∙ ap (with_rule (app_of old)) rule, added.globals ∙ same_globals _ _ local)
+-- an argument more is a rule more
+module _ (arg : Arg) (rule : Rule) (is : rule_of arg ≡ rule) (local : arg.global ≡ false) where
+  rule_added : (old new : Command) (app : App) → IsCommand old app → AddsArg old arg new
+      → IsCommand new (with_rule app rule)
+  rule_added old new app command added = (
+    added.shape local ∙ ap (λ app. with_rule app (rule_of arg)) command.0 ∙ ap (with_rule app) is,
+    added.globals ∙ same_globals _ _ local ∙ command.1,
+  )
 
-pub after_added : (old new : Command) (arg : Arg) → rule_of arg ≡ after_rule → arg.global ≡ false
-    → AddsArg old arg new → Changes with_after old new
-unfolding with_after
-after_added old new arg rule local added =
-    (added.shape local ∙ ap (with_rule (app_of old)) rule, added.globals ∙ same_globals _ _ local)
+  pub rule_built : (old : Command) (new : Result Command AllocError) → IfOk new (AddsArg old arg)
+      → Builds (λ app. with_rule app rule) (Ok old) new
+  rule_built old new added app command =
+      IfOk-weaker new _ _ (λ new added. rule_added old new app command added) added
 
-pub checkers_added : (old new : Command) (arg : Arg) → rule_of arg ≡ checkers_rule → arg.global ≡ false
-    → AddsArg old arg new → Changes with_checkers old new
-unfolding with_checkers
-checkers_added old new arg rule local added =
-    (added.shape local ∙ ap (with_rule (app_of old)) rule, added.globals ∙ same_globals _ _ local)
-
-pub command_added : (old new sub : Command) → (out-Command sub).has_globals ≡ false → AddsSubcommand old sub new
-    → Changes (λ app. with_command app (app_of sub)) old new
+command_added : (old sub new : Command) (program app : App) → IsCommand old program → IsCommand sub app
+    → AddsSubcommand old sub new → IsCommand new (with_command program app)
 unfolding with_command
-command_added old new sub local added = (added.shape local, added.globals ∙ same_globals _ _ local)
+command_added old sub new program app command given added = (
+  added.shape given.1 ∙ ap (λ program. with_subcommand program (app_of sub).top) command.0
+      ∙ ap (λ app. with_subcommand program app.top) given.0,
+  added.globals ∙ same_globals _ _ given.1 ∙ command.1,
+)
+
+pub command_built : (old sub : Command) (new : Result Command AllocError) → IfOk new (AddsSubcommand old sub)
+    → (app : App) → IsCommand sub app → Builds (λ program. with_command program app) (Ok old) new
+command_built old sub new added app given program command =
+    IfOk-weaker new _ _ (λ new added. command_added old sub new program app command given added) added
 
 -- clap's exact statements hold of the program's command
 is_exact : is_simple_and_free pmp_app ≡ true

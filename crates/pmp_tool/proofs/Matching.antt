@@ -96,3 +96,9 @@ pub no_command_named : (named : Option CommandName) (rows : List Row) (refusal :
     → Err refusal ≡ ok_or named BadWord → Err refusal ≡ asked_in named rows
 no_command_named None rows refusal e = let same : refusal ≡ BadWord = cc in rw same refl
 no_command_named (Some name) rows refusal e = absurd cc
+
+-- a word that isn't there is a bad one
+pub word_lacks : (wanted : Option Text) (refusal : Refusal) → Err refusal ≡ required wanted
+    → (wanted ≡ None) × (refusal ≡ BadWord)
+word_lacks None refusal e = (refl, cc)
+word_lacks (Some word) refusal e = absurd cc

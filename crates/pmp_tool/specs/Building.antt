@@ -1,23 +1,23 @@
 -- How the command line is built up, and what reading it gives.
-use Rattle.std.specs.Prelude.{◌≡◌, List, [], false}
+use Rattle.std.specs.Prelude.{◌≡◌, List, [], false, Result, IfOk}
+use Rattle.std.specs.declared.alloc.AllocError.{AllocError}
 use Rattle.clap.specs.Words.{App, Text, app_of, fault_of, subcommand_of, subcommand_rows_of}
 use Rattle.clap.specs.declared.builder.command.Command.{Command}
 use Rattle.clap.specs.declared.builder.command.Command.TheViews.{out-Command}
 use Rattle.clap.specs.declared.parser.matches.ArgMatches.{ArgMatches}
 use Rattle.pmp_tool.specs.CommandLines.{pmp_app}
 
--- no argument of the command is one of its subcommands' too
-abbrev pub IsLocal : Command → Type 0
-IsLocal command = (out-Command command).has_globals ≡ false
-
--- clap reads the command as it does this one
+-- clap reads the command as it does this one, and no argument of it is one of its subcommands' too
 abbrev pub IsCommand : Command → App → Type 0
-IsCommand command app = (app_of command ≡ app) × IsLocal command
+IsCommand command app = (app_of command ≡ app) × ((out-Command command).has_globals ≡ false)
+
+-- the same of a command, where there was memory for it
+abbrev pub IsBuilt : Result Command AllocError → App → Type 0
+IsBuilt built app = IfOk built (λ command. IsCommand command app)
 
 -- clap reads the new command as it does the old one with this change
-abbrev pub Changes : (change : App → App) (old new : Command) → Type 0
-Changes change old new =
-    (app_of new ≡ change (app_of old)) × ((out-Command new).has_globals ≡ (out-Command old).has_globals)
+abbrev pub Builds : (change : App → App) (old new : Result Command AllocError) → Type 0
+Builds change old new = (app : App) → IsBuilt old app → IsBuilt new (change app)
 
 -- clap takes the words, and finds these matches in them
 abbrev pub IsTaken : List Text → ArgMatches → Type 0

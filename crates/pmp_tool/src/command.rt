@@ -15,7 +15,7 @@ use pmp_core::Access;
 use pmp_text::{read_kind, read_mode, read_word_number};
 
 /// What is shown of a register file.
-#[derive(Clone, Copy, Debug, PartialEq, Eq)]
+#[derive(Clone, Copy)]
 pub enum View {
     Registers,
     Runs,
@@ -45,7 +45,7 @@ pub struct Command<'a> {
 }
 
 /// The names of the program's commands.
-#[derive(Clone, Copy, Debug, PartialEq, Eq)]
+#[derive(Clone, Copy)]
 enum CommandName {
     Check,
     Audit,

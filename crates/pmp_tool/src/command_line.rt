@@ -1,8 +1,8 @@
 //! The command line, as the crate `clap` reads it.
 
 ghost use Rattle.std.specs.Prelude.{◌≡◌, map, false, IfOk, IfErr, string_bytes};
-ghost use Rattle.clap.specs.Words.{HasKind, app_of, fault_of, new_app, rule_of};
-ghost use Rattle.pmp_tool.specs.Building.{Changes, IsCommand, IsLocal, IsTaken};
+ghost use Rattle.clap.specs.Words.{App, HasKind, fault_of, new_app, rule_of};
+ghost use Rattle.pmp_tool.specs.Building.{Builds, IsBuilt, IsCommand, IsTaken};
 ghost use Rattle.pmp_tool.specs.CommandLines.{after_rule, audit_app, check_app, checkers_rule, file_app};
 ghost use Rattle.pmp_tool.specs.CommandLines.{pmp_app, script_app, top_app, with_after, with_checkers, with_command};
 ghost use Rattle.pmp_tool.specs.CommandLines.{with_views, with_word};
@@ -21,87 +21,71 @@ pub fn parse_words<'a>(alloc: Global, words: &'a [String]) -> Result<ArgMatches<
     pmp(alloc)?.try_get_matches_from(words)
 }
 
+/// A command, where there was memory for all its parts.
+type Built<'a> = Result<Command<'a>, AllocError>;
+
 /// The program, with a subcommand for each thing that it does.
-fn pmp<'a>(alloc: Global) -> Result<Command<'a>, AllocError>
-    ensures { IfOk result (λ command. IsCommand command pmp_app) }
+fn pmp<'a>(alloc: Global) -> Built<'a>
+    ensures { IsBuilt result pmp_app }
 {
-    let program = top(alloc)?;
-    let program = with_command(program, check(alloc)?)?;
-    let program = with_command(program, audit(alloc)?)?;
-    let program = with_views(alloc, program)?;
-    let writes = of_script(alloc, "writes", help::WRITES, help::MORE_OF_WRITES)?;
-    let program = with_command(program, writes)?;
-    Ok(program)
+    let program = with_command(top(alloc), check(alloc));
+    let program = with_command(program, audit(alloc));
+    let program = with_views(alloc, program);
+    let writes = of_script(alloc, "writes", help::WRITES, help::MORE_OF_WRITES);
+    with_command(program, writes)
 }
 
 /// The program with a command more for each view of a register file.
-#[tactic(auto, unfolding(crate::specs::CommandLines::with_views))]
-fn with_views<'a>(alloc: Global, program: Command<'a>) -> Result<Command<'a>, AllocError>
-    ensures { IfOk result (Changes with_views program.entry) }
+fn with_views<'a>(alloc: Global, program: Built<'a>) -> Built<'a>
+    ensures { Builds with_views program.entry result }
 {
-    let dump = of_file(alloc, "dump", help::DUMP, help::MORE_OF_DUMP)?;
-    let program = with_command(program, dump)?;
-    let map = of_file(alloc, "map", help::MAP, help::MORE_OF_MAP)?;
-    let program = with_command(program, map)?;
-    let picture = of_file(alloc, "picture", help::PICTURE, help::MORE_OF_PICTURE)?;
-    let program = with_command(program, picture)?;
-    let entries = of_file(alloc, "entries", help::ENTRIES, help::MORE_OF_ENTRIES)?;
-    let program = with_command(program, entries)?;
-    Ok(program)
+    let dump = of_file(alloc, "dump", help::DUMP, help::MORE_OF_DUMP);
+    let program = with_command(program, dump);
+    let map = of_file(alloc, "map", help::MAP, help::MORE_OF_MAP);
+    let program = with_command(program, map);
+    let picture = of_file(alloc, "picture", help::PICTURE, help::MORE_OF_PICTURE);
+    let program = with_command(program, picture);
+    let entries = of_file(alloc, "entries", help::ENTRIES, help::MORE_OF_ENTRIES);
+    with_command(program, entries)
 }
 
-fn check<'a>(alloc: Global) -> Result<Command<'a>, AllocError>
-    ensures { IfOk result (λ command. IsCommand command check_app) }
+fn check<'a>(alloc: Global) -> Built<'a>
+    ensures { IsBuilt result check_app }
 {
-    let command = of_script(alloc, "check", help::CHECK, help::MORE_OF_CHECK)?;
-    let command = with_word(alloc, command, "mode", "MODE", help::MODE)?;
-    let command = with_word(alloc, command, "kind", "KIND", help::KIND)?;
-    let command = with_word(alloc, command, "start", "START", help::START)?;
-    let command = with_word(alloc, command, "length", "LENGTH", help::LENGTH)?;
-    let command = with_after(alloc, command)?;
-    Ok(command)
+    let command = of_script(alloc, "check", help::CHECK, help::MORE_OF_CHECK);
+    let command = with_word(alloc, command, "mode", "MODE", help::MODE);
+    let command = with_word(alloc, command, "kind", "KIND", help::KIND);
+    let command = with_word(alloc, command, "start", "START", help::START);
+    let command = with_word(alloc, command, "length", "LENGTH", help::LENGTH);
+    with_after(alloc, command)
 }
 
-fn audit<'a>(alloc: Global) -> Result<Command<'a>, AllocError>
-    ensures { IfOk result (λ command. IsCommand command audit_app) }
+fn audit<'a>(alloc: Global) -> Built<'a>
+    ensures { IsBuilt result audit_app }
 {
-    let command = of_script(alloc, "audit", help::AUDIT, help::MORE_OF_AUDIT)?;
-    let command = with_word(alloc, command, "trace", "TRACE", help::TRACE)?;
-    let command = with_checkers(alloc, command)?;
-    Ok(command)
+    let command = of_script(alloc, "audit", help::AUDIT, help::MORE_OF_AUDIT);
+    let command = with_word(alloc, command, "trace", "TRACE", help::TRACE);
+    with_checkers(alloc, command)
 }
 
 /// A command of the register file after publications: `name SCRIPT [--after N]`.
-fn of_file<'a>(
-    alloc: Global,
-    name: &'a str,
-    about: &'a str,
-    more: &'a str,
-) -> Result<Command<'a>, AllocError>
-    ensures { IfOk result (λ command. IsCommand command (file_app name.entry.now)) }
+fn of_file<'a>(alloc: Global, name: &'a str, about: &'a str, more: &'a str) -> Built<'a>
+    ensures { IsBuilt result (file_app name.entry.now) }
 {
-    let command = of_script(alloc, name, about, more)?;
-    let command = with_after(alloc, command)?;
-    Ok(command)
+    with_after(alloc, of_script(alloc, name, about, more))
 }
 
 /// A command of a script: `name SCRIPT`.
-fn of_script<'a>(
-    alloc: Global,
-    name: &'a str,
-    about: &'a str,
-    more: &'a str,
-) -> Result<Command<'a>, AllocError>
-    ensures { IfOk result (λ command. IsCommand command (script_app name.entry.now)) }
+fn of_script<'a>(alloc: Global, name: &'a str, about: &'a str, more: &'a str) -> Built<'a>
+    ensures { IsBuilt result (script_app name.entry.now) }
 {
-    let command = named(alloc, name, about, more);
-    let command = with_word(alloc, command, "script", "SCRIPT", help::SCRIPT)?;
-    Ok(command)
+    let command = Ok(named(alloc, name, about, more));
+    with_word(alloc, command, "script", "SCRIPT", help::SCRIPT)
 }
 
 /// The program without its commands.
-fn top<'a>(alloc: Global) -> Result<Command<'a>, AllocError>
-    ensures { IfOk result (λ command. IsCommand command top_app) }
+fn top<'a>(alloc: Global) -> Built<'a>
+    ensures { IsBuilt result top_app }
 {
     let program = named(alloc, "pmp", help::ABOUT, help::MORE)
         .version(help::VERSION)
@@ -119,24 +103,24 @@ fn named<'a>(alloc: Global, name: &'a str, about: &'a str, more: &'a str) -> Com
 }
 
 /// The program with a command more.
-fn with_command<'a>(program: Command<'a>, command: Command<'a>) -> Result<Command<'a>, AllocError>
-    requires { IsLocal command }
-    ensures { IfOk result (Changes (λ app. with_command app (app_of command.entry)) program.entry) }
+fn with_command<'a>(program: Built<'a>, command: Built<'a>) -> Built<'a>
+    ensures { (app : App) → IsBuilt command.entry app
+        → Builds (λ program. with_command program app) program.entry result }
 {
-    program.subcommand(command)
+    program?.subcommand(command?)
 }
 
 /// The command with a word more.
 fn with_word<'a>(
     alloc: Global,
-    command: Command<'a>,
+    command: Built<'a>,
     id: &'a str,
     name: &'a str,
     help: &'a str,
-) -> Result<Command<'a>, AllocError>
-    ensures { IfOk result (Changes (λ app. with_word app id.entry.now) command.entry) }
+) -> Built<'a>
+    ensures { Builds (λ app. with_word app id.entry.now) command.entry result }
 {
-    command.arg(word(alloc, id, name, help))
+    command?.arg(word(alloc, id, name, help))
 }
 
 /// A word that its command requires, taken as text.
@@ -151,10 +135,10 @@ fn word<'a>(alloc: Global, id: &'a str, name: &'a str, help: &'a str) -> Arg<'a>
 }
 
 /// The command with `--after N`.
-fn with_after<'a>(alloc: Global, command: Command<'a>) -> Result<Command<'a>, AllocError>
-    ensures { IfOk result (Changes with_after command.entry) }
+fn with_after<'a>(alloc: Global, command: Built<'a>) -> Built<'a>
+    ensures { Builds with_after command.entry result }
 {
-    command.arg(after(alloc))
+    command?.arg(after(alloc))
 }
 
 /// `--after N`, taken as text.
@@ -169,10 +153,10 @@ fn after<'a>(alloc: Global) -> Arg<'a>
 }
 
 /// The command with `--checkers K`.
-fn with_checkers<'a>(alloc: Global, command: Command<'a>) -> Result<Command<'a>, AllocError>
-    ensures { IfOk result (Changes with_checkers command.entry) }
+fn with_checkers<'a>(alloc: Global, command: Built<'a>) -> Built<'a>
+    ensures { Builds with_checkers command.entry result }
 {
-    command.arg(checkers(alloc))
+    command?.arg(checkers(alloc))
 }
 
 /// `--checkers K`, a number that a unit has places for.

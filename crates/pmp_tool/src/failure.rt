@@ -18,7 +18,7 @@ use std::io::Write;
 const UNKNOWN_WORDS: u8 = 2;
 
 /// Why the program gives no answer.
-#[derive(Debug, Drop)]
+#[derive(Drop)]
 pub enum Failure {
     /// What `clap` says of the words.
     Words(clap::Error),

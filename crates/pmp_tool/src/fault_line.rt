@@ -13,7 +13,7 @@ use std::fmt::Write as TextWrite;
 use std::io::Write;
 
 /// Where an input is at fault.
-#[derive(Clone, Copy, Debug, PartialEq, Eq)]
+#[derive(Clone, Copy)]
 pub enum Place {
     /// A line of the script, from 1.
     ScriptLine(u64),
@@ -41,7 +41,7 @@ impl Place {
 const LONGEST_LINE: usize = 62;
 
 /// The line that tells of a refusal.
-#[derive(Clone, Copy, Debug, PartialEq, Eq)]
+#[derive(Clone, Copy)]
 pub struct FaultLine {
     pub refusal: Refusal,
     pub place: Option<Place>,

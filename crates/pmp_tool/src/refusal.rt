@@ -10,7 +10,7 @@ use pmp_text::{InputFault, ScriptKind, TraceKind};
 use std::fmt;
 
 /// Why the program refuses. A variant's value is the number that users see.
-#[derive(Clone, Copy, Debug, PartialEq, Eq)]
+#[derive(Clone, Copy)]
 pub enum Refusal {
     /// An access of 0 bytes, or of more than 4,096.
     BadLength = 3,

@@ -186,7 +186,7 @@ fn audit_by<R: Threads + Wait + Sync, O: Write>(
 }
 
 /// What the program did.
-#[derive(Clone, Copy, Debug, PartialEq, Eq)]
+#[derive(Clone, Copy)]
 enum Outcome {
     Decided(Decision),
     Audited(Summary),

@@ -1,8 +1,7 @@
-use Rattle.std.proofs.lemmas.Result.{IfOk-weaker}
-use Rattle.pmp_tool.proofs.Building.{command_added}
+use Rattle.pmp_tool.proofs.Building.{command_built}
 use Rattle.pmp_tool.proofs.command_line.with_command.Goals as goal
 
 pub returns : goal.returns
 returns c =
-    IfOk-weaker c.subcommand.result _ _
-    (λ new added. command_added c.args.program new c.args.command c.requires added) c.subcommand.ensures
+    rw (c.in_ok-program.was, c.in_ok-command.was)
+    (command_built c.in_ok-program.field-0 c.in_ok-command.field-0 c.subcommand.result c.subcommand.ensures)
