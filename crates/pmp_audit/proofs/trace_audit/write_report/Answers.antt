@@ -1,8 +1,10 @@
 use Rattle.std.proofs.Common.{◌≡◌, take, refl, ap, ◌∙◌, arith}
+use Rattle.std.proofs.lemmas.List.{take_all}
 use Rattle.pmp_core.specs.Decision.{IsDecision}
 use Rattle.pmp_text.specs.Contents.{ScriptContents}
 use Rattle.pmp_text.specs.Reports.{file_of_script}
-use Rattle.pmp_audit.proofs.Reports.{no_rows, one_more, one_row_more, order_of_rest, rows_so_far, so_many}
+use Rattle.pmp_audit.proofs.Reports.{faults_so_far, no_rows, one_more, one_row_more, order_here, order_of_rest}
+use Rattle.pmp_audit.proofs.Reports.{rows_so_far, so_many}
 use Rattle.pmp_audit.proofs.trace_audit.write_report.Goals as goal
 
 pub loop-row-init : goal.loop-row-init
@@ -10,6 +12,17 @@ loop-row-init c =
     let none = no_rows c.args.script.now c.args.report.now.items c.default-summary.result
     c.default-summary.ensures.0 c.default-summary.ensures.1 in
     rw c.new-replay.ensures (refl, c.requires, none)
+
+pub advance-requires-clause-forward : goal.advance-requires-clause-forward
+advance-requires-clause-forward c =
+    (order_here c.args.script.now c.args.rows.now c.loop-row.row-index c.row-item.result c.loop-row-test.true
+    c.row-item.is c.loop-row.replay.done c.loop-row.invariant.1).0
+
+pub advance-requires-clause-within : goal.advance-requires-clause-within
+advance-requires-clause-within c =
+    rw c.loop-row.invariant.0
+    (order_here c.args.script.now c.args.rows.now c.loop-row.row-index c.row-item.result c.loop-row-test.true
+    c.row-item.is c.loop-row.replay.done c.loop-row.invariant.1).1
 
 pub count-requires-clause-rows : goal.count-requires-clause-rows
 count-requires-clause-rows c =
@@ -20,6 +33,11 @@ count-requires-clause-rows c =
     c.loop-row.invariant.2 in
     let count = so_many script rows i c.row-item.result c.loop-row-test.true c.row-item.is in
     omega arith
+
+pub count-requires-clause-faults : goal.count-requires-clause-faults
+count-requires-clause-faults c =
+    faults_so_far c.args.script.now (take c.loop-row.row-index c.args.rows.now) c.args.report.now.items
+    c.loop-row.report.items c.loop-row.summary c.loop-row.invariant.2
 
 pub loop-row-preserved : goal.loop-row-preserved
 loop-row-preserved c =
@@ -40,3 +58,6 @@ loop-row-preserved c =
           row decision c.write_row.new.out.items c.count.new.self by_bytes
           c.in_ok-write_row.ensures.ok c.count.ensures.rows c.count.ensures.faults,
     )
+
+pub returns : goal.returns
+returns c = rw (take_all c.loop-row.row-index c.args.rows.now c.loop-row-test.false) at c.loop-row.invariant.2

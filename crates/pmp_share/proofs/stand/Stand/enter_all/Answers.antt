@@ -1,5 +1,62 @@
-use Rattle.pmp_share.proofs.RuleFacts.{looks}
+use Rattle.std.proofs.Common.{sym, ap, ◌∙◌}
+use Rattle.pmp_share.specs.declared.version.Version.{Version}
+use Rattle.pmp_share.specs.declared.view.Known.{Known}
+use Rattle.pmp_share.specs.Batches.{event_count}
+use Rattle.pmp_share.proofs.LookFacts.{starts_alike}
+use Rattle.pmp_share.proofs.RuleFacts.{looks, seat_fits}
 use Rattle.pmp_share.proofs.stand.Stand.enter_all.Goals as goal
 
 pub enter_as-requires : goal.enter_as-requires
 enter_as-requires c = looks c.self.inside.reader.place.id _
+
+pub leave-requires-clause-seat : goal.leave-requires-clause-seat
+leave-requires-clause-seat c = c.in-Ok.ensures.1.2
+
+pub leave-requires-clause-noted : goal.leave-requires-clause-noted
+leave-requires-clause-noted c = c.in-Ok.ensures.1.1
+
+pub leave-requires-clause-entries : goal.leave-requires-clause-entries
+leave-requires-clause-entries c =
+    let fits = seat_fits c.in-Ok.reading.part.value _ _ c.self.invariant.0 c.in-Ok.ensures.1.0 in
+    ap (λ unit. unit.entries) fits.0
+
+pub leave-requires-clause-begins : goal.leave-requires-clause-begins
+leave-requires-clause-begins c =
+    let fits = seat_fits c.in-Ok.reading.part.value _ _ c.self.invariant.0 c.in-Ok.ensures.1.0 in
+    rw c.self.invariant.1 fits.1
+
+pub new-requires-clause-seat : goal.new-requires-clause-seat
+new-requires-clause-seat c = c.in-Err.ensures.1 ∙ c.self.invariant.0
+
+pub returns-in-Ok-clause-unit : goal.returns-in-Ok-clause-unit
+returns-in-Ok-clause-unit c =
+    let fits = seat_fits c.in-Ok.reading.part.value _ _ c.self.invariant.0 c.in-Ok.ensures.1.0 in
+    ap (λ (stand : Known). stand.unit) c.leave.ensures ∙ sym fits.0
+    ∙ ap (λ (stand : Known). stand.unit) c.self.view_is
+
+pub returns-in-Ok-clause-begins : goal.returns-in-Ok-clause-begins
+returns-in-Ok-clause-begins c =
+    let fits = seat_fits c.in-Ok.reading.part.value _ _ c.self.invariant.0 c.in-Ok.ensures.1.0 in
+    rw (c.leave.ensures, ← c.self.view_is) fits.1
+
+pub returns-in-Err-clause-unit : goal.returns-in-Err-clause-unit
+returns-in-Err-clause-unit c =
+    ap (λ (stand : Known). stand.unit) c.new.ensures ∙ ap (λ (stand : Known). stand.unit) c.self.view_is
+
+pub returns-in-Err-clause-begins : goal.returns-in-Err-clause-begins
+returns-in-Err-clause-begins c = rw (c.new.ensures, ← c.self.view_is) (starts_alike _)
+
+pub returns-in-Ok-clause-computed : goal.returns-in-Ok-clause-computed
+returns-in-Ok-clause-computed c = rw (c.leave.ensures, ← c.get-version.ensures) c.decide_group-decisions.ensures
+
+pub returns-in-Err-clause-computed : goal.returns-in-Err-clause-computed
+returns-in-Err-clause-computed c = rw (c.new.ensures, ← c.self.invariant.1, ← c.deref.ensures) c.decide_group.ensures
+
+pub returns-in-Ok-clause-count : goal.returns-in-Ok-clause-count
+returns-in-Ok-clause-count c =
+    c.event_count.ensures
+    ∙ ap event_count (c.journal.ensures ∙ ap (λ (version : Version). version.journal) c.get-version.ensures
+    ∙ sym (ap (λ (stand : Known). stand.list) c.leave.ensures))
+
+pub returns-in-Err-clause-count : goal.returns-in-Err-clause-count
+returns-in-Err-clause-count c = rw (c.new.ensures, ← c.self.invariant.1, ← c.deref-in-Err.ensures) c.events.ensures
