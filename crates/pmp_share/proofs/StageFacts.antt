@@ -1,13 +1,16 @@
 -- What the publisher's side keeps.
-use Rattle.std.proofs.Common.{◌≡◌, Bool, false, List, [], Option, Some, Result, Ok, Err, MatchResult, ap}
-use Rattle.std.proofs.Common.{sym, subst, ◌∙◌}
+use Rattle.std.proofs.Common.{◌≡◌, Bool, false, List, [], ◌∷◌, ◌++◌, Option, Some, Result, Ok, Err, MatchResult, ap}
+use Rattle.std.proofs.Common.{refl, sym, subst, ◌∙◌}
+use Rattle.std.proofs.lemmas.List.Sums.{fold-append}
 use Rattle.pmp_share.specs.declared.entry.Entry.{Entry}
 use Rattle.pmp_share.specs.declared.told.Told.{Told}
 use Rattle.pmp_share.specs.declared.version.Version.{Version}
 use Rattle.pmp_share.specs.declared.view.Known.{Known}
 use Rattle.pmp_share.specs.Rule.{known, known_of}
 use Rattle.pmp_share.specs.Stages.{told_of, after, IsStage}
-use Rattle.pmp_share.proofs.LookFacts.{starts_alike}
+use Rattle.pmp_share.specs.Tokens.{unit_with}
+use Rattle.pmp_share.specs.Versions.{applied}
+use Rattle.pmp_share.proofs.LookFacts.{starts_alike, starts_on}
 
 -- what is said of an answer, where it is Ok
 pub match_ok : {A E : Type 0} (result : Result A E) (P : A → Type 0) (Q : E → Type 0) (value : A) → result ≡ Ok value
@@ -43,3 +46,24 @@ turned_or_not (Ok _) keeper ahead view after_view shown next entries rest was va
     was.history
 turned_or_not (Err _) keeper ahead view after_view shown next entries rest was values seen =
     rw (seen, values.0, values.1) was
+
+-- one batch more is handed over, with the keeper's history, which ends in it
+pub handed_more : (keeper : Known) (ahead : Bool) (view : Option Known) (shown : Version) (entries rest : List Entry)
+    (entry : Entry) → IsStage keeper ahead view shown (after shown entries) → rest ≡ entries ++ entry ∷ []
+    → entry.past.log ≡ keeper.list → unit_with entry.past.book keeper.unit.entries ≡ keeper.unit
+    → keeper.list ≡ (after shown entries).batches ++ entry.events.items ∷ []
+    → IsStage keeper false view shown (after shown rest)
+handed_more keeper ahead view shown entries rest entry was more noted unit list =
+    let next = after shown entries in
+    let told : after shown rest ≡ applied next entry =
+    ap (after shown) more ∙ fold-append applied (told_of shown) entries (entry ∷ []) in
+    subst (IsStage keeper false view shown) (sym told) record {
+      seated = was.seated;
+      unit = was.unit;
+      noted = was.noted;
+      next_unit = ap (λ u. unit_with entry.past.book u.entries) was.next_unit ∙ unit;
+      next_noted = noted ∙ list;
+      begins = starts_on (next.batches ++ entry.events.items ∷ []) next.batches shown.journal
+          (entry.events.items ∷ [], refl) was.begins;
+      history = λ _. list;
+    }
