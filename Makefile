@@ -9,6 +9,7 @@ PREFIX ?= /usr/local
 SECONDS ?= 600
 PROGRAM = crates/pmp_tool/out/pmp_tool
 GROWTHS = crates/pmp_growths/out/pmp_growths
+STRESS = crates/pmp_stress/out/pmp_stress
 LIBRARY = crates/pmp_c/out/libpmp_c.a
 # The man page has the program's version, as checks/documents says.
 VERSION = $(shell sed -n 's/^\.TH PMP 1 "" "pmp \([0-9.]*\)".*/\1/p' docs/pmp.1)
@@ -22,7 +23,7 @@ LIB = $(DESTDIR)$(PREFIX)/lib
 # ci has one process for each, which is less work than several for one.
 LANES = $(shell awk -v most="$$(nproc)" '/^MemAvailable/ { n = int($$2 / 3500000); print n < 1 ? 1 : n < most ? n : most }' /proc/meminfo)
 
-.PHONY: build library test install uninstall soak soak-program bench bench-decide bench-threads bench-limits bench-audit
+.PHONY: build library test install uninstall soak stress bench bench-decide bench-threads bench-limits bench-audit
 
 # The launcher builds the program, and then the program says its version.
 build:
@@ -70,30 +71,26 @@ bench-decide: library
 	@bench/qemu/fetch bench/out/qemu || echo "QEMU's source can't be fetched, so it isn't timed"
 	@for entries in 16 64; do bench/decide $$entries || exit 1; done
 
-bench-threads:
-	@mkdir -p bench/out
-	@echo "proving and building the program; the log is bench/out/threads.log"
-	@(cd crates/pmp_bench_threads && rt run --jobs 1) >bench/out/threads.log 2>&1 \
-	    || { cat bench/out/threads.log >&2; exit 1; }
+bench-threads: stress
 	gcc -O2 -std=c11 -Wall -Wextra -pthread bench/threads.c -o bench/out/threads
-	crates/pmp_bench_threads/out/pmp_bench_threads run
+	$(STRESS) bench
 	bench/out/threads
 
-bench-limits: soak-program
-	crates/pmp_soak/out/pmp_soak fill 16384 64
-	crates/pmp_soak/out/pmp_soak fill 16384 64 together
-	crates/pmp_soak/out/pmp_soak fill 1000000 1
-	crates/pmp_soak/out/pmp_soak fill 1000000 1 together
+bench-limits: stress
+	bench/most-memory $(STRESS) fill 16384 64
+	bench/most-memory $(STRESS) fill 16384 64 together
+	bench/most-memory $(STRESS) fill 1000000 1
+	bench/most-memory $(STRESS) fill 1000000 1 together
 
 bench-audit: build
 	@mkdir -p bench/out
 	gcc -O2 -std=c11 -Wall -Wextra bench/audit.c -o bench/out/audit
 	bench/out/audit $(PROGRAM)
 
-soak: soak-program
-	crates/pmp_soak/out/pmp_soak $(SECONDS)
+soak: stress
+	bench/most-memory $(STRESS) soak $(SECONDS)
 
-soak-program:
+stress:
 	@mkdir -p bench/out
-	@echo "proving and building the program; the log is bench/out/soak.log"
-	@(cd crates/pmp_soak && rt run --jobs 1) >bench/out/soak.log 2>&1 || { cat bench/out/soak.log >&2; exit 1; }
+	@echo "proving and building the program; the log is bench/out/stress.log"
+	@(cd crates/pmp_stress && rt run --jobs 1) >bench/out/stress.log 2>&1 || { cat bench/out/stress.log >&2; exit 1; }

@@ -1,0 +1,60 @@
+//! What decisions, publications and notices cost, as `make bench-threads` prints it.
+
+use crate::alone::{Alone, ROUNDS};
+use crate::failure::Failure;
+use crate::printing::print_time;
+use crate::random::Random;
+use crate::round::{Load, run_round};
+use crate::tally::Tally;
+use std::alloc::Global;
+use std::io::Print;
+use std::sync::Wait;
+use std::thread::Threads;
+use std::time::Clock;
+
+/// What is timed on one thread.
+const ALONE: [(&str, Alone); 5] = [
+    ("a decision by a map", Alone::Map),
+    ("a decision by a checker", Alone::Checker),
+    ("a decision of a group of 16", Alone::Groups),
+    ("a publication", Alone::Publications),
+    ("tell and learn", Alone::Notices),
+];
+
+/// The least times of so many checkers at once.
+fn least_of_crowd<R: Clock + Threads + Wait>(
+    rt: &R,
+    alloc: Global,
+    checkers: u8,
+    load: Load,
+) -> Result<Tally, Failure> {
+    let mut random = Random::new(0);
+    let mut least = Tally::NOTHING;
+    for _ in 0..ROUNDS {
+        run_round(rt, alloc, checkers, load, &mut random, &mut least)?;
+    }
+    least.verdict()?;
+    Ok(least)
+}
+
+fn print_crowd<R: Clock + Threads + Wait + Print>(
+    rt: &R,
+    alloc: Global,
+    checkers: u8,
+) -> Result<(), Failure> {
+    let quiet = least_of_crowd(rt, alloc, checkers, Load::Quiet)?;
+    print_time(rt, checkers, "a decision", quiet.decision)?;
+    let busy = least_of_crowd(rt, alloc, checkers, Load::Busy)?;
+    print_time(rt, checkers, "a decision while it publishes", busy.decision)?;
+    print_time(rt, checkers, "a publication meanwhile", busy.publication)
+}
+
+pub fn bench<R: Clock + Threads + Wait + Print>(rt: &R, alloc: Global) -> Result<(), Failure> {
+    for (what, alone) in ALONE {
+        print_time(rt, 1, what, alone.least(rt, alloc)?)?;
+    }
+    for checkers in 1..=4 {
+        print_crowd(rt, alloc, checkers)?;
+    }
+    Ok(())
+}

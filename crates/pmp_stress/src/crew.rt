@@ -1,0 +1,140 @@
+//! The checkers of a unit, each on a thread of its own.
+
+ghost use Rattle.std.specs.Prelude.{◌≡◌, All};
+
+use crate::alone::{DECISIONS, allowed_loads};
+use crate::failure::Failure;
+use crate::meeting::Meeting;
+use crate::random::Random;
+use crate::unit::loads;
+use pmp_core::{Access, Decision};
+use pmp_share::{Checker, Notice, Publisher};
+use std::alloc::Global;
+use std::sync::Arc;
+use std::thread;
+use std::thread::{JoinHandle, Threads};
+
+/// The most random accesses of a checker.
+const MOST_DECISIONS: u32 = 50_000;
+
+/// What each checker decides.
+#[derive(Clone, Copy)]
+pub enum Duty {
+    /// Many loads, which all have to be allowed. Then it is dropped on its thread.
+    Loads,
+    /// Random accesses, whose answers are kept. About every second checker is dropped on its thread.
+    Random,
+}
+
+/// A decision, and in how many events.
+#[derive(Clone, Copy)]
+pub struct Answer {
+    pub access: Access,
+    pub decision: Decision,
+    pub count: u64,
+}
+
+/// What a checker did after a notice of so many events.
+#[derive(Drop)]
+pub struct Done {
+    pub outcome: Result<(), Failure>,
+    pub told: u64,
+    pub answers: Vec<Answer>,
+    /// None where it was dropped on its thread.
+    pub checker: Option<Checker>,
+}
+
+fn decide_loads(checker: &mut Checker) -> Result<(), Failure> {
+    match allowed_loads(checker, &loads()?) {
+        DECISIONS => Ok(()),
+        _ => Err(Failure::Decision),
+    }
+}
+
+fn decide_random(
+    checker: &mut Checker,
+    random: &mut Random,
+    answers: &mut Vec<Answer>,
+) -> Result<(), Failure> {
+    for _ in 0..=random.below(MOST_DECISIONS) {
+        let access = random.access()?;
+        let (decision, count) = checker.decide(&access);
+        answers.push(Answer {
+            access,
+            decision,
+            count,
+        })?;
+    }
+    Ok(())
+}
+
+/// What a checker does on its thread: it learns the notice, waits for the others and decides.
+fn serve(
+    alloc: Global,
+    mut checker: Checker,
+    notice: Notice,
+    duty: Duty,
+    mut random: Random,
+    meeting: &Meeting,
+) -> Done
+    requires { notice.unit ≡ checker.unit }
+{
+    let told = notice.len();
+    checker.learn(notice);
+    let mut answers = Vec::new(alloc);
+    meeting.begin();
+    let outcome = match duty {
+        Duty::Loads => decide_loads(&mut checker),
+        Duty::Random => decide_random(&mut checker, &mut random, &mut answers),
+    };
+    meeting.leave();
+    let comes_back = matches!(duty, Duty::Random) && random.below(2) == 0;
+    Done {
+        outcome,
+        told,
+        answers,
+        checker: comes_back.then_some(checker),
+    }
+}
+
+/// Tells the checker, and gives it a thread.
+fn send_out<R: Threads>(
+    rt: &R,
+    alloc: Global,
+    publisher: &mut Publisher,
+    checker: Checker,
+    duty: Duty,
+    random: Random,
+    meeting: Arc<Meeting, Global>,
+) -> Result<JoinHandle<Done>, Failure>
+    requires { checker.unit ≡ publisher.old.unit }
+    ensures { publisher.new.unit ≡ publisher.old.unit }
+{
+    let notice = publisher.tell()?;
+    Ok(thread::spawn(
+        rt,
+        move || serve(alloc, checker, notice, duty, random, &meeting),
+    )?)
+}
+
+/// Sends all checkers out, who begin together with the publisher.
+pub fn send_all<R: Threads>(
+    rt: &R,
+    alloc: Global,
+    publisher: &mut Publisher,
+    mut checkers: Vec<Checker>,
+    duty: Duty,
+    random: &mut Random,
+    meeting: &Arc<Meeting, Global>,
+) -> Result<Vec<JoinHandle<Done>>, Failure>
+    requires { All (λ checker. checker.unit ≡ publisher.old.unit) checkers.items }
+{
+    let mut threads = Vec::new(alloc);
+    for _ in 0..checkers.len() {
+        let theirs = Arc::try_clone(meeting)?;
+        if let Some(checker) = checkers.pop() {
+            threads.push(send_out(rt, alloc, publisher, checker, duty, random.branch(), theirs)?)?;
+        }
+    }
+    Ok(threads)
+}

@@ -1,0 +1,94 @@
+//! What was published, replayed after the joins.
+
+use crate::crew::{Answer, Done};
+use pmp_core::{Event, RegFile};
+use pmp_share::{Batch, Checker};
+use std::alloc::{AllocError, Global};
+
+/// The published events, and where each batch ends.
+#[derive(Drop)]
+pub struct Published {
+    events: Vec<Event>,
+    ends: Vec<u64>,
+}
+
+impl Published {
+    pub fn new(alloc: Global) -> Published {
+        Published {
+            events: Vec::new(alloc),
+            ends: Vec::new(alloc),
+        }
+    }
+
+    pub fn push(&mut self, batch: &Batch) -> Result<(), AllocError> {
+        self.events.extend_from_slice(batch.events())?;
+        self.ends.push(self.events.len() as u64)?;
+        Ok(())
+    }
+
+    /// How many batches.
+    pub fn batches(&self) -> usize {
+        self.ends.len()
+    }
+
+    /// Whether all that a checker answered is right: each decision is that of whole batches, which are never fewer
+    /// than before or than it was told. Where it came back it copies the same journal.
+    pub fn fits(&self, done: &mut Done) -> bool {
+        let is_copy = match &mut done.checker {
+            Some(checker) => self.is_copied_by(checker),
+            None => true,
+        };
+        done.outcome.is_ok() && is_copy && self.fits_answers(done.told, &done.answers)
+    }
+
+    fn is_copied_by(&self, checker: &mut Checker) -> bool {
+        match checker.copy_journal() {
+            Ok(copy) => {
+                copy.events() == self.events.as_slice() && copy.ends() == self.ends.as_slice()
+            }
+            Err(_) => false,
+        }
+    }
+
+    fn fits_answers(&self, told: u64, answers: &[Answer]) -> bool {
+        let mut replay = Replay {
+            published: self,
+            file: RegFile::reset(),
+            seen: 0,
+        };
+        for answer in answers {
+            if answer.count < told || !replay.fits(answer) {
+                return false;
+            }
+        }
+        true
+    }
+}
+
+/// The register file after so many published events.
+#[derive(Drop)]
+struct Replay<'a> {
+    published: &'a Published,
+    file: RegFile,
+    seen: usize,
+}
+
+impl<'a> Replay<'a> {
+    /// Goes on to so many events. False where these are no whole batches, or fewer than before.
+    fn goes_to(&mut self, count: usize) -> bool {
+        if count == self.seen {
+            return true;
+        }
+        match self.published.events.get(self.seen..count) {
+            Some(next) => self.file.run_events(next),
+            None => return false,
+        }
+        self.seen = count;
+        self.published.ends.contains(&(count as u64))
+    }
+
+    /// Whether the answer is that of the events that it counts.
+    fn fits(&mut self, answer: &Answer) -> bool {
+        self.goes_to(answer.count as usize) && self.file.decide(&answer.access) == answer.decision
+    }
+}
