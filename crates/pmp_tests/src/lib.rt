@@ -1,24 +1,16 @@
-//! Tests of the libraries' public calls: worked examples, and what no contract says. They have a crate of their own,
-//! since each crate with tests is proved twice.
+//! Tests of the libraries' public calls: what no contract says, and what neither a row of text nor a call from C shows.
+//! They have a crate of their own, since each crate with tests is proved twice.
 #![tactic(auto)]
 
 #[cfg(test)]
-mod entry_rows;
+mod auditing;
 #[cfg(test)]
 mod inputs;
 #[cfg(test)]
-mod maps;
-#[cfg(test)]
 mod outputs;
 #[cfg(test)]
-mod report_rows;
-#[cfg(test)]
-mod scripts;
+mod rows;
 #[cfg(test)]
 mod sharing;
 #[cfg(test)]
-mod sizes;
-#[cfg(test)]
-mod traces;
-#[cfg(test)]
-mod unit;
+mod values;

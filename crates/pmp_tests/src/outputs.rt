@@ -4,15 +4,13 @@ use pmp_text::{OutputFault, write_out};
 use std::io;
 use std::io::{ErrorKind, Write};
 
-const REPORT: &[u8] = b"1,fault,5,none,\n2,allow,,rule,0\n3,fault,7,rule,0\n4,allow,,rule,1\n";
-
-/// Holds so many bytes. Then a write fails, or takes none.
+/// Holds so many bytes. Then a write fails, or takes none; and a flush fails, or doesn't.
 #[derive(Drop)]
 struct Tight {
     held: Vec<u8>,
     room: usize,
     when_full: Option<ErrorKind>,
-    flush: Option<ErrorKind>,
+    flushes: bool,
 }
 
 impl Write for Tight {
@@ -26,44 +24,31 @@ impl Write for Tight {
     }
 
     fn flush(&mut self) -> io::Result<()> {
-        match self.flush {
-            Some(kind) => Err(io::Error::from(kind)),
-            None => Ok(()),
+        if self.flushes {
+            Ok(())
+        } else {
+            Err(io::Error::from(ErrorKind::Other))
         }
     }
 }
 
 #[test]
 fn writes_a_beginning(rt: HostRuntime) {
-    assert_eq!(rt; REPORT.len(), 65);
-    for room in 0..REPORT.len() {
-        for when_full in [
-            Some(ErrorKind::StorageFull),
-            Some(ErrorKind::Interrupted),
-            None,
-        ] {
-            let mut tight = Tight {
-                held: Vec::new(rt.alloc()),
-                room,
-                when_full,
-                flush: None,
-            };
-            assert_eq!(rt; write_out(&mut tight, REPORT), Err(OutputFault));
-            assert_eq!(rt; tight.held.as_slice(), &REPORT[..room]);
-        }
-    }
-}
-
-#[test]
-fn writes_all_and_flushes(rt: HostRuntime) {
-    for (flush, want) in [(None, Ok(())), (Some(ErrorKind::Other), Err(OutputFault))] {
-        let mut whole = Tight {
+    for (room, when_full, flushes, want) in [
+        (0, None, true, Err(OutputFault)),
+        (2, None, true, Err(OutputFault)),
+        (2, Some(ErrorKind::StorageFull), true, Err(OutputFault)),
+        (2, Some(ErrorKind::Interrupted), true, Err(OutputFault)),
+        (3, None, false, Err(OutputFault)),
+        (3, None, true, Ok(())),
+    ] {
+        let mut tight = Tight {
             held: Vec::new(rt.alloc()),
-            room: 65,
-            when_full: None,
-            flush,
+            room,
+            when_full,
+            flushes,
         };
-        assert_eq!(rt; write_out(&mut whole, REPORT), want);
-        assert_eq!(rt; whole.held.as_slice(), REPORT);
+        assert!(rt; write_out(&mut tight, b"abc") == want);
+        assert!(rt; tight.held.as_slice() == &b"abc"[..room]);
     }
 }

@@ -5,8 +5,9 @@ ghost use Rattle.pmp_core.specs.Histories.{file_after};
 ghost use Rattle.pmp_core.specs.Ranges.{decision_of};
 ghost use Rattle.pmp_share.specs.Object.{Decides};
 
-use super::{BY_ENTRY_ZERO, ENTRY_ONE, ENTRY_ZERO, page_load, publish, tell, unit_of_two};
-use pmp_core::{Access, Decision};
+use super::unit::{Unit, by_entry};
+use super::{ENTRY_ONE, ENTRY_ZERO};
+use pmp_core::{Access, Decision, Size};
 use pmp_share::laws::law_same_events;
 use pmp_share::{Checker, Moved, Notice};
 
@@ -26,7 +27,7 @@ fn ask(checker: &mut Checker, notice: Notice, access: &Access) -> Result<Decisio
 
 /// Both decide an access in just the batches that both were told of, in units of as many entries: alike, where neither
 /// has moved on.
-fn ask_both(
+pub fn ask_both(
     first: &mut Checker,
     second: &mut Checker,
     to_first: Notice,
@@ -36,36 +37,19 @@ fn ask_both(
     requires units { (to_first.unit ≡ first.old.unit) × (to_second.unit ≡ second.old.unit) }
     requires entries { to_second.unit.entries ≡ to_first.unit.entries }
     requires told { to_second.told ≡ to_first.told }
+    ensures units { (first.new.unit ≡ first.old.unit) × (second.new.unit ≡ second.old.unit) }
     ensures alike { IfOk result.0 (λ one. IfOk result.1 (λ other. other ≡ one)) }
 {
     (ask(first, to_first, access), ask(second, to_second, access))
 }
 
-#[test]
-fn a_worker_decides_in_what_it_was_told(rt: HostRuntime) {
-    let access = page_load(&rt);
-    let (mut publisher, mut first, mut second) = unit_of_two(&rt, rt.alloc());
-    publish(&rt, &mut publisher, &ENTRY_ZERO);
-    let notice = tell(&rt, &mut publisher);
-    let late = tell(&rt, &mut publisher);
-    assert_eq!(rt; ask(&mut first, notice, &access), Ok(BY_ENTRY_ZERO));
-    publish(&rt, &mut publisher, &ENTRY_ONE);
-    assert_eq!(rt; ask(&mut second, late, &access), Err(Moved { seen: 4 }));
-    publisher.end(&rt);
-}
-
-/// An empty batch moves neither on.
+/// An empty batch moves neither on. Where events are published that they weren't told of, both answer how many there are
+/// now.
 #[test]
 fn workers_told_alike_decide_alike(rt: HostRuntime) {
-    let access = page_load(&rt);
-    let (mut publisher, mut first, mut second) = unit_of_two(&rt, rt.alloc());
-    publish(&rt, &mut publisher, &ENTRY_ZERO);
-    let to_first = tell(&rt, &mut publisher);
-    let to_second = tell(&rt, &mut publisher);
-    publish(&rt, &mut publisher, &[]);
-    assert_eq!(rt;
-        ask_both(&mut first, &mut second, to_first, to_second, &access),
-        (Ok(BY_ENTRY_ZERO), Ok(BY_ENTRY_ZERO))
-    );
-    publisher.end(&rt);
+    let mut unit = Unit::start(&rt, rt.alloc(), Size::Sixteen);
+    unit.publish(&rt, &ENTRY_ZERO, 2);
+    unit.assert_both_answer(&rt, &[], 2, Ok(by_entry(0)));
+    unit.assert_both_answer(&rt, &ENTRY_ONE, 4, Err(Moved { seen: 4 }));
+    unit.end(&rt);
 }

@@ -1,60 +1,22 @@
 //! Checkers whose publisher is ended: they are given no entrance any more, and decide in what they know.
 
-use super::{
-    BY_ENTRY_ONE, BY_NO_ENTRY, ENTRY_ONE, ENTRY_ZERO, page_load, publish, tell, unit_of_two,
-};
-use pmp_core::{Access, Decision};
-use pmp_share::{Checker, Moved};
+use super::unit::{Seat, Unit, by_entry, look};
+use super::{ENTRY_ONE, ENTRY_ZERO};
+use pmp_core::Size;
+use pmp_share::ShareFault;
 
-/// Decides twice. It has no handle, so it waits for nobody.
-fn decide_twice(
-    checker: &mut Checker,
-    access: &Access,
-) -> (Decision, u64, Result<Decision, Moved>) {
-    let (decision, len) = checker.decide(access);
-    (decision, len, checker.decide_at(len, access))
-}
-
+/// The first has looked at all, and the second learns the last events then.
 #[test]
-fn a_checker_answers_the_same_after_the_end(rt: HostRuntime) {
-    let access = page_load(&rt);
-    let (mut publisher, mut first, _second) = unit_of_two(&rt, rt.alloc());
-    publish(&rt, &mut publisher, &ENTRY_ZERO);
-    publish(&rt, &mut publisher, &ENTRY_ONE);
-    let before = decide_twice(&mut first, &access);
-    assert_eq!(rt; before, (BY_ENTRY_ONE, 4, Ok(BY_ENTRY_ONE)));
-    publisher.end(&rt);
-    assert_eq!(rt; decide_twice(&mut first, &access), before);
-}
-
-#[test]
-fn a_notice_is_learnt_after_the_end(rt: HostRuntime) {
-    let access = page_load(&rt);
-    let (mut publisher, mut first, mut second) = unit_of_two(&rt, rt.alloc());
-    publish(&rt, &mut publisher, &ENTRY_ZERO);
-    let old = tell(&rt, &mut publisher);
-    publish(&rt, &mut publisher, &ENTRY_ONE);
-    assert_eq!(rt; first.decide(&access), (BY_ENTRY_ONE, 4));
-    let late = tell(&rt, &mut publisher);
-    publisher.end(&rt);
-    first.learn(old);
-    assert_eq!(rt; first.decide(&access), (BY_ENTRY_ONE, 4));
-    assert_eq!(rt; second.decide(&access), (BY_NO_ENTRY, 0));
-    second.learn(late);
-    assert_eq!(rt; second.decide(&access), (BY_ENTRY_ONE, 4));
-}
-
-#[test]
-fn a_look_is_not_behind_what_was_learnt(rt: HostRuntime) {
-    let access = page_load(&rt);
-    let (mut publisher, mut first, mut second) = unit_of_two(&rt, rt.alloc());
-    publish(&rt, &mut publisher, &ENTRY_ZERO);
-    let (old, older) = (tell(&rt, &mut publisher), tell(&rt, &mut publisher));
-    publish(&rt, &mut publisher, &ENTRY_ONE);
-    first.learn(old);
-    assert_eq!(rt; first.decide(&access), (BY_ENTRY_ONE, 4));
-    assert_eq!(rt; second.decide(&access), (BY_ENTRY_ONE, 4));
-    second.learn(older);
-    assert_eq!(rt; second.decide_at(2, &access), Err(Moved { seen: 4 }));
-    publisher.end(&rt);
+fn checkers_decide_after_the_end(rt: HostRuntime) {
+    let mut unit = Unit::start(&rt, rt.alloc(), Size::Sixteen);
+    unit.publish(&rt, &ENTRY_ZERO, 2);
+    unit.look(&rt, Seat::Second, by_entry(0), 2);
+    unit.publish(&rt, &ENTRY_ONE, 4);
+    unit.look(&rt, Seat::First, by_entry(1), 4);
+    let mut left = unit.end(&rt);
+    look(&rt, &mut left.first, by_entry(1), 4);
+    look(&rt, &mut left.second, by_entry(0), 2);
+    let mut second = left.learn();
+    look(&rt, &mut second, by_entry(1), 4);
+    assert!(rt; second.copy_journal().err() == Some(ShareFault::NoPlace));
 }

@@ -1,180 +1,243 @@
 //! Checkers that decide on threads of their own while two entries are swapped.
 
-ghost use Rattle.std.specs.Prelude.{◌≡◌};
+ghost use Rattle.std.specs.Prelude.{◌≡◌, ◌+◌, ◌*◌, ◌≤◌};
+ghost use Rattle.pmp_share.specs.declared.opening.TheConstants.{CHECKERS};
 
-use super::{
-    BY_ENTRY_ZERO, ENTRY_ONE, ENTRY_ZERO, ENTRY_ZERO_AGAIN, page_load, publish, tell,
-    unit_of_three, unit_of_two,
-};
-use pmp_core::{Cause, Decision, Event};
-use pmp_share::{Checker, GROUP_ACCESSES, Notice, Publisher};
+use super::unit::{by_entry, look, page_load, publish, tell};
+use super::{ENTRY_ONE, ENTRY_ZERO};
+use pmp_core::{Cause, Csr, Decision, Event, Size};
+use pmp_share::{CHECKERS, Checker, GROUP_ACCESSES, Notice, Publisher, start_of};
+use std::alloc::Global;
 use std::ops::Range;
 use std::process::Abort;
-use std::snapshot::Snapshot;
 use std::sync::Wait;
 use std::thread;
-use std::thread::Promise;
+use std::thread::{JoinHandle, Threads};
 
-/// The checker that comes back is of the unit that it was of.
+/// How often two entries are swapped and swapped back.
+const ROUNDS: u32 = 200;
+
+/// Two neighbouring entries, of which one reads the page at a time.
 #[derive(Drop)]
-pub struct SameUnit(pub Snapshot<Checker>);
-
-impl Promise<Checker> for SameUnit {
-    ghost kept_by = { λ promise checker. checker.unit ≡ promise.0.value.unit };
+struct Swap {
+    size: Size,
+    /// The number of the first of them.
+    first: u8,
+    /// The first entry reads the page.
+    opening: [Event; 2],
+    /// The second reads it in its place. After the first event alone no entry would.
+    there: [Event; 2],
+    /// The first reads it again.
+    back: [Event; 3],
 }
 
-/// The entries that read the page in turn.
-#[derive(Clone, Copy)]
-pub struct Pair {
-    pub first: u8,
-    pub second: u8,
-}
-
-const ZERO_AND_ONE: Pair = Pair {
+const ZERO_AND_ONE: Swap = Swap {
+    size: Size::Sixteen,
     first: 0,
-    second: 1,
+    opening: ENTRY_ZERO,
+    there: ENTRY_ONE,
+    back: [
+        Event::Write(Csr::Cfg(0), 0),
+        Event::Write(Csr::Addr(1), 0),
+        Event::Write(Csr::Cfg(0), 0x19),
+    ],
 };
 
-/// Whether the decision fits so many events: the first entry decides after each whole round, the second in the middle
-/// of one.
-fn is_of_round(pair: Pair, decision: &Decision, count: u64) -> bool {
+const LAST_TWO: Swap = Swap {
+    size: Size::SixtyFour,
+    first: 62,
+    opening: [
+        Event::Write(Csr::Addr(62), 0x200001ff),
+        Event::Write(Csr::Cfg(14), 0x0019000000000000),
+    ],
+    there: [
+        Event::Write(Csr::Cfg(14), 0x1900000000000000),
+        Event::Write(Csr::Addr(63), 0x200001ff),
+    ],
+    back: [
+        Event::Write(Csr::Cfg(14), 0),
+        Event::Write(Csr::Addr(63), 0),
+        Event::Write(Csr::Cfg(14), 0x0019000000000000),
+    ],
+};
+
+/// How many events are published after so many rounds.
+fn events_after(rounds: u32) -> u64
+    ensures { result ≡ 2 + 5 * rounds }
+{
+    2 + 5 * u64::from(rounds)
+}
+
+/// Whether the decision fits so many events: the first entry decides after each whole round, the one behind it in the
+/// middle of a round.
+fn fits(first: u8, decision: &Decision, count: u64) -> bool {
     decision.allowed
         && match decision.cause {
-            Cause::Rule(entry) if entry == pair.first => count >= 2 && (count - 2) % 5 == 0,
-            Cause::Rule(entry) if entry == pair.second => count >= 4 && (count - 4) % 5 == 0,
+            Cause::Rule(entry) if entry == first => count >= 2 && (count - 2) % 5 == 0,
+            Cause::Rule(entry) if entry > first => {
+                entry - first == 1 && count >= 4 && (count - 4) % 5 == 0
+            }
             _ => false,
         }
 }
 
-/// Learns a notice and decides so often.
-pub fn watch_pair<R: Wait + Abort>(
-    rt: &R,
-    pair: Pair,
-    mut checker: Checker,
-    notice: Notice,
-    decisions: u32,
-) -> Checker
-    requires { notice.unit ≡ checker.unit }
-    ensures { result.unit ≡ checker.unit }
-{
-    let access = page_load(rt);
-    let mut least = notice.len();
-    checker.learn(notice);
-    for asked in 0..decisions {
-        let (decision, count) = checker.decide(&access);
-        assert!(rt; least <= count, "the list went back to {count} events");
-        assert!(rt;
-            is_of_round(pair, &decision, count),
-            "a decision that doesn't fit {count} events"
-        );
-        least = count;
+/// Decides once, and asserts that the decision fits its events, which are no fewer than `least`. It answers how many
+/// they are.
+fn look_in_round(rt: &impl Abort, first: u8, checker: &mut Checker, least: u64) -> u64 {
+    let (decision, count) = checker.decide(&page_load(rt));
+    assert!(rt; least <= count, "the list went back");
+    assert!(rt; fits(first, &decision, count), "another decision");
+    count
+}
+
+/// The same of a group, which has the same events throughout.
+fn look_at_group_in_round(rt: &impl Abort, first: u8, checker: &mut Checker, least: u64) -> u64 {
+    let (decisions, count) = checker.decide_group(&[page_load(rt); GROUP_ACCESSES]);
+    assert!(rt; least <= count, "the list went back");
+    assert!(rt; decisions.len() == GROUP_ACCESSES);
+    for decision in decisions.as_slice() {
+        assert!(rt; fits(first, decision, count), "another decision");
+    }
+    count
+}
+
+/// Decides so often, in no fewer events than `least`: each tenth time a group.
+fn watch(rt: &impl Abort, first: u8, mut checker: Checker, mut least: u64, times: u32) -> Checker {
+    for time in 0..times {
+        least = if time % 10 == 0 {
+            look_at_group_in_round(rt, first, &mut checker, least)
+        } else {
+            look_in_round(rt, first, &mut checker, least)
+        };
     }
     checker
 }
 
-/// As `watch_pair`, for entries 0 and 1.
-pub fn watch<R: Wait + Abort>(rt: &R, checker: Checker, notice: Notice, decisions: u32) -> Checker
+/// Learns the notice and then watches.
+fn watch_told(rt: &impl Abort, mut checker: Checker, notice: Notice)
     requires { notice.unit ≡ checker.unit }
-    ensures { result.unit ≡ checker.unit }
 {
-    watch_pair(rt, ZERO_AND_ONE, checker, notice, decisions)
-}
-
-/// Learns a notice and decides so many groups of equal accesses, each of which is decided alike.
-fn watch_groups<R: Wait + Abort>(
-    rt: &R,
-    mut checker: Checker,
-    notice: Notice,
-    groups: u32,
-) -> Checker
-    requires { notice.unit ≡ checker.unit }
-    ensures { result.unit ≡ checker.unit }
-{
-    let group = [page_load(rt); GROUP_ACCESSES];
-    let mut least = notice.len();
+    let least = notice.len();
     checker.learn(notice);
-    for asked in 0..groups {
-        let (decisions, count) = checker.decide_group(&group);
-        assert!(rt; least <= count, "the list went back to {count} events");
-        let decision = *decisions.as_slice().first().expect(rt, "a decision");
-        assert_eq!(rt; decisions.as_slice(), [decision; GROUP_ACCESSES].as_slice());
-        assert!(rt;
-            is_of_round(ZERO_AND_ONE, &decision, count),
-            "a group that doesn't fit {count} events"
-        );
-        least = count;
-    }
-    checker
+    watch(rt, ZERO_AND_ONE.first, checker, least, 100);
 }
 
-/// Publishes a swap of two events and one of three back in each of these rounds, each by itself.
-pub fn swap_by<R: Wait + Abort>(
+impl Swap {
+    /// Publishes the way there and the way back in each of these rounds, each by itself.
+    fn publish<R: Wait + Abort>(&self, rt: &R, publisher: &mut Publisher, rounds: Range<u32>) {
+        for round in rounds {
+            let before = events_after(round);
+            publish(rt, publisher, &self.there, before + 2);
+            publish(rt, publisher, &self.back, before + 5);
+        }
+    }
+}
+
+/// Sends each checker to a thread, where it decides so often.
+fn send_out<R: Threads + Abort + Copy + Send + 'static>(
     rt: &R,
+    alloc: Global,
+    first: u8,
+    checkers: Vec<Checker>,
+    least: u64,
+    times: u32,
+) -> Vec<JoinHandle<Checker>> {
+    let mut threads = Vec::new(alloc);
+    for checker in checkers {
+        let runtime = *rt;
+        let sent = thread::spawn(rt, move || watch(&runtime, first, checker, least, times));
+        let thread = sent.ok().expect(rt, "a thread");
+        threads.push(thread).ok().expect(rt, "memory");
+    }
+    threads
+}
+
+/// Publishes these rounds while all checkers decide on threads, which hand them back.
+fn stretch<R: Threads + Wait + Abort + Copy + Send + 'static>(
+    rt: &R,
+    alloc: Global,
+    swap: &Swap,
     publisher: &mut Publisher,
+    checkers: Vec<Checker>,
     rounds: Range<u32>,
-    swap: &[Event; 2],
-    back: &[Event; 3],
-)
-    ensures { publisher.new.unit ≡ publisher.old.unit }
-{
-    for round in rounds {
-        let before = 2 + 5 * u64::from(round);
-        assert_eq!(rt; publish(rt, publisher, swap), before + 2);
-        assert_eq!(rt; publish(rt, publisher, back), before + 5);
+    times: u32,
+) -> Vec<Checker> {
+    let threads = send_out(
+        rt,
+        alloc,
+        swap.first,
+        checkers,
+        events_after(rounds.start),
+        times,
+    );
+    swap.publish(rt, publisher, rounds);
+    let mut back = Vec::new(alloc);
+    for thread in threads {
+        back.push(thread.join(rt)).ok().expect(rt, "memory");
     }
+    back
 }
 
-/// Swaps entries 0 and 1 in each of these rounds.
-pub fn swap_entries<R: Wait + Abort>(rt: &R, publisher: &mut Publisher, rounds: Range<u32>)
-    ensures { publisher.new.unit ≡ publisher.old.unit }
+/// Publishes all rounds, in so many stretches, while so many checkers decide 10,000 times each.
+fn swap_before<R: Threads + Wait + Abort + Copy + Send + 'static>(
+    rt: &R,
+    alloc: Global,
+    swap: &Swap,
+    count: u8,
+    stretches: u32,
+)
+    requires { ((1 ≤ count) × (count ≤ CHECKERS)) × (1 ≤ stretches) }
 {
-    swap_by(rt, publisher, rounds, &ENTRY_ONE, &ENTRY_ZERO_AGAIN);
+    let (mut publisher, mut checkers) = start_of(rt, alloc, swap.size, count).expect(rt, "memory");
+    publish(rt, &mut publisher, &swap.opening, 2);
+    let (rounds, times) = (ROUNDS / stretches, 10_000 / stretches);
+    for past in 0..stretches {
+        let start = past * rounds;
+        checkers = stretch(
+            rt,
+            alloc,
+            swap,
+            &mut publisher,
+            checkers,
+            start..start + rounds,
+            times,
+        );
+    }
+    assert!(rt; checkers.len() == usize::from(count));
+    for checker in checkers.iter_mut() {
+        look(rt, checker, by_entry(swap.first), events_after(ROUNDS));
+    }
+    publisher.end(rt);
 }
 
 #[test]
 fn swaps_are_seen_whole(rt: HostRuntime) {
-    let (mut publisher, first, second, third) = unit_of_three(&rt, rt.alloc());
-    publish(&rt, &mut publisher, &ENTRY_ZERO);
-    let (to_first, to_second) = (tell(&rt, &mut publisher), tell(&rt, &mut publisher));
-    let to_third = tell(&rt, &mut publisher);
-    let first = thread::spawn_with(&rt, SameUnit(Snapshot::of(&first)), move || {
-        watch(&rt, first, to_first, 10_000)
-    })
-    .ok()
-    .expect(&rt, "a thread");
-    let second = thread::spawn_with(&rt, SameUnit(Snapshot::of(&second)), move || {
-        watch(&rt, second, to_second, 10_000)
-    })
-    .ok()
-    .expect(&rt, "a thread");
-    let third = thread::spawn_with(&rt, SameUnit(Snapshot::of(&third)), move || {
-        watch_groups(&rt, third, to_third, 1_000)
-    })
-    .ok()
-    .expect(&rt, "a thread");
-    swap_entries(&rt, &mut publisher, 0..200);
-    let mut first = first.join(&rt);
-    let mut second = second.join(&rt);
-    let mut third = third.join(&rt);
-    first.learn(tell(&rt, &mut publisher));
-    let access = page_load(&rt);
-    assert_eq!(rt; first.decide(&access), (BY_ENTRY_ZERO, 1002));
-    assert_eq!(rt; second.decide(&access), (BY_ENTRY_ZERO, 1002));
-    assert_eq!(rt; third.decide(&access), (BY_ENTRY_ZERO, 1002));
-    publisher.end(&rt);
+    swap_before(&rt, rt.alloc(), &ZERO_AND_ONE, 2, 1);
+}
+
+#[test]
+fn swaps_of_the_last_entries_are_seen_whole(rt: HostRuntime) {
+    swap_before(&rt, rt.alloc(), &LAST_TWO, 2, 1);
+}
+
+#[test]
+fn eight_checkers_go_to_threads_and_back(rt: HostRuntime) {
+    swap_before(&rt, rt.alloc(), &ZERO_AND_ONE, CHECKERS, 20);
 }
 
 #[test]
 fn a_dropped_checker_stops_no_publication(rt: HostRuntime) {
-    let (mut publisher, first, mut second) = unit_of_two(&rt, rt.alloc());
-    publish(&rt, &mut publisher, &ENTRY_ZERO);
+    let (mut publisher, mut checkers) = start_of(&rt, rt.alloc(), Size::Sixteen, 1).expect(
+        &rt, "memory",
+    );
+    publish(&rt, &mut publisher, &ENTRY_ZERO, 2);
+    let checker = checkers.pop().expect(&rt, "a checker");
     let notice = tell(&rt, &mut publisher);
-    let gone = thread::spawn(&rt, move || drop(watch(&rt, first, notice, 100)))
+    let gone = thread::spawn(&rt, move || watch_told(&rt, checker, notice))
         .ok()
         .expect(&rt, "a thread");
-    swap_entries(&rt, &mut publisher, 0..200);
+    ZERO_AND_ONE.publish(&rt, &mut publisher, 0..ROUNDS);
     gone.join(&rt);
-    assert_eq!(rt; publish(&rt, &mut publisher, &[]), 1002);
-    assert_eq!(rt; second.decide(&page_load(&rt)), (BY_ENTRY_ZERO, 1002));
+    publish(&rt, &mut publisher, &[], events_after(ROUNDS));
     publisher.end(&rt);
 }

@@ -1,5 +1,0 @@
-use Rattle.std.proofs.Common.{◌≡◌}
-use Rattle.pmp_tests.proofs.sharing.swapping.watch_groups.Given as goal
-
-abbrev pub invariant-loop-asked : goal.invariant-loop-asked
-invariant-loop-asked g l = l.checker.unit ≡ l.fn.checker.unit

@@ -1,0 +1,28 @@
+//! The longest rows, for which there is room.
+
+use pmp_core::*;
+use pmp_text::{write_entries, write_row};
+use std::test::Fail;
+
+/// The numbers have twenty digits, and the last entry of sixty-four is locked and has every byte.
+#[test]
+fn the_longest_rows_have_room(rt: HostRuntime) -> Result<(), Fail> {
+    let mut out = Vec::new(rt.alloc());
+    let access = Access::new(Mode::U, Kind::Store, 0, 4)?;
+    let decision = Decision {
+        allowed: false,
+        cause: Cause::Split(63),
+    };
+    write_row(&mut out, u64::MAX, &access, &decision)?;
+    assert!(rt; out.as_slice() == b"18446744073709551615,fault,7,split,63\n".as_slice());
+    let mut file = RegFile::reset_of(Size::SixtyFour);
+    file.step(Event::Write(Csr::Addr(63), u64::MAX));
+    file.step(Event::Write(Csr::Cfg(14), 0x9f << 56));
+    let mut since = [None; MAX_ENTRIES];
+    since[63] = Some(u64::MAX);
+    write_entries(&mut out, &file, &since)?;
+    let row =
+        b"63,napot,00000000000000,ffffffffffffff,rwx,rwx,locked,locked,18446744073709551615\n";
+    assert!(rt; out.ends_with(row.as_slice()));
+    Ok(())
+}

@@ -1,0 +1,220 @@
+//! A publisher with two checkers, and what tests have them do.
+
+ghost use Rattle.std.specs.Prelude.{◌≡◌, ◌≤◌, length};
+ghost use Rattle.pmp_share.specs.declared.group.TheConstants.{GROUP_ACCESSES};
+
+use super::asking::ask_both;
+use pmp_core::{Access, Cause, Csr, Decision, Event, Kind, Mode, Size};
+use pmp_share::{Batch, Checker, GROUP_ACCESSES, Moved, Notice, Publisher, start_of};
+use std::alloc::Global;
+use std::process::Abort;
+use std::sync::Wait;
+
+/// The entry allows the access.
+pub fn by_entry(entry: u8) -> Decision {
+    Decision {
+        allowed: true,
+        cause: Cause::Rule(entry),
+    }
+}
+
+pub const BY_NO_ENTRY: Decision = Decision {
+    allowed: false,
+    cause: Cause::NoMatch,
+};
+
+/// A load from the page by user mode.
+pub fn page_load(rt: &impl Abort) -> Access {
+    Access::new(Mode::U, Kind::Load, 0x80000000, 4).expect(rt, "a lawful access")
+}
+
+pub fn submit(rt: &impl Abort, publisher: &mut Publisher, events: &[Event])
+    ensures { publisher.new.unit ≡ publisher.old.unit }
+{
+    let batch = Batch::of(events).expect(rt, "room in the batch");
+    publisher.submit(&batch).expect(rt, "memory");
+}
+
+/// Publishes these events too, after which there are so many.
+pub fn publish<R: Wait + Abort>(rt: &R, publisher: &mut Publisher, events: &[Event], count: u64)
+    ensures { publisher.new.unit ≡ publisher.old.unit }
+{
+    submit(rt, publisher, events);
+    assert!(rt; publisher.publish(rt) == Ok(count));
+}
+
+pub fn tell(rt: &impl Abort, publisher: &mut Publisher) -> Notice
+    ensures same { publisher.new ≡ publisher.old }
+    ensures told { result ≡ record { unit = publisher.old.unit; told = publisher.old.published } }
+{
+    publisher.tell().expect(rt, "a notice")
+}
+
+/// Asserts how the checker decides a load from the page, and in how many events. It has no handle with which to wait.
+pub fn look(rt: &impl Abort, checker: &mut Checker, decision: Decision, count: u64)
+    ensures { checker.new.unit ≡ checker.old.unit }
+{
+    let (decided, seen) = checker.decide(&page_load(rt));
+    assert!(rt; decided == decision && seen == count);
+}
+
+/// Asserts the same of a group of accesses.
+pub fn look_at_group(
+    rt: &impl Abort,
+    checker: &mut Checker,
+    accesses: &[Access],
+    decisions: &[Decision],
+    count: u64,
+)
+    requires { length accesses.now ≤ GROUP_ACCESSES }
+    ensures { checker.new.unit ≡ checker.old.unit }
+{
+    let (decided, seen) = checker.decide_group(accesses);
+    assert!(rt; decided.as_slice() == decisions && seen == count);
+}
+
+/// One of two checkers.
+#[derive(Clone, Copy)]
+pub enum Seat {
+    First,
+    Second,
+}
+
+/// A publisher and two checkers of one unit.
+pub struct Unit {
+    publisher: Publisher,
+    first: Checker,
+    second: Checker,
+    pub ghost first_unit: { first.unit ≡ publisher.unit },
+    pub ghost second_unit: { second.unit ≡ publisher.unit },
+}
+
+/// Two checkers whose publisher has ended, and a notice that it gave last.
+#[derive(Drop)]
+pub struct Left {
+    pub first: Checker,
+    pub second: Checker,
+    pub late: Notice,
+    pub ghost same_unit: { late.unit ≡ second.unit },
+}
+
+impl Unit {
+    pub fn start<R: Wait + Abort>(rt: &R, alloc: Global, size: Size) -> Unit {
+        let (publisher, mut checkers) = start_of(rt, alloc, size, 2).expect(rt, "memory");
+        let second = checkers.pop().expect(rt, "two checkers");
+        let first = checkers.pop().expect(rt, "two checkers");
+        Unit {
+            publisher,
+            first,
+            second,
+        }
+    }
+
+    pub fn submit(&mut self, rt: &impl Abort, events: &[Event]) {
+        submit(rt, &mut self.publisher, events);
+    }
+
+    /// As the function `publish`.
+    pub fn publish<R: Wait + Abort>(&mut self, rt: &R, events: &[Event], count: u64) {
+        publish(rt, &mut self.publisher, events, count);
+    }
+
+    pub fn withdraw(&mut self) {
+        self.publisher.withdraw();
+    }
+
+    /// Asserts how many events are published, and how many are pending.
+    pub fn assert_lens(&self, rt: &impl Abort, published: u64, pending: u64) {
+        assert!(rt; self.publisher.journal_len() == published);
+        assert!(rt; self.publisher.pending_len() == pending);
+    }
+
+    /// Has a checker learn of what is published.
+    pub fn inform(&mut self, rt: &impl Abort, seat: Seat) {
+        let notice = tell(rt, &mut self.publisher);
+        match seat {
+            Seat::First => self.first.learn(notice),
+            Seat::Second => self.second.learn(notice),
+        }
+    }
+
+    /// As the function `look`.
+    pub fn look(&mut self, rt: &impl Abort, seat: Seat, decision: Decision, count: u64) {
+        match seat {
+            Seat::First => look(rt, &mut self.first, decision, count),
+            Seat::Second => look(rt, &mut self.second, decision, count),
+        }
+    }
+
+    /// As the function `look_at_group`, for the first checker.
+    pub fn look_at_group(
+        &mut self,
+        rt: &impl Abort,
+        accesses: &[Access],
+        decisions: &[Decision],
+        count: u64,
+    )
+        requires { length accesses.now ≤ GROUP_ACCESSES }
+    {
+        look_at_group(rt, &mut self.first, accesses, decisions, count);
+    }
+
+    /// Tells both checkers of what is published, publishes more events, after which there are so many, and asserts what
+    /// both answer of a load from the page in what they were told.
+    pub fn assert_both_answer<R: Wait + Abort>(
+        &mut self,
+        rt: &R,
+        events: &[Event],
+        count: u64,
+        answer: Result<Decision, Moved>,
+    ) {
+        let to_first = tell(rt, &mut self.publisher);
+        let to_second = tell(rt, &mut self.publisher);
+        publish(rt, &mut self.publisher, events, count);
+        let access = page_load(rt);
+        let (first, second) = (&mut self.first, &mut self.second);
+        let (one, other) = ask_both(first, second, to_first, to_second, &access);
+        assert!(rt; one == answer && other == answer);
+    }
+
+    /// Asserts what a copied journal has.
+    pub fn assert_journal(&mut self, rt: &impl Abort, events: &[Event], ends: &[u64]) {
+        let journal = self.first.copy_journal().expect(rt, "memory");
+        assert!(rt; journal.events() == events && journal.ends() == ends);
+    }
+
+    /// Asserts how many events a notice tells of, and what a register reads in the file that it gives.
+    pub fn assert_told(&mut self, rt: &impl Abort, count: u64, csr: Csr, value: u64) {
+        let notice = tell(rt, &mut self.publisher);
+        assert!(rt; notice.len() == count && notice.file().read(csr) == value);
+    }
+
+    /// Ends the publisher.
+    pub fn end<R: Wait + Abort>(self, rt: &R) -> Left {
+        let Unit {
+            mut publisher,
+            first,
+            second,
+        } = self;
+        let late = tell(rt, &mut publisher);
+        publisher.end(rt);
+        Left {
+            first,
+            second,
+            late,
+        }
+    }
+}
+
+impl Left {
+    /// The second checker, which has learnt the notice.
+    pub fn learn(self) -> Checker {
+        let Left {
+            first: _,
+            mut second,
+            late,
+        } = self;
+        second.learn(late);
+        second
+    }
+}
