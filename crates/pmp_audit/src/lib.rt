@@ -27,6 +27,3 @@ pub use register_dump::dump;
 pub use shared_audit::audit_shared;
 pub use trace_audit::{Summary, audit};
 pub use write_list::{WriteSummary, writes};
-
-#[cfg(test)]
-mod tests;

@@ -8,15 +8,15 @@ ghost use Rattle.pmp_audit.specs.TraceAudit.{AuditSays};
 
 mod asking;
 mod deciding;
-pub(crate) mod hand;
+mod hand;
 mod job;
 mod listing;
 mod merging;
 mod publishing;
 mod rounds;
 mod row_decision;
-pub(crate) mod work_fault;
-pub(crate) mod working;
+mod work_fault;
+mod working;
 
 use crate::answer::write_answer;
 use crate::fault::AuditFault;

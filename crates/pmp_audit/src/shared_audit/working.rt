@@ -1,8 +1,10 @@
 //! A worker: it decides its rows of one round, in just what its notice tells of.
 
-ghost use Rattle.std.specs.Prelude.{◌≡◌, OnOk, IfOk};
+ghost use Rattle.std.specs.Prelude.{◌≡◌, ◌<◌, OnOk, IfOk, length};
 ghost use Rattle.pmp_core.specs.Histories.{file_after};
 ghost use Rattle.pmp_audit.specs.Working.{HasLearnt, IsDone, row_of};
+ghost use Rattle.pmp_share.specs.Batches.{event_count};
+ghost use Rattle.pmp_share.specs.Looks.{latest};
 
 use super::hand::Hand;
 use super::job::Done;
@@ -28,6 +30,7 @@ fn ask(
     requires { HasLearnt checker.old.unit.entries checker.old.held count file.now }
     ensures unit { checker.new.unit ≡ checker.old.unit }
     ensures learnt { OnOk result (HasLearnt checker.new.unit.entries checker.new.held count file.now) }
+    ensures asked { OnOk result (event_count (latest checker.new.held) ≡ count) }
     ensures row { IfOk result (λ decision. row_of decision ≡ (number, row.now)) }
     ensures file { IfOk result (λ decision. decision.file.value ≡ file.now) }
 {
@@ -41,7 +44,8 @@ fn ask(
     })
 }
 
-/// Learns the notice and decides the worker's rows in what it tells of. After each row it passes the gate.
+/// Learns the notice and decides the worker's rows in what it tells of, which the checker then has looked at, and no
+/// more. After each row it passes the gate.
 pub(crate) fn work<G: Gate>(
     alloc: Global,
     mut checker: Checker,
@@ -50,8 +54,10 @@ pub(crate) fn work<G: Gate>(
     gate: &G,
 ) -> Result<Done, WorkFault>
     requires { notice.unit ≡ checker.unit }
-    ensures { IfOk result (IsDone checker.unit (file_after checker.unit.entries notice.told)
+    ensures done { IfOk result (IsDone checker.unit (file_after checker.unit.entries notice.told)
         hand.entry.worker hand.entry.workers hand.entry.first hand.entry.rows.now) }
+    ensures asked { IfOk result (λ done. 0 < length done.decisions.items →
+        event_count (latest done.checker.held) ≡ event_count notice.told) }
 {
     let count = notice.len();
     let file = notice.file();

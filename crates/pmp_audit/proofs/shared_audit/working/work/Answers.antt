@@ -39,10 +39,12 @@ loop-turn-preserved g c =
           (row_of decision) c.loop-turn.invariant.dealt own);
       in_file = rw pushed (All-push (λ (d : RowDecision). d.file.value ≡ c.file-file.result) decisions decision
           c.loop-turn.invariant.in_file c.in_ok-decision.ensures.file);
+      asked = λ _. c.in_ok-decision.ensures.asked;
+      count_is = c.loop-turn.invariant.count_is;
     }
 
-pub returns : goal.returns
-returns g c =
+pub returns-clause-done : goal.returns-clause-done
+returns-clause-done g c =
     let hand = c.args.hand in
     let all = enumerate_from hand.first hand.rows.now in
     let decisions = c.loop-turn.decisions.items in
@@ -56,3 +58,6 @@ returns g c =
       dealt = dealt;
       in_file = rw (← c.loop-turn.invariant.file_is) c.loop-turn.invariant.in_file;
     }
+
+pub returns-clause-asked : goal.returns-clause-asked
+returns-clause-asked g c some = c.loop-turn.invariant.asked some ∙ c.loop-turn.invariant.count_is

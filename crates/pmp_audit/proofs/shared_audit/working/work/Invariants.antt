@@ -1,6 +1,8 @@
-use Rattle.std.proofs.Common.{◌≡◌, All, map}
+use Rattle.std.proofs.Common.{◌≡◌, ◌<◌, All, map, length}
 use Rattle.std.specs.List.{enumerate_from}
 use Rattle.pmp_core.specs.Histories.{file_after}
+use Rattle.pmp_share.specs.Batches.{event_count}
+use Rattle.pmp_share.specs.Looks.{latest}
 use Rattle.pmp_audit.specs.Working.{HasLearnt, row_of}
 use Rattle.pmp_audit.proofs.Dealing.{IsDealtSoFar}
 use Rattle.pmp_audit.proofs.shared_audit.working.work.Given as goal
@@ -14,4 +16,6 @@ invariant-loop-turn g l = record {
   dealt : IsDealtSoFar l.hand.worker l.hand.workers (enumerate_from l.hand.first l.hand.rows.now) l.turn
       (map row_of l.decisions.items);
   in_file : All (λ decision. decision.file.value ≡ l.file) l.decisions.items;
+  asked : 0 < length l.decisions.items → event_count (latest l.checker.held) ≡ l.count;
+  count_is : l.count ≡ event_count l.fn.notice.told;
 }
