@@ -2,43 +2,14 @@
 // whole truth table of Smepmp, and on units of random bytes that lie beside pages which may not be touched. The last
 // line is 'N passed, M failed'.
 #define _GNU_SOURCE
-#include "tilvenka_pmp.h"
-#include <stdio.h>
-#include <stdlib.h>
+#include "library.h"
 #include <string.h>
 #include <sys/mman.h>
 #include <unistd.h>
 
-enum { U = TILVENKA_PMP_USER, S = TILVENKA_PMP_SUPERVISOR, M = TILVENKA_PMP_MACHINE };
-enum { FETCH = TILVENKA_PMP_FETCH, LOAD = TILVENKA_PMP_LOAD, STORE = TILVENKA_PMP_STORE };
-enum { SPLIT = TILVENKA_PMP_SPLIT, NONE = TILVENKA_PMP_NO_MATCH, NO_ACCESS = TILVENKA_PMP_NO_ACCESS };
-enum { MSECCFG = 0x747, PMPCFG0 = 0x3a0, PMPADDR0 = 0x3b0, RANDOM_UNITS = 20000 };
+enum { RANDOM_UNITS = 20000 };
 
 static const uint32_t MODES[3] = {U, S, M};
-static unsigned passed, failed;
-
-static void expect(bool is_right, const char *what, unsigned place) {
-    if (is_right) {
-        passed++;
-    } else {
-        failed++;
-        fprintf(stderr, "FAILED: %s, number %u\n", what, place);
-    }
-}
-
-// The answer of each way to decide, where they all agree, and else one that no access has.
-static uint32_t decide(tilvenka_pmp_unit *unit, uint32_t mode, uint32_t kind, uint64_t start, uint64_t length) {
-    uint32_t answer = tilvenka_pmp_decide_by_registers(unit, mode, kind, start, length);
-    bool is_same = true;
-    for (unsigned built = 0; built < 2; built++) {
-        is_same &= tilvenka_pmp_decide(unit, mode, kind, start, length) == answer;
-        for (uint32_t run = 0; run < 256; run += 5)
-            is_same &= tilvenka_pmp_decide_near(unit, run, mode, kind, start, length).answer == answer;
-        tilvenka_pmp_build(unit);
-        is_same &= tilvenka_pmp_is_built(unit);
-    }
-    return is_same ? answer : UINT32_MAX;
-}
 
 // Writes from reset, given as 'CSR=VALUE' in hexadecimal digits.
 static void write_all(tilvenka_pmp_unit *unit, const char *writes) {
@@ -126,9 +97,15 @@ static const struct reading {
 } READINGS[] = {
     {"3b0=ffffffffffffffff 3a0=19", 0x3b0, 0x3fffffffffffff},
     {"3b0=10 3b1=20 3a0=8900 3b0=0", 0x3b0, 0x10},
+    {"3b0=10 3b1=20 3a0=900 3b0=0", 0x3b0, 0},
+    {"3a0=7f 3a0=60ff", 0x3a0, 0x9f},
+    {"3a0=80 3a0=f0f", 0x3a0, 0xf80},
+    {"3a2=8f00000000000019", 0x3a2, 0x8f00000000000019},
+    {"3a2=8f00000000000019", 0x3a0, 0},
     {"3a0=1a", 0x3a0, 0x18},
     {"747=1 3a0=1a", 0x3a0, 0x1a},
     {"747=7 747=0", MSECCFG, 3},
+    {"747=ffffffffffffffff 747=0 747=4", MSECCFG, 7},
     {"3a0=80 747=4", MSECCFG, 0},
     {"3a0=80 3b0=5", 0x3b0, 0},
     {"747=1 3a0=199c", 0x3a0, 0x1900},
@@ -253,7 +230,10 @@ static const struct {
     {"", U, 0, UINT64_C(1) << 56, 0},
     {"", M, 0, UINT64_C(1) << 56, 7},
     {"747=1", M, 0, UINT64_C(1) << 56, 3},
+    {"747=1", S, 0, UINT64_C(1) << 56, 0},
     {"747=2", M, 0, UINT64_C(1) << 56, 0},
+    {"747=3", M, 0, UINT64_C(1) << 56, 0},
+    {"747=3", U, 0, UINT64_C(1) << 56, 0},
     {"3b0=200001ff 3a0=19", U, 0x80000000, 4096, 1},
     {"3b0=200001ff 3a0=19", M, 0x80000000, 4096, 7},
     {"3b0=200001ff 3a0=19", U, 0x80000800, 4096, TILVENKA_PMP_MIXED},
@@ -295,14 +275,6 @@ static void try_snapshot(void) {
 }
 
 // Units of random bytes.
-
-static uint64_t next_random(void) {
-    static uint64_t state = UINT64_C(0x9e3779b97f4a7c15);
-    state ^= state >> 12;
-    state ^= state << 25;
-    state ^= state >> 27;
-    return state * UINT64_C(0x2545f4914f6cdd1d);
-}
 
 // A number that is often small, or near a power of two.
 static uint64_t next_number(void) {

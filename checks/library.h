@@ -1,0 +1,43 @@
+// What the programs of checks/library share: units, asked in each way that the library has.
+#include "tilvenka_pmp.h"
+#include <stdio.h>
+#include <stdlib.h>
+
+enum { U = TILVENKA_PMP_USER, S = TILVENKA_PMP_SUPERVISOR, M = TILVENKA_PMP_MACHINE };
+enum { FETCH = TILVENKA_PMP_FETCH, LOAD = TILVENKA_PMP_LOAD, STORE = TILVENKA_PMP_STORE };
+enum { SPLIT = TILVENKA_PMP_SPLIT, NONE = TILVENKA_PMP_NO_MATCH, NO_ACCESS = TILVENKA_PMP_NO_ACCESS };
+enum { MSECCFG = 0x747, PMPCFG0 = 0x3a0, PMPADDR0 = 0x3b0 };
+
+static unsigned passed, failed;
+
+static inline void expect(bool is_right, const char *what, unsigned place) {
+    if (is_right) {
+        passed++;
+    } else {
+        failed++;
+        fprintf(stderr, "FAILED: %s, number %u\n", what, place);
+    }
+}
+
+// The answer of each way to decide, where they all agree, and else one that no access has.
+static inline uint32_t decide(tilvenka_pmp_unit *unit, uint32_t mode, uint32_t kind, uint64_t start, uint64_t length) {
+    uint32_t answer = tilvenka_pmp_decide_by_registers(unit, mode, kind, start, length);
+    bool is_same = true;
+    for (unsigned built = 0; built < 2; built++) {
+        is_same &= tilvenka_pmp_decide(unit, mode, kind, start, length) == answer;
+        for (uint32_t run = 0; run < 256; run += 5)
+            is_same &= tilvenka_pmp_decide_near(unit, run, mode, kind, start, length).answer == answer;
+        tilvenka_pmp_build(unit);
+        is_same &= tilvenka_pmp_is_built(unit);
+    }
+    return is_same ? answer : UINT32_MAX;
+}
+
+// A number from anywhere in the range, the same for each run.
+static inline uint64_t next_random(void) {
+    static uint64_t state = UINT64_C(0x9e3779b97f4a7c15);
+    state ^= state >> 12;
+    state ^= state << 25;
+    state ^= state >> 27;
+    return state * UINT64_C(0x2545f4914f6cdd1d);
+}
