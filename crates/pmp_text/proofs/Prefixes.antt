@@ -22,3 +22,8 @@ starts_before first longer last more grown starts =
 
 pub starts_same : (first last : List ℕ) → last ≡ first → StartsWith last first
 starts_same first last same = ap (take (length first)) same ∙ take_all (length first) first (omega arith)
+
+-- what failed to append to a longer text left it, and so begins with the text
+pub starts_after : (first longer last more : List ℕ) → longer ≡ first ++ more → last ≡ longer → StartsWith last first
+starts_after first longer last more grown same =
+    starts_before first longer last more grown (starts_same longer last same)

@@ -38,7 +38,8 @@ returns-in_err-kind c =
     let lacks =
     word_lacks (first_of (codes "kind") (rows_of (found_of c.args.words.now))) c.in_err-kind.field-0.0
     c.in_err-kind.ensures in
-    rw (p.1, p.2, lacks.0, lacks.1, sym c.in_ok-after.ensures) (ap (check_with (Ok c.in_ok-after.after)) (no_kind _ _ _))
+    rw (p.1, p.2, lacks.0, lacks.1, sym c.in_ok-after.ensures)
+    (ap (check_with (Ok c.in_ok-after.after)) (no_kind _ _ _))
 
 pub returns-in_err-start : goal.returns-in_err-start
 returns-in_err-start c =
@@ -46,7 +47,8 @@ returns-in_err-start c =
     let lacks =
     word_lacks (first_of (codes "start") (rows_of (found_of c.args.words.now))) c.in_err-start.field-0.0
     c.in_err-start.ensures in
-    rw (p.1, p.2, lacks.0, lacks.1, sym c.in_ok-after.ensures) (ap (check_with (Ok c.in_ok-after.after)) (no_start _ _ _))
+    rw (p.1, p.2, lacks.0, lacks.1, sym c.in_ok-after.ensures)
+    (ap (check_with (Ok c.in_ok-after.after)) (no_start _ _ _))
 
 pub returns-in_err-length : goal.returns-in_err-length
 returns-in_err-length c =

@@ -6,5 +6,5 @@ pub returns : goal.returns
 unfolding with_after
 returns c =
     rw c.in_ok-command.was
-    (rule_built c.after.result after_rule c.after.ensures.rule c.after.ensures.local c.in_ok-command.field-0 c.arg.result
-    c.arg.ensures)
+    (rule_built c.after.result after_rule c.after.ensures.rule c.after.ensures.local
+    c.in_ok-command.field-0 c.arg.result c.arg.ensures)

@@ -6,5 +6,5 @@ pub returns : goal.returns
 unfolding with_checkers
 returns c =
     rw c.in_ok-command.was
-    (rule_built c.checkers.result checkers_rule c.checkers.ensures.rule c.checkers.ensures.local c.in_ok-command.field-0 c.arg.result
-    c.arg.ensures)
+    (rule_built c.checkers.result checkers_rule c.checkers.ensures.rule c.checkers.ensures.local
+    c.in_ok-command.field-0 c.arg.result c.arg.ensures)

@@ -6,5 +6,5 @@ pub returns : goal.returns
 unfolding with_word
 returns c =
     rw c.in_ok-command.was
-    (rule_built c.word.result (word_rule c.args.id.now) c.word.ensures.rule c.word.ensures.local c.in_ok-command.field-0 c.arg.result
-    c.arg.ensures)
+    (rule_built c.word.result (word_rule c.args.id.now) c.word.ensures.rule c.word.ensures.local
+    c.in_ok-command.field-0 c.arg.result c.arg.ensures)

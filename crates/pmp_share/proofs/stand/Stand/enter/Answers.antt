@@ -69,7 +69,8 @@ pub returns-in-Ok-clause-computed : goal.returns-in-Ok-clause-computed
 returns-in-Ok-clause-computed c = rw (c.leave.ensures, ← c.get-version.ensures) c.decide.ensures.computed
 
 pub returns-in-Err-clause-computed : goal.returns-in-Err-clause-computed
-returns-in-Err-clause-computed c = rw (c.new.ensures, ← c.self.invariant.1, ← c.deref.ensures) c.decide-in-Err.ensures.computed
+returns-in-Err-clause-computed c =
+    rw (c.new.ensures, ← c.self.invariant.1, ← c.deref.ensures) c.decide-in-Err.ensures.computed
 
 pub returns-in-Ok-clause-count : goal.returns-in-Ok-clause-count
 returns-in-Ok-clause-count c =

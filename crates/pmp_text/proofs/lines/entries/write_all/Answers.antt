@@ -3,7 +3,12 @@ use Rattle.std.specs.List.{flat_map, range_with_len, slice_index_or}
 use Rattle.pmp_core.specs.Span.{IsSpan, span_of}
 use Rattle.pmp_text.specs.EntryRows.{entry_row}
 use Rattle.pmp_text.proofs.EntryRows.{rows_grow}
+use Rattle.pmp_text.proofs.Prefixes.{on_err, starts_after}
 use Rattle.pmp_text.proofs.lines.entries.write_all.Goals as goal
+
+pub returns-in_err-write_entry-clause-err : goal.returns-in_err-write_entry-clause-err
+returns-in_err-write_entry-clause-err c =
+    on_err c.from_residual.result (starts_after _ _ _ _ c.loop-entry.invariant.rows c.in_err-write_entry.ensures.err)
 
 pub loop-entry-preserved : goal.loop-entry-preserved
 loop-entry-preserved c =

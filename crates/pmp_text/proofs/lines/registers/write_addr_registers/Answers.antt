@@ -1,7 +1,12 @@
 use Rattle.pmp_core.specs.declared.csr.Csr.TheVariants.{Addr}
 use Rattle.pmp_text.specs.Dumps.{register_line}
 use Rattle.pmp_text.proofs.Appending.{lines_grow}
+use Rattle.pmp_text.proofs.Prefixes.{on_err, starts_after}
 use Rattle.pmp_text.proofs.lines.registers.write_addr_registers.Goals as goal
+
+pub returns-in_err-write_register-clause-err : goal.returns-in_err-write_register-clause-err
+returns-in_err-write_register-clause-err c =
+    on_err c.from_residual.result (starts_after _ _ _ _ c.loop-entry.invariant c.in_err-write_register.ensures.err)
 
 pub loop-entry-preserved : goal.loop-entry-preserved
 loop-entry-preserved c =

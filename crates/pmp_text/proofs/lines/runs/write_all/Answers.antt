@@ -4,10 +4,15 @@ use Rattle.std.proofs.Math.Seq.{take-length}
 use Rattle.std.proofs.lemmas.List.{take_more, flat_map_more}
 use Rattle.pmp_map.specs.declared.run.Run.{Run}
 use Rattle.pmp_text.specs.RunLines.{run_line}
+use Rattle.pmp_text.proofs.Prefixes.{on_err, starts_after}
 use Rattle.pmp_text.proofs.lines.runs.write_all.Goals as goal
 
 abbrev none : Run
 none = record { first = 0; last = 0; owner = None }
+
+pub returns-in_err-write_run-clause-err : goal.returns-in_err-write_run-clause-err
+returns-in_err-write_run-clause-err c =
+    on_err c.from_residual.result (starts_after _ _ _ _ c.loop-run.invariant c.in_err-write_run.ensures.err)
 
 pub loop-run-preserved : goal.loop-run-preserved
 loop-run-preserved c =
