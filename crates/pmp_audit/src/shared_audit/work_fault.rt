@@ -9,7 +9,7 @@ use pmp_share::Moved;
 use std::alloc::{AllocError, AllocFailed};
 
 /// Why a worker stops before all its rows are decided.
-#[derive(Clone, Copy, Debug, PartialEq, Eq)]
+#[derive(Clone, Copy)]
 pub(crate) enum WorkFault {
     /// More events were published than it was told of.
     Moved(Moved),

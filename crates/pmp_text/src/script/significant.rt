@@ -9,7 +9,7 @@ use crate::script::lines::split_first_line;
 use crate::script::words::Words;
 
 /// A line with its number in the text, counted from 1.
-#[derive(Clone, Copy, Debug)]
+#[derive(Clone, Copy)]
 pub struct NumberedLine<'a> {
     pub number: u64,
     pub bytes: &'a [u8],
@@ -26,7 +26,7 @@ fn is_significant(line: &[u8]) -> bool
 }
 
 /// The significant lines that are left of a text.
-#[derive(Debug, Drop)]
+#[derive(Drop)]
 pub struct SignificantLines<'a> {
     rest: &'a [u8],
     /// The number of the first line that is left.

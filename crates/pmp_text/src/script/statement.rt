@@ -11,7 +11,7 @@ use crate::script::words::Words;
 use pmp_core::Event;
 
 /// A line after a script's first one.
-#[derive(Clone, Copy, Debug, PartialEq, Eq)]
+#[derive(Clone, Copy)]
 pub enum Statement {
     /// The event joins the open batch.
     Event(Event),

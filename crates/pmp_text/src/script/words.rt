@@ -43,7 +43,7 @@ fn split_first_word(line: &[u8]) -> Option<(&[u8], &[u8])>
 }
 
 /// The words that are left of a line.
-#[derive(Clone, Debug, Drop)]
+#[derive(Drop)]
 pub struct Words<'a> {
     rest: &'a [u8],
 }

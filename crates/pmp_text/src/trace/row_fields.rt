@@ -12,7 +12,7 @@ use csv::ByteRecord;
 use pmp_core::{Access, Kind, Mode};
 
 /// What the five fields of a row say.
-#[derive(Clone, Copy, Debug, PartialEq, Eq)]
+#[derive(Clone, Copy)]
 pub struct RowFields {
     /// How many publications are done.
     pub after: u64,
