@@ -37,7 +37,6 @@ fn learnt_batches_are_decided_in_whole(rt: HostRuntime) {
     unit.inform(&rt, Seat::Second);
     unit.look(&rt, Seat::Second, by_entry(1), 4);
     unit.look(&rt, Seat::First, by_entry(1), 4);
-    unit.assert_told(&rt, 4, Csr::Cfg(0), 0x1900);
     unit.end(&rt);
 }
 

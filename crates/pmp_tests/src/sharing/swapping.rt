@@ -3,7 +3,7 @@
 ghost use Rattle.std.specs.Prelude.{◌≡◌, ◌+◌, ◌*◌, ◌≤◌};
 ghost use Rattle.pmp_share.specs.declared.opening.TheConstants.{CHECKERS};
 
-use super::unit::{by_entry, look, page_load, publish, tell};
+use super::unit::{page_load, publish, tell};
 use super::{ENTRY_ONE, ENTRY_ZERO};
 use pmp_core::{Cause, Csr, Decision, Event, Size};
 use pmp_share::{CHECKERS, Checker, GROUP_ACCESSES, Notice, Publisher, start_of};
@@ -178,7 +178,8 @@ fn stretch<R: Threads + Wait + Abort + Copy + Send + 'static>(
     back
 }
 
-/// Publishes all rounds, in so many stretches, while so many checkers decide 10,000 times each.
+/// Publishes all rounds, in so many stretches, while so many checkers decide 10,000 times each. In the end each decides
+/// in all rounds.
 fn swap_before<R: Threads + Wait + Abort + Copy + Send + 'static>(
     rt: &R,
     alloc: Global,
@@ -203,10 +204,16 @@ fn swap_before<R: Threads + Wait + Abort + Copy + Send + 'static>(
             times,
         );
     }
+    checkers = stretch(
+        rt,
+        alloc,
+        swap,
+        &mut publisher,
+        checkers,
+        ROUNDS..ROUNDS,
+        10,
+    );
     assert!(rt; checkers.len() == usize::from(count));
-    for checker in checkers.iter_mut() {
-        look(rt, checker, by_entry(swap.first), events_after(ROUNDS));
-    }
     publisher.end(rt);
 }
 

@@ -4,7 +4,7 @@ ghost use Rattle.std.specs.Prelude.{◌≡◌, ◌≤◌, length};
 ghost use Rattle.pmp_share.specs.declared.group.TheConstants.{GROUP_ACCESSES};
 
 use super::asking::ask_both;
-use pmp_core::{Access, Cause, Csr, Decision, Event, Kind, Mode, Size};
+use pmp_core::{Access, Cause, Decision, Event, Kind, Mode, Size};
 use pmp_share::{Batch, Checker, GROUP_ACCESSES, Moved, Notice, Publisher, start_of};
 use std::alloc::Global;
 use std::process::Abort;
@@ -181,12 +181,6 @@ impl Unit {
     pub fn assert_journal(&mut self, rt: &impl Abort, events: &[Event], ends: &[u64]) {
         let journal = self.first.copy_journal().expect(rt, "memory");
         assert!(rt; journal.events() == events && journal.ends() == ends);
-    }
-
-    /// Asserts how many events a notice tells of, and what a register reads in the file that it gives.
-    pub fn assert_told(&mut self, rt: &impl Abort, count: u64, csr: Csr, value: u64) {
-        let notice = tell(rt, &mut self.publisher);
-        assert!(rt; notice.len() == count && notice.file().read(csr) == value);
     }
 
     /// Ends the publisher.
