@@ -4,13 +4,14 @@ ghost use Rattle.std.specs.Prelude.{◌≤◌};
 ghost use Rattle.pmp_share.specs.declared.opening.TheConstants.{CHECKERS};
 
 use crate::count::{begin, end};
-use crate::outcome::{Outcome, Tried, Wrong, answered_if, require};
+use crate::outcome::{Tried, answered_if, refused_if};
 use crate::texts::{ENTRIES, LAST_ROW, REGISTERS, REPORT, RUNS, SCRIPT, TRACE};
-use crate::worked::{decision_after, page_load};
+use crate::worked::decision_after;
 use arrayvec::ArrayVec;
 use pmp_audit::{
     AuditFault, OpenGate, Summary, audit, audit_shared, check, dump, entries_of, map_of,
 };
+use pmp_core::Access;
 use pmp_share::ShareFault;
 use std::alloc::Global;
 use std::sync::Wait;
@@ -21,9 +22,8 @@ use std::thread::Threads;
 pub enum Answering {
     Check,
     Audit,
-    AuditByOne,
-    AuditByTwo,
-    AuditByEight,
+    /// By so many checkers, one to eight.
+    SharedAudit(u8),
     MapOf,
     EntriesOf,
     Dump,
@@ -44,8 +44,21 @@ fn audits_by<R: Threads + Wait + Sync>(
     requires { (1 ≤ checkers) × (checkers ≤ CHECKERS) }
 {
     match audit_shared(rt, alloc, &OpenGate, checkers, SCRIPT, TRACE, output) {
-        Ok(summary) => Ok(summary == SUMMARY),
         Err(AuditFault::Share(ShareFault::NoPlace)) => Err(AuditFault::Memory),
+        answer => is_summary(answer),
+    }
+}
+
+fn is_summary(answer: Result<Summary, AuditFault>) -> Result<bool, AuditFault> {
+    match answer {
+        Ok(summary) => Ok(summary == SUMMARY),
+        Err(fault) => Err(fault),
+    }
+}
+
+fn is_done(answer: Result<(), AuditFault>) -> Result<bool, AuditFault> {
+    match answer {
+        Ok(()) => Ok(true),
         Err(fault) => Err(fault),
     }
 }
@@ -66,36 +79,35 @@ impl Answering {
         self,
         rt: &R,
         alloc: Global,
+        page: &Access,
         output: &mut Output,
     ) -> Result<bool, AuditFault> {
         match self {
-            Answering::Check => {
-                let access = page_load().map_err(|_| AuditFault::BadAfter)?;
-                Ok(check(alloc, SCRIPT, &access, None, output)? == decision_after(2))
+            Answering::Check => Ok(check(alloc, SCRIPT, page, None, output)? == decision_after(2)),
+            Answering::Audit => is_summary(audit(alloc, SCRIPT, TRACE, output)),
+            Answering::SharedAudit(checkers) => {
+                audits_by(rt, alloc, checkers.clamp(1, 8), output)
             }
-            Answering::Audit => Ok(audit(alloc, SCRIPT, TRACE, output)? == SUMMARY),
-            Answering::AuditByOne => audits_by(rt, alloc, 1, output),
-            Answering::AuditByTwo => audits_by(rt, alloc, 2, output),
-            Answering::AuditByEight => audits_by(rt, alloc, 8, output),
-            Answering::MapOf => map_of(alloc, SCRIPT, Some(1), output).map(|()| true),
-            Answering::EntriesOf => entries_of(alloc, SCRIPT, Some(1), output).map(|()| true),
-            Answering::Dump => dump(alloc, SCRIPT, Some(1), output).map(|()| true),
+            Answering::MapOf => is_done(map_of(alloc, SCRIPT, Some(1), output)),
+            Answering::EntriesOf => is_done(entries_of(alloc, SCRIPT, Some(1), output)),
+            Answering::Dump => is_done(dump(alloc, SCRIPT, Some(1), output)),
         }
     }
 }
 
 /// On a refusal the output has no byte.
-pub fn answers<R: Threads + Wait + Sync>(rt: &R, alloc: Global, case: Answering) -> Tried {
+pub fn answers<R: Threads + Wait + Sync>(
+    rt: &R,
+    alloc: Global,
+    case: Answering,
+    page: &Access,
+) -> Tried {
     let mut output = Output::new();
-    begin(alloc)?;
-    let answer = case.call(rt, alloc, &mut output);
-    end(alloc)?;
+    begin(alloc);
+    let answer = case.call(rt, alloc, page, &mut output);
+    end(alloc);
     match answer {
         Ok(right) => answered_if(right && output.as_slice() == case.text(), "the text"),
-        Err(AuditFault::Memory) => {
-            require(output.is_empty(), "the output is touched")?;
-            Ok(Outcome::Refused)
-        }
-        Err(_) => Err(Wrong("another answer")),
+        Err(fault) => refused_if(matches!(fault, AuditFault::Memory) && output.is_empty()),
     }
 }

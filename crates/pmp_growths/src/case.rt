@@ -6,6 +6,7 @@ use crate::outcome::Tried;
 use crate::reading::{Reading, reads};
 use crate::sharing::{Sharing, shares, starts};
 use crate::writing::{Writing, appends};
+use pmp_core::Access;
 use std::alloc::Global;
 use std::sync::Wait;
 use std::thread::Threads;
@@ -20,73 +21,49 @@ pub enum Case {
     Answer(Answering),
 }
 
-/// Each case, once.
-pub const CASES: [Case; 24] = [
-    Case::Start,
-    Case::Share(Sharing::Submit),
-    Case::Share(Sharing::Publish),
-    Case::Share(Sharing::Tell),
-    Case::Share(Sharing::CopyJournal),
-    Case::Share(Sharing::Decide(Deciding::Learn)),
-    Case::Share(Sharing::Decide(Deciding::Decide)),
-    Case::Share(Sharing::Decide(Deciding::DecideAt)),
-    Case::Share(Sharing::Decide(Deciding::DecideGroup)),
-    Case::Read(Reading::Bytes),
-    Case::Read(Reading::Script),
-    Case::Read(Reading::Trace),
-    Case::Append(Writing::Row),
-    Case::Append(Writing::Runs),
-    Case::Append(Writing::Registers),
-    Case::Append(Writing::Entries),
-    Case::Answer(Answering::Check),
-    Case::Answer(Answering::Audit),
-    Case::Answer(Answering::AuditByOne),
-    Case::Answer(Answering::AuditByTwo),
-    Case::Answer(Answering::AuditByEight),
-    Case::Answer(Answering::MapOf),
-    Case::Answer(Answering::EntriesOf),
-    Case::Answer(Answering::Dump),
+/// Each case once, with the word of the command line that stands for it.
+pub static CASES: [(&str, Case); 24] = [
+    ("start", Case::Start),
+    ("submit", Case::Share(Sharing::Submit)),
+    ("publish", Case::Share(Sharing::Publish)),
+    ("tell", Case::Share(Sharing::Tell)),
+    ("copy_journal", Case::Share(Sharing::CopyJournal)),
+    ("learn", Case::Share(Sharing::Decide(Deciding::Learn))),
+    ("decide", Case::Share(Sharing::Decide(Deciding::Decide))),
+    (
+        "decide_at",
+        Case::Share(Sharing::Decide(Deciding::DecideAt)),
+    ),
+    (
+        "decide_group",
+        Case::Share(Sharing::Decide(Deciding::DecideGroup)),
+    ),
+    ("read_bytes", Case::Read(Reading::Bytes)),
+    ("read_script", Case::Read(Reading::Script)),
+    ("read_trace", Case::Read(Reading::Trace)),
+    ("write_row", Case::Append(Writing::Row)),
+    ("write_runs", Case::Append(Writing::Runs)),
+    ("write_registers", Case::Append(Writing::Registers)),
+    ("write_entries", Case::Append(Writing::Entries)),
+    ("check", Case::Answer(Answering::Check)),
+    ("audit", Case::Answer(Answering::Audit)),
+    ("audit_shared_1", Case::Answer(Answering::SharedAudit(1))),
+    ("audit_shared_2", Case::Answer(Answering::SharedAudit(2))),
+    ("audit_shared_8", Case::Answer(Answering::SharedAudit(8))),
+    ("map_of", Case::Answer(Answering::MapOf)),
+    ("entries_of", Case::Answer(Answering::EntriesOf)),
+    ("dump", Case::Answer(Answering::Dump)),
 ];
 
 impl Case {
-    /// The word of the command line that stands for it.
-    pub fn word(self) -> &'static str {
-        match self {
-            Case::Start => "start",
-            Case::Share(Sharing::Submit) => "submit",
-            Case::Share(Sharing::Publish) => "publish",
-            Case::Share(Sharing::Tell) => "tell",
-            Case::Share(Sharing::CopyJournal) => "copy_journal",
-            Case::Share(Sharing::Decide(Deciding::Learn)) => "learn",
-            Case::Share(Sharing::Decide(Deciding::Decide)) => "decide",
-            Case::Share(Sharing::Decide(Deciding::DecideAt)) => "decide_at",
-            Case::Share(Sharing::Decide(Deciding::DecideGroup)) => "decide_group",
-            Case::Read(Reading::Bytes) => "read_bytes",
-            Case::Read(Reading::Script) => "read_script",
-            Case::Read(Reading::Trace) => "read_trace",
-            Case::Append(Writing::Row) => "write_row",
-            Case::Append(Writing::Runs) => "write_runs",
-            Case::Append(Writing::Registers) => "write_registers",
-            Case::Append(Writing::Entries) => "write_entries",
-            Case::Answer(Answering::Check) => "check",
-            Case::Answer(Answering::Audit) => "audit",
-            Case::Answer(Answering::AuditByOne) => "audit_shared_1",
-            Case::Answer(Answering::AuditByTwo) => "audit_shared_2",
-            Case::Answer(Answering::AuditByEight) => "audit_shared_8",
-            Case::Answer(Answering::MapOf) => "map_of",
-            Case::Answer(Answering::EntriesOf) => "entries_of",
-            Case::Answer(Answering::Dump) => "dump",
-        }
-    }
-
     /// Makes the call, and compares all that has to stand after it.
-    pub fn try_once<R: Threads + Wait + Sync>(self, rt: &R, alloc: Global) -> Tried {
+    pub fn try_once<R: Threads + Wait + Sync>(self, rt: &R, alloc: Global, page: &Access) -> Tried {
         match self {
             Case::Start => starts(rt, alloc),
-            Case::Share(case) => shares(rt, alloc, case),
+            Case::Share(case) => shares(rt, alloc, case, page),
             Case::Read(case) => reads(alloc, case),
-            Case::Append(case) => appends(alloc, case),
-            Case::Answer(case) => answers(rt, alloc, case),
+            Case::Append(case) => appends(alloc, case, page),
+            Case::Answer(case) => answers(rt, alloc, case, page),
         }
     }
 }

@@ -14,47 +14,51 @@ mod worked;
 mod writing;
 
 use case::CASES;
-use outcome::Wrong;
+use outcome::{Tried, Wrong};
 use std::alloc::Global;
-use std::io::Write;
+use std::env;
+use std::io::Print;
 use std::process::ExitCode;
 use std::sync::Wait;
 use std::thread::Threads;
-use std::{env, io};
+use worked::page_load;
 
 fn main(rt: HostRuntime) -> ExitCode {
     let Ok(mut words) = env::args(&rt) else {
         return ExitCode::FAILURE;
     };
-    match try_asked(&rt, rt.alloc(), words.nth(1), &mut rt.stdout()) {
-        Ok(true) => ExitCode::SUCCESS,
-        _ => ExitCode::FAILURE,
+    let is_well = match words.nth(1) {
+        Some(word) => try_asked(&rt, rt.alloc(), &word),
+        None => try_asked(&rt, rt.alloc(), ""),
+    };
+    if is_well {
+        ExitCode::SUCCESS
+    } else {
+        ExitCode::FAILURE
     }
 }
 
-/// Tries the case of this word, or all without one, and writes what came of each. Whether there was one and nothing was
-/// wrong.
-fn try_asked<R: Threads + Wait + Sync, W: Write>(
-    rt: &R,
-    alloc: Global,
-    asked: Option<String>,
-    out: &mut W,
-) -> io::Result<bool> {
-    let mut found = false;
-    let mut well = true;
-    for case in CASES {
-        let word = case.word();
-        if asked.as_ref().is_some_and(|asked| asked.as_str() != word) {
-            continue;
-        }
-        found = true;
-        match case.try_once(rt, alloc) {
-            Ok(outcome) => writeln!(out, "{word}: {}", outcome.word())?,
-            Err(Wrong(what)) => {
-                writeln!(out, "{word}: wrong: {what}")?;
-                well = false;
-            }
+/// Writes what came of a case. Whether it was written and nothing was wrong.
+fn print_tried<R: Print>(rt: &R, word: &str, tried: Tried) -> bool {
+    let (mark, what) = match tried {
+        Ok(outcome) => ("", outcome.word()),
+        Err(Wrong(what)) => ("wrong: ", what),
+    };
+    let written = println!(rt; "{word}: {mark}{what}");
+    written.is_ok() && tried.is_ok()
+}
+
+/// Tries the case of this word, or all without one. Whether there was one and nothing was wrong.
+fn try_asked<R: Threads + Wait + Sync + Print>(rt: &R, alloc: Global, asked: &str) -> bool {
+    let Ok(page) = page_load() else {
+        return false;
+    };
+    let (mut found, mut well) = (false, true);
+    for &(word, case) in &CASES {
+        if asked.is_empty() || asked == word {
+            found = true;
+            well &= print_tried(rt, word, case.try_once(rt, alloc, &page));
         }
     }
-    Ok(found && well)
+    found && well
 }

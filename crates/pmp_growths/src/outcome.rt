@@ -28,15 +28,22 @@ impl Outcome {
     }
 }
 
-/// `Wrong` where this doesn't hold.
-pub fn require(holds: bool, what: &'static str) -> Result<(), Wrong> {
-    if holds { Ok(()) } else { Err(Wrong(what)) }
-}
-
 /// `Answered` where the answer is as with ample memory.
 pub fn answered_if(holds: bool, what: &'static str) -> Tried {
-    require(holds, what)?;
-    Ok(Outcome::Answered)
+    if holds {
+        Ok(Outcome::Answered)
+    } else {
+        Err(Wrong(what))
+    }
+}
+
+/// `Refused` where the refusal is one for want of memory that left all as it was.
+pub fn refused_if(holds: bool) -> Tried {
+    if holds {
+        Ok(Outcome::Refused)
+    } else {
+        Err(Wrong("another answer"))
+    }
 }
 
 impl From<AllocError> for Wrong {

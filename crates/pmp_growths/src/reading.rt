@@ -1,13 +1,12 @@
 //! The calls that read texts.
 
 use crate::count::{begin, end};
-use crate::outcome::{Outcome, Tried, Wrong, answered_if};
+use crate::outcome::{Tried, answered_if, refused_if};
 use crate::texts::{SCRIPT, TRACE};
-use crate::worked::writes;
+use crate::worked::{page_load, writes};
 use pmp_core::{Access, AccessFault, Kind, Mode};
 use pmp_text::{
-    InputFault, Row, ScriptFault, ScriptKind, TraceFault, TraceKind, read_bytes, read_script,
-    read_trace,
+    InputFault, Row, Script, ScriptKind, TraceKind, read_bytes, read_script, read_trace,
 };
 use std::alloc::Global;
 use std::io;
@@ -39,64 +38,68 @@ impl Read for Slow<'_> {
 /// What was taken from the reader stays taken.
 fn reads_bytes(alloc: Global) -> Tried {
     let mut reader = Slow { left: SCRIPT };
-    begin(alloc)?;
+    begin(alloc);
     let answer = read_bytes(alloc, &mut reader, 1 << 20);
-    end(alloc)?;
+    end(alloc);
     match answer {
         Ok(bytes) => answered_if(
             bytes.as_slice() == SCRIPT && reader.left.is_empty(),
             "the bytes",
         ),
-        Err(InputFault::Memory) if SCRIPT.ends_with(reader.left) => Ok(Outcome::Refused),
-        Err(_) => Err(Wrong("another answer")),
+        Err(fault) => {
+            refused_if(matches!(fault, InputFault::Memory) && SCRIPT.ends_with(reader.left))
+        }
     }
+}
+
+fn is_script(script: &Script) -> bool {
+    script.batches() == 2
+        && script.batch(0) == writes(0).as_slice()
+        && script.batch(1) == writes(1).as_slice()
 }
 
 fn reads_script(alloc: Global) -> Tried {
-    begin(alloc)?;
+    begin(alloc);
     let answer = read_script(alloc, SCRIPT);
-    end(alloc)?;
+    end(alloc);
     match answer {
-        Ok(script) => answered_if(
-            script.batches() == 2
-                && script.batch(0) == writes(0).as_slice()
-                && script.batch(1) == writes(1).as_slice(),
-            "the publications",
-        ),
-        Err(
-            ScriptFault {
-                kind: ScriptKind::Memory,
-                line: 0,
-            },
-        ) => Ok(Outcome::Refused),
-        Err(_) => Err(Wrong("another answer")),
+        Ok(script) => answered_if(is_script(&script), "the publications"),
+        Err(fault) => refused_if(matches!(fault.kind, ScriptKind::Memory) && fault.line == 0),
     }
 }
 
-fn row(after: u64, kind: Kind) -> Result<Row, AccessFault> {
-    let access = Access::new(Mode::U, kind, 0x80000000, 4)?;
-    Ok(Row { after, access })
+/// The rows of the trace.
+fn rows() -> Result<[Row; 4], AccessFault> {
+    let load = page_load()?;
+    let store = Access::new(Mode::U, Kind::Store, load.start, load.length)?;
+    Ok([
+        Row {
+            after: 0,
+            access: load,
+        },
+        Row {
+            after: 1,
+            access: load,
+        },
+        Row {
+            after: 1,
+            access: store,
+        },
+        Row {
+            after: 2,
+            access: load,
+        },
+    ])
 }
 
 fn reads_trace(alloc: Global) -> Tried {
-    let wanted = [
-        row(0, Kind::Load)?,
-        row(1, Kind::Load)?,
-        row(1, Kind::Store)?,
-        row(2, Kind::Load)?,
-    ];
-    begin(alloc)?;
+    let wanted = rows()?;
+    begin(alloc);
     let answer = read_trace(alloc, TRACE, 2);
-    end(alloc)?;
+    end(alloc);
     match answer {
         Ok(rows) => answered_if(rows.as_slice() == wanted.as_slice(), "the rows"),
-        Err(
-            TraceFault {
-                kind: TraceKind::Memory,
-                row: 0,
-            },
-        ) => Ok(Outcome::Refused),
-        Err(_) => Err(Wrong("another answer")),
+        Err(fault) => refused_if(matches!(fault.kind, TraceKind::Memory) && fault.row == 0),
     }
 }
 

@@ -15,17 +15,16 @@ const MOVE_RULE: [Event; 2] = [
     Event::Write(Csr::Addr(1), 0x200001ff),
 ];
 
+/// How many events the first batches have.
+const ENDS: [u64; 5] = [2, 4, 6, 8, 10];
+
 /// What the batch at this place has, from 0.
 pub fn writes(place: u8) -> [Event; 2] {
     if place % 2 == 0 { OPEN_PAGE } else { MOVE_RULE }
 }
 
 pub fn batch(place: u8) -> Result<Batch, BatchFull> {
-    let mut batch = Batch::new();
-    for event in writes(place) {
-        batch.push(event)?;
-    }
-    Ok(batch)
+    Batch::of(&writes(place))
 }
 
 /// How many events the first batches have.
@@ -59,20 +58,16 @@ pub fn decision_after(batches: u8) -> Decision {
     }
 }
 
-/// Whether the journal is of just the first batches.
+/// Whether the journal is of just the first batches, of five at most.
 pub fn is_journal_of(journal: &Journal, batches: u8) -> bool {
-    let mut events_left = journal.events();
-    let mut ends_left = journal.ends();
+    let mut left = journal.events();
     for place in 0..batches {
-        let ([first, second, later_events @ ..], [end, later_ends @ ..]) = (events_left, ends_left)
-        else {
-            return false;
-        };
-        if [*first, *second] != writes(place) || *end != 2 * (u64::from(place) + 1) {
-            return false;
+        match left.strip_prefix(&writes(place)) {
+            Some(later) => left = later,
+            None => return false,
         }
-        events_left = later_events;
-        ends_left = later_ends;
     }
-    events_left.is_empty() && ends_left.is_empty()
+    left.is_empty()
+        && journal.ends().len() == usize::from(batches)
+        && ENDS.starts_with(journal.ends())
 }

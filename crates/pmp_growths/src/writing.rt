@@ -1,12 +1,12 @@
 //! The calls that append texts to a vector.
 
 use crate::count::{begin, end};
-use crate::outcome::{Outcome, Tried, answered_if, require};
+use crate::outcome::{Tried, answered_if, refused_if};
 use crate::texts::{ENTRIES, LAST_ROW, REGISTERS, RUNS};
-use crate::worked::{decision_after, file_after, page_load};
-use pmp_core::MAX_ENTRIES;
+use crate::worked::{decision_after, file_after};
+use pmp_core::{Access, MAX_ENTRIES};
 use pmp_map::RunMap;
-use pmp_text::{write_entries, write_registers, write_row, write_runs};
+use pmp_text::{NoMemory, write_entries, write_registers, write_row, write_runs};
 use std::alloc::Global;
 
 /// Which call is tried.
@@ -31,24 +31,29 @@ impl Writing {
 
 const OLD_BYTES: &[u8] = b"old bytes\n";
 
-/// Appends to a vector that is full. A refusal leaves its old bytes, and no other.
-pub fn appends(alloc: Global, case: Writing) -> Tried {
-    let mut out = Vec::from_slice(alloc, OLD_BYTES)?;
-    let access = page_load()?;
+/// Makes the call on the file after the first batch, of which it has the map.
+fn append(alloc: Global, case: Writing, page: &Access, out: &mut Vec<u8>) -> Result<(), NoMemory> {
     let file = file_after(1);
     let map = RunMap::build(&file);
-    begin(alloc)?;
+    begin(alloc);
     let answer = match case {
-        Writing::Row => write_row(&mut out, 1, &access, &decision_after(2)),
-        Writing::Runs => write_runs(&mut out, &file, &map),
-        Writing::Registers => write_registers(&mut out, &file),
-        Writing::Entries => write_entries(&mut out, &file, &[None; MAX_ENTRIES]),
+        Writing::Row => write_row(out, 1, page, &decision_after(2)),
+        Writing::Runs => write_runs(out, &file, &map),
+        Writing::Registers => write_registers(out, &file),
+        Writing::Entries => write_entries(out, &file, &[None; MAX_ENTRIES]),
     };
-    end(alloc)?;
-    let added = out.as_slice().strip_prefix(OLD_BYTES);
-    if answer.is_ok() {
-        return answered_if(added == Some(case.text()), "the text");
+    end(alloc);
+    answer
+}
+
+/// Appends to a vector that is full. A refusal leaves its old bytes, and no other.
+pub fn appends(alloc: Global, case: Writing, page: &Access) -> Tried {
+    let mut out = Vec::from_slice(alloc, OLD_BYTES)?;
+    match append(alloc, case, page, &mut out) {
+        Ok(()) => answered_if(
+            out.as_slice().strip_prefix(OLD_BYTES) == Some(case.text()),
+            "the text",
+        ),
+        Err(_) => refused_if(out.as_slice() == OLD_BYTES),
     }
-    require(out.as_slice() == OLD_BYTES, "the vector's bytes")?;
-    Ok(Outcome::Refused)
 }
