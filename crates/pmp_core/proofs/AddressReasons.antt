@@ -13,8 +13,7 @@ use Rattle.pmp_core.specs.RegisterValue.{register_value}
 use Rattle.pmp_core.specs.RegisterWrite.{is_address_frozen, written}
 use Rattle.pmp_core.specs.WriteReasons.{is_changed, is_locked, is_low_end}
 use Rattle.pmp_core.proofs.Reasons.{none_between, none_at, HasNone}
-use Rattle.pmp_core.proofs.StoredBytes.{not_same}
-use Rattle.pmp_core.proofs.WordReasons.{and_true}
+use Rattle.pmp_core.proofs.StoredBytes.{and_true, not_same}
 
 module _ (file : RegisterFile) (legal : IsLegal file) (i value : ℕ) where
   abbrev address : ℕ

@@ -22,7 +22,7 @@ use Rattle.pmp_core.specs.RegisterWrite.{holds_byte_of, written}
 use Rattle.pmp_core.specs.WriteReasons.{byte_for, is_locked, adds_reserved, adds_barred, turns_entry_away_by}
 use Rattle.pmp_core.proofs.Legal.{configured_place, length-written}
 use Rattle.pmp_core.proofs.Reasons.{none_between, none_at, none_in, none_of, HasNone}
-use Rattle.pmp_core.proofs.StoredBytes.{not_same, is_plain, byte_plain, IsTaken, left_of, taken, stored_as_taken}
+use Rattle.pmp_core.proofs.StoredBytes.{and_true, not_same, is_plain, byte_plain, IsTaken, left_of, taken, stored_as_taken}
 
 -- ---- words of bytes
 
@@ -59,10 +59,6 @@ word_gives f value bytes same j near =
     ∙ get_or-map-range_with_len f 0 8 j j 0 near (omega arith)
 
 -- ---- entry by entry
-
-pub and_true : (b : Bool) → (b && true) ≡ false → b ≡ false
-and_true true h = h
-and_true false h = h
 
 module _ (file : RegisterFile) (q value : ℕ) where
   abbrev n : ℕ
@@ -175,7 +171,7 @@ module _ (file : RegisterFile) (q value : ℕ) where
         rw place at (reads_even (i - 4 * q) (even_of i holds) (omega arith))
 
     was_taken : (i : ℕ) → holds_byte_of q i ≡ true → i < n → Takes i
-    was_taken i holds inside = stored_as_taken _ _ _ _ _ (byte_small value (i - 4 * q))
+    was_taken i holds inside = stored_as_taken _ _ _ _ _ (byte_small value (i - 4 * q)) refl
         (sym (ap byte_of (left_there i holds inside)) ∙ sym (reads_entry i holds))
 
     reads_plain : (j : ℕ) → j < 8 → is_plain (byte value j) ≡ true

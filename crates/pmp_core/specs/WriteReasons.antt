@@ -58,7 +58,6 @@ adds_barred file (Cfg q) value i =
     let new = configuration_of (byte_for q value i) in
     holds_byte_of q i && not (is_frozen file i) && file.mseccfg.mml && not file.mseccfg.rlb
     && is_barred new.locked new.read new.write new.execute
-    && not (byte_of new == byte_of (entry_at file.entries i).configuration)
 adds_barred file (Addr k) value i = false
 adds_barred file Mseccfg value i = false
 

@@ -3,7 +3,7 @@
 ghost use Rattle.std.specs.Prelude.{◌≡◌, ◌*◌, ◌%◌, ◌<◌, ◌==◌, nat_lt, not, ◌&&◌, Some, None, length};
 ghost use Rattle.std.specs.Prelude.{if◌then◌else◌};
 ghost use Rattle.std.specs.List.{list_any};
-ghost use Rattle.pmp_core.specs.Configuration.{configuration_of, byte_of, is_reserved};
+ghost use Rattle.pmp_core.specs.Configuration.{configuration_of, is_reserved};
 ghost use Rattle.pmp_core.specs.RegisterFile.{file_of};
 ghost use Rattle.pmp_core.specs.RegisterWrite.{holds_byte_of};
 ghost use Rattle.pmp_core.specs.Rights.{is_barred};
@@ -88,13 +88,11 @@ fn adds_reserved(mseccfg: &MseccfgFields, byte: u8) -> bool
 }
 
 /// Whether a byte that isn't kept out by a lock would add a barred rule.
-fn adds_barred(mseccfg: &MseccfgFields, old: &Configuration, byte: u8) -> bool
+fn adds_barred(mseccfg: &MseccfgFields, byte: u8) -> bool
     ensures { let new = configuration_of byte in
-        result ≡ (mseccfg.now.mml && not mseccfg.now.rlb && is_barred new.locked new.read new.write new.execute
-        && not (byte_of new == byte_of old.now)) }
+        result ≡ (mseccfg.now.mml && not mseccfg.now.rlb && is_barred new.locked new.read new.write new.execute) }
 {
-    let new = Configuration::from_byte(byte);
-    mseccfg.mml && !mseccfg.rlb && is_barred(&new) && new.byte() != old.byte()
+    mseccfg.mml && !mseccfg.rlb && is_barred(&Configuration::from_byte(byte))
 }
 
 /// Whether this reason holds for the entry.
@@ -109,8 +107,7 @@ fn turns_entry_away_by(
     requires { index < length entries.now }
     ensures { result ≡ turns_entry_away_by reason (file_of mseccfg.now entries.now) csr value index }
 {
-    let old = &entries[index].configuration;
-    let frozen = old.locked && !mseccfg.rlb;
+    let frozen = entries[index].configuration.locked && !mseccfg.rlb;
     match (reason, csr) {
         (WriteReason::Locked, _) => frozen && is_changed(entries, csr, value, index),
         (WriteReason::Tor, Csr::Addr(_)) => {
@@ -123,7 +120,7 @@ fn turns_entry_away_by(
             None => false,
         },
         (WriteReason::Lockdown, Csr::Cfg(register)) => match byte_for(register, value, index) {
-            Some(byte) => !frozen && adds_barred(mseccfg, old, byte),
+            Some(byte) => !frozen && adds_barred(mseccfg, byte),
             None => false,
         },
         _ => false,

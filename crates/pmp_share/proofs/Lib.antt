@@ -1,4 +1,5 @@
 pub mod JournalFacts
+pub mod LaterLooks
 pub mod Fronts
 pub mod LookFacts
 pub mod Adding

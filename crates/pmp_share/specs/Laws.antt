@@ -1,8 +1,16 @@
 -- Laws of the definitions.
-use Rattle.std.specs.Prelude.{◌≡◌}
-use Rattle.pmp_core.specs.Histories.{joined}
+use Rattle.std.specs.Prelude.{◌≡◌, ◌*◌, ◌≤◌, ℕ, true, List, fold, drop}
+use Rattle.std.specs.List.{list_all}
+use Rattle.pmp_core.specs.declared.event.Event.{Event}
+use Rattle.pmp_core.specs.RegisterFile.{is_frozen}
+use Rattle.pmp_core.specs.RegisterWrite.{step}
+use Rattle.pmp_core.specs.Histories.{joined, file_after}
+use Rattle.pmp_core.specs.LockLaw.{is_write, StaysLocked}
+use Rattle.pmp_share.specs.declared.opening.TheConstants.{CHECKERS}
+use Rattle.pmp_share.specs.declared.stage.TheConstants.{PLACES}
 use Rattle.pmp_share.specs.Batches.{Batches, StartsWith, event_count}
 use Rattle.pmp_share.specs.Journals.{ends_of, batches_of}
+use Rattle.pmp_share.specs.Looks.{Bound, Looked, latest}
 
 -- batches that begin with others of as many events hold the same events
 abbrev pub SameEventsLaw : Type 0
@@ -12,3 +20,24 @@ SameEventsLaw = (batches front : Batches) → StartsWith batches front → event
 -- the events of batches, cut where these end, are the batches
 abbrev pub CutLaw : Type 0
 CutLaw = (batches : Batches) → batches_of (ends_of batches) (joined batches) ≡ batches
+
+-- the events of the one behind as many as the other holds
+abbrev pub further_events : Batches → Batches → List Event
+further_events batches front = drop (event_count front) (joined batches)
+
+-- where batches begin with others, the file of them is that of the others after the further events
+abbrev pub FurtherEventsLaw : Type 0
+FurtherEventsLaw = (n : ℕ) (batches front : Batches) → StartsWith batches front
+    → file_after n batches ≡ fold step (file_after n front) (further_events batches front)
+
+-- an entry that is frozen in the file of batches that a checker is bound to, as it is to all that it looked at, stays as
+-- it is in what it looks at later, if the further events are writes alone (3.7.1.2 and Smepmp)
+abbrev pub LaterLookLaw : Type 0
+LaterLookLaw = (n : ℕ) (held later : List Batches) (earlier : Batches) → Bound held earlier → Looked held later
+    → (i : ℕ) → is_frozen (file_after n earlier) i ≡ true
+    → list_all is_write (further_events (latest later) earlier) ≡ true
+    → StaysLocked (file_after n earlier) (file_after n (latest later)) i
+
+-- a unit has a place for each of its checkers, and one for a notice to each
+abbrev pub PlacesLaw : Type 0
+PlacesLaw = 2 * CHECKERS ≤ PLACES

@@ -88,6 +88,14 @@ impl Journal {
         self.ends.as_slice()
     }
 
+    /// Its events and its ends, as `events` and `ends` show them.
+    pub fn into_parts(self) -> (Vec<Event>, Vec<u64>)
+        ensures events { result.0.items ≡ joined self }
+        ensures ends { result.1.items ≡ ends_of self }
+    {
+        (self.events, self.ends)
+    }
+
     /// A copy of it, with memory of its own.
     pub(crate) fn copy(&self) -> Result<Journal, AllocError>
         ensures { IfOk result (λ journal. journal ≡ self.now) }

@@ -1,6 +1,8 @@
 //! Laws of the definitions, each the contract of a function that does nothing.
 
-ghost use Rattle.pmp_share.specs.Laws.{SameEventsLaw, CutLaw};
+ghost use Rattle.pmp_share.specs.Laws.{SameEventsLaw, CutLaw, FurtherEventsLaw, LaterLookLaw, PlacesLaw};
+
+use pmp_core::laws::law_frozen;
 
 /// Batches that begin with others, and hold as many events, hold the same events: only empty batches were added.
 pub fn law_same_events()
@@ -10,4 +12,24 @@ pub fn law_same_events()
 /// A journal loses nothing: its events, cut at its ends, are the batches again.
 pub fn law_journal_cut()
     ensures { CutLaw }
+{}
+
+/// Where batches begin with others, their register file is that of the others after the further events.
+pub fn law_further_events()
+    ensures { FurtherEventsLaw }
+{}
+
+/// An entry that is frozen in the file of one look keeps its configuration and its bytes in each later look of the same
+/// checker, if the further events hold no reset. A checker stays bound to what it looked at, as `bound` of its calls
+/// says.
+pub fn law_later_look()
+    ensures { LaterLookLaw }
+{
+    law_frozen();
+}
+
+/// A unit has a place for each of its checkers and one more for a notice to each, so an audit by all of them never lacks
+/// one.
+pub fn law_places()
+    ensures { PlacesLaw }
 {}

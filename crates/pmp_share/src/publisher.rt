@@ -116,15 +116,18 @@ impl Publisher {
         Ok(self.stage.shown().event_count())
     }
 
-    /// Ends the publisher, with what is pending. The checkers go on deciding.
-    pub fn end<R: Wait>(self, rt: &R) {
+    /// Ends the publisher, and answers what it published. What is pending goes with it, and no checker ever sees that. The
+    /// checkers go on deciding.
+    pub fn end<R: Wait>(self, rt: &R) -> Journal
+        ensures { result ≡ self.published }
+    {
         let Publisher {
             stage,
             pending: _pending,
             handed: _,
             tried: _,
         } = self;
-        stage.end(rt);
+        stage.end(rt)
     }
 
     /// A notice of all that is published. `NoPlace` where 32 checkers and notices are there; a place is free again once

@@ -189,8 +189,10 @@ impl Stage {
         Ok(Stand::new(reader, digest, version.past()))
     }
 
-    /// Ends both. It waits for checkers that read a version.
-    pub fn end<R: Wait>(self, rt: &R) {
+    /// Ends both, and answers what is published. It waits for checkers that read a version.
+    pub fn end<R: Wait>(self, rt: &R) -> Journal
+        ensures { result ≡ self.shown }
+    {
         let Stage {
             alloc: _,
             entries: _,
@@ -198,6 +200,6 @@ impl Stage {
             keeper: _keeper,
             ahead: _,
         } = self;
-        drop(writer.take(rt));
+        Box::into_inner(writer.take(rt)).into_journal()
     }
 }

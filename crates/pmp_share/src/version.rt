@@ -82,6 +82,13 @@ impl Version {
         &self.journal
     }
 
+    /// Its batches, without the rest.
+    pub fn into_journal(self) -> Journal
+        ensures { result ≡ self.journal }
+    {
+        self.journal
+    }
+
     /// How many entries its unit has.
     pub fn entries(&self) -> u8
         ensures { result ≡ self.now.entries }

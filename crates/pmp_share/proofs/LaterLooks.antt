@@ -1,0 +1,33 @@
+-- What a later look tells of an earlier one.
+use Rattle.std.proofs.Common.{◌≡◌, ℕ, ◌++◌, List, [], true, drop, fold, length, refl, sym, ap, subst, ◌∙◌, arith}
+use Rattle.std.specs.List.{list_all}
+use Rattle.std.proofs.lemmas.Grind.{fold-append}
+use Rattle.std.proofs.Math.Seq.{drop-append_seam}
+use Rattle.pmp_core.specs.declared.event.Event.{Event}
+use Rattle.pmp_core.specs.RegisterFile.{reset_file, is_frozen}
+use Rattle.pmp_core.specs.RegisterWrite.{step}
+use Rattle.pmp_core.specs.Histories.{joined, file_after}
+use Rattle.pmp_core.specs.LockLaw.{LockLaw, StaysLocked}
+use Rattle.pmp_share.specs.Batches.{Batches, StartsWith, event_count}
+use Rattle.pmp_share.specs.Looks.{latest}
+use Rattle.pmp_share.specs.Laws.{further_events, FurtherEventsLaw, LaterLookLaw}
+use Rattle.pmp_share.proofs.JournalFacts.{joined-append}
+use Rattle.pmp_share.proofs.LookFacts.{keeps_bound}
+
+further : (batches front rest : Batches) → batches ≡ front ++ rest → further_events batches front ≡ joined rest
+further batches front rest e =
+    ap (λ (b : Batches). drop (event_count front) (joined b)) e
+    ∙ ap (drop (event_count front)) (joined-append front rest)
+    ∙ drop-append_seam (joined front) (joined rest)
+
+pub further_events_law : FurtherEventsLaw
+further_events_law n batches front (rest, e) =
+    ap (file_after n) e ∙ ap (fold step (reset_file n)) (joined-append front rest)
+    ∙ fold-append step (reset_file n) (joined front) (joined rest)
+    ∙ ap (fold step (file_after n front)) (sym (further batches front rest e))
+
+pub later_look_law : LockLaw → LaterLookLaw
+later_look_law locks n held later earlier bound looked i frozen writes =
+    let starts : StartsWith (latest later) earlier = (keeps_bound held later looked earlier bound).0 in
+    rw (further_events_law n (latest later) earlier starts)
+    (locks (file_after n earlier) i (further_events (latest later) earlier) frozen writes)
