@@ -8,5 +8,6 @@ pub mod Lists
 pub mod OneEntryList
 pub mod OneReport
 pub mod Reports
+pub mod Stopping
 pub mod WrittenAnswers
 pub mod WrittenEvents

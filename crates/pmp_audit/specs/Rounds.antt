@@ -1,19 +1,30 @@
 -- What is decided between two publications of a shared audit.
-use Rattle.std.specs.Prelude.{◌≡◌, ℕ, ◌==◌, ◌≤◌, List, [], ◌∷◌, All, length, map, take, drop, slice_get, Some}
-use Rattle.std.specs.Prelude.{if◌then◌else◌}
+use Rattle.std.specs.Prelude.{◌≡◌, ℕ, ◌==◌, ◌<◌, ◌≤◌, List, [], ◌∷◌, All, length, map, take, drop, slice_get, Some}
+use Rattle.std.specs.Prelude.{if◌then◌else◌, ⊤}
 use Rattle.std.specs.List.{enumerate_from}
 use Rattle.pmp_core.specs.declared.decision.Decision.{Decision}
 use Rattle.pmp_core.specs.Ranges.{decision_of}
 use Rattle.pmp_core.specs.RegisterFile.{RegisterFile}
+use Rattle.pmp_share.specs.declared.fault.ShareFault.TheVariants.{NoPlace}
+use Rattle.pmp_share.specs.Batches.{Batches, event_count}
 use Rattle.pmp_share.specs.Tokens.{PublisherToken, CheckerToken, UnitId}
 use Rattle.pmp_text.specs.declared.trace.Row.{Row}
 use Rattle.pmp_text.specs.Contents.{ScriptContents}
 use Rattle.pmp_text.specs.Reports.{file_of_script}
 use Rattle.pmp_text.specs.TraceFaults.{IsInOrder, afters}
 use Rattle.pmp_text.specs.Traces.{row_fields}
+use Rattle.pmp_audit.specs.declared.fault.AuditFault.{AuditFault}
+use Rattle.pmp_audit.specs.declared.fault.AuditFault.TheVariants.{Share, Moved, Memory}
 use Rattle.pmp_audit.specs.declared.shared_audit.job.Job.{Job}
 use Rattle.pmp_audit.specs.declared.shared_audit.job.Done.{Done}
 use Rattle.pmp_audit.specs.Working.{IsDealt, row_of}
+
+-- what may stop a round after these publications
+abbrev pub StopsRound : Batches → AuditFault → Type 0
+StopsRound published Memory = ⊤
+StopsRound published (Share NoPlace) = ⊤
+StopsRound published (Moved moved) = event_count published < moved.seen
+StopsRound published _ = ⊥
 
 -- the rows at the front that ask for just so many publications
 abbrev pub asking : (after : ℕ) → List Row → List Row

@@ -1,19 +1,36 @@
 -- When an audit by several threads refuses.
-use Rattle.std.specs.Prelude.{ℕ, List, ⊤}
+use Rattle.std.specs.Prelude.{◌≡◌, ℕ, ◌<◌, List, length, take, ⊤, Ok}
 use Rattle.pmp_share.specs.declared.fault.ShareFault.TheVariants.{NoPlace}
+use Rattle.pmp_share.specs.Batches.{Batches, event_count}
+use Rattle.pmp_text.specs.declared.trace.row_fields.RowFields.{RowFields}
+use Rattle.pmp_text.specs.Contents.{ScriptContents}
+use Rattle.pmp_text.specs.Scripts.{script_meaning}
+use Rattle.pmp_text.specs.Traces.{trace_meaning}
 use Rattle.pmp_audit.specs.declared.fault.AuditFault.{AuditFault}
 use Rattle.pmp_audit.specs.declared.fault.AuditFault.TheVariants.{Share, Moved, Memory}
 use Rattle.pmp_audit.specs.TraceAudit.{AuditRefuses}
 
--- what may stop it at any time: no memory, no place in the unit, or more in the unit than a worker was told of
-abbrev pub MayStop : AuditFault → Type 0
-MayStop Memory = ⊤
-MayStop (Share NoPlace) = ⊤
-MayStop (Moved moved) = ⊤
-MayStop _ = ⊥
+-- neither the script nor the trace has a fault
+pub record AreFaultless (script trace : List ℕ) : Type 0 where
+  pub contents : ScriptContents
+  pub rows : List RowFields
+  pub script_means : script_meaning script ≡ Ok contents
+  pub trace_means : trace_meaning (length contents.batches) trace ≡ Ok rows
 
--- as an audit on one thread; or the unit has no place, or holds more than a worker was told of
+-- a worker that was told of so many publications saw more events than they have
+abbrev pub SawMore : Batches → (seen : ℕ) → Type 0
+SawMore batches seen = (told : ℕ) × (event_count (take told batches) < seen)
+
+-- what may stop it where there is no fault: no memory, no place in the unit, or more in it than a worker was told of
+abbrev pub MayStop : Batches → AuditFault → Type 0
+MayStop batches Memory = ⊤
+MayStop batches (Share NoPlace) = ⊤
+MayStop batches (Moved moved) = SawMore batches moved.seen
+MayStop batches _ = ⊥
+
+-- as an audit on one thread; or, where there is no fault, the unit has no place, or more than a worker was told of
 abbrev pub SharedAuditRefuses : (script trace : List ℕ) → AuditFault → Type 0
-SharedAuditRefuses script trace (Share NoPlace) = ⊤
-SharedAuditRefuses script trace (Moved moved) = ⊤
+SharedAuditRefuses script trace (Share NoPlace) = AreFaultless script trace
+SharedAuditRefuses script trace (Moved moved) =
+    (inputs : AreFaultless script trace) × SawMore inputs.contents.batches moved.seen
 SharedAuditRefuses script trace fault = AuditRefuses script trace fault

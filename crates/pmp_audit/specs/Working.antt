@@ -1,5 +1,5 @@
 -- What a worker of a shared audit knows and does.
-use Rattle.std.specs.Prelude.{◌≡◌, ℕ, ◌≤◌, ◌%◌, ◌/◌, List, All, map, slice_get}
+use Rattle.std.specs.Prelude.{◌≡◌, ℕ, ◌<◌, ◌≤◌, ◌%◌, ◌/◌, List, All, map, slice_get, ⊤}
 use Rattle.std.specs.List.{enumerate_from}
 use Rattle.pmp_share.specs.Tokens.{UnitId}
 use Rattle.pmp_core.specs.Histories.{file_after}
@@ -9,6 +9,8 @@ use Rattle.pmp_share.specs.Looks.{latest, Bound}
 use Rattle.pmp_text.specs.declared.trace.Row.{Row}
 use Rattle.pmp_audit.specs.declared.shared_audit.job.Done.{Done}
 use Rattle.pmp_audit.specs.declared.shared_audit.row_decision.RowDecision.{RowDecision}
+use Rattle.pmp_audit.specs.declared.shared_audit.work_fault.WorkFault.{WorkFault}
+use Rattle.pmp_audit.specs.declared.shared_audit.work_fault.WorkFault.TheVariants.{Moved, Memory}
 
 -- a worker has those whose place modulo the number of workers is its own, in their order
 abbrev pub IsDealt : {A : Type 0} → (worker workers : ℕ) → (all hand : List A) → Type 0
@@ -22,6 +24,11 @@ pub record HasLearnt (entries : ℕ) (held : List Batches) (count : ℕ) (file :
   pub counted : count ≡ event_count told
   pub replayed : file ≡ file_after entries told
   pub reached : count ≤ event_count (latest held)
+
+-- why a worker stops that was told of these batches: it saw more events than they have, or memory ran out
+abbrev pub StopsWork : Batches → WorkFault → Type 0
+StopsWork told (Moved moved) = event_count told < moved.seen
+StopsWork told Memory = ⊤
 
 -- what a decision is of: the number of its row, and the row
 abbrev pub row_of : RowDecision → ℕ × Row

@@ -40,8 +40,8 @@ use std::thread::Threads;
 /// `w`. The next publication is done once all of them are decided. Where no thread can be made, a worker's rows are
 /// decided on the calling thread.
 ///
-/// Besides the refusals of `audit` there are `Share(NoPlace)` and `Moved`. Whatever the answer is, the workers have
-/// ended. It may wait.
+/// Besides the refusals of `audit` there are `Share(NoPlace)` and `Moved`, both only where neither input has a fault.
+/// Whatever the answer is, the workers have ended. It may wait.
 pub fn audit_shared<R: Threads + Wait + Sync, G: Gate + Sync, W: Write>(
     rt: &R,
     alloc: Global,

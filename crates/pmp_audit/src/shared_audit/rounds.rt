@@ -4,9 +4,8 @@ ghost use Rattle.std.specs.Prelude.{◌≡◌, ◌+◌, ◌^◌, ◌<◌, ◌≤
 ghost use Rattle.pmp_core.specs.Histories.{file_after};
 ghost use Rattle.pmp_share.specs.declared.fault.ShareFault.TheVariants.{Full};
 ghost use Rattle.pmp_share.specs.declared.opening.TheConstants.{CHECKERS};
-ghost use Rattle.pmp_audit.specs.Rounds.{AreCheckersOf, AreJobs, decided_in, asking};
-ghost use Rattle.pmp_audit.specs.SharedAudit.{MayStop};
-ghost use Rattle.pmp_audit.specs.Working.{IsDone};
+ghost use Rattle.pmp_audit.specs.Rounds.{AreCheckersOf, AreJobs, StopsRound, decided_in, asking};
+ghost use Rattle.pmp_audit.specs.Working.{IsDone, StopsWork};
 
 use super::asking::asking;
 use super::hand::Hand;
@@ -68,7 +67,7 @@ fn round<R: Threads + Wait + Sync, G: Gate + Sync>(
     ensures checkers { IfOk result (λ all. AreCheckersOf publisher.old.unit (length checkers.items) all.items) }
     ensures decided { OnOk result (decided.new.items
         ≡ decided.old.items ++ decided_in (file_after publisher.old.unit.entries publisher.old.published) rows.now) }
-    ensures refused { IfErr result MayStop }
+    ensures refused { IfErr result (StopsRound publisher.old.published) }
 {
     let first = decided.len() as u64 + 1;
     let jobs = jobs_of(alloc, publisher, checkers)?;
@@ -78,8 +77,9 @@ fn round<R: Threads + Wait + Sync, G: Gate + Sync>(
         jobs,
         &|job: Job| -> Result<Done, WorkFault>
             requires { (0 < workers) × (first + length rows.now ≤ 2 ^ 64) }
-            ensures { IfOk result (IsDone job.checker.unit (file_after job.checker.unit.entries job.notice.told)
+            ensures done { IfOk result (IsDone job.checker.unit (file_after job.checker.unit.entries job.notice.told)
                 job.worker workers first rows.entry.now) }
+            ensures refused { IfErr result (StopsWork job.notice.told) }
         {
             let Job {
                 worker,
@@ -121,7 +121,7 @@ pub(crate) fn decide_asking<R: Threads + Wait + Sync, G: Gate + Sync>(
     ensures decided { OnOk result (decided.new.items ≡ decided.old.items
         ++ decided_in (file_after publisher.old.unit.entries publisher.old.published)
         (asking after (drop (length decided.old.items) rows.now))) }
-    ensures refused { IfErr result MayStop }
+    ensures refused { IfErr result (StopsRound publisher.old.published) }
 {
     let next = asking(&rows[decided.len()..], after);
     if next.is_empty() {

@@ -1,8 +1,8 @@
 //! A worker: it decides its rows of one round, in just what its notice tells of.
 
-ghost use Rattle.std.specs.Prelude.{◌≡◌, ◌<◌, OnOk, IfOk, length};
+ghost use Rattle.std.specs.Prelude.{◌≡◌, ◌<◌, OnOk, IfOk, IfErr, length};
 ghost use Rattle.pmp_core.specs.Histories.{file_after};
-ghost use Rattle.pmp_audit.specs.Working.{HasLearnt, IsDone, row_of};
+ghost use Rattle.pmp_audit.specs.Working.{HasLearnt, IsDone, StopsWork, row_of};
 ghost use Rattle.pmp_share.specs.Batches.{event_count};
 ghost use Rattle.pmp_share.specs.Looks.{latest};
 
@@ -33,6 +33,8 @@ fn ask(
     ensures asked { OnOk result (event_count (latest checker.new.held) ≡ count) }
     ensures row { IfOk result (λ decision. row_of decision ≡ (number, row.now)) }
     ensures file { IfOk result (λ decision. decision.file.value ≡ file.now) }
+    ensures moved { IfErr result (λ moved.
+        (moved.seen ≡ event_count (latest checker.new.held)) × (count < moved.seen)) }
 {
     law_same_events();
     let decision = checker.decide_at(count, &row.access)?;
@@ -58,6 +60,7 @@ pub(crate) fn work<G: Gate>(
         hand.entry.worker hand.entry.workers hand.entry.first hand.entry.rows.now) }
     ensures asked { IfOk result (λ done. 0 < length done.decisions.items →
         event_count (latest done.checker.held) ≡ event_count notice.told) }
+    ensures refused { IfErr result (StopsWork notice.told) }
 {
     let count = notice.len();
     let file = notice.file();

@@ -1,12 +1,14 @@
 use Rattle.std.proofs.Common.{◌≡◌, ◌∙◌, length, map, ap, sym, subst, Ok}
+use Rattle.std.proofs.lemmas.Result.{err_from_is_err_and}
 use Rattle.pmp_text.specs.Traces.{row_fields, trace_meaning}
 use Rattle.pmp_audit.specs.Report.{IsReported}
 use Rattle.pmp_audit.specs.Rounds.{decision_for}
-use Rattle.pmp_audit.specs.SharedAudit.{SharedAuditRefuses}
+use Rattle.pmp_audit.specs.SharedAudit.{AreFaultless, SharedAuditRefuses}
 use Rattle.pmp_text.specs.Reports.{AreDecided}
 use Rattle.pmp_audit.specs.TraceAudit.{AuditSays}
 use Rattle.pmp_audit.proofs.DecidedRows.{are_decided}
 use Rattle.pmp_audit.proofs.Reports.{audit_says}
+use Rattle.pmp_audit.proofs.Stopping.{refused_so}
 use Rattle.pmp_audit.proofs.WrittenAnswers.{answered, cut_short}
 use Rattle.pmp_audit.proofs.shared_audit.audit_shared.Goals as goal
 use Rattle.pmp_audit.proofs.shared_audit.audit_shared.Goals.{After-write_answer}
@@ -44,3 +46,16 @@ returns-clause-err g c =
     cut_short (AuditSays c.args.script.now c.args.trace.now) _ _ c.in_ok-summary.summary c.deref-4.result.now
     (says g (goal.at.returns-clause-err g c).After-write_answer) c.write_answer.result
     (SharedAuditRefuses c.args.script.now c.args.trace.now) c.write_answer.ensures.err
+
+pub returns-in_err-decisions-clause-err : goal.returns-in_err-decisions-clause-err
+returns-in_err-decisions-clause-err g c =
+    let script = c.in_ok-script.script in
+    let inputs : AreFaultless c.args.script.now c.args.trace.now = record {
+      contents = script;
+      rows = map row_fields c.in_ok-rows.rows.items;
+      script_means = c.in_ok-script.ensures;
+      trace_means = rw (← c.batches.ensures) c.in_ok-rows.ensures.given;
+    } in
+    let p = err_from_is_err_and c.from_residual-in_err-decisions.result c.from_residual-in_err-decisions.ensures.1 in
+    rw (p.1, p.2) (refused_so (AuditSays c.args.script.now c.args.trace.now) _ c.args.script.now c.args.trace.now
+    inputs c.in_err-decisions.field-0.0 c.in_err-decisions.ensures.refused)

@@ -1,9 +1,11 @@
 use Rattle.std.proofs.Common.{◌≡◌, ◌+◌, ◌++◌, [], ◌∷◌, List, take, ap, ◌∙◌, arith, sym}
 use Rattle.std.proofs.lemmas.List.{take_more}
+use Rattle.std.proofs.lemmas.Result.{err_from_is_err_and}
 use Rattle.pmp_core.specs.declared.event.Event.{Event}
 use Rattle.pmp_share.specs.Batches.{Batches}
 use Rattle.pmp_share.specs.Tokens.{PublisherToken, UnitId}
 use Rattle.pmp_audit.proofs.DecidedRows.{none_decided, decided_next, all_decided, room_for}
+use Rattle.pmp_audit.proofs.Stopping.{stops_after}
 use Rattle.pmp_audit.proofs.shared_audit.deciding.decide_rows.Goals as goal
 
 pub loop-index-init : goal.loop-index-init
@@ -55,3 +57,16 @@ pub returns-clause-decided : goal.returns-clause-decided
 returns-clause-decided g c =
     all_decided c.args.script.now c.args.rows.now (c.loop-index.index + 1) c.loop-index.decided.items
     (omega (arith, c.batches-index-end.ensures)) c.loop-index.invariant.decided
+
+pub returns-in_err-checkers-2-clause-refused : goal.returns-in_err-checkers-2-clause-refused
+returns-in_err-checkers-2-clause-refused g c =
+    let script = c.args.script.now in
+    let at = c.loop-index in
+    let batch = c.batch.result.now in
+    let done : c.publish.new.publisher.published ≡ take (at.index + 1) script.batches =
+    c.in_ok-publish.ensures.published ∙ ap (λ (p : Batches). p ++ batch ∷ []) at.invariant.published
+    ∙ ap (λ (b : List Event). take at.index script.batches ++ b ∷ []) c.batch.ensures.events
+    ∙ sym (take_more script.batches at.index [] (omega (arith, c.batches-index-end.ensures))) in
+    let p = err_from_is_err_and c.from_residual-in_err-checkers-2.result c.from_residual-in_err-checkers-2.ensures.1 in
+    rw (p.1, p.2) (stops_after script.batches c.publish.new.publisher.published (at.index + 1) done
+    c.in_err-checkers-2.field-0.0 c.in_err-checkers-2.ensures.refused)

@@ -35,7 +35,7 @@ module _ (g : _) (c : After-deref g) where
       × IsDoneAs c.len-2.result (c.len.result + 1) c.args.rows.now job (get_or c.in_ok-results.results.items i d)
   each i d inside =
       let gives = (c.in_ok-results.ensures.each i d inside).1 in
-      (gives.job, gives.job_is, gives.call.met)
+      (gives.job, gives.job_is, gives.call.met.0)
 
 pub merge-requires-clause-dealt : goal.merge-requires-clause-dealt
 merge-requires-clause-dealt g c =
