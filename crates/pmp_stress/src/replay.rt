@@ -5,11 +5,12 @@ use pmp_core::{Event, RegFile};
 use pmp_share::{Batch, Checker};
 use std::alloc::{AllocError, Global};
 
-/// The published events, and where each batch ends.
+/// The published events, and where each batch and each publication ends.
 #[derive(Drop)]
 pub struct Published {
     events: Vec<Event>,
     ends: Vec<u64>,
+    publications: Vec<u64>,
 }
 
 impl Published {
@@ -17,6 +18,7 @@ impl Published {
         Published {
             events: Vec::new(alloc),
             ends: Vec::new(alloc),
+            publications: Vec::new(alloc),
         }
     }
 
@@ -26,12 +28,17 @@ impl Published {
         Ok(())
     }
 
+    /// All so far is published, in one publication with what came since the last.
+    pub fn end_publication(&mut self) -> Result<(), AllocError> {
+        self.publications.push(self.events.len() as u64)
+    }
+
     /// How many batches.
     pub fn batches(&self) -> usize {
         self.ends.len()
     }
 
-    /// Whether all that a checker answered is right: each decision is that of whole batches, which are never fewer
+    /// Whether all that a checker answered is right: each decision is that of whole publications, which are never fewer
     /// than before or than it was told. Where it came back it copies the same journal.
     pub fn fits(&self, done: &mut Done) -> bool {
         let is_copy = match &mut done.checker {
@@ -74,7 +81,7 @@ struct Replay<'a> {
 }
 
 impl<'a> Replay<'a> {
-    /// Goes on to so many events. False where these are no whole batches, or fewer than before.
+    /// Goes on to so many events. False where these are no whole publications, or fewer than before.
     fn goes_to(&mut self, count: usize) -> bool {
         if count == self.seen {
             return true;
@@ -84,7 +91,7 @@ impl<'a> Replay<'a> {
             None => return false,
         }
         self.seen = count;
-        self.published.ends.contains(&(count as u64))
+        self.published.publications.contains(&(count as u64))
     }
 
     /// Whether the answer is that of the events that it counts.

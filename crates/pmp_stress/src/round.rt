@@ -89,6 +89,7 @@ fn publish_random<R: Clock + Wait>(
         let since = Moment::now(rt);
         publisher.publish(rt)?;
         tally.add_publication(since.nanoseconds(rt));
+        published.end_publication()?;
     }
     tally.batches = tally.batches.wrapping_add(published.batches() as u64);
     Ok(())
