@@ -1,6 +1,6 @@
-// library: calls each function of the library on rows whose answers were worked out by hand from the manual, on the
-// whole truth table of Smepmp, and on units of random bytes that lie beside pages which may not be touched. The last
-// line is 'N passed, M failed'.
+// library: calls each function of the library on rows whose answers were worked out by hand from the manual, on numbers
+// with each high bit, on the whole truth table of Smepmp, and on units of random bytes that lie beside pages which may
+// not be touched. The last line is 'N passed, M failed'.
 #define _GNU_SOURCE
 #include "library.h"
 #include <string.h>
@@ -153,20 +153,126 @@ static uint32_t status_of(uint32_t csr) {
     return (csr >= PMPADDR0 && csr < PMPADDR0 + 64) || csr == MSECCFG ? TILVENKA_PMP_DONE : TILVENKA_PMP_NO_REGISTER;
 }
 
-// Each number, whether it names a register or not. What is refused leaves the value and the unit as they were.
+// Whether a number names the register that it should, or none. What is refused leaves the value and the unit as they
+// were.
+static bool is_named_right(tilvenka_pmp_unit *unit, uint32_t csr) {
+    static tilvenka_pmp_unit before;
+    uint32_t status = status_of(csr);
+    uint64_t value = 77;
+    bool is_right = tilvenka_pmp_read(unit, csr, &value) == status;
+    is_right &= value == (status == TILVENKA_PMP_DONE ? 0 : 77);
+    before = *unit;
+    is_right &= tilvenka_pmp_write(unit, csr, 0) == status;
+    return is_right && (status == TILVENKA_PMP_DONE || memcmp(unit, &before, sizeof before) == 0);
+}
+
+// Each number below 0x2000, and each register's with a bit more: one cut to sixteen bits would name a register there.
 static void try_numbers(void) {
-    static tilvenka_pmp_unit unit, before;
+    static tilvenka_pmp_unit unit;
     tilvenka_pmp_build(&unit);
-    for (uint32_t csr = 0; csr < 0x2000; csr++) {
-        uint32_t status = status_of(csr);
-        uint64_t value = 77;
-        bool is_right = tilvenka_pmp_read(&unit, csr, &value) == status;
-        is_right &= value == (status == TILVENKA_PMP_DONE ? 0 : 77);
-        before = unit;
-        is_right &= tilvenka_pmp_write(&unit, csr, 0) == status;
-        is_right &= status == TILVENKA_PMP_DONE || memcmp(&unit, &before, sizeof unit) == 0;
-        expect(is_right, "CSR number", csr);
+    for (uint32_t csr = 0; csr < 0x2000; csr++)
+        expect(is_named_right(&unit, csr), "CSR number", csr);
+    tilvenka_pmp_build(&unit);
+    for (unsigned bit = 13; bit < 32; bit++)
+        for (uint32_t csr = PMPCFG0; csr <= MSECCFG; csr++)
+            expect(is_named_right(&unit, csr + (UINT32_C(1) << bit)), "CSR number with a bit more", csr);
+}
+
+// Numbers with high bits. A call that took fewer bits of one of them would answer as for the low bits alone.
+
+// Only the page at 0 has an entry, by which user mode may load.
+static tilvenka_pmp_unit page_at_zero(void) {
+    tilvenka_pmp_unit unit;
+    tilvenka_pmp_reset(&unit, 64);
+    write_all(&unit, "3b0=1ff 3a0=19");
+    return unit;
+}
+
+static uint32_t decide_by_page(uint32_t mode, uint32_t kind, uint64_t start, uint64_t length) {
+    tilvenka_pmp_unit unit = page_at_zero();
+    return decide(&unit, mode, kind, start, length);
+}
+
+// The rights without a map, where those by one are the same.
+static uint32_t rights_by_page(uint32_t mode, uint64_t start, uint64_t length) {
+    tilvenka_pmp_unit unit = page_at_zero();
+    uint32_t rights = tilvenka_pmp_rights(&unit, mode, start, length);
+    tilvenka_pmp_build(&unit);
+    return tilvenka_pmp_rights(&unit, mode, start, length) == rights ? rights : UINT32_MAX;
+}
+
+static void try_wide_addresses(void) {
+    expect(decide_by_page(U, LOAD, 0, 4) == 0 && rights_by_page(U, 0, 4096) == TILVENKA_PMP_READ, "the page at 0", 0);
+    for (unsigned bit = 12; bit < 64; bit++) {
+        uint64_t high = UINT64_C(1) << bit;
+        bool is_address = bit < 56;
+        expect(decide_by_page(U, LOAD, high, 4) == (is_address ? NONE + 5 * 1024 : NO_ACCESS), "start with bit", bit);
+        expect(decide_by_page(U, LOAD, 0, high + 4) == NO_ACCESS, "length with bit", bit);
+        expect(rights_by_page(U, high, 4096) == (is_address ? 0 : TILVENKA_PMP_NO_RANGE), "range at bit", bit);
+        expect(rights_by_page(U, 0, high + 4096) == (is_address ? TILVENKA_PMP_MIXED : TILVENKA_PMP_NO_RANGE),
+               "range of a length with bit", bit);
     }
+}
+
+// Any `near` leaves the answer as it is.
+static void try_wide_words(void) {
+    tilvenka_pmp_unit unit = page_at_zero(), built = unit;
+    tilvenka_pmp_build(&built);
+    for (unsigned bit = 2; bit < 32; bit++) {
+        uint32_t high = UINT32_C(1) << bit;
+        for (unsigned low = 0; low < 3; low++) {
+            expect(decide_by_page(MODES[low] + high, LOAD, 0, 4) == NO_ACCESS, "mode with bit", bit);
+            expect(rights_by_page(MODES[low] + high, 0, 4096) == TILVENKA_PMP_NO_RANGE, "mode of a range, bit", bit);
+            expect(decide_by_page(U, low + high, 0, 4) == NO_ACCESS, "kind with bit", bit);
+            expect(tilvenka_pmp_decide_near(&unit, low + high, U, LOAD, 0, 4).answer == 0
+                       && tilvenka_pmp_decide_near(&built, low + high, U, LOAD, 0, 4).answer == 0
+                       && tilvenka_pmp_decide_near(&built, low + high, U, LOAD, 4096, 4).answer == NONE + 5 * 1024,
+                   "near with bit", bit);
+        }
+    }
+}
+
+// Whether the register reads this after a write of the value to a unit after reset.
+static bool is_stored(uint32_t csr, uint64_t value, uint64_t stored) {
+    tilvenka_pmp_unit unit = {0};
+    return tilvenka_pmp_write(&unit, csr, value) == TILVENKA_PMP_DONE && read_csr(&unit, csr) == stored;
+}
+
+// W without R, and bits 6 and 5 of a configuration byte, aren't stored.
+static void try_wide_values(void) {
+    for (unsigned bit = 0; bit < 64; bit++) {
+        uint64_t value = UINT64_C(1) << bit;
+        expect(is_stored(PMPADDR0, value, bit < 54 ? value : 0), "address of bit", bit);
+        expect(is_stored(PMPCFG0, value, 0x9d >> bit % 8 & 1 ? value : 0), "configuration of bit", bit);
+        expect(is_stored(MSECCFG, value, bit < 3 ? value : 0), "mseccfg of bit", bit);
+    }
+}
+
+// How many entries the unit has: it has the register of the last one, or it hasn't.
+static uint64_t entries_of(tilvenka_pmp_unit *unit) {
+    tilvenka_pmp_registers saved;
+    tilvenka_pmp_write(unit, PMPADDR0 + 63, 5);
+    tilvenka_pmp_save(unit, &saved);
+    return read_csr(unit, PMPADDR0 + 63) == (saved.entries == 64 ? 5 : 0) ? saved.entries : UINT64_MAX;
+}
+
+static void try_wide_sizes(void) {
+    tilvenka_pmp_unit unit;
+    tilvenka_pmp_registers registers = {0};
+    for (unsigned bit = 0; bit < 64; bit++) {
+        registers.entries = 64 ^ UINT64_C(1) << bit;
+        tilvenka_pmp_reset(&unit, registers.entries);
+        expect(entries_of(&unit) == 16, "reset with bit", bit);
+        tilvenka_pmp_restore(&unit, &registers);
+        expect(entries_of(&unit) == 16, "snapshot of a size with bit", bit);
+        unit.map.runs = UINT64_C(1) << bit;
+        expect(tilvenka_pmp_is_built(&unit), "map with bit", bit);
+    }
+    registers.entries = 64;
+    tilvenka_pmp_restore(&unit, &registers);
+    expect(entries_of(&unit) == 64, "snapshot of a size", 64);
+    tilvenka_pmp_reset(&unit, 64);
+    expect(entries_of(&unit) == 64, "reset", 64);
 }
 
 // Smepmp's truth table: L, R, W, X, and what machine mode and the other modes then have.
@@ -274,6 +380,28 @@ static void try_snapshot(void) {
            "snapshot", 1);
 }
 
+// Each register has a value of its own, of all its bits.
+static void try_full_snapshot(void) {
+    tilvenka_pmp_unit unit;
+    tilvenka_pmp_registers full, saved;
+    memset(&full, 0, sizeof full);
+    for (unsigned entry = 0; entry < TILVENKA_PMP_MAX_ENTRIES; entry++) {
+        full.addresses[entry] = UINT64_C(0x3fffffffffffff) - entry * UINT64_C(0x10000000001);
+        full.configurations[entry] = (uint8_t[]){0x9f, 0x1d, 0x8b, 0x11}[entry % 4];
+    }
+    full.mseccfg = 7;
+    full.entries = 64;
+    tilvenka_pmp_restore(&unit, &full);
+    memset(&saved, 0xff, sizeof saved);
+    tilvenka_pmp_save(&unit, &saved);
+    expect(memcmp(&saved, &full, sizeof saved) == 0, "snapshot of all bits", 0);
+    for (unsigned entry = 0; entry < TILVENKA_PMP_MAX_ENTRIES; entry++)
+        expect(read_csr(&unit, PMPADDR0 + entry) == full.addresses[entry], "address of a snapshot", entry);
+    for (unsigned word = 0; word < 16; word += 2)
+        expect(read_csr(&unit, PMPCFG0 + word) == UINT64_C(0x118b1d9f118b1d9f), "configurations of a snapshot", word);
+    expect(read_csr(&unit, MSECCFG) == 7, "mseccfg of a snapshot", 0);
+}
+
 // Units of random bytes.
 
 // A number that is often small, or near a power of two.
@@ -354,9 +482,14 @@ int main(void) {
     try_readings();
     try_sizes();
     try_numbers();
+    try_wide_addresses();
+    try_wide_words();
+    try_wide_values();
+    try_wide_sizes();
     try_truth_table();
     try_ranges();
     try_snapshot();
+    try_full_snapshot();
     try_random_units();
     printf("%u passed, %u failed\n", passed, failed);
     return failed != 0;

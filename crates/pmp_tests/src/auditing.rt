@@ -7,30 +7,43 @@ use std::sync::atomic::{AtomicBool, AtomicU64, Ordering};
 const SCRIPT: &[u8] = b"pmp 1\nwrite pmpaddr0 0x200001ff\nwrite pmpcfg0 0x19\npublish\n\
     write pmpcfg0 0x1900\nwrite pmpaddr1 0x200001ff\npublish\n";
 
-/// Three rows before the first publication, one after it and four after the second: the workers begin anew each time.
-const TRACE: &[u8] = b"after,mode,kind,start,length\n0,U,load,0x80000000,4\n0,U,load,0x80000000,4\n\
-    0,U,store,0x80000000,4\n1,U,load,0x80000000,4\n2,U,load,0x80000000,4\n2,U,store,0x80000000,4\n\
-    2,U,load,0x80000000,4\n2,M,store,0x80000000,4\n";
+/// How long a worker waits for the others: for far longer than it takes them on a busy machine.
+const TURNS: u32 = 1_000_000_000;
 
-/// How long a worker waits for the others.
-const TURNS: u32 = 50_000_000;
+const WORKERS: u64 = 8;
 
-/// Adds the worker's number, from 1, to a byte of the row's own, and waits until three rows were passed.
+/// The rows before this one ask for no publication, and it and those behind it for two: the workers begin anew with it.
+const SECOND: u64 = 12;
+
+/// How many rows there are.
+const ROWS: u64 = 31;
+
+/// Looks at each row that passes, and holds the worker until a row of each worker has passed.
 #[derive(Drop)]
 struct Meeting {
-    rows: AtomicU64,
     calls: AtomicU64,
+    /// A bit for each row.
+    rows: AtomicU64,
+    /// Of each worker, the last row that it passed.
+    last: [AtomicU64; 8],
+    is_wrong: AtomicBool,
     missed: AtomicBool,
 }
 
-impl Gate for Meeting {
-    fn pass(&self, worker: u8, row: u64) {
-        let place = row.wrapping_sub(1) % 8;
-        let mark = (u64::from(worker) + 1) << (8 * place as u32);
-        self.rows.fetch_add(mark, Ordering::SeqCst);
-        self.calls.fetch_add(1, Ordering::SeqCst);
+impl Meeting {
+    /// Whether it is the worker's turn, no row before was this one, and the worker's last one is less.
+    fn is_next(&self, worker: u8, row: u64) -> bool {
+        let first = if row < SECOND { 1 } else { SECOND };
+        let bit = 1 << (row % 64);
+        let is_turn = u64::from(worker) == row.wrapping_sub(first) % WORKERS;
+        let is_new = self.rows.fetch_or(bit, Ordering::SeqCst) & bit == 0;
+        let place = usize::from(worker % 8);
+        is_turn && is_new && self.last[place].swap(row, Ordering::SeqCst) < row
+    }
+
+    fn wait(&self) {
         for _ in 0..TURNS {
-            if self.calls.load(Ordering::SeqCst) >= 3 {
+            if self.calls.load(Ordering::SeqCst) >= WORKERS || self.missed.load(Ordering::SeqCst) {
                 return;
             }
         }
@@ -38,22 +51,74 @@ impl Gate for Meeting {
     }
 }
 
-/// A body that runs its workers one after another is refused here: the first waits for the others in vain. Each row
-/// passes the gate once, by the worker whose turn it is.
+impl Gate for Meeting {
+    fn pass(&self, worker: u8, row: u64) {
+        if !self.is_next(worker, row) {
+            self.is_wrong.store(true, Ordering::SeqCst);
+        }
+        self.calls.fetch_add(1, Ordering::SeqCst);
+        self.wait();
+    }
+}
+
+fn zero() -> AtomicU64 {
+    AtomicU64::new(0)
+}
+
+/// Each row passes the gate once, by the worker whose turn it is, before that worker's next row, in both rounds. A body
+/// that runs its workers one after another, or fewer of them, is refused here: the first waits for the others in vain. So
+/// is one that passes the gate twice with a row, or not at all, or by another worker, or out of order.
 #[test]
 fn workers_overlap(rt: HostRuntime) {
     let gate = Meeting {
-        rows: AtomicU64::new(0),
-        calls: AtomicU64::new(0),
+        calls: zero(),
+        rows: zero(),
+        last: [
+            zero(),
+            zero(),
+            zero(),
+            zero(),
+            zero(),
+            zero(),
+            zero(),
+            zero(),
+        ],
+        is_wrong: AtomicBool::new(false),
         missed: AtomicBool::new(false),
     };
+    let mut trace = Vec::new(rt.alloc());
+    let header = b"after,mode,kind,start,length\n".as_slice();
+    trace.extend_from_slice(header).ok().expect(&rt, "memory");
+    for row in 1..ROWS + 1 {
+        let text = if row < SECOND {
+            b"0,U,load,0x80000000,4\n".as_slice()
+        } else {
+            b"2,U,load,0x80000000,4\n".as_slice()
+        };
+        trace.extend_from_slice(text).ok().expect(&rt, "memory");
+    }
     let mut report = Vec::new(rt.alloc());
-    let answer = audit_shared(&rt, rt.alloc(), &gate, 3, SCRIPT, TRACE, &mut report);
-    assert!(rt; answer == Ok(Summary { rows: 8, faults: 4 }));
+    let answer = audit_shared(
+        &rt,
+        rt.alloc(),
+        &gate,
+        8,
+        SCRIPT,
+        trace.as_slice(),
+        &mut report,
+    );
+    assert!(rt;
+        answer
+            == Ok(Summary {
+                rows: 31,
+                faults: 11
+            })
+    );
     assert!(rt;
         !gate.missed.load(Ordering::SeqCst),
         "a worker waited in vain"
     );
-    assert!(rt; gate.calls.load(Ordering::SeqCst) == 8);
-    assert!(rt; gate.rows.load(Ordering::SeqCst) == 0x0103_0201_0103_0201);
+    assert!(rt; !gate.is_wrong.load(Ordering::SeqCst), "another row");
+    assert!(rt; gate.calls.load(Ordering::SeqCst) == ROWS);
+    assert!(rt; gate.rows.load(Ordering::SeqCst) == 0xffff_fffe);
 }

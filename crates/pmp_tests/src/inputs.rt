@@ -1,20 +1,32 @@
 //! Readers that never end, and readers that fail.
 
-use pmp_text::{InputFault, read_bytes};
+use pmp_text::{
+    InputFault, MAX_SCRIPT, MAX_TRACE, ScriptFault, ScriptKind, TraceFault, TraceKind, read_bytes,
+    read_script, read_trace,
+};
+use std::alloc::Global;
 use std::io;
 use std::io::{ErrorKind, Read};
+use std::process::Abort;
 
-/// Gives up to seven bytes at a read, and fails once it has given so many.
+/// Gives up to seven bytes at a read. Once it has given so many, it fails at one read, and ends at the next.
 #[derive(Drop)]
 struct Failing {
     given: u64,
     most: u64,
     kind: ErrorKind,
+    failed: bool,
+    reads: u64,
 }
 
 impl Read for Failing {
     fn read(&mut self, buf: &mut [u8]) -> io::Result<usize> {
+        self.reads = self.reads.saturating_add(1);
+        if self.failed {
+            return Ok(0);
+        }
         if self.given >= self.most {
+            self.failed = true;
             return Err(io::Error::from(self.kind));
         }
         let count = buf.len().min(7);
@@ -23,21 +35,52 @@ impl Read for Failing {
     }
 }
 
-/// A reader that never ends gives one byte above the limit and no more. A failed read isn't tried again.
+/// A reader that never ends gives one byte above the limit and no more. A failed read isn't tried again: a second try
+/// would find the end, and what was read before would be an answer.
 #[test]
 fn takes_no_more_than_it_needs(rt: HostRuntime) {
-    for (most, kind, given, fault) in [
-        (u64::MAX, ErrorKind::Other, 101, InputFault::TooLong),
-        (98, ErrorKind::Other, 98, InputFault::Input),
-        (98, ErrorKind::Interrupted, 98, InputFault::Input),
+    for (most, kind, given, reads, fault) in [
+        (u64::MAX, ErrorKind::Other, 101, 15, InputFault::TooLong),
+        (98, ErrorKind::Other, 98, 15, InputFault::Input),
+        (98, ErrorKind::Interrupted, 98, 15, InputFault::Input),
+        (0, ErrorKind::Other, 0, 1, InputFault::Input),
     ] {
         let mut reader = Failing {
             given: 0,
             most,
             kind,
+            failed: false,
+            reads: 0,
         };
         let answer = read_bytes(rt.alloc(), &mut reader, 100);
         assert!(rt; answer.err() == Some(fault));
-        assert!(rt; reader.given == given);
+        assert!(rt; reader.given == given && reader.reads == reads);
     }
+}
+
+/// So many blocks of 4,096 line feeds, and one more.
+fn line_feeds(rt: &impl Abort, alloc: Global, blocks: usize) -> Vec<u8> {
+    let mut text = Vec::new(alloc);
+    text.push(b'\n').ok().expect(rt, "memory");
+    for _ in 0..blocks {
+        text.extend_from_slice(&[b'\n'; 4096])
+            .ok()
+            .expect(rt, "memory");
+    }
+    text
+}
+
+/// One byte above the limit. A reader that looked at the text would answer that there is no version, and no header.
+#[test]
+fn longer_texts_are_too_long(rt: HostRuntime) {
+    let script = line_feeds(&rt, rt.alloc(), MAX_SCRIPT / 4096);
+    let (kind, line) = (ScriptKind::TooLong, 0);
+    assert!(rt;
+        read_script(rt.alloc(), script.as_slice()).err() == Some(ScriptFault { kind, line })
+    );
+    let trace = line_feeds(&rt, rt.alloc(), MAX_TRACE / 4096);
+    let (kind, row) = (TraceKind::TooLong, 0);
+    assert!(rt;
+        read_trace(rt.alloc(), trace.as_slice(), 0).err() == Some(TraceFault { kind, row })
+    );
 }

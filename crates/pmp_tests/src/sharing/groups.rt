@@ -6,7 +6,8 @@ use pmp_core::{Access, Kind, Mode, Size};
 use pmp_share::GROUP_ACCESSES;
 use std::test::Fail;
 
-/// A group is decided in its order, also after the end, and has none to sixteen accesses.
+/// A group is decided in its order, also after the end, and has none to sixteen accesses. One of a single access looks
+/// too: without that it would be decided by entry 0, in 2 events.
 #[test]
 fn a_group_is_decided_in_its_order(rt: HostRuntime) -> Result<(), Fail> {
     let past = Access::new(Mode::U, Kind::Load, 0x80001000, 4)?;
@@ -15,6 +16,7 @@ fn a_group_is_decided_in_its_order(rt: HostRuntime) -> Result<(), Fail> {
     unit.publish(&rt, &ENTRY_ZERO, 2);
     unit.look_at_group(&rt, &accesses, &[by_entry(0), BY_NO_ENTRY, by_entry(0)], 2);
     unit.publish(&rt, &ENTRY_ONE, 4);
+    unit.look_at_group(&rt, &[accesses[0]], &[by_entry(1)], 4);
     unit.look_at_group(&rt, &[], &[], 4);
     unit.look_at_group(&rt, &[accesses[0]; GROUP_ACCESSES], &[by_entry(1); 16], 4);
     let mut left = unit.end(&rt);

@@ -1,9 +1,12 @@
 //! How much a unit holds.
 
+ghost use Rattle.std.specs.Prelude.{◌≤◌};
+ghost use Rattle.pmp_share.specs.declared.opening.TheConstants.{CHECKERS};
+
 use super::ENTRY_ZERO;
 use super::unit::{by_entry, look, publish, tell};
 use pmp_core::{BATCH_EVENTS, Csr, Event};
-use pmp_share::{Batch, Checker, HISTORY_LIMIT, Publisher, ShareFault, start};
+use pmp_share::{Batch, CHECKERS, Checker, HISTORY_LIMIT, Publisher, ShareFault, start};
 use std::alloc::Global;
 use std::process::Abort;
 use std::sync::Wait;
@@ -24,15 +27,25 @@ fn unit_of_one<R: Wait + Abort>(rt: &R, alloc: Global) -> (Publisher, Checker) {
     (publisher, checker)
 }
 
+/// The last 64 events join in batches of one and of 63. A unit that takes one event too many is refused here, and so is one
+/// that asks for room for a whole batch whatever the batch has.
 #[test]
 fn a_unit_holds_so_many_events(rt: HostRuntime) {
     let (mut publisher, _checker) = unit_of_one(&rt, rt.alloc());
-    let full = Batch::of(&[Event::Write(Csr::Addr(0), 1); BATCH_EVENTS]).expect(&rt, "room");
+    let event = Event::Write(Csr::Addr(0), 1);
+    let full = Batch::of(&[event; BATCH_EVENTS]).expect(&rt, "room");
+    let most = Batch::of(&[event; 63]).expect(&rt, "room");
+    let one = Batch::of(&[event]).expect(&rt, "room");
+    assert!(rt; Batch::of(&[event; 65]).is_err());
     submit_all(&rt, &mut publisher, &full, 8192);
     assert!(rt; publisher.publish(&rt) == Ok(524_288));
-    submit_all(&rt, &mut publisher, &full, 8192);
-    assert!(rt; publisher.publish(&rt) == Ok(1_048_576));
+    submit_all(&rt, &mut publisher, &full, 8191);
+    submit_all(&rt, &mut publisher, &one, 1);
     assert!(rt; publisher.submit(&full) == Err(ShareFault::Full));
+    submit_all(&rt, &mut publisher, &most, 1);
+    assert!(rt; publisher.submit(&one) == Err(ShareFault::Full));
+    assert!(rt; publisher.publish(&rt) == Ok(1_048_576));
+    assert!(rt; publisher.submit(&one) == Err(ShareFault::Full));
     assert!(rt; publisher.pending_len() == 0);
     publish(&rt, &mut publisher, &[], 1_048_576);
     assert!(rt; tell(&rt, &mut publisher).len() == 1_048_576);
@@ -52,21 +65,32 @@ fn a_unit_holds_so_many_batches(rt: HostRuntime) {
     publisher.end(&rt);
 }
 
-#[test]
-fn so_many_notices_are_out_at_once(rt: HostRuntime) {
-    let (mut publisher, _checker) = unit_of_one(&rt, rt.alloc());
-    let mut notices = Vec::new(rt.alloc());
-    for _ in 1..PLACES {
-        let notice = tell(&rt, &mut publisher);
-        notices.push(notice).ok().expect(&rt, "memory");
+/// With so many checkers, gives as many notices as there are places left, and no more. A place is free again once its
+/// notice is dropped.
+fn use_all_places<R: Wait + Abort>(rt: &R, alloc: Global, count: u8)
+    requires { (1 ≤ count) × (count ≤ CHECKERS) }
+{
+    let (mut publisher, checkers) = start(rt, alloc, count).expect(rt, "memory");
+    assert!(rt; checkers.len() == usize::from(count));
+    let mut notices = Vec::new(alloc);
+    for _ in usize::from(count)..PLACES {
+        let notice = tell(rt, &mut publisher);
+        notices.push(notice).ok().expect(rt, "memory");
     }
     assert!(rt; publisher.tell().err() == Some(ShareFault::NoPlace));
     drop(notices.pop());
-    let notice = tell(&rt, &mut publisher);
-    notices.push(notice).ok().expect(&rt, "memory");
+    let notice = tell(rt, &mut publisher);
+    notices.push(notice).ok().expect(rt, "memory");
     assert!(rt; publisher.tell().err() == Some(ShareFault::NoPlace));
-    publish(&rt, &mut publisher, &ENTRY_ZERO, 2);
+    publish(rt, &mut publisher, &ENTRY_ZERO, 2);
     drop(notices);
-    assert!(rt; tell(&rt, &mut publisher).len() == 2);
-    publisher.end(&rt);
+    assert!(rt; tell(rt, &mut publisher).len() == 2);
+    publisher.end(rt);
+}
+
+/// A unit is refused here that has a place more or fewer, or keeps the place of a notice that was dropped.
+#[test]
+fn so_many_checkers_and_notices_are_out_at_once(rt: HostRuntime) {
+    use_all_places(&rt, rt.alloc(), 1);
+    use_all_places(&rt, rt.alloc(), CHECKERS);
 }

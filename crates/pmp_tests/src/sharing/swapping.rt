@@ -3,7 +3,7 @@
 ghost use Rattle.std.specs.Prelude.{◌≡◌, ◌+◌, ◌*◌, ◌≤◌};
 ghost use Rattle.pmp_share.specs.declared.opening.TheConstants.{CHECKERS};
 
-use super::unit::{page_load, publish, tell};
+use super::unit::{page_load, publish, publish_apart, submit, tell};
 use super::{ENTRY_ONE, ENTRY_ZERO};
 use pmp_core::{Cause, Csr, Decision, Event, Size};
 use pmp_share::{CHECKERS, Checker, GROUP_ACCESSES, Notice, Publisher, start_of};
@@ -16,6 +16,9 @@ use std::thread::{JoinHandle, Threads};
 
 /// How often two entries are swapped and swapped back.
 const ROUNDS: u32 = 200;
+
+/// How many batches that takes: the opening, two a round, and five in every second round.
+const BATCHES: u64 = 1 + 100 * 2 + 100 * 5;
 
 /// Two neighbouring entries, of which one reads the page at a time.
 #[derive(Drop)]
@@ -123,12 +126,18 @@ fn watch_told(rt: &impl Abort, mut checker: Checker, notice: Notice)
 }
 
 impl Swap {
-    /// Publishes the way there and the way back in each of these rounds, each by itself.
+    /// Publishes the way there and the way back in each of these rounds, each by itself. In every second round each event
+    /// is a batch of its own, and a body that shows where one of these batches ends is refused: `fits` has no such number.
     fn publish<R: Wait + Abort>(&self, rt: &R, publisher: &mut Publisher, rounds: Range<u32>) {
         for round in rounds {
             let before = events_after(round);
-            publish(rt, publisher, &self.there, before + 2);
-            publish(rt, publisher, &self.back, before + 5);
+            if round % 2 == 0 {
+                publish(rt, publisher, &self.there, before + 2);
+                publish(rt, publisher, &self.back, before + 5);
+            } else {
+                publish_apart(rt, publisher, &self.there, before + 2);
+                publish_apart(rt, publisher, &self.back, before + 5);
+            }
         }
     }
 }
@@ -178,6 +187,27 @@ fn stretch<R: Threads + Wait + Abort + Copy + Send + 'static>(
     back
 }
 
+/// Ends the publisher while a reset is pending and all checkers, who have seen all rounds, decide on threads. They see no
+/// more, since no number of events with the reset fits; and the journal that comes back has the batches of all rounds.
+fn end_with_a_batch_pending<R: Threads + Wait + Abort + Copy + Send + 'static>(
+    rt: &R,
+    alloc: Global,
+    first: u8,
+    mut publisher: Publisher,
+    checkers: Vec<Checker>,
+) {
+    let count = events_after(ROUNDS);
+    let threads = send_out(rt, alloc, first, checkers, count, 1_000);
+    submit(rt, &mut publisher, &[Event::Reset]);
+    let journal = publisher.end(rt);
+    assert!(rt; journal.events().len() as u64 == count);
+    assert!(rt; journal.ends().len() as u64 == BATCHES);
+    assert!(rt; journal.ends().last() == Some(&count));
+    for thread in threads {
+        thread.join(rt);
+    }
+}
+
 /// Publishes all rounds, in so many stretches, while so many checkers decide 10,000 times each. In the end each decides
 /// in all rounds.
 fn swap_before<R: Threads + Wait + Abort + Copy + Send + 'static>(
@@ -214,7 +244,7 @@ fn swap_before<R: Threads + Wait + Abort + Copy + Send + 'static>(
         10,
     );
     assert!(rt; checkers.len() == usize::from(count));
-    publisher.end(rt);
+    end_with_a_batch_pending(rt, alloc, swap.first, publisher, checkers);
 }
 
 #[test]

@@ -5,7 +5,7 @@ ghost use Rattle.pmp_share.specs.declared.group.TheConstants.{GROUP_ACCESSES};
 
 use super::asking::ask_both;
 use pmp_core::{Access, Cause, Decision, Event, Kind, Mode, Size};
-use pmp_share::{Batch, Checker, GROUP_ACCESSES, Moved, Notice, Publisher, start_of};
+use pmp_share::{Batch, Checker, GROUP_ACCESSES, Journal, Moved, Notice, Publisher, start_of};
 use std::alloc::Global;
 use std::process::Abort;
 use std::sync::Wait;
@@ -40,6 +40,19 @@ pub fn publish<R: Wait + Abort>(rt: &R, publisher: &mut Publisher, events: &[Eve
     ensures { publisher.new.unit ≡ publisher.old.unit }
 {
     submit(rt, publisher, events);
+    assert!(rt; publisher.publish(rt) == Ok(count));
+}
+
+/// Publishes these events too in one publication, each as a batch of its own, after which there are so many.
+pub fn publish_apart<R: Wait + Abort>(
+    rt: &R,
+    publisher: &mut Publisher,
+    events: &[Event],
+    count: u64,
+) {
+    for event in events {
+        submit(rt, publisher, &[*event]);
+    }
     assert!(rt; publisher.publish(rt) == Ok(count));
 }
 
@@ -89,11 +102,12 @@ pub struct Unit {
     pub ghost second_unit: { second.unit ≡ publisher.unit },
 }
 
-/// Two checkers whose publisher has ended, and a notice that it gave last.
+/// Two checkers whose publisher has ended, a notice that it gave last, and what it published.
 #[derive(Drop)]
 pub struct Left {
     pub first: Checker,
     pub second: Checker,
+    pub journal: Journal,
     pub late: Notice,
     pub ghost same_unit: { late.unit ≡ second.unit },
 }
@@ -191,10 +205,11 @@ impl Unit {
             second,
         } = self;
         let late = tell(rt, &mut publisher);
-        publisher.end(rt);
+        let journal = publisher.end(rt);
         Left {
             first,
             second,
+            journal,
             late,
         }
     }
@@ -206,6 +221,7 @@ impl Left {
         let Left {
             first: _,
             mut second,
+            journal: _,
             late,
         } = self;
         second.learn(late);
