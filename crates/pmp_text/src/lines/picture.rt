@@ -1,6 +1,7 @@
 //! The runs of a register file as a picture, an SVG document.
 
-ghost use Rattle.std.specs.Prelude.{◌≡◌, ◌+◌, ◌-◌, ◌^◌, ◌<◌, ◌≤◌, ◌++◌, IfSome, List, ℕ, length, OnOk, OnErr, Some, decimal};
+ghost use Rattle.std.specs.Prelude.{◌≡◌, ◌+◌, ◌-◌, ◌^◌, ◌<◌, ◌≤◌, ◌++◌, List, ℕ, length, decimal};
+ghost use Rattle.std.specs.Prelude.{IfSome, OnOk, OnErr, Some};
 ghost use Rattle.pmp_map.specs.declared.run.TheConstants.{RUNS};
 ghost use Rattle.pmp_map.specs.Runs.{AreRuns, HasOwnersBelow};
 ghost use Rattle.pmp_text.specs.Picture.{IsPicture, band, bands, ends, extent, head, lock_sign, owner_name};

@@ -60,21 +60,12 @@ impl RowFields {
         ensures { result ≡ row_of_record (fields_of fields.now) }
     {
         let (after, mode, kind, start, length) = five_fields(fields)?;
-        let (Some(after), Some(mode), Some(kind), Some(start), Some(length)) = (
-            read_word_number(after),
-            read_mode(mode),
-            read_kind(kind),
-            read_word_number(start),
-            read_word_number(length),
-        ) else {
-            return None;
-        };
         Some(RowFields {
-            after,
-            mode,
-            kind,
-            start,
-            length,
+            after: read_word_number(after)?,
+            mode: read_mode(mode)?,
+            kind: read_kind(kind)?,
+            start: read_word_number(start)?,
+            length: read_word_number(length)?,
         })
     }
 
