@@ -18,7 +18,7 @@ use Rattle.pmp_text.specs.Outcomes.{GivesRows}
 use Rattle.pmp_text.specs.TraceFaults.{after_before, row_fault_at, IsInOrder, afters}
 use Rattle.pmp_text.specs.Limits.{trace_limit}
 use Rattle.pmp_text.proofs.LeastFaults.{Judges, judged_here, judged_as, the_first}
-use Rattle.pmp_text.proofs.Rows.{this_header}
+use Rattle.pmp_text.proofs.Rows.{by_records, this_header}
 
 abbrev Records : Type 0
 Records = List (List (List ℕ))
@@ -77,7 +77,7 @@ module _ (publications : ℕ) where
       → length text ≤ trace_limit → trace_records text ≡ header ∷ rows → is_header header ≡ true
       → IsLeastFault (row_fault_at publications rows) fault → trace_meaning publications text ≡ Err fault
   least_row_is_answered text header rows fault short records named least =
-      this_header publications text short header rows records named
+      by_records publications text short ∙ this_header publications (trace_records text) header rows records named
       ∙ ap (λ (first : Option TraceFault). fault_or_rows first (filter_map row_of_record rows))
       (the_first (row_fault_at publications rows) (first_row_fault publications None 1 rows) fault
       (first_row_is_least rows) least)

@@ -15,7 +15,7 @@ use Rattle.pmp_text.specs.Picture.{band, bands}
 use Rattle.pmp_text.proofs.Numbered.{enumerate_from-push}
 
 -- a text that was appended after another
-joined : (old first last text more : List ℕ) → first ≡ old ++ text → last ≡ first ++ more
+pub joined : (old first last text more : List ℕ) → first ≡ old ++ text → last ≡ first ++ more
     → last ≡ old ++ (text ++ more)
 joined old first last text more one other = other ∙ ap (λ (l : List ℕ). l ++ more) one ∙ append_assoc old text more
 

@@ -23,20 +23,21 @@ module _ (publications : ℕ) (text : List ℕ) where
   unfolding trace_meaning
   long_trace long = cond-true _ _ _ (lt-ltb trace_limit (length text) long)
 
-  module _ (short : length text ≤ trace_limit) where
-    by_records : trace_meaning publications text ≡ records_meaning publications (trace_records text)
-    unfolding trace_meaning
-    by_records = cond-false _ _ _ (le-ltb trace_limit (length text) short)
+  pub by_records : length text ≤ trace_limit
+      → trace_meaning publications text ≡ records_meaning publications (trace_records text)
+  unfolding trace_meaning
+  by_records short = cond-false _ _ _ (le-ltb trace_limit (length text) short)
 
-    pub no_record : trace_records text ≡ [] → trace_meaning publications text ≡ Err (at_row 0 BadHeader)
-    no_record records = by_records ∙ ap (records_meaning publications) records
+module _ (publications : ℕ) (records : List (List (List ℕ))) where
+  pub no_record : records ≡ [] → records_meaning publications records ≡ Err (at_row 0 BadHeader)
+  no_record none = ap (records_meaning publications) none
 
-    module _ (header : List (List ℕ)) (rows : List (List (List ℕ))) (records : trace_records text ≡ header ∷ rows) where
-      abbrev with_header : Bool → Result (List RowFields) TraceFault
-      with_header is = cond is (rows_meaning publications rows) (Err (at_row 0 BadHeader))
+  module _ (header : List (List ℕ)) (rows : List (List (List ℕ))) (are : records ≡ header ∷ rows) where
+    abbrev with_header : Bool → Result (List RowFields) TraceFault
+    with_header is = cond is (rows_meaning publications rows) (Err (at_row 0 BadHeader))
 
-      pub other_header : is_header header ≡ false → trace_meaning publications text ≡ Err (at_row 0 BadHeader)
-      other_header e = by_records ∙ ap (records_meaning publications) records ∙ ap with_header e
+    pub other_header : is_header header ≡ false → records_meaning publications records ≡ Err (at_row 0 BadHeader)
+    other_header e = ap (records_meaning publications) are ∙ ap with_header e
 
-      pub this_header : is_header header ≡ true → trace_meaning publications text ≡ rows_meaning publications rows
-      this_header e = by_records ∙ ap (records_meaning publications) records ∙ ap with_header e
+    pub this_header : is_header header ≡ true → records_meaning publications records ≡ rows_meaning publications rows
+    this_header e = ap (records_meaning publications) are ∙ ap with_header e

@@ -25,7 +25,7 @@ use Rattle.pmp_text.specs.Scripts.{for_unit}
 use Rattle.pmp_text.specs.Scripts.{meaning_behind, lines_meaning, script_meaning}
 use Rattle.pmp_text.specs.Steps.Progress.{nothing_read, resumed}
 use Rattle.pmp_text.specs.Versions.{is_version_one, lines_meaning_in_one, meaning_in_one}
-use Rattle.pmp_text.specs.Versions.{VersionOneLaw, IsSameInTwo, in_sixty_four, VersionTwoLaw}
+use Rattle.pmp_text.specs.Versions.{IsReportInOne, VersionOneLaw, IsSameInTwo, in_sixty_four, VersionTwoLaw}
 use Rattle.pmp_text.proofs.Bounds.{publications_in, published_in}
 use Rattle.pmp_text.proofs.Meanings.{long_script, with_size}
 
@@ -72,13 +72,40 @@ as_in_one : (text : List ℕ) → lines_meaning (significant_lines text)
 unfolding script_meaning
 as_in_one text same = by_length (ltb script_limit (length text)) (significant_lines text) same
 
+module _ (batches : List (List Event)) (lines : List (List ℕ)) (trace text : List ℕ) where
+  abbrev in_sixteen : ScriptContents
+  in_sixteen = record { size = Sixteen; batches = batches; lines = lines }
+
+  reports_as_in_one : IsReport in_sixteen trace text → IsReportInOne batches trace text
+  reports_as_in_one said = record {
+    rows = said.rows;
+    decisions = said.decisions;
+    trace_means = said.trace_means;
+    decided = said.decided;
+    report = said.report;
+  }
+
+  reports_in_sixteen : IsReportInOne batches trace text → IsReport in_sixteen trace text
+  reports_in_sixteen said = record {
+    rows = said.rows;
+    decisions = said.decisions;
+    trace_means = said.trace_means;
+    decided = said.decided;
+    report = said.report;
+  }
+
 pub version_one : VersionOneLaw
 version_one text is =
     let same : lines_meaning (significant_lines text)
     ≡ for_unit Sixteen (lines_meaning_in_one (significant_lines text)) =
     ap lines_meaning is.lines_are ∙ lines_in_one is.version is.more is.says
     ∙ ap (λ (ls : List Line). for_unit Sixteen (lines_meaning_in_one ls)) (sym is.lines_are) in
-    record { meaning = as_in_one text same; files = λ batches lines done. refl }
+    record {
+      meaning = as_in_one text same;
+      files = λ batches lines done. refl;
+      reports = λ batches lines trace text.
+          (reports_as_in_one batches lines trace text, reports_in_sixteen batches lines trace text);
+    }
 
 -- ---- version 2: the lines behind the version are the same
 

@@ -1,21 +1,25 @@
 -- What the version of a script makes of it.
-use Rattle.std.specs.Prelude.{◌≡◌, ◌↔◌, ℕ, List, [], ◌∷◌, ◌++◌, All, length, take, Bool, true, false, ◌&&◌, Result, Ok}
-use Rattle.std.specs.Prelude.{Err, nat_lt, codes, bytes_eq, if◌then◌else◌}
-use Rattle.std.specs.List.{list_all}
+use Rattle.std.specs.Prelude.{◌≡◌, ◌↔◌, ℕ, List, [], ◌∷◌, ◌++◌, All, length, map, take, Bool, true, false, ◌&&◌}
+use Rattle.std.specs.Prelude.{Result, Ok, Err, nat_lt, codes, bytes_eq, if◌then◌else◌}
+use Rattle.std.specs.List.{AllZip, list_all}
+use Rattle.pmp_core.specs.declared.decision.Decision.{Decision}
 use Rattle.pmp_core.specs.declared.event.Event.{Event}
 use Rattle.pmp_core.specs.declared.register_file.TheConstants.{ENTRIES}
 use Rattle.pmp_core.specs.declared.size.Size.TheVariants.{Sixteen, SixtyFour}
+use Rattle.pmp_core.specs.Decision.{IsDecision}
 use Rattle.pmp_core.specs.Histories.{joined, file_after}
 use Rattle.pmp_core.specs.SizeLaw.{writes_sixteen}
 use Rattle.pmp_text.specs.declared.script.ScriptFault.{ScriptFault}
 use Rattle.pmp_text.specs.declared.script.ScriptKind.TheVariants.{BadVersion, TooLong}
+use Rattle.pmp_text.specs.declared.trace.Row.{Row}
 use Rattle.pmp_text.specs.Contents.{Publications, ScriptContents}
 use Rattle.pmp_text.specs.Limits.{script_limit}
 use Rattle.pmp_text.specs.Lines.{words, lines}
-use Rattle.pmp_text.specs.Reports.{IsReport, file_of_script}
+use Rattle.pmp_text.specs.Reports.{IsReport, file_of_script, report_text}
 use Rattle.pmp_text.specs.Scripts.{Line, at_line, counts, significant_lines, first_fault, first_unpublished}
 use Rattle.pmp_text.specs.Scripts.{publications}
 use Rattle.pmp_text.specs.Scripts.{fault_or_publications, for_unit, script_meaning}
+use Rattle.pmp_text.specs.Traces.{row_fields, trace_meaning}
 
 -- ---- version 1
 
@@ -45,13 +49,26 @@ pub record IsVersionOne (text : List ℕ) : Type 0 where
   pub lines_are : significant_lines text ≡ version ∷ more
   pub says : version.words ≡ codes "pmp" ∷ codes "1" ∷ []
 
--- it has the fault or the publications that it has where that version is the only one, and these are done in a unit of
--- sixteen entries
+-- the report where version 1 is the only one: the trace has these rows, and the text reports their decisions, each in
+-- the file of sixteen entries after the publications that the row asks for
+pub record IsReportInOne (batches : List (List Event)) (trace text : List ℕ) : Type 0 where
+  pub rows : List Row
+  pub decisions : List Decision
+  pub trace_means : trace_meaning (length batches) trace ≡ Ok (map row_fields rows)
+  pub decided : AllZip (λ row decision. IsDecision (file_after ENTRIES (take row.after batches)) row.access decision)
+      rows decisions
+  pub report : text ≡ report_text rows decisions
+
+-- it has the fault or the publications that it has where that version is the only one, these are done in a unit of
+-- sixteen entries, and every trace has the report that it has there
 pub record MeansAsInOne (text : List ℕ) : Type 0 where
   pub meaning : script_meaning text ≡ for_unit Sixteen (meaning_in_one text)
   pub files : (batches : List (List Event)) (lines : List (List ℕ)) (done : ℕ)
       → file_of_script (record { size = Sixteen; batches = batches; lines = lines }) done
       ≡ file_after ENTRIES (take done batches)
+  pub reports : (batches : List (List Event)) (lines : List (List ℕ)) (trace text : List ℕ)
+      → IsReport (record { size = Sixteen; batches = batches; lines = lines }) trace text
+      ↔ IsReportInOne batches trace text
 
 abbrev pub VersionOneLaw : Type 0
 VersionOneLaw = (text : List ℕ) → IsVersionOne text → MeansAsInOne text

@@ -43,7 +43,7 @@ pub fn law_names_read_back()
 {}
 
 /// A script of version 1 means what it means where that version is the only one: the same fault, else the same
-/// publications, in a unit of sixteen entries.
+/// publications, in a unit of sixteen entries, and with every trace the same report.
 pub fn law_version_one()
     ensures { VersionOneLaw }
 {}

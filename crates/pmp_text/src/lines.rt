@@ -11,7 +11,6 @@ mod registers;
 mod report;
 mod runs;
 
-use arrayvec::ArrayString;
 pub use effects::{EventPlace, write_effect};
 pub use entries::write_entries;
 pub use picture::write_picture;
@@ -19,10 +18,10 @@ pub use registers::write_registers;
 pub use report::write_row;
 pub use runs::write_runs;
 use std::alloc::AllocError;
-use std::fmt;
-use std::fmt::{Display, Write};
+use std::fmt::Display;
 
-/// Room for a line, or for a part of one. One of a picture has at most 107 bytes, and no other has more.
+/// The room that a line, or a part of one, takes at first. One of a picture has at most 107 bytes, and no other has
+/// more; a longer one would ask for memory again.
 const LINE: usize = 128;
 
 /// No memory for a text.
@@ -35,19 +34,13 @@ impl From<AllocError> for NoMemory {
     }
 }
 
-impl From<fmt::Error> for NoMemory {
-    fn from(_: fmt::Error) -> NoMemory {
-        NoMemory
-    }
-}
-
 /// Appends a line, or nothing.
 pub fn append_line<L: Display + Drop>(out: &mut Vec<u8>, line: L) -> Result<(), NoMemory>
     ensures ok { OnOk result (IfSome (L.output line) (λ text. out.new.items ≡ out.old.items ++ text)) }
     ensures err { OnErr result (out.new.items ≡ out.old.items) }
 {
-    let mut text = ArrayString::<LINE>::new();
-    write!(text, "{line}")?;
+    let mut text = String::with_capacity(*out.allocator(), LINE)?;
+    text.write(line)?;
     out.extend_from_slice(text.as_bytes())?;
     Ok(())
 }

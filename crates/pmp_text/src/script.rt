@@ -67,14 +67,14 @@ impl<T: Drop> From<AllocFailed<T>> for ScriptFault {
 
 /// The size of the unit that a script is for, and its publications, in their order. Each is a batch of at most
 /// [`BATCH_EVENTS`] events, perhaps empty.
-#[derive(Debug, Drop)]
+#[derive(Drop)]
 pub struct Script {
     size: Size,
     publications: Vec<Publication>,
 }
 
 /// A publication as a script has it.
-#[derive(Debug, Drop)]
+#[derive(Drop)]
 pub(crate) struct Publication {
     pub events: Vec<Event>,
     /// The line of each event.

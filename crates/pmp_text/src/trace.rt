@@ -14,7 +14,7 @@ pub use reader::{MAX_TRACE, read_trace};
 use std::alloc::AllocFailed;
 
 /// An access, and how many publications of the script are done before it.
-#[derive(Clone, Copy, Debug, PartialEq, Eq)]
+#[derive(Clone, Copy, PartialEq, Eq)]
 pub struct Row {
     pub after: u64,
     pub access: Access,

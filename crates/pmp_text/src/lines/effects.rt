@@ -15,7 +15,7 @@ use crate::names::RegisterName;
 use pmp_core::{Csr, Event, RegFile, WriteReason};
 
 /// Where an event stands in a script.
-#[derive(Clone, Copy, Debug, PartialEq, Eq)]
+#[derive(Clone, Copy)]
 pub struct EventPlace {
     /// The number of the event among all, from 1 on.
     pub number: u64,

@@ -1,9 +1,10 @@
 //! The runs of a register file as a picture, an SVG document.
 
-ghost use Rattle.std.specs.Prelude.{◌≡◌, ◌^◌, ◌<◌, ◌≤◌, ◌++◌, IfSome, List, ℕ, length, OnOk, OnErr, Some, decimal};
+ghost use Rattle.std.specs.Prelude.{◌≡◌, ◌+◌, ◌-◌, ◌^◌, ◌<◌, ◌≤◌, ◌++◌, List, ℕ, length, decimal};
+ghost use Rattle.std.specs.Prelude.{IfSome, OnOk, OnErr, Some};
 ghost use Rattle.pmp_map.specs.declared.run.TheConstants.{RUNS};
 ghost use Rattle.pmp_map.specs.Runs.{AreRuns, HasOwnersBelow};
-ghost use Rattle.pmp_text.specs.Picture.{IsPicture, band, bands, head, lock_sign, owner_name};
+ghost use Rattle.pmp_text.specs.Picture.{IsPicture, band, bands, ends, extent, head, lock_sign, owner_name};
 ghost use Rattle.pmp_text.specs.Picture.{settings, size_text, switch_text, title};
 
 use crate::lines::hexadecimal::Hex;
@@ -222,6 +223,27 @@ fn write_head(
     append_text(out, LEGEND)
 }
 
+/// Appends what a band says of its run: the first and the last byte, the size and the owner.
+fn write_extent(out: &mut Vec<u8>, run: &Run) -> Result<(), NoMemory>
+    requires proper { run.now.first ≤ run.now.last }
+    requires inside { run.now.last < 2 ^ 56 }
+    ensures { OnOk result (out.new.items ≡ out.old.items ++ (ends run.now.first run.now.last
+        ++ extent (run.now.last + 1 - run.now.first) run.now.owner)) }
+{
+    let first = Hex::<14>::new(run.first);
+    let last = Hex::<14>::new(run.last);
+    let size = Size(run.last + 1 - run.first);
+    let owner = OwnerName(run.owner);
+    append_line(
+        out,
+        format_args!("<text x='8'>0x{first}</text><text x='148'>0x{last}</text>"),
+    )?;
+    append_line(
+        out,
+        format_args!("<text x='292'>{size}</text><text x='496'>{owner}</text>"),
+    )
+}
+
 /// Appends the band of the run in this place.
 fn write_band(out: &mut Vec<u8>, file: &RegFile, place: usize, run: &Run) -> Result<(), NoMemory>
     requires place { place < RUNS }
@@ -231,10 +253,6 @@ fn write_band(out: &mut Vec<u8>, file: &RegFile, place: usize, run: &Run) -> Res
     ensures { OnOk result (out.new.items ≡ out.old.items ++ band file.now place run.now) }
 {
     let top = 24 * place;
-    let first = Hex::<14>::new(run.first);
-    let last = Hex::<14>::new(run.last);
-    let size = Size(run.last + 1 - run.first);
-    let owner = OwnerName(run.owner);
     let machine = Marks(run_rights(file, run, Mode::M));
     let others = Marks(run_rights(file, run, Mode::U));
     append_line(
@@ -243,14 +261,7 @@ fn write_band(out: &mut Vec<u8>, file: &RegFile, place: usize, run: &Run) -> Res
             "<g class='su{others}' transform='translate(0,{top})'><rect y='-17' width='928' height='24'/>"
         ),
     )?;
-    append_line(
-        out,
-        format_args!("<text x='8'>0x{first}</text><text x='148'>0x{last}</text>"),
-    )?;
-    append_line(
-        out,
-        format_args!("<text x='292'>{size}</text><text x='496'>{owner}</text>"),
-    )?;
+    write_extent(out, run)?;
     append_line(
         out,
         format_args!("<text x='592'>{machine}</text><text x='700'>{others}</text>"),

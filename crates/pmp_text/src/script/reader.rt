@@ -3,7 +3,7 @@
 ghost use Rattle.pmp_text.specs.Lines.{words};
 ghost use Rattle.pmp_text.specs.Outcomes.{Gives};
 ghost use Rattle.pmp_text.specs.Steps.Progress.{nothing_read, resumed};
-ghost use Rattle.pmp_text.specs.Scripts.{size_named, for_unit, script_meaning};
+ghost use Rattle.pmp_text.specs.Scripts.{size_named, size_of_version, for_unit, script_meaning};
 ghost use Rattle.pmp_text.specs.Steps.Views.{lines_left};
 ghost use Rattle.std.specs.Prelude.{◌≡◌};
 
@@ -17,16 +17,32 @@ use std::alloc::Global;
 /// The most bytes of a script.
 pub const MAX_SCRIPT: usize = 1 << 20;
 
+/// The size of the unit that scripts of this version are for.
+fn size_of_version(version: &[u8]) -> Option<Size>
+    ensures { result ≡ size_of_version version.now }
+{
+    if version == b"1".as_slice() {
+        Some(Size::Sixteen)
+    } else if version == b"2".as_slice() {
+        Some(Size::SixtyFour)
+    } else {
+        None
+    }
+}
+
 /// The size of the unit that a script's first line names by its version.
 #[tactic(auto, unfolding(crate::specs::Scripts::size_named))]
 fn read_version(line: &[u8]) -> Option<Size>
     ensures { result ≡ size_named (words line.now) }
 {
     let mut words = Words::new(line);
-    match (words.next(), words.next(), words.next()) {
-        (Some(b"pmp"), Some(b"1"), None) => Some(Size::Sixteen),
-        (Some(b"pmp"), Some(b"2"), None) => Some(Size::SixtyFour),
-        _ => None,
+    let (Some(name), Some(version), None) = (words.next(), words.next(), words.next()) else {
+        return None;
+    };
+    if name == b"pmp".as_slice() {
+        size_of_version(version)
+    } else {
+        None
     }
 }
 

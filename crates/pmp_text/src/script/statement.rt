@@ -2,7 +2,7 @@
 
 ghost use Rattle.std.specs.Prelude.{◌≡◌};
 ghost use Rattle.pmp_text.specs.Lines.{words};
-ghost use Rattle.pmp_text.specs.Statements.{statement_of, write_statement};
+ghost use Rattle.pmp_text.specs.Statements.{statement_of, without_operands, write_statement};
 
 use crate::names::read_register;
 use crate::numbers::read_word_number;
@@ -30,16 +30,32 @@ fn read_write(mut operands: Words) -> Result<Statement, ScriptKind>
     Ok(Statement::Event(Event::Write(csr, value)))
 }
 
+/// The statement, where no word is left behind it.
+fn without_operands(statement: Statement, mut operands: Words) -> Result<Statement, ScriptKind>
+    ensures { result ≡ without_operands statement (words operands.entry.rest.now) }
+{
+    match operands.next() {
+        Some(_) => Err(ScriptKind::BadLine),
+        None => Ok(statement),
+    }
+}
+
 /// What a significant line says that isn't the first one.
 #[tactic(auto, unfolding(crate::specs::Statements::statement_of))]
 pub fn read_statement(line: &[u8]) -> Result<Statement, ScriptKind>
     ensures { result ≡ statement_of (words line.now) }
 {
     let mut words = Words::new(line);
-    match words.next() {
-        Some(b"write") => read_write(words),
-        Some(b"reset") if words.next().is_none() => Ok(Statement::Event(Event::Reset)),
-        Some(b"publish") if words.next().is_none() => Ok(Statement::Publish),
-        _ => Err(ScriptKind::BadLine),
+    let Some(word) = words.next() else {
+        return Err(ScriptKind::BadLine);
+    };
+    if word == b"write".as_slice() {
+        read_write(words)
+    } else if word == b"reset".as_slice() {
+        without_operands(Statement::Event(Event::Reset), words)
+    } else if word == b"publish".as_slice() {
+        without_operands(Statement::Publish, words)
+    } else {
+        Err(ScriptKind::BadLine)
     }
 }

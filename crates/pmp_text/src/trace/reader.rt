@@ -4,7 +4,7 @@ ghost use Rattle.std.specs.Prelude.{IfOk, map};
 ghost use Rattle.pmp_text.specs.Outcomes.{GivesRows};
 ghost use Rattle.pmp_text.specs.Steps.Records.{IsReading, records_left};
 ghost use Rattle.pmp_text.specs.TraceFaults.{IsInOrder, afters};
-ghost use Rattle.pmp_text.specs.Traces.{row_fields, rows_meaning, trace_meaning};
+ghost use Rattle.pmp_text.specs.Traces.{records_meaning, row_fields, rows_meaning, trace_meaning};
 
 use crate::trace::records::{open_records, read_record};
 use crate::trace::row_fields::{is_header, read_row};
@@ -40,6 +40,23 @@ fn read_rows(
     Ok(rows)
 }
 
+/// Reads the header, and the rows behind it.
+fn read_records(
+    alloc: Global,
+    reader: &mut Reader<&[u8]>,
+    fields: &mut ByteRecord,
+    publications: u64,
+) -> Result<Vec<Row>, TraceFault>
+    requires { IsReading reader.old }
+    ensures { GivesRows (λ rows. map row_fields rows.items) result
+        (records_meaning publications (records_left reader.old)) }
+{
+    if !read_record(reader, fields)? || !is_header(fields) {
+        return Err(TraceKind::BadHeader.at(0));
+    }
+    read_rows(alloc, reader, fields, publications)
+}
+
 /// The rows of the trace that a text describes, beside a script with so many publications, else its first fault. The
 /// time is linear in the text, and only the rows and one record take memory: where they can't grow, `Memory` is
 /// answered in place of any fault further on.
@@ -52,8 +69,5 @@ pub fn read_trace(alloc: Global, text: &[u8], publications: u64) -> Result<Vec<R
     }
     let mut reader = open_records(alloc, text);
     let mut fields = ByteRecord::new(alloc);
-    if !read_record(&mut reader, &mut fields)? || !is_header(&fields) {
-        return Err(TraceKind::BadHeader.at(0));
-    }
-    read_rows(alloc, &mut reader, &mut fields, publications)
+    read_records(alloc, &mut reader, &mut fields, publications)
 }

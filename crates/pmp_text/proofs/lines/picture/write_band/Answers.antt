@@ -1,4 +1,4 @@
-use Rattle.std.proofs.Common.{◌≡◌, [], ◌∷◌, ◌+◌, ◌-◌, ◌++◌, List, ℕ, ap, codes, ◌∙◌}
+use Rattle.std.proofs.Common.{[], ◌∷◌, ◌+◌, ◌-◌, ◌++◌, List, ℕ, refl, sym, ap, append_assoc, codes, ◌∙◌}
 use Rattle.std.proofs.lemmas.Result.{on_ok_weaker}
 use Rattle.pmp_core.specs.declared.access.Mode.TheVariants.{M, U}
 use Rattle.pmp_map.specs.Answers.{owned_rights}
@@ -24,16 +24,14 @@ returns c =
     ∙ ap (λ (o : List ℕ). drawn_band c.args.place run (rights_text (owned_rights file run.owner M)) o sign) others_is
     ∙ ap (λ (s : List ℕ). drawn_band c.args.place run (rights_text (owned_rights file run.owner M))
     (rights_text (owned_rights file run.owner U)) s) c.lock_sign.ensures in
-    let ends_are : c.append_line-2.new.out.items
-    ≡ c.append_line.new.out.items ++ ends c.new-first.result.value c.new-last.result.value =
-    c.in_ok-append_line-2.ensures.ok in
+    let above = c.append_line.new.out.items in
+    let ends_are = ends run.first run.last in
+    let extent_is = extent (run.last + 1 - run.first) run.owner in
     on_ok_weaker c.append_text-2.result
-    (λ last. six_texts c.args.out.now.items c.append_line.new.out.items c.append_line-2.new.out.items
-    c.append_line-3.new.out.items c.append_line-4.new.out.items c.append_text.new.out.items
-    c.append_text-2.new.out.items (strip c.args.place others) (ends run.first run.last)
-    (extent (run.last + 1 - run.first) run.owner) (permissions machine others) sign (codes "</g>" ++ 10 ∷ [])
-    c.in_ok-append_line.ensures.ok (rw (c.new-first.ensures, c.new-last.ensures) at ends_are)
-    c.in_ok-append_line-3.ensures.ok
-    c.in_ok-append_line-4.ensures.ok c.in_ok-append_text.ensures.ok last
+    (λ last. six_texts c.args.out.now.items above (above ++ ends_are) c.write_extent.new.out.items
+    c.append_line-2.new.out.items c.append_text.new.out.items c.append_text-2.new.out.items
+    (strip c.args.place others) ends_are extent_is (permissions machine others) sign (codes "</g>" ++ 10 ∷ [])
+    c.in_ok-append_line.ensures.ok refl (c.in_ok-write_extent.ensures ∙ sym (append_assoc above ends_are extent_is))
+    c.in_ok-append_line-2.ensures.ok c.in_ok-append_text.ensures.ok last
     ∙ ap (λ (l : List ℕ). c.args.out.now.items ++ l) band_is)
     c.append_text-2.ensures.ok
