@@ -30,7 +30,8 @@ impl Published {
 
     /// All so far is published, in one publication with what came since the last.
     pub fn end_publication(&mut self) -> Result<(), AllocError> {
-        self.publications.push(self.events.len() as u64)
+        self.publications.push(self.events.len() as u64)?;
+        Ok(())
     }
 
     /// How many batches.
