@@ -7,6 +7,10 @@ pub mod Decisions
 pub mod Legal
 pub mod Flags
 pub mod Locks
+pub mod Sticky
+pub mod Parts
+pub mod MachineCode
+pub mod Protection
 pub mod Sizes
 pub mod Changes
 pub mod Stored

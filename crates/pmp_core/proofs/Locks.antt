@@ -22,7 +22,7 @@ use Rattle.pmp_core.specs.LockLaw.{is_write, LockLaw}
 use Rattle.pmp_core.proofs.Legal.{configured_place}
 
 -- entry i is the same in both files, with the address below it where it is the top of a range; and bypass is off
-record Held (before after : RegisterFile) (i : ℕ) : Type 0 where
+pub record Held (before after : RegisterFile) (i : ℕ) : Type 0 where
   pub entry : entry_at after.entries i ≡ entry_at before.entries i
   pub low : is_tor (entry_at before.entries i).configuration.matching ≡ true
       → low_address after.entries i ≡ low_address before.entries i
@@ -149,7 +149,7 @@ module _ (file : RegisterFile) (i : ℕ) (frozen : is_frozen file i ≡ true) wh
 
 -- ---- any writes
 
-still_frozen : (before after : RegisterFile) (i : ℕ) → is_frozen before i ≡ true → Held before after i
+pub still_frozen : (before after : RegisterFile) (i : ℕ) → is_frozen before i ≡ true → Held before after i
     → is_frozen after i ≡ true
 still_frozen before after i frozen held = rw (held.entry, held.bypass, locked before i frozen) refl
 
@@ -160,7 +160,7 @@ held_then a b c i first second = record {
   bypass = second.bypass;
 }
 
-held_on : (file : RegisterFile) (i : ℕ) (events : List Event) → is_frozen file i ≡ true
+pub held_on : (file : RegisterFile) (i : ℕ) (events : List Event) → is_frozen file i ≡ true
     → list_all is_write events ≡ true → Held file (fold step file events) i
 held_on file i [] frozen writes = record { entry = refl; low = λ tor. refl; bypass = no_bypass file i frozen }
 held_on file i (Reset ∷ events) frozen writes = absurd (false≢true writes)

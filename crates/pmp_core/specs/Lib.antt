@@ -16,6 +16,9 @@ pub mod WriteReasons
 pub mod Histories
 pub mod Lock
 pub mod LockLaw
+pub mod ProtectionLaw
+pub mod StickyLaw
+pub mod PartsLaw
 pub mod Size
 pub mod SizeLaw
 pub mod SavedRegisters

@@ -10,6 +10,9 @@ ghost use Rattle.pmp_core.specs.Matching.{Matches};
 ghost use Rattle.pmp_core.specs.Decision.{IsOwner, IsDecider, IsDecision};
 ghost use Rattle.pmp_core.specs.Rights.{BarredRulesLaw, StoreLaw};
 ghost use Rattle.pmp_core.specs.Histories.{LegalLaw};
+ghost use Rattle.pmp_core.specs.PartsLaw.{PartsLaw};
+ghost use Rattle.pmp_core.specs.ProtectionLaw.{ClosedLaw, FewerRightsLaw, MachineCodeLaw, ProtectedLaw};
+ghost use Rattle.pmp_core.specs.StickyLaw.{FrozenAddressLaw, StickyLaw};
 ghost use Rattle.pmp_core.specs.LockLaw.{LockLaw};
 ghost use Rattle.pmp_core.specs.SizeLaw.{SizeLaw};
 ghost use Rattle.pmp_core.specs.SavedRegisters.{restored_file, zero_registers, SavedLaw};
@@ -88,4 +91,40 @@ pub fn law_saved()
     ensures kept { SavedLaw }
     ensures legal { (saved : SavedRegisters) → IsLegal (restored_file saved) }
     ensures zero { restored_file zero_registers ≡ reset_file ENTRIES }
+{}
+
+/// Lockdown gives no rule a right that it hasn't without, but for those of W without R, which are reserved without.
+pub fn law_fewer_rights()
+    ensures { FewerRightsLaw }
+{}
+
+/// Protection holds: what the entries up to one decide, where all of them are frozen, is decided the same after every
+/// list of writes, as long as MML is the same; and where MML rises, what they refuse stays refused. An open entry with a
+/// lower number might take their bytes, so a lock alone protects its entry, and not what is decided.
+pub fn law_protected()
+    ensures same { ProtectedLaw }
+    ensures closed { ClosedLaw }
+{
+    law_fewer_rights();
+}
+
+/// Under lockdown, with some entry frozen, no list of writes gives machine mode more to execute: each fetch that it is
+/// allowed later is by an entry that was frozen before, with the same configuration and bytes.
+pub fn law_machine_code()
+    ensures { MachineCodeLaw }
+{}
+
+/// MML and MMWP stay set through every list of writes, and with MMWP nothing is open where no entry matches.
+pub fn law_sticky()
+    ensures { StickyLaw }
+{}
+
+/// A frozen address register keeps its value and stays frozen through every list of writes.
+pub fn law_frozen_address()
+    ensures { FrozenAddressLaw }
+{}
+
+/// Each part of an access that is allowed is allowed too, by the same cause.
+pub fn law_parts()
+    ensures { PartsLaw }
 {}

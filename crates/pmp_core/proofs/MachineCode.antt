@@ -1,0 +1,179 @@
+-- Where machine mode executes under lockdown.
+use Rattle.std.proofs.Common.{◌≡◌, ℕ, ◌≤◌, ◌^◌, ◌%◌, ◌-◌, ◌*◌, Bool, true, false, cond, ◌&&◌, List, [], ◌∷◌}
+use Rattle.std.proofs.Common.{fold, length, slice_index, refl, sym, ap, ◌∙◌, inl, inr, arith, get_or-set_same}
+use Rattle.std.proofs.Common.{length-set}
+use Rattle.std.specs.List.{list_all}
+use Rattle.std.specs.Int.{w64, to_le_bytes}
+use Rattle.std.proofs.Math.ListN.{set}
+use Rattle.std.proofs.lemmas.Bool.{cases_lt, cases_eq, false≢true, not-true}
+use Rattle.std.proofs.lemmas.List.{get_or_past}
+use Rattle.pmp_core.specs.declared.access.Access.{Access}
+use Rattle.pmp_core.specs.declared.access.Kind.TheVariants.{Fetch}
+use Rattle.pmp_core.specs.declared.access.Mode.TheVariants.{M}
+use Rattle.pmp_core.specs.declared.configuration.Configuration.{Configuration}
+use Rattle.pmp_core.specs.declared.csr.Csr.{Csr}
+use Rattle.pmp_core.specs.declared.csr.Csr.TheVariants.{Cfg, Addr, Mseccfg}
+use Rattle.pmp_core.specs.declared.decision.Cause.{Cause}
+use Rattle.pmp_core.specs.declared.decision.Cause.TheVariants.{Rule, Split, NoMatch}
+use Rattle.pmp_core.specs.declared.entry.Entry.{Entry}
+use Rattle.pmp_core.specs.declared.event.Event.{Event}
+use Rattle.pmp_core.specs.declared.event.Event.TheVariants.{Write, Reset}
+use Rattle.pmp_core.specs.Configuration.{configuration_of}
+use Rattle.pmp_core.specs.Decision.{IsDecisionBy}
+use Rattle.pmp_core.specs.RegisterFile.{RegisterFile, reset_entry, entry_at, is_frozen}
+use Rattle.pmp_core.specs.RegisterWrite.{admitted, configured, holds_byte_of, is_address_frozen, step, stored_over, written}
+use Rattle.pmp_core.specs.Rights.{allows, default_rights_by, is_barred, lockdown_rights, rule_rights}
+use Rattle.pmp_core.specs.LockLaw.{is_write, StaysLocked}
+use Rattle.pmp_core.specs.ProtectionLaw.{MachineCodeLaw}
+use Rattle.pmp_core.proofs.Legal.{configured_place, length-written}
+use Rattle.pmp_core.proofs.Locks.{both, other_address, Held, held_on, lock_law, still_frozen}
+use Rattle.pmp_core.proofs.Sticky.{mml_written, mml_stays}
+
+abbrev is_barred_rule : Configuration → Bool
+is_barred_rule c = is_barred c.locked c.read c.write c.execute
+
+-- machine mode executes by barred rules alone
+executes : (l r w x : Bool) → (lockdown_rights l r w x M).execute ≡ true → is_barred l r w x ≡ true
+executes false false false false h = absurd (false≢true h)
+executes false false false true h = absurd (false≢true h)
+executes false false true false h = absurd (false≢true h)
+executes false false true true h = absurd (false≢true h)
+executes false true false false h = absurd (false≢true h)
+executes false true false true h = absurd (false≢true h)
+executes false true true false h = absurd (false≢true h)
+executes false true true true h = absurd (false≢true h)
+executes true false false false h = absurd (false≢true h)
+executes true false false true h = refl
+executes true false true false h = refl
+executes true false true true h = refl
+executes true true false false h = absurd (false≢true h)
+executes true true false true h = refl
+executes true true true false h = absurd (false≢true h)
+executes true true true true h = absurd (false≢true h)
+
+barred_locked : (l r w x : Bool) → is_barred l r w x ≡ true → l ≡ true
+barred_locked true r w x h = refl
+barred_locked false r w x h = absurd (false≢true h)
+
+-- by default it doesn't
+none_by_default : (mmwp : Bool) → (default_rights_by true mmwp M).execute ≡ true → ⊥
+none_by_default true h = false≢true h
+none_by_default false h = false≢true h
+
+-- ---- one write adds no such rule
+
+-- what a byte leaves is barred only where that was there
+kept_barred : (old new : Configuration) (barred : Bool) → is_barred_rule new ≡ barred
+    → is_barred_rule (cond barred old new) ≡ true → is_barred_rule old ≡ true
+kept_barred old new true e h = h
+kept_barred old new false e h = absurd (false≢true (sym e ∙ h))
+
+stored_barred : (old : Configuration) (byte : ℕ) → is_barred_rule (stored_over true false old byte) ≡ true
+    → is_barred_rule old ≡ true
+stored_barred old byte h = by_test (old.locked && true) h
+  where
+    by_test : (kept : Bool) → is_barred_rule (cond kept old (admitted true false old (configuration_of byte))) ≡ true
+        → is_barred_rule old ≡ true
+    by_test true h = h
+    by_test false h = kept_barred old (configuration_of byte) (is_barred_rule (configuration_of byte)) refl h
+
+module _ (file : RegisterFile) (mml : file.mseccfg.mml ≡ true) (rlb : file.mseccfg.rlb ≡ false) (i : ℕ) where
+  configured_barred : (q value : ℕ) → is_barred_rule (configured file q value i).configuration ≡ true
+      → is_barred_rule (entry_at file.entries i).configuration ≡ true
+  configured_barred q value h = by_test (holds_byte_of q i) h
+    where
+      old : Configuration
+      old = (entry_at file.entries i).configuration
+
+      byte : ℕ
+      byte = slice_index (to_le_bytes w64 value) (i - 4 * q)
+
+      by_test : (holds : Bool) → is_barred_rule (cond holds (record (entry_at file.entries i) {
+        configuration = stored_over file.mseccfg.mml file.mseccfg.rlb (entry_at file.entries i).configuration
+            (slice_index (to_le_bytes w64 value) (i - 4 * q));
+      }) (entry_at file.entries i)).configuration ≡ true → is_barred_rule (entry_at file.entries i).configuration ≡ true
+      by_test true h = stored_barred (entry_at file.entries i).configuration
+          (slice_index (to_le_bytes w64 value) (i - 4 * q)) (rw (mml, rlb) at h)
+      by_test false h = h
+
+  nothing_barred : (csr : Csr) (value : ℕ) → length file.entries ≤ i
+      → is_barred_rule (entry_at (written file csr value).entries i).configuration ≡ true → ⊥
+  nothing_barred csr value past h = false≢true (rw (get_or_past (written file csr value).entries i reset_entry
+      (omega (arith, length-written file csr value))) at h)
+
+  own_configuration : (address : ℕ)
+      → (entry_at (set file.entries i (record (entry_at file.entries i) { address = address })) i).configuration
+      ≡ (entry_at file.entries i).configuration
+  own_configuration address =
+      let new : Entry = record (entry_at file.entries i) { address = address } in
+      elim (cases_lt i (length file.entries)) [
+        | inl inside ↦ rw get_or-set_same refl
+        | inr past ↦ rw (
+          get_or_past (set file.entries i new) i reset_entry (simp length-set past),
+          get_or_past file.entries i reset_entry past,
+        ) refl
+      ]
+
+  addressed_configuration : (j value : ℕ) → (entry_at (written file (Addr j) value).entries i).configuration
+      ≡ (entry_at file.entries i).configuration
+  addressed_configuration j value = elim (cases_eq i j) [
+    | inl same ↦ rw (← same) (elim (is_address_frozen file i) as (λ kept. (entry_at (cond kept file.entries
+        (set file.entries i (record (entry_at file.entries i) { address = value % 2 ^ 54 }))) i).configuration
+        ≡ (entry_at file.entries i).configuration) [ true ↦ refl | false ↦ own_configuration (value % 2 ^ 54) ])
+    | inr other ↦ ap (λ (e : Entry). e.configuration) (other_address file j value i other)
+  ]
+
+  was_barred : (csr : Csr) (value : ℕ)
+      → is_barred_rule (entry_at (written file csr value).entries i).configuration ≡ true
+      → is_barred_rule (entry_at file.entries i).configuration ≡ true
+  was_barred (Cfg q) value h = elim (cases_lt i (length file.entries)) [
+    | inl inside ↦ configured_barred q value (rw (configured_place file q value i inside) at h)
+    | inr past ↦ absurd (nothing_barred (Cfg q) value past h)
+  ]
+  was_barred (Addr j) value h = rw (addressed_configuration j value) at h
+  was_barred Mseccfg value h = h
+
+-- ---- nor do several
+
+ever_barred : (file : RegisterFile) (k i : ℕ) (events : List Event) → file.mseccfg.mml ≡ true
+    → is_frozen file k ≡ true → list_all is_write events ≡ true
+    → is_barred_rule (entry_at (fold step file events).entries i).configuration ≡ true
+    → is_barred_rule (entry_at file.entries i).configuration ≡ true
+ever_barred file k i [] mml frozen writes h = h
+ever_barred file k i (Reset ∷ events) mml frozen writes h = absurd (false≢true writes)
+ever_barred file k i (Write csr value ∷ events) mml frozen writes h =
+    let next = written file csr value in
+    let held : Held file next k = held_on file k (Write csr value ∷ []) frozen refl in
+    was_barred file mml (not-true _ (both _ _ frozen).1) i csr value
+    (ever_barred next k i events (mml_written file csr value mml) (still_frozen file next k frozen held) writes h)
+
+module _ (file : RegisterFile) (k : ℕ) (events : List Event) (mml : file.mseccfg.mml ≡ true)
+    (frozen : is_frozen file k ≡ true) (writes : list_all is_write events ≡ true) (access : Access)
+    (machine : access.mode ≡ M) (fetch : access.kind ≡ Fetch) where
+  abbrev later : RegisterFile
+  later = fold step file events
+
+  was_frozen : (i : ℕ) → allows (rule_rights later.mseccfg.mml (entry_at later.entries i).configuration access.mode)
+      access.kind ≡ true → is_frozen file i ≡ true
+  was_frozen i allowed =
+      let c = (entry_at later.entries i).configuration in
+      let own = (entry_at file.entries i).configuration in
+      let by_rule : (lockdown_rights c.locked c.read c.write c.execute M).execute ≡ true =
+      rw (mml_stays file events writes mml, machine, fetch) at allowed in
+      let barred = ever_barred file k i events mml frozen writes (executes c.locked c.read c.write c.execute by_rule) in
+      let locked : own.locked ≡ true = barred_locked own.locked own.read own.write own.execute barred in
+      let bypass : file.mseccfg.rlb ≡ false = not-true _ (both _ _ frozen).1 in
+      rw (locked, bypass) refl
+
+  by_frozen : (allowed : Bool) (cause : Cause) → IsDecisionBy later access allowed cause → allowed ≡ true
+      → (i : ℕ) × (cause ≡ Rule i) × (is_frozen file i ≡ true) × StaysLocked file later i
+  by_frozen allowed NoMatch (none, by_default) granted = absurd (none_by_default later.mseccfg.mmwp
+      (rw (mml_stays file events writes mml, machine, fetch) at (sym by_default ∙ granted)))
+  by_frozen allowed (Split i) (decider, lacks, refused) granted = absurd (false≢true (sym refused ∙ granted))
+  by_frozen allowed (Rule i) (decider, all, by_rule) granted =
+      let own = was_frozen i (sym by_rule ∙ granted) in
+      (i, refl, own, lock_law file i events own writes)
+
+pub machine_code_law : MachineCodeLaw
+machine_code_law file k events mml frozen writes access decision machine fetch is granted =
+    by_frozen file k events mml frozen writes access machine fetch decision.allowed decision.cause is granted

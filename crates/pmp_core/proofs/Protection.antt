@@ -1,0 +1,173 @@
+-- Frozen entries decide as they did.
+use Rattle.std.proofs.Common.{◌≡◌, ◌↔◌, ℕ, ◌≤◌, Bool, true, false, List, Some, fold, inl, inr}
+use Rattle.std.proofs.Common.{refl, sym, ap, subst, ◌∙◌, arith}
+use Rattle.std.specs.List.{list_all}
+use Rattle.std.specs.Prelude.{IsTrue}
+use Rattle.std.proofs.lemmas.Bool.{cases_lt, false≢true}
+use Rattle.pmp_core.specs.declared.access.Access.{Access}
+use Rattle.pmp_core.specs.declared.access.Kind.{Kind}
+use Rattle.pmp_core.specs.declared.access.Mode.{Mode}
+use Rattle.pmp_core.specs.declared.configuration.Configuration.{Configuration}
+use Rattle.pmp_core.specs.declared.decision.Cause.{Cause}
+use Rattle.pmp_core.specs.declared.decision.Cause.TheVariants.{Rule, Split, NoMatch}
+use Rattle.pmp_core.specs.declared.decision.Decision.{Decision}
+use Rattle.pmp_core.specs.declared.event.Event.{Event}
+use Rattle.pmp_core.specs.Decision.{Covers, IsDecider, IsDecision, IsDecisionBy, Touches}
+use Rattle.pmp_core.specs.Matching.{Matches}
+use Rattle.pmp_core.specs.Configuration.{is_reserved}
+use Rattle.pmp_core.specs.RegisterFile.{RegisterFile, entry_at, IsLegal}
+use Rattle.pmp_core.specs.RegisterWrite.{step}
+use Rattle.pmp_core.specs.Rights.{allows, rights, rule_rights}
+use Rattle.pmp_core.specs.LockLaw.{is_write}
+use Rattle.pmp_core.specs.ProtectionLaw.{AreFrozenTo, IsDecidedWithin, ClosedLaw, FewerRightsLaw, ProtectedLaw}
+use Rattle.pmp_core.proofs.Locks.{lock_law}
+use Rattle.pmp_core.proofs.Sticky.{mml_stays}
+
+-- entries 0 to i have the same configuration in both, and match the same bytes
+record Agree (one other : RegisterFile) (i : ℕ) : Type 0 where
+  configuration : (j : ℕ) → j ≤ i → (entry_at other.entries j).configuration ≡ (entry_at one.entries j).configuration
+  bytes : (j : ℕ) → j ≤ i → (byte : ℕ) → Matches other.entries j byte ↔ Matches one.entries j byte
+
+turned : (one other : RegisterFile) (i : ℕ) → Agree one other i → Agree other one i
+turned one other i same = record {
+  configuration = λ j within. sym (same.configuration j within);
+  bytes = λ j within byte. ((same.bytes j within byte).1, (same.bytes j within byte).0);
+}
+
+module _ (one other : RegisterFile) (i : ℕ) (same : Agree one other i) (access : Access) where
+  touches : (j : ℕ) → j ≤ i → Touches one.entries access j → Touches other.entries access j
+  touches j within (byte, inside, matches) = (byte, inside, (same.bytes j within byte).1 matches)
+
+  touched : (j : ℕ) → j ≤ i → Touches other.entries access j → Touches one.entries access j
+  touched j within (byte, inside, matches) = (byte, inside, (same.bytes j within byte).0 matches)
+
+  decides : (j : ℕ) → j ≤ i → IsDecider one.entries access (Some j) → IsDecider other.entries access (Some j)
+  decides j within (here, before) = (
+    touches j within here,
+    λ k less found. before k less (touched k (omega arith) found),
+  )
+
+  covers : (j : ℕ) → j ≤ i → Covers one.entries access j → Covers other.entries access j
+  covers j within all byte inside = (same.bytes j within byte).1 (all byte inside)
+
+  covered : (j : ℕ) → j ≤ i → Covers other.entries access j → Covers one.entries access j
+  covered j within all byte inside = (same.bytes j within byte).0 (all byte inside)
+
+-- one access has one decider
+one_decider : (file : RegisterFile) (access : Access) (j k : ℕ) → IsDecider file.entries access (Some j)
+    → IsDecider file.entries access (Some k) → j ≡ k
+one_decider file access j k one other = elim (cases_lt j k) [
+  | inl less ↦ absurd (other.1 j less one.0)
+  | inr most ↦ elim (cases_lt k j) [
+    | inl less ↦ absurd (one.1 k less other.0)
+    | inr least ↦ omega arith
+  ]
+]
+
+module _ (one other : RegisterFile) (i : ℕ) (same : Agree one other i) (mml : other.mseccfg.mml ≡ one.mseccfg.mml)
+    (access : Access) (decided : IsDecidedWithin one access i) where
+  within : (k : ℕ) → IsDecider one.entries access (Some k) → k ≤ i
+  within k decider =
+      let same = one_decider one access decided.0 k decided.2 decider in let less = decided.1 in omega arith
+
+  same_rights : (k : ℕ) → k ≤ i → rights other k access.mode ≡ rights one k access.mode
+  same_rights k less =
+      ap (λ (m : Bool). rule_rights m (entry_at other.entries k).configuration access.mode) mml
+      ∙ ap (λ (c : Configuration). rule_rights one.mseccfg.mml c access.mode) (same.configuration k less)
+
+  decided_alike : (allowed : Bool) (cause : Cause) → IsDecisionBy one access allowed cause
+      → IsDecisionBy other access allowed cause
+  decided_alike allowed NoMatch (none, by_default) = absurd (none decided.0 decided.2.0)
+  decided_alike allowed (Split k) (decider, lacks, refused) =
+      let less = within k decider in (
+        decides one other i same access k less decider,
+        (λ all. lacks (covered one other i same access k less all)),
+        refused,
+      )
+  decided_alike allowed (Rule k) (decider, all, by_rule) =
+      let less = within k decider in (
+        decides one other i same access k less decider,
+        covers one other i same access k less all,
+        by_rule ∙ ap (λ r. allows r access.kind) (sym (same_rights k less)),
+      )
+
+  also_within : IsDecidedWithin other access i
+  also_within = (decided.0, decided.1, decides one other i same access decided.0 decided.1 decided.2)
+
+agree_after : (file : RegisterFile) (i : ℕ) (events : List Event) → AreFrozenTo file i
+    → list_all is_write events ≡ true → Agree file (fold step file events) i
+agree_after file i events frozen writes = record {
+  configuration = λ j within. (lock_law file j events (frozen j within) writes).configuration;
+  bytes = λ j within. (lock_law file j events (frozen j within) writes).bytes;
+}
+
+pub protected_law : ProtectedLaw
+protected_law file i events frozen writes mml access decided decision =
+    let after = fold step file events in
+    let same = agree_after file i events frozen writes in (
+      decided_alike file after i same mml access decided decision.allowed decision.cause,
+      decided_alike after file i (turned file after i same) (sym mml) access
+          (also_within file after i same mml access decided) decision.allowed decision.cause,
+    )
+
+-- ---- where lockdown rises
+
+not_given : (fewer more : Bool) → (IsTrue fewer → IsTrue more) → more ≡ false → fewer ≡ false
+not_given true more gives none = absurd (false≢true (sym none ∙ gives refl))
+not_given false more gives none = refl
+
+fewer_by_mml : FewerRightsLaw → (c : Configuration) → (one other : Bool)
+    → (one ≡ true → other ≡ true) → (one ≡ false → is_reserved c ≡ false) → (mode : Mode) (kind : Kind)
+    → allows (rule_rights one c mode) kind ≡ false → allows (rule_rights other c mode) kind ≡ false
+fewer_by_mml law c true true stays legal mode kind closed = closed
+fewer_by_mml law c true false stays legal mode kind closed = absurd (false≢true (stays refl))
+fewer_by_mml law c false false stays legal mode kind closed = closed
+fewer_by_mml law c false true stays legal mode kind closed =
+    not_given _ _ (law c (legal refl) mode kind) closed
+
+module _ (fewer : FewerRightsLaw) (file : RegisterFile) (i : ℕ) (events : List Event) (legal : IsLegal file)
+    (frozen : AreFrozenTo file i) (writes : list_all is_write events ≡ true) (access : Access)
+    (decided : IsDecidedWithin file access i) where
+  abbrev later : RegisterFile
+  later = fold step file events
+
+  same_entries : Agree file later i
+  same_entries = agree_after file i events frozen writes
+
+  still_decided : IsDecider later.entries access (Some decided.0)
+  still_decided = decides file later i same_entries access decided.0 decided.1 decided.2
+
+  rights_fewer : (k : ℕ) → k ≤ i → allows (rights file k access.mode) access.kind ≡ false
+      → allows (rights later k access.mode) access.kind ≡ false
+  rights_fewer k less closed =
+      rw (same_entries.configuration k less) (fewer_by_mml fewer (entry_at file.entries k).configuration
+      file.mseccfg.mml later.mseccfg.mml (mml_stays file events writes) (λ unset. legal.unreserved unset k)
+      access.mode access.kind closed)
+
+  -- the rule of entry k allowed nothing where it was the decider and refused
+  was_closed : (k : ℕ) → IsDecider file.entries access (Some k) → Covers file.entries access k → (allowed : Bool)
+      (cause : Cause) → IsDecisionBy file access allowed cause → allowed ≡ false
+      → allows (rights file k access.mode) access.kind ≡ false
+  was_closed k decider all allowed NoMatch (none, by_default) refused = absurd (none k decider.0)
+  was_closed k decider all allowed (Split j) (other, lacks, is) refused =
+      let same = one_decider file access k j decider other in
+      absurd (lacks (subst (Covers file.entries access) same all))
+  was_closed k decider all allowed (Rule j) (other, covers, by_rule) refused =
+      let same = one_decider file access k j decider other in
+      ap (λ (n : ℕ). allows (rights file n access.mode) access.kind) same ∙ sym by_rule ∙ refused
+
+  stays_closed : (before : Decision) → IsDecision file access before → before.allowed ≡ false → (allowed : Bool)
+      (cause : Cause) → IsDecisionBy later access allowed cause → allowed ≡ false
+  stays_closed before was refused allowed NoMatch (none, by_default) = absurd (none decided.0 still_decided.0)
+  stays_closed before was refused allowed (Split k) (decider, lacks, is) = is
+  stays_closed before was refused allowed (Rule k) (decider, all, by_rule) =
+      let same = one_decider later access decided.0 k still_decided decider in
+      let less : k ≤ i = let within = decided.1 in omega arith in
+      let own : IsDecider file.entries access (Some k) =
+      subst (λ (n : ℕ). IsDecider file.entries access (Some n)) same decided.2 in
+      by_rule ∙ rights_fewer k less (was_closed k own (covered file later i same_entries access k less all)
+      before.allowed before.cause was refused)
+
+pub closed_law : FewerRightsLaw → ClosedLaw
+closed_law fewer file i events legal frozen writes access decided before after was is refused =
+    stays_closed fewer file i events legal frozen writes access decided before was refused after.allowed after.cause is

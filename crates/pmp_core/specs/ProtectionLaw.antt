@@ -1,0 +1,55 @@
+-- What frozen entries protect (Volume II, 3.7.1.2, 3.7.1.3 and Smepmp).
+use Rattle.std.specs.Prelude.{◌≡◌, ◌↔◌, ◌≤◌, ℕ, true, false, List, fold, Some, IsTrue}
+use Rattle.std.specs.List.{list_all}
+use Rattle.pmp_core.specs.declared.access.Access.{Access}
+use Rattle.pmp_core.specs.declared.access.Kind.{Kind}
+use Rattle.pmp_core.specs.declared.access.Kind.TheVariants.{Fetch}
+use Rattle.pmp_core.specs.declared.access.Mode.{Mode}
+use Rattle.pmp_core.specs.declared.access.Mode.TheVariants.{M}
+use Rattle.pmp_core.specs.declared.configuration.Configuration.{Configuration}
+use Rattle.pmp_core.specs.declared.decision.Cause.TheVariants.{Rule}
+use Rattle.pmp_core.specs.declared.decision.Decision.{Decision}
+use Rattle.pmp_core.specs.declared.event.Event.{Event}
+use Rattle.pmp_core.specs.Configuration.{is_reserved}
+use Rattle.pmp_core.specs.Decision.{IsDecider, IsDecision}
+use Rattle.pmp_core.specs.RegisterFile.{RegisterFile, is_frozen, IsLegal}
+use Rattle.pmp_core.specs.RegisterWrite.{step}
+use Rattle.pmp_core.specs.Rights.{allows, rule_rights}
+use Rattle.pmp_core.specs.LockLaw.{is_write, StaysLocked}
+
+-- entries 0 to i are all frozen
+abbrev pub AreFrozenTo : RegisterFile → ℕ → Type 0
+AreFrozenTo file i = (j : ℕ) → j ≤ i → is_frozen file j ≡ true
+
+-- one of the entries 0 to i decides the access, wholly or in part
+abbrev pub IsDecidedWithin : RegisterFile → Access → ℕ → Type 0
+IsDecidedWithin file access i = (j : ℕ) × (j ≤ i) × IsDecider file.entries access (Some j)
+
+-- what entries 0 to i decide where all are frozen is decided the same after every list of writes, if MML is then as
+-- before
+abbrev pub ProtectedLaw : Type 0
+ProtectedLaw = (file : RegisterFile) (i : ℕ) (events : List Event) → AreFrozenTo file i
+    → list_all is_write events ≡ true → (fold step file events).mseccfg.mml ≡ file.mseccfg.mml
+    → (access : Access) → IsDecidedWithin file access i → (decision : Decision)
+    → IsDecision file access decision ↔ IsDecision (fold step file events) access decision
+
+-- lockdown gives no rule a right that it hasn't without, but for the combinations that are reserved without
+abbrev pub FewerRightsLaw : Type 0
+FewerRightsLaw = (c : Configuration) → is_reserved c ≡ false → (mode : Mode) (kind : Kind)
+    → IsTrue (allows (rule_rights true c mode) kind) → IsTrue (allows (rule_rights false c mode) kind)
+
+-- so what entries 0 to i refuse where all are frozen stays refused after every list of writes, also where MML rises
+abbrev pub ClosedLaw : Type 0
+ClosedLaw = (file : RegisterFile) (i : ℕ) (events : List Event) → IsLegal file → AreFrozenTo file i
+    → list_all is_write events ≡ true → (access : Access) → IsDecidedWithin file access i
+    → (before after : Decision) → IsDecision file access before → IsDecision (fold step file events) access after
+    → before.allowed ≡ false → after.allowed ≡ false
+
+-- under lockdown, with some entry frozen, each fetch that machine mode is allowed after any writes is by an entry that
+-- was frozen before, and has the same configuration and the same bytes (Smepmp)
+abbrev pub MachineCodeLaw : Type 0
+MachineCodeLaw = (file : RegisterFile) (k : ℕ) (events : List Event) → IsTrue file.mseccfg.mml
+    → is_frozen file k ≡ true → list_all is_write events ≡ true → (access : Access) (decision : Decision)
+    → access.mode ≡ M → access.kind ≡ Fetch → IsDecision (fold step file events) access decision
+    → IsTrue decision.allowed
+    → (i : ℕ) × (decision.cause ≡ Rule i) × (is_frozen file i ≡ true) × StaysLocked file (fold step file events) i

@@ -1,0 +1,30 @@
+-- What writes alone can't take back (Volume II, 3.7.1.2 and Smepmp).
+use Rattle.std.specs.Prelude.{◌≡◌, ℕ, true, false, List, fold}
+use Rattle.std.specs.List.{list_all}
+use Rattle.pmp_core.specs.declared.access.Kind.{Kind}
+use Rattle.pmp_core.specs.declared.access.Mode.{Mode}
+use Rattle.pmp_core.specs.declared.event.Event.{Event}
+use Rattle.pmp_core.specs.RegisterFile.{RegisterFile, entry_at}
+use Rattle.pmp_core.specs.RegisterWrite.{is_address_frozen, step}
+use Rattle.pmp_core.specs.Rights.{allows, default_rights}
+use Rattle.pmp_core.specs.LockLaw.{is_write}
+
+-- MML and MMWP stay where they are set, and with MMWP nothing is open where no entry matches (Smepmp)
+pub record StaysSet (before after : RegisterFile) : Type 0 where
+  pub mml : before.mseccfg.mml ≡ true → after.mseccfg.mml ≡ true
+  pub mmwp : before.mseccfg.mmwp ≡ true → after.mseccfg.mmwp ≡ true
+  pub closed : before.mseccfg.mmwp ≡ true → (mode : Mode) (kind : Kind)
+      → allows (default_rights after mode) kind ≡ false
+
+-- through every list of writes, if no reset is among them
+abbrev pub StickyLaw : Type 0
+StickyLaw = (file : RegisterFile) (events : List Event) → list_all is_write events ≡ true
+    → StaysSet file (fold step file events)
+
+-- an address register that is frozen, also one below the top of a frozen range, keeps its value and stays frozen
+-- through every list of writes (3.7.1.2)
+abbrev pub FrozenAddressLaw : Type 0
+FrozenAddressLaw = (file : RegisterFile) (i : ℕ) (events : List Event) → is_address_frozen file i ≡ true
+    → list_all is_write events ≡ true
+    → ((entry_at (fold step file events).entries i).address ≡ (entry_at file.entries i).address)
+    × (is_address_frozen (fold step file events) i ≡ true)
