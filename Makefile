@@ -39,7 +39,7 @@ test:
 	RT_JOBS=$(LANES) rt ci
 	./pmp --version
 	$(MAKE) library
-	LANES=$(LANES) checks/wrong-bodies
+	LANES=$(LANES) checks/wrong-bodies --kept
 	checks/library $(LIBRARY)
 	checks/worked $(PROGRAM)
 	checks/program $(PROGRAM)
