@@ -83,7 +83,15 @@ pub fn look_at_group(
     ensures { checker.new.unit ≡ checker.old.unit }
 {
     let (decided, seen) = checker.decide_group(accesses);
-    assert!(rt; decided.as_slice() == decisions && seen == count);
+    assert!(rt; seen == count && are_same(decided.as_slice(), decisions));
+}
+
+fn are_same(decided: &[Decision], decisions: &[Decision]) -> bool {
+    decided == decisions
+}
+
+fn has(journal: &Journal, events: &[Event], ends: &[u64]) -> bool {
+    journal.events() == events && journal.ends() == ends
 }
 
 /// One of two checkers.
@@ -194,7 +202,7 @@ impl Unit {
     /// Asserts what a copied journal has.
     pub fn assert_journal(&mut self, rt: &impl Abort, events: &[Event], ends: &[u64]) {
         let journal = self.first.copy_journal().expect(rt, "memory");
-        assert!(rt; journal.events() == events && journal.ends() == ends);
+        assert!(rt; has(&journal, events, ends));
     }
 
     /// Ends the publisher.
