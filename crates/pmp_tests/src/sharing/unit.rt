@@ -83,15 +83,7 @@ pub fn look_at_group(
     ensures { checker.new.unit ≡ checker.old.unit }
 {
     let (decided, seen) = checker.decide_group(accesses);
-    assert!(rt; seen == count && are_same(decided.as_slice(), decisions));
-}
-
-fn are_same(decided: &[Decision], decisions: &[Decision]) -> bool {
-    decided == decisions
-}
-
-fn has(journal: &Journal, events: &[Event], ends: &[u64]) -> bool {
-    journal.events() == events && journal.ends() == ends
+    assert!(rt; decided.as_slice() == decisions && seen == count);
 }
 
 /// One of two checkers.
@@ -202,7 +194,7 @@ impl Unit {
     /// Asserts what a copied journal has.
     pub fn assert_journal(&mut self, rt: &impl Abort, events: &[Event], ends: &[u64]) {
         let journal = self.first.copy_journal().expect(rt, "memory");
-        assert!(rt; has(&journal, events, ends));
+        assert!(rt; journal.events() == events && journal.ends() == ends);
     }
 
     /// Ends the publisher.
