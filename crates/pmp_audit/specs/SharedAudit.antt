@@ -17,7 +17,7 @@ pub record AreFaultless (script trace : List ℕ) : Type 0 where
   pub script_means : script_meaning script ≡ Ok contents
   pub trace_means : trace_meaning (length contents.batches) trace ≡ Ok rows
 
--- a worker that was told of so many publications saw more events than they have
+-- more events were seen than some number of the first publications has; since that may be none, they are not none
 abbrev pub SawMore : Batches → (seen : ℕ) → Type 0
 SawMore batches seen = (told : ℕ) × (event_count (take told batches) < seen)
 

@@ -21,7 +21,8 @@ use Rattle.pmp_core.specs.declared.event.Event.TheVariants.{Write, Reset}
 use Rattle.pmp_core.specs.Configuration.{configuration_of}
 use Rattle.pmp_core.specs.Decision.{IsDecisionBy}
 use Rattle.pmp_core.specs.RegisterFile.{RegisterFile, reset_entry, entry_at, is_frozen}
-use Rattle.pmp_core.specs.RegisterWrite.{admitted, configured, holds_byte_of, is_address_frozen, step, stored_over, written}
+use Rattle.pmp_core.specs.RegisterWrite.{admitted, configured, holds_byte_of, is_address_frozen, step, stored_over}
+use Rattle.pmp_core.specs.RegisterWrite.{written}
 use Rattle.pmp_core.specs.Rights.{allows, default_rights_by, is_barred, lockdown_rights, rule_rights}
 use Rattle.pmp_core.specs.LockLaw.{is_write, StaysLocked}
 use Rattle.pmp_core.specs.ProtectionLaw.{MachineCodeLaw}
@@ -82,12 +83,6 @@ module _ (file : RegisterFile) (mml : file.mseccfg.mml ≡ true) (rlb : file.mse
       → is_barred_rule (entry_at file.entries i).configuration ≡ true
   configured_barred q value h = by_test (holds_byte_of q i) h
     where
-      old : Configuration
-      old = (entry_at file.entries i).configuration
-
-      byte : ℕ
-      byte = slice_index (to_le_bytes w64 value) (i - 4 * q)
-
       by_test : (holds : Bool) → is_barred_rule (cond holds (record (entry_at file.entries i) {
         configuration = stored_over file.mseccfg.mml file.mseccfg.rlb (entry_at file.entries i).configuration
             (slice_index (to_le_bytes w64 value) (i - 4 * q));

@@ -22,7 +22,8 @@ use Rattle.pmp_core.specs.RegisterWrite.{holds_byte_of, written}
 use Rattle.pmp_core.specs.WriteReasons.{byte_for, is_locked, adds_reserved, adds_barred, turns_entry_away_by}
 use Rattle.pmp_core.proofs.Legal.{configured_place, length-written}
 use Rattle.pmp_core.proofs.Reasons.{none_between, none_at, none_in, none_of, HasNone}
-use Rattle.pmp_core.proofs.StoredBytes.{and_true, not_same, is_plain, byte_plain, IsTaken, left_of, taken, stored_as_taken}
+use Rattle.pmp_core.proofs.StoredBytes.{and_true, not_same, is_plain, byte_plain, IsTaken, left_of, taken}
+use Rattle.pmp_core.proofs.StoredBytes.{stored_as_taken}
 
 -- ---- words of bytes
 

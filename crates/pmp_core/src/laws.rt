@@ -99,8 +99,9 @@ pub fn law_fewer_rights()
 {}
 
 /// Protection holds: what the entries up to one decide, where all of them are frozen, is decided the same after every
-/// list of writes, as long as MML is the same; and where MML rises, what they refuse stays refused. An open entry with a
-/// lower number might take their bytes, so a lock alone protects its entry, and not what is decided.
+/// list of writes, as long as MML is the same; and in a legal file what they refuse stays refused also where MML rises.
+/// An open entry with a lower number might take their bytes, so a lock alone protects its entry, and not what is
+/// decided.
 pub fn law_protected()
     ensures same { ProtectedLaw }
     ensures closed { ClosedLaw }

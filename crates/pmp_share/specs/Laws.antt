@@ -30,8 +30,8 @@ abbrev pub FurtherEventsLaw : Type 0
 FurtherEventsLaw = (n : ℕ) (batches front : Batches) → StartsWith batches front
     → file_after n batches ≡ fold step (file_after n front) (further_events batches front)
 
--- an entry that is frozen in the file of batches that a checker is bound to, as it is to all that it looked at, stays as
--- it is in what it looks at later, if the further events are writes alone (3.7.1.2 and Smepmp)
+-- an entry that is frozen in the file of batches that a checker is bound to, as it is to all that it looked at, stays
+-- as it is in what it looks at later, if the further events are writes alone (3.7.1.2 and Smepmp)
 abbrev pub LaterLookLaw : Type 0
 LaterLookLaw = (n : ℕ) (held later : List Batches) (earlier : Batches) → Bound held earlier → Looked held later
     → (i : ℕ) → is_frozen (file_after n earlier) i ≡ true

@@ -28,8 +28,8 @@ pub fn law_later_look()
     law_frozen();
 }
 
-/// A unit has a place for each of its checkers and one more for a notice to each, so an audit by all of them never lacks
-/// one.
+/// A unit has a place for each of its checkers and one more for a notice to each, as many as an audit by all of them
+/// takes.
 pub fn law_places()
     ensures { PlacesLaw }
 {}

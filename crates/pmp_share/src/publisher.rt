@@ -116,8 +116,8 @@ impl Publisher {
         Ok(self.stage.shown().event_count())
     }
 
-    /// Ends the publisher, and answers what it published. What is pending goes with it, and no checker ever sees that. The
-    /// checkers go on deciding.
+    /// Ends the publisher, and answers what it published. What is pending goes with it, and no checker ever sees that.
+    /// The checkers go on deciding.
     pub fn end<R: Wait>(self, rt: &R) -> Journal
         ensures { result ≡ self.published }
     {

@@ -66,8 +66,8 @@ fn zero() -> AtomicU64 {
 }
 
 /// Each row passes the gate once, by the worker whose turn it is, before that worker's next row, in both rounds. A body
-/// that runs its workers one after another, or fewer of them, is refused here: the first waits for the others in vain. So
-/// is one that passes the gate twice with a row, or not at all, or by another worker, or out of order.
+/// that runs its workers one after another, or fewer of them, is refused here: the first waits for the others in vain.
+/// So is one that passes the gate twice with a row, or not at all, or by another worker, or out of order.
 #[test]
 fn workers_overlap(rt: HostRuntime) {
     let gate = Meeting {

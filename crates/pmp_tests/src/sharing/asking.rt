@@ -43,8 +43,8 @@ pub fn ask_both(
     (ask(first, to_first, access), ask(second, to_second, access))
 }
 
-/// An empty batch moves neither on. Where events are published that they weren't told of, both answer how many there are
-/// now.
+/// An empty batch moves neither on. Where events are published that they weren't told of, both answer how many there
+/// are now.
 #[test]
 fn workers_told_alike_decide_alike(rt: HostRuntime) {
     let mut unit = Unit::start(&rt, rt.alloc(), Size::Sixteen);

@@ -27,8 +27,8 @@ fn unit_of_one<R: Wait + Abort>(rt: &R, alloc: Global) -> (Publisher, Checker) {
     (publisher, checker)
 }
 
-/// The last 64 events join in batches of one and of 63. A unit that takes one event too many is refused here, and so is one
-/// that asks for room for a whole batch whatever the batch has.
+/// The last 64 events join in batches of one and of 63. A unit that takes one event too many is refused here, and so is
+/// one that asks for room for a whole batch whatever the batch has.
 #[test]
 fn a_unit_holds_so_many_events(rt: HostRuntime) {
     let (mut publisher, _checker) = unit_of_one(&rt, rt.alloc());

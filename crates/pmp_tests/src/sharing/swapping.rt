@@ -126,8 +126,9 @@ fn watch_told(rt: &impl Abort, mut checker: Checker, notice: Notice)
 }
 
 impl Swap {
-    /// Publishes the way there and the way back in each of these rounds, each by itself. In every second round each event
-    /// is a batch of its own, and a body that shows where one of these batches ends is refused: `fits` has no such number.
+    /// Publishes the way there and the way back in each of these rounds, each by itself. In every second round each
+    /// event is a batch of its own, and a body that shows where one of these batches ends is refused: `fits` has no
+    /// such number.
     fn publish<R: Wait + Abort>(&self, rt: &R, publisher: &mut Publisher, rounds: Range<u32>) {
         for round in rounds {
             let before = events_after(round);
@@ -187,8 +188,9 @@ fn stretch<R: Threads + Wait + Abort + Copy + Send + 'static>(
     back
 }
 
-/// Ends the publisher while a reset is pending and all checkers, who have seen all rounds, decide on threads. They see no
-/// more, since no number of events with the reset fits; and the journal that comes back has the batches of all rounds.
+/// Ends the publisher while a reset is pending and all checkers, who have seen all rounds, decide on threads. They see
+/// no more, since no number of events with the reset fits; and the journal that comes back has the batches of all
+/// rounds.
 fn end_with_a_batch_pending<R: Threads + Wait + Abort + Copy + Send + 'static>(
     rt: &R,
     alloc: Global,
