@@ -1,28 +1,41 @@
 -- What stops a shared audit of inputs without a fault.
-use Rattle.std.proofs.Common.{◌≡◌, ℕ, List, take, Option, Some, None, refl}
+use Rattle.std.proofs.Common.{◌≡◌, ◌∙◌, ◌<◌, ℕ, List, map, take, Option, Some, None, refl, ap}
+use Rattle.std.specs.Prelude.{Any}
+use Rattle.std.proofs.lemmas.List.{get_or-map, length-map}
 use Rattle.std.specs.Io.KnownBytes.{Keeps}
 use Rattle.pmp_share.specs.declared.fault.ShareFault.TheVariants.{NoPlace, Full}
 use Rattle.pmp_share.specs.declared.fault.ShareFault.TheVariants as share
-use Rattle.pmp_share.specs.Batches.{Batches}
+use Rattle.pmp_share.specs.Batches.{Batches, event_count}
+use Rattle.pmp_text.specs.declared.trace.Row.{Row}
+use Rattle.pmp_text.specs.Traces.{row_fields}
 use Rattle.pmp_audit.specs.declared.fault.AuditFault.{AuditFault}
 use Rattle.pmp_audit.specs.declared.fault.AuditFault.TheVariants.{Script, Trace, Share, Moved, BadAfter, Memory}
 use Rattle.pmp_audit.specs.declared.fault.AuditFault.TheVariants.{Output}
 use Rattle.pmp_audit.specs.Answers.{IsRefused}
 use Rattle.pmp_audit.specs.Rounds.{StopsRound}
-use Rattle.pmp_audit.specs.SharedAudit.{AreFaultless, MayStop, SharedAuditRefuses}
+use Rattle.pmp_audit.specs.SharedAudit.{AreFaultless, MayStop, SawMore, SharedAuditRefuses}
+
+-- where a row asks for publications that have fewer events than were seen
+more_than_asked : (batches : Batches) (told seen : ℕ) (rows : List Row) → Any (λ row. row.after ≡ told) rows
+    → event_count (take told batches) < seen → SawMore batches (map row_fields rows) seen
+more_than_asked batches told seen rows (k, row, inside, at, asks) less =
+    let at_row = get_or-map row_fields rows k row (row_fields row) inside ∙ ap row_fields at in
+    (k, row_fields row, rw (length-map rows row_fields) inside, at_row, rw asks less)
 
 -- a round after some of the publications is stopped
-pub stops_after : (batches published : Batches) (told : ℕ) → published ≡ take told batches → (fault : AuditFault)
-    → StopsRound published fault → MayStop batches fault
-stops_after batches published told is (Script fault) stops = absurd stops
-stops_after batches published told is (Trace fault) stops = absurd stops
-stops_after batches published told is (Share NoPlace) stops = tt
-stops_after batches published told is (Share Full) stops = absurd stops
-stops_after batches published told is (Share share.Memory) stops = absurd stops
-stops_after batches published told is (Moved moved) stops = (told, rw is at stops)
-stops_after batches published told is BadAfter stops = absurd stops
-stops_after batches published told is Memory stops = tt
-stops_after batches published told is Output stops = absurd stops
+pub stops_after : (batches published : Batches) (rows : List Row) (told : ℕ) → published ≡ take told batches
+    → (fault : AuditFault) → StopsRound published fault → Any (λ row. row.after ≡ told) rows
+    → MayStop batches (map row_fields rows) fault
+stops_after batches published rows told is (Script fault) stops asks = absurd stops
+stops_after batches published rows told is (Trace fault) stops asks = absurd stops
+stops_after batches published rows told is (Share NoPlace) stops asks = tt
+stops_after batches published rows told is (Share Full) stops asks = absurd stops
+stops_after batches published rows told is (Share share.Memory) stops asks = absurd stops
+stops_after batches published rows told is (Moved moved) stops asks =
+    more_than_asked batches told moved.seen rows asks (rw is at stops)
+stops_after batches published rows told is BadAfter stops asks = absurd stops
+stops_after batches published rows told is Memory stops asks = tt
+stops_after batches published rows told is Output stops asks = absurd stops
 
 -- what isn't written is kept
 kept : (bytes : Option (List ℕ)) → Keeps bytes bytes
@@ -31,7 +44,7 @@ kept (Some bytes) = refl
 
 -- so the audit is
 pub refused_so : {A : Type 0} (Says : A → List ℕ → Type 0) (before : Option (List ℕ)) (script trace : List ℕ)
-    (inputs : AreFaultless script trace) (fault : AuditFault) → MayStop inputs.contents.batches fault
+    (inputs : AreFaultless script trace) (fault : AuditFault) → MayStop inputs.contents.batches inputs.rows fault
     → IsRefused Says before before (SharedAuditRefuses script trace) fault
 refused_so Says before script trace inputs (Script fault) stops = absurd stops
 refused_so Says before script trace inputs (Trace fault) stops = absurd stops

@@ -1,5 +1,5 @@
 -- When an audit by several threads refuses.
-use Rattle.std.specs.Prelude.{◌≡◌, ℕ, ◌<◌, List, length, take, ⊤, Ok}
+use Rattle.std.specs.Prelude.{◌≡◌, ℕ, ◌<◌, List, Any, length, take, ⊤, Ok}
 use Rattle.pmp_share.specs.declared.fault.ShareFault.TheVariants.{NoPlace}
 use Rattle.pmp_share.specs.Batches.{Batches, event_count}
 use Rattle.pmp_text.specs.declared.trace.row_fields.RowFields.{RowFields}
@@ -17,20 +17,20 @@ pub record AreFaultless (script trace : List ℕ) : Type 0 where
   pub script_means : script_meaning script ≡ Ok contents
   pub trace_means : trace_meaning (length contents.batches) trace ≡ Ok rows
 
--- more events were seen than some number of the first publications has; since that may be none, they are not none
-abbrev pub SawMore : Batches → (seen : ℕ) → Type 0
-SawMore batches seen = (told : ℕ) × (event_count (take told batches) < seen)
+-- more events were seen than the publications have that some row asks for
+abbrev pub SawMore : Batches → List RowFields → (seen : ℕ) → Type 0
+SawMore batches rows seen = Any (λ row. event_count (take row.after batches) < seen) rows
 
--- what may stop it where there is no fault: no memory, no place in the unit, or more in it than a worker was told of
-abbrev pub MayStop : Batches → AuditFault → Type 0
-MayStop batches Memory = ⊤
-MayStop batches (Share NoPlace) = ⊤
-MayStop batches (Moved moved) = SawMore batches moved.seen
-MayStop batches _ = ⊥
+-- what may stop it where there is no fault: no memory, no place in the unit, or more in it than a row asks for
+abbrev pub MayStop : Batches → List RowFields → AuditFault → Type 0
+MayStop batches rows Memory = ⊤
+MayStop batches rows (Share NoPlace) = ⊤
+MayStop batches rows (Moved moved) = SawMore batches rows moved.seen
+MayStop batches rows _ = ⊥
 
--- as an audit on one thread; or, where there is no fault, the unit has no place, or more than a worker was told of
+-- as an audit on one thread; or, where there is no fault, the unit has no place, or more than a row asks for
 abbrev pub SharedAuditRefuses : (script trace : List ℕ) → AuditFault → Type 0
 SharedAuditRefuses script trace (Share NoPlace) = AreFaultless script trace
 SharedAuditRefuses script trace (Moved moved) =
-    (inputs : AreFaultless script trace) × SawMore inputs.contents.batches moved.seen
+    (inputs : AreFaultless script trace) × SawMore inputs.contents.batches inputs.rows moved.seen
 SharedAuditRefuses script trace fault = AuditRefuses script trace fault

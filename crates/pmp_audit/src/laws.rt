@@ -1,4 +1,4 @@
-//! Laws of the definitions, each the contract of a function that changes nothing.
+//! The laws of reports and entry lists, each the contract of a function that does nothing.
 
 ghost use Rattle.pmp_audit.specs.EntryList.{OneEntryListLaw};
 ghost use Rattle.pmp_audit.specs.Since.{SinceLaw};

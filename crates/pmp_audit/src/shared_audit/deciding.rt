@@ -41,7 +41,7 @@ fn decide_rows<R: Threads + Wait + Sync, G: Gate + Sync>(
     requires size { script_size script.now.batches ≤ HISTORY_LIMIT }
     requires order { IsInOrder (length script.now.batches) 0 (afters (map row_fields rows.now)) }
     ensures decided { IfOk result (λ decided. decided.items ≡ map (decision_for script.now) rows.now) }
-    ensures refused { IfErr result (MayStop script.now.batches) }
+    ensures refused { IfErr result (MayStop script.now.batches (map row_fields rows.now)) }
 {
     let mut decided = Vec::new(alloc);
     let mut checkers = decide_asking(rt, alloc, gate, publisher, checkers, 0, rows, &mut decided)?;
@@ -74,7 +74,7 @@ pub(crate) fn decide_shared<R: Threads + Wait + Sync, G: Gate + Sync>(
     requires size { script_size script.now.batches ≤ HISTORY_LIMIT }
     requires order { IsInOrder (length script.now.batches) 0 (afters (map row_fields rows.now)) }
     ensures decided { IfOk result (λ decided. decided.items ≡ map (decision_for script.now) rows.now) }
-    ensures refused { IfErr result (MayStop script.now.batches) }
+    ensures refused { IfErr result (MayStop script.now.batches (map row_fields rows.now)) }
 {
     let (mut publisher, checkers) = start_of(rt, alloc, script.size(), k)?;
     let decided = decide_rows(rt, alloc, gate, &mut publisher, checkers, script, rows);

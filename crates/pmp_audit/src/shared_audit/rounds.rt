@@ -1,6 +1,6 @@
 //! One round: the rows that ask for just what is published, decided by all workers.
 
-ghost use Rattle.std.specs.Prelude.{◌≡◌, ◌+◌, ◌^◌, ◌<◌, ◌≤◌, ◌++◌, IfOk, IfErr, OnOk, All, length, drop};
+ghost use Rattle.std.specs.Prelude.{◌≡◌, ◌+◌, ◌^◌, ◌<◌, ◌≤◌, ◌++◌, IfOk, IfErr, OnOk, All, Any, length, drop};
 ghost use Rattle.pmp_core.specs.Histories.{file_after};
 ghost use Rattle.pmp_share.specs.declared.fault.ShareFault.TheVariants.{Full};
 ghost use Rattle.pmp_share.specs.declared.opening.TheConstants.{CHECKERS};
@@ -122,6 +122,7 @@ pub(crate) fn decide_asking<R: Threads + Wait + Sync, G: Gate + Sync>(
         ++ decided_in (file_after publisher.old.unit.entries publisher.old.published)
         (asking after (drop (length decided.old.items) rows.now))) }
     ensures refused { IfErr result (StopsRound publisher.old.published) }
+    ensures asked { IfErr result (λ _. Any (λ row. row.after ≡ after) rows.now) }
 {
     let next = asking(&rows[decided.len()..], after);
     if next.is_empty() {

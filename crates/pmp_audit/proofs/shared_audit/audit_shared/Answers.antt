@@ -58,4 +58,4 @@ returns-in_err-decisions-clause-err g c =
     } in
     let p = err_from_is_err_and c.from_residual-in_err-decisions.result c.from_residual-in_err-decisions.ensures.1 in
     rw (p.1, p.2) (refused_so (AuditSays c.args.script.now c.args.trace.now) _ c.args.script.now c.args.trace.now
-    inputs c.in_err-decisions.field-0.0 c.in_err-decisions.ensures.refused)
+    inputs c.in_err-decisions.field-0.0 (rw c.deref.ensures.value at c.in_err-decisions.ensures.refused))

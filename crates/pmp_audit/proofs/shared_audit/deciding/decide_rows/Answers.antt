@@ -68,5 +68,11 @@ returns-in_err-checkers-2-clause-refused g c =
     ∙ ap (λ (b : List Event). take at.index script.batches ++ b ∷ []) c.batch.ensures.events
     ∙ sym (take_more script.batches at.index [] (omega (arith, c.batches-index-end.ensures))) in
     let p = err_from_is_err_and c.from_residual-in_err-checkers-2.result c.from_residual-in_err-checkers-2.ensures.1 in
-    rw (p.1, p.2) (stops_after script.batches c.publish.new.publisher.published (at.index + 1) done
-    c.in_err-checkers-2.field-0.0 c.in_err-checkers-2.ensures.refused)
+    rw (p.1, p.2) (stops_after script.batches c.publish.new.publisher.published c.args.rows.now (at.index + 1) done
+    c.in_err-checkers-2.field-0.0 c.in_err-checkers-2.ensures.refused c.in_err-checkers-2.ensures.asked)
+
+pub returns-in_err-checkers-clause-refused : goal.returns-in_err-checkers-clause-refused
+returns-in_err-checkers-clause-refused g c =
+    let p = err_from_is_err_and c.from_residual.result c.from_residual.ensures.1 in
+    rw (p.1, p.2) (stops_after c.args.script.now.batches c.args.publisher.now.published c.args.rows.now 0
+    c.requires.published c.in_err-checkers.field-0.0 c.in_err-checkers.ensures.refused c.in_err-checkers.ensures.asked)

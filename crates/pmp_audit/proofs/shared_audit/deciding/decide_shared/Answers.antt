@@ -1,9 +1,11 @@
-use Rattle.std.proofs.Common.{◌≡◌, ◌∙◌, ◌<◌, ℕ, List, get_or, length, replicate, ap, refl, arith}
+use Rattle.std.proofs.Common.{◌≡◌, ◌∙◌, ◌<◌, ℕ, List, get_or, length, map, replicate, ap, refl, arith}
 use Rattle.std.proofs.lemmas.List.{get_or-replicate, length-replicate}
 use Rattle.std.proofs.lemmas.Result.{err_from_is_err_and}
 use Rattle.pmp_share.specs.declared.fault.ShareFault.{ShareFault}
 use Rattle.pmp_share.specs.declared.fault.ShareFault.TheVariants.{NoPlace, Full, Memory}
 use Rattle.pmp_share.specs.Batches.{Batches}
+use Rattle.pmp_text.specs.declared.trace.row_fields.RowFields.{RowFields}
+use Rattle.pmp_text.specs.Traces.{row_fields}
 use Rattle.pmp_audit.specs.Fault.{fault_of_share}
 use Rattle.pmp_audit.specs.SharedAudit.{MayStop}
 use Rattle.pmp_audit.proofs.shared_audit.deciding.decide_shared.Goals as goal
@@ -17,15 +19,17 @@ module _ {A B : Type 0} (field : A → B) (k : ℕ) (one : A) (items : List A) (
   alike i d inside =
       let within : i < k = let many = so_many in omega arith in rw are (ap field (get_or-replicate k i one d within))
 
-stops : (batches : Batches) (fault : ShareFault) → (fault ≡ Full → ⊥) → MayStop batches (fault_of_share fault)
-stops batches NoPlace not_full = tt
-stops batches Full not_full = absurd (not_full refl)
-stops batches Memory not_full = tt
+stops : (batches : Batches) (rows : List RowFields) (fault : ShareFault) → (fault ≡ Full → ⊥)
+    → MayStop batches rows (fault_of_share fault)
+stops batches rows NoPlace not_full = tt
+stops batches rows Full not_full = absurd (not_full refl)
+stops batches rows Memory not_full = tt
 
 pub returns-in_err-publisher-clause-refused : goal.returns-in_err-publisher-clause-refused
 returns-in_err-publisher-clause-refused g c =
     let p = err_from_is_err_and c.from_residual.result c.from_residual.ensures.1 in
-    rw (p.1, p.2) (stops c.args.script.now.batches c.in_err-publisher.field-0.0 c.in_err-publisher.ensures.refused)
+    rw (p.1, p.2) (stops c.args.script.now.batches (map row_fields c.args.rows.now) c.in_err-publisher.field-0.0
+    c.in_err-publisher.ensures.refused)
 
 pub decide_rows-decided-requires-clause-some : goal.decide_rows-decided-requires-clause-some
 decide_rows-decided-requires-clause-some g c κs lived =
