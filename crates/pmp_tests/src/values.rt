@@ -1,16 +1,66 @@
 //! Values that neither a text nor a number at the C boundary makes.
 
+ghost use Rattle.std.specs.Prelude.{◌≡◌, ◌↔◌, IsTrue};
+
 use pmp_core::*;
 use pmp_map::Run;
+
+/// `==` tells values of these types apart, and says that equal ones are the same.
+fn are_same_accesses(one: &Access, other: &Access) -> bool
+    ensures { IsTrue result ↔ one.now ≡ other.now }
+{
+    one == other
+}
+
+fn are_same_decisions(one: &Decision, other: &Decision) -> bool
+    ensures { IsTrue result ↔ one.now ≡ other.now }
+{
+    one == other
+}
+
+fn are_same_events(one: &Event, other: &Event) -> bool
+    ensures { IsTrue result ↔ one.now ≡ other.now }
+{
+    one == other
+}
+
+fn are_same_runs(one: &Run, other: &Run) -> bool
+    ensures { IsTrue result ↔ one.now ≡ other.now }
+{
+    one == other
+}
 
 /// What vectors of fixed capacity fill their places with.
 #[test]
 fn defaults_refuse(rt: HostRuntime) {
-    assert!(rt; Event::default() == Event::Reset);
-    assert!(rt; Cause::default() == Cause::NoMatch);
-    assert!(rt; !Decision::default().allowed);
-    let Run { first, last, owner } = Run::default();
-    assert!(rt; first == 0 && last == 0 && owner.is_none());
+    let refused = Decision {
+        allowed: false,
+        cause: Cause::NoMatch,
+    };
+    let none = Run {
+        first: 0,
+        last: 0,
+        owner: None,
+    };
+    assert!(rt; are_same_events(&Event::default(), &Event::Reset));
+    assert!(rt; are_same_decisions(&Decision::default(), &refused));
+    assert!(rt; are_same_runs(&Run::default(), &none));
+}
+
+/// An access by another mode, of another kind, from another byte or of another length is another one.
+#[test]
+fn accesses_differ(rt: HostRuntime) {
+    let load = Access::new(Mode::U, Kind::Load, 8, 4).expect(&rt, "a lawful access");
+    let others = [
+        Access::new(Mode::S, Kind::Load, 8, 4),
+        Access::new(Mode::U, Kind::Store, 8, 4),
+        Access::new(Mode::U, Kind::Load, 4, 4),
+        Access::new(Mode::U, Kind::Load, 8, 8),
+    ];
+    for other in others {
+        assert!(rt; !are_same_accesses(&load, &other.expect(&rt, "a lawful access")));
+    }
+    assert!(rt; are_same_accesses(&load, &load));
 }
 
 /// Registers that no number of a CSR names take no write, and read zero.
