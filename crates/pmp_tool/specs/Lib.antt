@@ -5,6 +5,7 @@ pub mod Commands
 pub mod Failures
 pub mod Inputs
 pub mod Refusals
+pub mod LineLengths
 pub mod Requests
 pub mod Runs
 -- The rest, which only private contracts cite.

@@ -3,6 +3,7 @@
 ghost use Rattle.std.specs.Prelude.{◌≡◌, None, Some, OnOk, OnErr};
 ghost use Rattle.std.specs.Io.KnownBytes.{Appends};
 ghost use Rattle.pmp_text.specs.Bytes.{AppendsBeginning};
+ghost use Rattle.pmp_tool.specs.LineLengths.{LineFitsLaw};
 ghost use Rattle.pmp_tool.specs.Refusals.{fault_text, line_text, script_place, trace_place};
 
 use crate::refusal::Refusal;
@@ -40,6 +41,11 @@ impl Place {
 /// The bytes of the longest line: its number has 20 digits, and the refusal's name 11 letters.
 const LONGEST_LINE: usize = 62;
 
+/// Every line fits its room.
+fn law_line_fits()
+    ensures { LineFitsLaw }
+{}
+
 /// The line that tells of a refusal.
 #[derive(Clone, Copy)]
 pub struct FaultLine {
@@ -56,6 +62,7 @@ impl FaultLine {
         ensures err { OnErr result (AppendsBeginning (W.contents writer.old) (W.contents writer.new)
             (line_text self.now.refusal self.now.place)) }
     {
+        law_line_fits();
         let mut line = ArrayString::<LONGEST_LINE>::new();
         writeln!(line, "{self}").map_err(|_| OutputFault)?;
         write_out(writer, line.as_str().as_bytes())
