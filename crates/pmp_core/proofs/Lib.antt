@@ -12,6 +12,7 @@ pub mod Parts
 pub mod MachineCode
 pub mod Protection
 pub mod Sizes
+pub mod Others
 pub mod Changes
 pub mod Stored
 pub mod Spans
@@ -22,3 +23,4 @@ pub mod WordReasons
 pub mod AddressReasons
 pub mod MseccfgReasons
 pub mod ReasonsLaw
+pub mod Reachable

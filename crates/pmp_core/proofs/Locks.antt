@@ -172,7 +172,7 @@ held_on file i (Write csr value ∷ events) frozen writes =
 
 -- ---- the bytes
 
-same_bytes : (mode : AddressMatching) (low other address byte : ℕ) → (is_tor mode ≡ true → low ≡ other)
+pub same_bytes : (mode : AddressMatching) (low other address byte : ℕ) → (is_tor mode ≡ true → low ≡ other)
     → MatchesBy mode low address byte → MatchesBy mode other address byte
 same_bytes Off low other address byte same h = h
 same_bytes Tor low other address byte same h = rw (← same refl) h

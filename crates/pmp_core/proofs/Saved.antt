@@ -98,7 +98,7 @@ matching_back Tor = refl
 matching_back Na4 = refl
 matching_back Napot = refl
 
-configuration_back : (c : Configuration) → configuration_of (byte_of c) ≡ c
+pub configuration_back : (c : Configuration) → configuration_of (byte_of c) ≡ c
 configuration_back c =
     let parts = parts_back (bit_of c.locked) (field_of c.matching) (bit_of c.execute) (bit_of c.write) (bit_of c.read)
     (bit_le c.locked) (field_le c.matching) (bit_le c.execute) (bit_le c.write) (bit_le c.read) in
@@ -115,7 +115,7 @@ configuration_back c =
       bit_back c.read,
     ) refl
 
-fields_back : (a b c : Bool) → mseccfg_fields (mseccfg_value (record { mml = a; mmwp = b; rlb = c }))
+pub fields_back : (a b c : Bool) → mseccfg_fields (mseccfg_value (record { mml = a; mmwp = b; rlb = c }))
     ≡ record { mml = a; mmwp = b; rlb = c }
 fields_back false false false = refl
 fields_back false false true = refl
@@ -127,7 +127,7 @@ fields_back true true false = refl
 fields_back true true true = refl
 
 -- a legal configuration is stored as it is
-stored_as_is : (mml : Bool) (old c : Configuration) → (mml ≡ false → is_reserved c ≡ false)
+pub stored_as_is : (mml : Bool) (old c : Configuration) → (mml ≡ false → is_reserved c ≡ false)
     → admitted mml true old c ≡ c
 stored_as_is true old c unreserved = refl
 stored_as_is false old c unreserved = rw (unreserved refl) refl

@@ -55,7 +55,7 @@ configured_anywhere file q value i room low = elim (cases_lt i (length file.entr
       ∙ sym (kept_above file q value i (omega arith))
 ]
 
-own_address_written : (file : RegisterFile) (j value : ℕ) → j < length file.entries
+pub own_address_written : (file : RegisterFile) (j value : ℕ) → j < length file.entries
     → entry_at (address_written file j value) j
     ≡ cond (is_address_frozen file j) (entry_at file.entries j) (record (entry_at file.entries j) {
       address = value % 2 ^ 54;
@@ -142,7 +142,7 @@ replays_alike (event ∷ events) one other room more alike named =
 
 -- ---- decisions
 
-least_alike : (P Q : ℕ → Type 0) → ((i : ℕ) → P i → Q i) → ((i : ℕ) → Q i → P i) → (least : Option ℕ)
+pub least_alike : (P Q : ℕ → Type 0) → ((i : ℕ) → P i → Q i) → ((i : ℕ) → Q i → P i) → (least : Option ℕ)
     → IsLeast P least → IsLeast Q least
 least_alike P Q to from None none = λ i h. none i (from i h)
 least_alike P Q to from (Some i) found = (to i found.0, λ j below h. found.1 j below (from j h))

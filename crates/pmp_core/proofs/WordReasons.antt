@@ -49,7 +49,7 @@ word_from f value small same =
     ap (from_le_bytes w64) (sym (fill_by_all f (to_le_bytes w64 value) 8 0 refl same))
     ∙ from_le_bytes-to_le_bytes_8 value small
 
-word_gives : (f : ℕ → ℕ) (value : ℕ) → ((j : ℕ) → j < 8 → f j < 256)
+pub word_gives : (f : ℕ → ℕ) (value : ℕ) → ((j : ℕ) → j < 8 → f j < 256)
     → from_le_bytes w64 (map f (range_with_len 0 8)) ≡ value → (j : ℕ) → j < 8 → byte value j ≡ f j
 word_gives f value bytes same j near =
     ap (λ bs. get_or bs j 0) (le_bytes_8 (map f (range_with_len 0 8)) value refl (λ i.

@@ -19,8 +19,10 @@ pub mod LockLaw
 pub mod ProtectionLaw
 pub mod StickyLaw
 pub mod PartsLaw
+pub mod OthersLaw
 pub mod Size
 pub mod SizeLaw
 pub mod SavedRegisters
+pub mod ReachableLaw
 -- How decisions are computed: a law says that they are the same.
 pub mod Ranges

@@ -1,4 +1,4 @@
-//! Laws of the definitions, each the contract of a function that does nothing.
+//! The laws of the unit, each the contract of a function that does nothing.
 
 ghost use Rattle.std.specs.Prelude.{◌≡◌, ℕ, ◌<◌, List, Option, length};
 ghost use Rattle.pmp_core.specs.declared.access.Access.{Access};
@@ -11,7 +11,9 @@ ghost use Rattle.pmp_core.specs.Decision.{IsOwner, IsDecider, IsDecision};
 ghost use Rattle.pmp_core.specs.Rights.{BarredRulesLaw, StoreLaw};
 ghost use Rattle.pmp_core.specs.Histories.{LegalLaw};
 ghost use Rattle.pmp_core.specs.PartsLaw.{PartsLaw};
+ghost use Rattle.pmp_core.specs.OthersLaw.{OthersLaw};
 ghost use Rattle.pmp_core.specs.ProtectionLaw.{ClosedLaw, FewerRightsLaw, MachineCodeLaw, ProtectedLaw};
+ghost use Rattle.pmp_core.specs.ReachableLaw.{ReachableLaw};
 ghost use Rattle.pmp_core.specs.StickyLaw.{FrozenAddressLaw, StickyLaw};
 ghost use Rattle.pmp_core.specs.LockLaw.{LockLaw};
 ghost use Rattle.pmp_core.specs.SizeLaw.{SizeLaw};
@@ -128,4 +130,16 @@ pub fn law_frozen_address()
 /// Each part of an access that is allowed is allowed too, by the same cause.
 pub fn law_parts()
     ensures { PartsLaw }
+{}
+
+/// A write leaves the others alone: the entries of which the register holds nothing; the bytes of those that it can't
+/// move; and, unless it is to `mseccfg`, the decisions on accesses with no byte of those that it may move.
+pub fn law_others()
+    ensures { OthersLaw }
+{}
+
+/// Every legal register file of sixteen or sixty-four entries is one that a reset and writes give. So what is restored
+/// is never a state that a hart can't have.
+pub fn law_reachable()
+    ensures { ReachableLaw }
 {}

@@ -85,7 +85,7 @@ module _ (file : RegisterFile) (access : Access) (runs part : List Run) (p q : �
       run_among (2 ^ 56) (IsOwner file.entries) runs are byte p q (omega (arith, straddles.several)) straddles.inside
       (omega (arith, straddles.first.0, here.0)) (omega (arith, gap, straddles.last.1, here.1))
 
-  owns_part : (k i : ℕ) → p ≤ k → k ≤ q → owner_at k ≡ Some i → OwnsOne (2 ^ 56) part i
+  pub owns_part : (k i : ℕ) → p ≤ k → k ≤ q → owner_at k ≡ Some i → OwnsOne (2 ^ 56) part i
   owns_part k i from to owned =
       let within : k - p < length part = omega (arith, straddles.count) in
       let same : p + (k - p) ≡ k = omega arith in
@@ -114,14 +114,18 @@ module _ (file : RegisterFile) (access : Access) (runs part : List Run) (p q : �
         | inr le ↦ owner.1 ∙ ap Some (omega (arith, owner.2))
       ]
 
-  pub decided_split : (least : Option ℕ) → IsLeast (OwnsOne (2 ^ 56) part) least
-      → IsDecision file access (refusal_by least)
-  decided_split None unowned =
+  -- neighbours have different owners, so one of the runs has one
+  pub some_owner : ¬ (IsLeast (OwnsOne (2 ^ 56) part) None)
+  some_owner unowned =
       let none : (k : ℕ) → p ≤ k → k ≤ q → owner_at k ≡ None =
       λ k from to. no_owner (owner_at k) (λ i owned. unowned i (owns_part k i from to owned)) in
       let several = straddles.several in
-      absurd (are.apart p (omega (arith, straddles.inside))
-      (none p (omega arith) (omega arith) ∙ sym (none (p + 1) (omega arith) (omega arith))))
+      are.apart p (omega (arith, straddles.inside))
+      (none p (omega arith) (omega arith) ∙ sym (none (p + 1) (omega arith) (omega arith)))
+
+  pub decided_split : (least : Option ℕ) → IsLeast (OwnsOne (2 ^ 56) part) least
+      → IsDecision file access (refusal_by least)
+  decided_split None unowned = absurd (some_owner unowned)
   decided_split (Some i) least =
       let several = straddles.several in
       let k = least.0.0 in

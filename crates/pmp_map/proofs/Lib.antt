@@ -8,5 +8,6 @@ pub mod Pushes
 pub mod KeptRights
 pub mod LeastOwner
 pub mod Decided
+pub mod DecidedRuns
 pub mod Starts
 pub mod Lookups

@@ -1,10 +1,11 @@
-//! Laws of the definitions, each the contract of a function that does nothing.
+//! The laws of runs, each the contract of a function that does nothing.
 
 ghost use Rattle.std.specs.Prelude.{◌≡◌, ◌+◌, ◌*◌, ◌≤◌, List, length};
 ghost use Rattle.pmp_core.specs.declared.entry.Entry.{Entry};
 ghost use Rattle.pmp_core.specs.RegisterFile.{HasAddresses};
 ghost use Rattle.pmp_map.specs.declared.run.Run.{Run};
 ghost use Rattle.pmp_map.specs.Runs.{AreRuns};
+ghost use Rattle.pmp_map.specs.RunsLaw.{InsideRunLaw, AcrossRunsLaw};
 
 /// Entries have one list of runs.
 pub fn law_one_list_of_runs()
@@ -16,4 +17,14 @@ pub fn law_one_list_of_runs()
 pub fn law_few_runs()
     ensures { (entries : List Entry) (runs : List Run) → HasAddresses entries → AreRuns entries runs
         → length runs ≤ 2 * length entries + 1 }
+{}
+
+/// An access inside one run is decided by the rule of the run's owner, or as where no entry matches.
+pub fn law_inside_run()
+    ensures { InsideRunLaw }
+{}
+
+/// An access from one run into a later one is refused, as a partial match of the least owner of these runs.
+pub fn law_across_runs()
+    ensures { AcrossRunsLaw }
 {}

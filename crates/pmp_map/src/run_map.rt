@@ -1,4 +1,4 @@
-//! The map.
+//! The map of a register file: its runs of bytes, and decisions by them.
 
 ghost use Rattle.std.specs.Prelude.{◌≡◌, ◌+◌, ◌*◌, ◌<◌, ◌≤◌, ◌^◌, List, length};
 ghost use Rattle.pmp_core.specs.Decision.{IsOwner, IsDecision};

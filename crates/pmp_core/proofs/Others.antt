@@ -1,0 +1,160 @@
+-- What a write leaves alone.
+use Rattle.std.proofs.Common.{◌≡◌, ◌≢◌, ◌↔◌, ℕ, suc, ◌≤◌, ◌==◌, ◌⊎◌, Bool, true, false, cond, ◌&&◌, ◌||◌, length}
+use Rattle.std.proofs.Common.{Option, Some, None, refl, sym, ap, ◌∙◌, inl, inr, arith}
+use Rattle.std.proofs.lemmas.Bool.{cases_lt, false≢true}
+use Rattle.std.proofs.lemmas.Bool.Decides.{nat_tests}
+use Rattle.std.proofs.lemmas.List.{get_or_past}
+use Rattle.pmp_core.specs.declared.access.Access.{Access}
+use Rattle.pmp_core.specs.declared.csr.Csr.{Csr}
+use Rattle.pmp_core.specs.declared.csr.Csr.TheVariants.{Cfg, Addr, Mseccfg}
+use Rattle.pmp_core.specs.declared.decision.Cause.{Cause}
+use Rattle.pmp_core.specs.declared.decision.Cause.TheVariants.{Rule, Split, NoMatch}
+use Rattle.pmp_core.specs.declared.entry.Entry.{Entry}
+use Rattle.pmp_core.specs.RegisterFile.{RegisterFile, entry_at, reset_entry}
+use Rattle.pmp_core.specs.RegisterWrite.{holds_byte_of, is_tor, written}
+use Rattle.pmp_core.specs.Matching.{Matches, low_address}
+use Rattle.pmp_core.specs.Decision.{IsDecider, IsDecisionBy, Touches}
+use Rattle.pmp_core.specs.OthersLaw.{OthersLaw, holds, may_move}
+use Rattle.pmp_core.proofs.Legal.{configured_place, length-written}
+use Rattle.pmp_core.proofs.Locks.{configured_address, low_kept, other_address, same_bytes}
+use Rattle.pmp_core.proofs.Sizes.{least_alike}
+
+-- ---- entries
+
+not_held : {A : Type 0} (held : Bool) (new old : A) → held ≡ false → cond held new old ≡ old
+not_held true new old none = absurd (false≢true (sym none))
+not_held false new old none = refl
+
+differ : (i j : ℕ) → (i == j) ≡ false → i ≢ j
+differ i j none same = let test : (i == j) ≡ true = grind (arith, nat_tests) in false≢true (sym none ∙ test)
+
+neither : (a b : Bool) → (a || b) ≡ false → (a ≡ false) × (b ≡ false)
+neither true b none = absurd (false≢true (sym none))
+neither false b none = (refl, none)
+
+not_both : (a b : Bool) → (a && b) ≡ false → b ≡ true → a ≡ false
+not_both true b none whole = absurd (false≢true (sym none ∙ whole))
+not_both false b none whole = refl
+
+either : (b : Bool) → (b ≡ true) ⊎ (b ≡ false)
+either true = inl refl
+either false = inr refl
+
+module _ (file : RegisterFile) (value : ℕ) where
+  past_same : (csr : Csr) (i : ℕ) → length file.entries ≤ i
+      → entry_at (written file csr value).entries i ≡ entry_at file.entries i
+  past_same csr i past =
+      get_or_past (written file csr value).entries i reset_entry (omega (arith, length-written file csr value))
+      ∙ sym (get_or_past file.entries i reset_entry past)
+
+  pub entry_kept : (csr : Csr) (i : ℕ) → holds csr i ≡ false
+      → entry_at (written file csr value).entries i ≡ entry_at file.entries i
+  entry_kept (Cfg q) i none = elim (cases_lt i (length file.entries)) [
+    | inl inside ↦ configured_place file q value i inside ∙ not_held (holds_byte_of q i) _ _ none
+    | inr past ↦ past_same (Cfg q) i past
+  ]
+  entry_kept (Addr j) i none = other_address file j value i (differ i j none)
+  entry_kept Mseccfg i none = refl
+
+  -- ---- bytes
+
+  address_kept : (q k : ℕ) → (entry_at (written file (Cfg q) value).entries k).address
+      ≡ (entry_at file.entries k).address
+  address_kept q k = elim (cases_lt k (length file.entries)) [
+    | inl inside ↦ ap (λ (entry : Entry). entry.address) (configured_place file q value k inside)
+        ∙ configured_address file q value k
+    | inr past ↦ ap (λ (entry : Entry). entry.address) (past_same (Cfg q) k past)
+  ]
+
+  low_same : (csr : Csr) (i : ℕ) → may_move file csr i ≡ false
+      → is_tor (entry_at file.entries i).configuration.matching ≡ true
+      → low_address (written file csr value).entries i ≡ low_address file.entries i
+  low_same (Cfg q) i none tor =
+      low_kept file.entries (written file (Cfg q) value).entries i (λ k below. address_kept q k)
+  low_same (Addr j) i none tor =
+      let apart : (i == suc j) ≡ false = not_both (i == suc j) _ (neither (i == j) _ none).1 tor in
+      low_kept file.entries (written file (Addr j) value).entries i (λ k below.
+          ap (λ (entry : Entry). entry.address) (other_address file j value k
+          (λ same. differ i (suc j) apart (sym below ∙ ap suc same))))
+  low_same Mseccfg i none tor = refl
+
+  holds_none : (csr : Csr) (i : ℕ) → may_move file csr i ≡ false → holds csr i ≡ false
+  holds_none (Cfg q) i none = none
+  holds_none (Addr j) i none = (neither (i == j) _ none).0
+  holds_none Mseccfg i none = refl
+
+  bytes_kept : (csr : Csr) (i byte : ℕ) → may_move file csr i ≡ false
+      → Matches (written file csr value).entries i byte ↔ Matches file.entries i byte
+  bytes_kept csr i byte none =
+      let entry = entry_at file.entries i in
+      rw (entry_kept csr i (holds_none csr i none)) (
+        same_bytes entry.configuration.matching _ _ entry.address byte (low_same csr i none),
+        same_bytes entry.configuration.matching _ _ entry.address byte (λ tor. sym (low_same csr i none tor)),
+      )
+
+-- ---- decisions
+
+-- entry i matches no byte of the access in either file, or is the same in both
+abbrev IsSame : (one other : RegisterFile) → Access → ℕ → Type 0
+IsSame one other access i = (¬ (Touches one.entries access i) × ¬ (Touches other.entries access i))
+    ⊎ ((entry_at other.entries i ≡ entry_at one.entries i)
+    × ((byte : ℕ) → Matches other.entries i byte ↔ Matches one.entries i byte))
+
+module _ (one other : RegisterFile) (mseccfg : other.mseccfg ≡ one.mseccfg) (access : Access)
+    (same : (i : ℕ) → IsSame one other access i) where
+  touches : (i : ℕ) → Touches one.entries access i → Touches other.entries access i
+  touches i touched = elim (same i) [
+    | inl clear ↦ absurd (clear.0 touched)
+    | inr alike ↦ (touched.0, touched.1, (alike.1 touched.0).1 touched.2)
+  ]
+
+  touched_before : (i : ℕ) → Touches other.entries access i → Touches one.entries access i
+  touched_before i touched = elim (same i) [
+    | inl clear ↦ absurd (clear.1 touched)
+    | inr alike ↦ (touched.0, touched.1, (alike.1 touched.0).0 touched.2)
+  ]
+
+  decider : (found : Option ℕ) → IsDecider one.entries access found → IsDecider other.entries access found
+  decider = least_alike (Touches one.entries access) (Touches other.entries access) touches touched_before
+
+  -- the decider is the same in both
+  alike : (i : ℕ) → IsDecider one.entries access (Some i)
+      → (entry_at other.entries i ≡ entry_at one.entries i)
+      × ((byte : ℕ) → Matches other.entries i byte ↔ Matches one.entries i byte)
+  alike i found = elim (same i) [ inl clear ↦ absurd (clear.0 found.0) | inr is ↦ is ]
+
+  decided_by : (allowed : Bool) (cause : Cause) → IsDecisionBy one access allowed cause
+      → IsDecisionBy other access allowed cause
+  decided_by allowed NoMatch h = (decider None h.0, rw mseccfg h.1)
+  decided_by allowed (Split i) h = (
+    decider (Some i) h.0,
+    (λ covers. h.1 (λ byte inside. ((alike i h.0).1 byte).0 (covers byte inside))),
+    h.2,
+  )
+  decided_by allowed (Rule i) h = (
+    decider (Some i) h.0,
+    (λ byte inside. ((alike i h.0).1 byte).1 (h.1 byte inside)),
+    rw (mseccfg, (alike i h.0).0) h.2,
+  )
+
+mseccfg_kept : (file : RegisterFile) (csr : Csr) (value : ℕ) → csr ≢ Mseccfg
+    → (written file csr value).mseccfg ≡ file.mseccfg
+mseccfg_kept file (Cfg q) value other = refl
+mseccfg_kept file (Addr j) value other = refl
+mseccfg_kept file Mseccfg value other = absurd (other refl)
+
+pub others_law : OthersLaw
+others_law file csr value = record {
+  entries = entry_kept file value csr;
+  bytes = bytes_kept file value csr;
+  decisions = λ other access clear decision decided.
+      let after = written file csr value in
+      let same : (i : ℕ) → IsSame file after access i = λ i. elim (either (may_move file csr i)) [
+        | inl moves ↦ inl (clear i moves)
+        | inr stays ↦ inr (
+            entry_kept file value csr i (holds_none file value csr i stays),
+            λ byte. bytes_kept file value csr i byte stays,
+          )
+      ] in
+      decided_by file after (mseccfg_kept file csr value other) access same decision.allowed decision.cause decided;
+}

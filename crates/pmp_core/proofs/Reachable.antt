@@ -1,0 +1,249 @@
+-- Writes that give a legal register file from reset: bypass on, addresses, configurations, and then its mseccfg.
+use Rattle.std.proofs.Common.{◌≡◌, ℕ, zero, suc, ◌+◌, ◌-◌, ◌*◌, ◌/◌, ◌%◌, ◌^◌, ◌<◌, ◌≤◌, Bool, true, false, not, ◌&&◌, ◌||◌}
+use Rattle.std.proofs.Common.{List, [], ◌∷◌, ◌++◌, length, map, fold, slice_index, refl, sym, ap, ◌∙◌, inl, inr, arith}
+use Rattle.std.specs.List.{range_with_len}
+use Rattle.std.specs.Int.{w64, to_le_bytes}
+use Rattle.std.proofs.lemmas.Bool.{cases_lt}
+use Rattle.std.proofs.lemmas.Bool.Decides.{nat_tests}
+use Rattle.std.proofs.lemmas.List.{get_or_past, get_or-replicate, length-replicate}
+use Rattle.std.proofs.lemmas.List.Sums.{fold-append}
+use Rattle.pmp_core.specs.declared.csr.Csr.TheVariants.{Cfg, Addr, Mseccfg}
+use Rattle.pmp_core.specs.declared.entry.Entry.{Entry}
+use Rattle.pmp_core.specs.declared.event.Event.{Event}
+use Rattle.pmp_core.specs.declared.event.Event.TheVariants.{Write}
+use Rattle.pmp_core.specs.declared.mseccfg.MseccfgFields.{MseccfgFields}
+use Rattle.pmp_core.specs.declared.size.Size.{Size}
+use Rattle.pmp_core.specs.declared.size.Size.TheVariants.{Sixteen, SixtyFour}
+use Rattle.pmp_core.specs.Configuration.{byte_of}
+use Rattle.pmp_core.specs.Mseccfg.{mseccfg_value, mseccfg_written}
+use Rattle.pmp_core.specs.RegisterFile.{RegisterFile, entry_at, reset_entry, reset_file, IsLegal}
+use Rattle.pmp_core.specs.RegisterValue.{configuration_word}
+use Rattle.pmp_core.specs.RegisterWrite.{configured, holds_byte_of, is_address_frozen, is_any_locked, step, written}
+use Rattle.pmp_core.specs.Size.{count_of}
+use Rattle.pmp_core.specs.Histories.{replay}
+use Rattle.pmp_core.specs.ReachableLaw.{ReachableLaw}
+use Rattle.pmp_core.proofs.Configuring.{configured_at}
+use Rattle.pmp_core.proofs.Legal.{configured_place, length-written}
+use Rattle.pmp_core.proofs.Locks.{other_address}
+use Rattle.pmp_core.proofs.Others.{entry_kept}
+use Rattle.pmp_core.proofs.Places.{entries_by}
+use Rattle.pmp_core.proofs.Saved.{configuration_back, stored_as_is}
+use Rattle.pmp_core.proofs.Sizes.{own_address_written}
+use Rattle.pmp_core.proofs.StoredBytes.{byte_plain}
+use Rattle.pmp_core.proofs.WordReasons.{word_gives}
+
+-- with bypass on no address is frozen
+thawed_by : (here next top : Bool) → ((here && not true) || ((next && not true) && top)) ≡ false
+thawed_by true true top = refl
+thawed_by true false top = refl
+thawed_by false true top = refl
+thawed_by false false top = refl
+
+thawed : (file : RegisterFile) (i : ℕ) → file.mseccfg.rlb ≡ true → is_address_frozen file i ≡ false
+thawed file i bypass = rw bypass (thawed_by _ _ _)
+
+unlocked : (size : Size) → is_any_locked (reset_file (count_of size)).entries ≡ false
+unlocked Sixteen = refl
+unlocked SixtyFour = refl
+
+-- the fields that bypass lets a last write give, and those that a first one gives
+settled : (mml mmwp rlb is_any : Bool)
+    → mseccfg_written (record { mml = mml; mmwp = mmwp; rlb = true }) is_any
+    (mseccfg_value (record { mml = mml; mmwp = mmwp; rlb = rlb }))
+    ≡ record { mml = mml; mmwp = mmwp; rlb = rlb }
+settled false false false is_any = refl
+settled false false true is_any = refl
+settled false true false is_any = refl
+settled false true true is_any = refl
+settled true false false is_any = refl
+settled true false true is_any = refl
+settled true true false is_any = refl
+settled true true true is_any = refl
+
+opened : (mml mmwp : Bool)
+    → mseccfg_written (record { mml = false; mmwp = false; rlb = false }) false
+    (mseccfg_value (record { mml = mml; mmwp = mmwp; rlb = true }))
+    ≡ record { mml = mml; mmwp = mmwp; rlb = true }
+opened false false = refl
+opened false true = refl
+opened true false = refl
+opened true true = refl
+
+eights : (size : Size) → 8 * (count_of size / 8) ≡ count_of size
+eights Sixteen = refl
+eights SixtyFour = refl
+
+module _ (file : RegisterFile) (n : ℕ) (legal : IsLegal file) (count : length file.entries ≡ n) where
+  -- its mseccfg with bypass on
+  abbrev open_fields : MseccfgFields
+  open_fields = record { mml = file.mseccfg.mml; mmwp = file.mseccfg.mmwp; rlb = true }
+
+  abbrev addressed_entry : ℕ → Entry
+  addressed_entry i = record reset_entry { address = (entry_at file.entries i).address }
+
+  past_file : (i : ℕ) → n ≤ i → entry_at file.entries i ≡ reset_entry
+  past_file i past = get_or_past file.entries i reset_entry (omega (arith, count))
+
+  -- ---- addresses
+
+  address_events : ℕ → List Event
+  address_events zero = []
+  address_events (suc k) = address_events k ++ Write (Addr k) (entry_at file.entries k).address ∷ []
+
+  record IsAddressed (now : RegisterFile) (k : ℕ) : Type 0 where
+    fields : now.mseccfg ≡ open_fields
+    many : length now.entries ≡ n
+    done : (i : ℕ) → i < k → entry_at now.entries i ≡ addressed_entry i
+    rest : (i : ℕ) → k ≤ i → entry_at now.entries i ≡ reset_entry
+
+  address_next : (now : RegisterFile) (k : ℕ) → k < n → IsAddressed now k
+      → IsAddressed (written now (Addr k) (entry_at file.entries k).address) (suc k)
+  address_next now k inside before =
+      let value = (entry_at file.entries k).address in
+      let small : value % 2 ^ 54 ≡ value = omega (arith, legal.addresses k) in
+      let own : entry_at (written now (Addr k) value).entries k ≡ addressed_entry k =
+      own_address_written now k value (omega (arith, before.many))
+      ∙ rw (thawed now k (ap (λ (m : MseccfgFields). m.rlb) before.fields), before.rest k (omega arith), small) refl in
+      record {
+        fields = before.fields;
+        many = length-written now (Addr k) value ∙ before.many;
+        done = λ i below. elim (cases_lt i k) [
+          | inl less ↦ other_address now k value i (λ same. absurd (omega arith)) ∙ before.done i less
+          | inr more ↦ let same : k ≡ i = omega arith in rw (← same) own
+        ];
+        rest = λ i from. other_address now k value i (λ same. absurd (omega arith)) ∙ before.rest i (omega arith);
+      }
+
+  addressed : (start : RegisterFile) → IsAddressed start 0 → (k : ℕ) → k ≤ n
+      → IsAddressed (fold step start (address_events k)) k
+  unfolding address_events
+  addressed start first zero within = first
+  addressed start first (suc k) within =
+      rw (fold-append step start (address_events k) (Write (Addr k) (entry_at file.entries k).address ∷ []))
+      (address_next (fold step start (address_events k)) k (omega arith) (addressed start first k (omega arith)))
+
+  -- ---- configurations
+
+  abbrev word : ℕ → ℕ
+  word k = configuration_word file.entries (4 * (2 * k))
+
+  configuration_events : ℕ → List Event
+  configuration_events zero = []
+  configuration_events (suc k) = configuration_events k ++ Write (Cfg (2 * k)) (word k) ∷ []
+
+  record IsConfigured (now : RegisterFile) (k : ℕ) : Type 0 where
+    fields : now.mseccfg ≡ open_fields
+    many : length now.entries ≡ n
+    done : (i : ℕ) → i < 8 * k → entry_at now.entries i ≡ entry_at file.entries i
+    rest : (i : ℕ) → 8 * k ≤ i → entry_at now.entries i ≡ addressed_entry i
+
+  byte_in_word : (k place : ℕ) → place < 8 → slice_index (to_le_bytes w64 (word k)) place
+      ≡ byte_of (entry_at file.entries (4 * (2 * k) + place)).configuration
+  unfolding configuration_word
+  byte_in_word k place near =
+      word_gives (λ j. byte_of (entry_at file.entries (4 * (2 * k) + j)).configuration) (word k)
+      (λ j _. (byte_plain (entry_at file.entries (4 * (2 * k) + j)).configuration).1) refl place near
+
+  stored_so : (now : RegisterFile) (k place : ℕ) → place < 8 → IsConfigured now k
+      → configured now (2 * k) (word k) (4 * (2 * k) + place) ≡ entry_at file.entries (4 * (2 * k) + place)
+  stored_so now k place near before =
+      let i = 4 * (2 * k) + place in
+      let target = entry_at file.entries i in
+      let even : 2 * k % 2 ≡ 0 = omega arith in
+      configured_at now (2 * k) (word k) place even near
+      ∙ rw (
+        before.rest i (omega arith),
+        byte_in_word k place near,
+        configuration_back target.configuration,
+        before.fields,
+        stored_as_is file.mseccfg.mml reset_entry.configuration target.configuration (λ off. legal.unreserved off i),
+      ) refl
+
+  configuration_next : (now : RegisterFile) (k : ℕ) → 8 * suc k ≤ n → IsConfigured now k
+      → IsConfigured (written now (Cfg (2 * k)) (word k)) (suc k)
+  configuration_next now k within before = record {
+    fields = before.fields;
+    many = length-written now (Cfg (2 * k)) (word k) ∙ before.many;
+    done = λ i below. elim (cases_lt i (8 * k)) [
+      | inl less ↦
+          let none : holds_byte_of (2 * k) i ≡ false = grind (arith, nat_tests) in
+          entry_kept now (word k) (Cfg (2 * k)) i none ∙ before.done i less
+      | inr more ↦
+          let same : 4 * (2 * k) + (i - 8 * k) ≡ i = omega arith in
+          let here = configured_place now (2 * k) (word k) i (omega (arith, before.many)) in
+          here ∙ rw same at (stored_so now k (i - 8 * k) (omega arith) before)
+    ];
+    rest = λ i from.
+        let none : holds_byte_of (2 * k) i ≡ false = grind (arith, nat_tests) in
+        entry_kept now (word k) (Cfg (2 * k)) i none ∙ before.rest i (omega arith);
+  }
+
+  all_configured : (start : RegisterFile) → IsConfigured start 0 → (k : ℕ) → 8 * k ≤ n
+      → IsConfigured (fold step start (configuration_events k)) k
+  unfolding configuration_events
+  all_configured start first zero within = first
+  all_configured start first (suc k) within =
+      rw (fold-append step start (configuration_events k) (Write (Cfg (2 * k)) (word k) ∷ []))
+      (configuration_next (fold step start (configuration_events k)) k within
+      (all_configured start first k (omega arith)))
+
+  from_addressed : (now : RegisterFile) → IsAddressed now n → IsConfigured now 0
+  from_addressed now before = record {
+    fields = before.fields;
+    many = before.many;
+    done = λ i below. absurd (omega arith);
+    rest = λ i from. elim (cases_lt i n) [
+      | inl inside ↦ before.done i inside
+      | inr past ↦ before.rest i past ∙ sym (ap (λ (entry : Entry). record reset_entry { address = entry.address })
+          (past_file i past))
+    ];
+  }
+
+  -- ---- mseccfg
+
+  final : (now : RegisterFile) → now.mseccfg ≡ open_fields → now.entries ≡ file.entries
+      → written now Mseccfg (mseccfg_value file.mseccfg) ≡ file
+  final now fields entries =
+      let set : mseccfg_written now.mseccfg (is_any_locked now.entries) (mseccfg_value file.mseccfg) ≡ file.mseccfg =
+      rw fields (settled file.mseccfg.mml file.mseccfg.mmwp file.mseccfg.rlb (is_any_locked now.entries)) in
+      rw (set, entries) refl
+
+  abbrev start : RegisterFile
+  start = written (reset_file n) Mseccfg (mseccfg_value open_fields)
+
+  started : is_any_locked (reset_file n).entries ≡ false → IsAddressed start 0
+  started none = record {
+    fields = rw none (opened file.mseccfg.mml file.mseccfg.mmwp);
+    many = length-replicate n reset_entry;
+    done = λ i below. absurd (omega arith);
+    rest = λ i from. elim (cases_lt i n) [
+      | inl inside ↦ get_or-replicate n i reset_entry reset_entry inside
+      | inr past ↦ get_or_past (reset_file n).entries i reset_entry (omega (arith, length-replicate n reset_entry))
+    ];
+  }
+
+  same_entries : (now : RegisterFile) → IsConfigured now (n / 8) → 8 * (n / 8) ≡ n → now.entries ≡ file.entries
+  same_entries now whole even =
+      entries_by now.entries (entry_at file.entries) (λ k inside. whole.done k (omega (arith, even, whole.many)))
+      ∙ ap (λ (m : ℕ). map (entry_at file.entries) (range_with_len 0 m)) (whole.many ∙ sym count)
+      ∙ sym (entries_by file.entries (entry_at file.entries) (λ k inside. refl))
+
+  reached : is_any_locked (reset_file n).entries ≡ false → 8 * (n / 8) ≡ n
+      → (events : List Event) × (replay n events ≡ file)
+  reached none even =
+      let addresses = address_events n in
+      let configurations = configuration_events (n / 8) in
+      let last : Event = Write Mseccfg (mseccfg_value file.mseccfg) in
+      let first = fold step start addresses in
+      let whole = all_configured first (from_addressed first (addressed start (started none) n (omega arith))) (n / 8)
+      (omega (arith, even)) in
+      (
+        Write Mseccfg (mseccfg_value open_fields) ∷ (addresses ++ (configurations ++ last ∷ [])),
+        rw (
+          fold-append step start addresses (configurations ++ last ∷ []),
+          fold-append step first configurations (last ∷ []),
+        ) (final (fold step first configurations) whole.fields (same_entries (fold step first configurations) whole even)),
+      )
+
+pub reachable_law : ReachableLaw
+reachable_law file size legal count = reached file (count_of size) legal count (unlocked size) (eights size)

@@ -1,0 +1,36 @@
+-- What a write leaves alone (Volume II, 3.7.1 and 3.7.1.1).
+use Rattle.std.specs.Prelude.{◌≡◌, ◌≢◌, ◌↔◌, ℕ, suc, ◌==◌, Bool, true, false, ◌&&◌, ◌||◌}
+use Rattle.pmp_core.specs.declared.access.Access.{Access}
+use Rattle.pmp_core.specs.declared.csr.Csr.{Csr}
+use Rattle.pmp_core.specs.declared.csr.Csr.TheVariants.{Cfg, Addr, Mseccfg}
+use Rattle.pmp_core.specs.declared.decision.Decision.{Decision}
+use Rattle.pmp_core.specs.RegisterFile.{RegisterFile, entry_at}
+use Rattle.pmp_core.specs.RegisterWrite.{holds_byte_of, is_tor, written}
+use Rattle.pmp_core.specs.Matching.{Matches}
+use Rattle.pmp_core.specs.Decision.{IsDecision, Touches}
+
+-- the register holds the configuration or the address of entry i (3.7.1)
+abbrev pub holds : Csr → ℕ → Bool
+holds (Cfg q) i = holds_byte_of q i
+holds (Addr j) i = i == j
+holds Mseccfg i = false
+
+-- a write to it may move entry i, at the top of a range also by the address before it (3.7.1.1)
+abbrev pub may_move : RegisterFile → Csr → ℕ → Bool
+may_move file (Cfg q) i = holds_byte_of q i
+may_move file (Addr j) i = i == j || (i == suc j && is_tor (entry_at file.entries i).configuration.matching)
+may_move file Mseccfg i = false
+
+pub record LeavesOthers (file after : RegisterFile) (csr : Csr) : Type 0 where
+  -- the entries of which the register holds nothing
+  pub entries : (i : ℕ) → holds csr i ≡ false → entry_at after.entries i ≡ entry_at file.entries i
+  -- the bytes of the entries that it can't move
+  pub bytes : (i byte : ℕ) → may_move file csr i ≡ false → Matches after.entries i byte ↔ Matches file.entries i byte
+  -- and, but for mseccfg, decisions on accesses with no byte of the entries that it may move, before and after
+  pub decisions : csr ≢ Mseccfg → (access : Access)
+      → ((i : ℕ) → may_move file csr i ≡ true → ¬ (Touches file.entries access i) × ¬ (Touches after.entries access i))
+      → (decision : Decision) → IsDecision file access decision → IsDecision after access decision
+
+-- so does every write
+abbrev pub OthersLaw : Type 0
+OthersLaw = (file : RegisterFile) (csr : Csr) (value : ℕ) → LeavesOthers file (written file csr value) csr
