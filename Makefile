@@ -45,6 +45,7 @@ test:
 	checks/program $(PROGRAM)
 	checks/launcher
 	checks/documents $(PROGRAM)
+	checks/files
 	checks/hostile $(PROGRAM)
 	checks/growths $(GROWTHS)
 

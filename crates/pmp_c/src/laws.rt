@@ -1,4 +1,4 @@
-//! Laws of the definitions, each the contract of a function that does nothing.
+//! The law of answers, each the contract of a function that does nothing.
 
 ghost use Rattle.pmp_c.specs.AnswerLaw.{AnswerLaw, NoAccessLaw, ReadingLaw};
 

@@ -1,4 +1,4 @@
-//! The unit.
+//! The unit: its registers, and the tables of its map.
 
 ghost use Rattle.std.specs.Prelude.{◌≡◌, ◌+◌, ◌<◌, ◌≤◌, ◌^◌, nat_lt};
 ghost use Rattle.pmp_core.specs.declared.access.Access.{Access};

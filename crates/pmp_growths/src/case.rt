@@ -1,4 +1,4 @@
-//! The cases.
+//! The cases, one for each call.
 
 use crate::answering::{Answering, answers};
 use crate::deciding::Deciding;

@@ -1,4 +1,4 @@
-//! Laws of the definitions, each the contract of a function that does nothing.
+//! The laws of batches and looks, each the contract of a function that does nothing.
 
 ghost use Rattle.pmp_share.specs.Laws.{SameEventsLaw, CutLaw, FurtherEventsLaw, LaterLookLaw, PlacesLaw};
 

@@ -1,4 +1,4 @@
-//! Laws of the definitions that the readers' contracts cite.
+//! The laws of scripts and traces, each the contract of a function that does nothing.
 
 ghost use Rattle.pmp_text.specs.Faults.{FirstFaultLaw, LeastFaultLaw};
 ghost use Rattle.pmp_text.specs.Names.{NamesReadBackLaw};

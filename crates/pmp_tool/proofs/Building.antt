@@ -10,7 +10,6 @@ use Rattle.clap.specs.declared.parser.matches.ArgMatches.{ArgMatches}
 use Rattle.clap.proofs.OnLiterals.{clap_on_literals}
 use Rattle.clap.specs.declared.builder.arg.Arg.{Arg}
 use Rattle.clap.specs.declared.builder.command.Command.{Command}
-use Rattle.clap.specs.declared.builder.command.Command.TheViews.{out-Command}
 use Rattle.pmp_tool.specs.Building.{Builds, IsCommand, IsTaken}
 use Rattle.pmp_tool.specs.CommandLines.{pmp_app, with_after, with_checkers, with_command, with_views, with_word}
 
