@@ -41,7 +41,7 @@ first_asks : (after : ℕ) (rows : List Row) → (asking after rows ≡ [] → �
 first_asks after [] some = absurd (some refl)
 first_asks after (row ∷ rows) some =
     let same = same_by row.after after (row.after == after) refl (λ (test : (row.after == after) ≡ false).
-        some (rw test refl)) in
+    some (rw test refl)) in
     (0, row, omega arith, refl, same)
 
 pub some_asks : (after count : ℕ) (rows : List Row) → (asking after (drop count rows) ≡ [] → ⊥)

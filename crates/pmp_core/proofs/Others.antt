@@ -74,8 +74,8 @@ module _ (file : RegisterFile) (value : ℕ) where
   low_same (Addr j) i none tor =
       let apart : (i == suc j) ≡ false = not_both (i == suc j) _ (neither (i == j) _ none).1 tor in
       low_kept file.entries (written file (Addr j) value).entries i (λ k below.
-          ap (λ (entry : Entry). entry.address) (other_address file j value k
-          (λ same. differ i (suc j) apart (sym below ∙ ap suc same))))
+      ap (λ (entry : Entry). entry.address) (other_address file j value k
+      (λ same. differ i (suc j) apart (sym below ∙ ap suc same))))
   low_same Mseccfg i none tor = refl
 
   holds_none : (csr : Csr) (i : ℕ) → may_move file csr i ≡ false → holds csr i ≡ false
@@ -152,9 +152,9 @@ others_law file csr value = record {
       let same : (i : ℕ) → IsSame file after access i = λ i. elim (either (may_move file csr i)) [
         | inl moves ↦ inl (clear i moves)
         | inr stays ↦ inr (
-            entry_kept file value csr i (holds_none file value csr i stays),
-            λ byte. bytes_kept file value csr i byte stays,
-          )
+          entry_kept file value csr i (holds_none file value csr i stays),
+          λ byte. bytes_kept file value csr i byte stays,
+        )
       ] in
       decided_by file after (mseccfg_kept file csr value other) access same decision.allowed decision.cause decided;
 }

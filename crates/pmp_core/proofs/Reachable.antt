@@ -236,8 +236,7 @@ module _ (file : RegisterFile) (n : ℕ) (legal : IsLegal file) (count : length 
       let last : Event = Write Mseccfg (mseccfg_value file.mseccfg) in
       let first = fold step start addresses in
       let whole = all_configured first (from_addressed first (addressed start (started none) n (omega arith))) (n / 8)
-      (omega (arith, even)) in
-      (
+      (omega (arith, even)) in (
         Write Mseccfg (mseccfg_value open_fields) ∷ (addresses ++ (configurations ++ last ∷ [])),
         rw (
           fold-append step start addresses (configurations ++ last ∷ []),

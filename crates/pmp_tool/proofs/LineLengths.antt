@@ -61,7 +61,7 @@ name_fits Output = omega arith
 refusal_fits : (refusal : Refusal) → length (refusal_text refusal) ≤ 14
 refusal_fits refusal =
     let digits = length-decimal-le 2 (number_of refusal) (omega arith) (number_fits refusal)
-        (let small = number_fits refusal in omega arith) in
+    (let small = number_fits refusal in omega arith) in
     let letters = name_fits refusal in
     let whole = length-append (decimal (number_of refusal)) (codes " " ++ name_of refusal) in
     let rest = length-append (codes " ") (name_of refusal) in

@@ -14,6 +14,6 @@ returns-clause-asked g c =
     let long = length-drop count rows in
     let whole : take (length rows - count) left ≡ left = take_all (length rows - count) left (omega (arith, long)) in
     let some : asking c.args.after left ≡ [] → ⊥ =
-        λ none. let empty : c.asking-next.result.now ≡ [] = rw whole at c.asking-next.ensures ∙ none in
-        false≢true (sym c.if-is_empty.false ∙ rw empty at c.is_empty.ensures) in
+    λ none. let empty : c.asking-next.result.now ≡ [] = rw whole at c.asking-next.ensures ∙ none in
+    false≢true (sym c.if-is_empty.false ∙ rw empty at c.is_empty.ensures) in
     IfErr-weaker c.round.result _ _ (λ fault stops. some_asks c.args.after count rows some) c.round.ensures.refused
