@@ -10,6 +10,7 @@ pub mod Locks
 pub mod Sticky
 pub mod Parts
 pub mod MachineCode
+pub mod Held
 pub mod Protection
 pub mod Sizes
 pub mod Others

@@ -15,11 +15,12 @@ use Rattle.pmp_core.specs.declared.event.Event.{Event}
 use Rattle.pmp_core.specs.Decision.{Covers, IsDecider, IsDecision, IsDecisionBy, Touches}
 use Rattle.pmp_core.specs.Matching.{Matches}
 use Rattle.pmp_core.specs.Configuration.{is_reserved}
-use Rattle.pmp_core.specs.RegisterFile.{RegisterFile, entry_at, IsLegal}
+use Rattle.pmp_core.specs.RegisterFile.{RegisterFile, entry_at, is_held, IsLegal}
 use Rattle.pmp_core.specs.RegisterWrite.{step}
 use Rattle.pmp_core.specs.Rights.{allows, rights, rule_rights}
 use Rattle.pmp_core.specs.LockLaw.{is_write}
-use Rattle.pmp_core.specs.ProtectionLaw.{AreFrozenTo, IsDecidedWithin, ClosedLaw, FewerRightsLaw, ProtectedLaw}
+use Rattle.pmp_core.specs.ProtectionLaw.{IsDecidedWithin, FewerRightsLaw, ProtectedLaw}
+use Rattle.pmp_core.proofs.Held.{held_at, held_still}
 use Rattle.pmp_core.proofs.Locks.{lock_law}
 use Rattle.pmp_core.proofs.Sticky.{mml_stays}
 
@@ -94,17 +95,20 @@ module _ (one other : RegisterFile) (i : ℕ) (same : Agree one other i) (mml : 
   also_within : IsDecidedWithin other access i
   also_within = (decided.0, decided.1, decides one other i same access decided.0 decided.1 decided.2)
 
-agree_after : (file : RegisterFile) (i : ℕ) (events : List Event) → AreFrozenTo file i
+agree_after : (file : RegisterFile) (i : ℕ) (events : List Event) → is_held file i ≡ true
     → list_all is_write events ≡ true → Agree file (fold step file events) i
-agree_after file i events frozen writes = record {
-  configuration = λ j within. (lock_law file j events (frozen j within) writes).configuration;
-  bytes = λ j within. (lock_law file j events (frozen j within) writes).bytes;
+agree_after file i events held writes = record {
+  configuration = λ j within. (lock_law file j events (held_at file i j within held) writes).configuration;
+  bytes = λ j within. (lock_law file j events (held_at file i j within held) writes).bytes;
 }
 
-pub protected_law : ProtectedLaw
-protected_law file i events frozen writes mml access decided decision =
+decided_the_same : (file : RegisterFile) (i : ℕ) (events : List Event) → is_held file i ≡ true
+    → list_all is_write events ≡ true → (fold step file events).mseccfg.mml ≡ file.mseccfg.mml
+    → (access : Access) → IsDecidedWithin file access i → (decision : Decision)
+    → IsDecision file access decision ↔ IsDecision (fold step file events) access decision
+decided_the_same file i events held writes mml access decided decision =
     let after = fold step file events in
-    let same = agree_after file i events frozen writes in (
+    let same = agree_after file i events held writes in (
       decided_alike file after i same mml access decided decision.allowed decision.cause,
       decided_alike after file i (turned file after i same) (sym mml) access
           (also_within file after i same mml access decided) decision.allowed decision.cause,
@@ -126,13 +130,13 @@ fewer_by_mml law c false true stays legal mode kind closed =
     not_given _ _ (law c (legal refl) mode kind) closed
 
 module _ (fewer : FewerRightsLaw) (file : RegisterFile) (i : ℕ) (events : List Event) (legal : IsLegal file)
-    (frozen : AreFrozenTo file i) (writes : list_all is_write events ≡ true) (access : Access)
+    (held : is_held file i ≡ true) (writes : list_all is_write events ≡ true) (access : Access)
     (decided : IsDecidedWithin file access i) where
   abbrev later : RegisterFile
   later = fold step file events
 
   same_entries : Agree file later i
-  same_entries = agree_after file i events frozen writes
+  same_entries = agree_after file i events held writes
 
   still_decided : IsDecider later.entries access (Some decided.0)
   still_decided = decides file later i same_entries access decided.0 decided.1 decided.2
@@ -168,6 +172,10 @@ module _ (fewer : FewerRightsLaw) (file : RegisterFile) (i : ℕ) (events : List
       by_rule ∙ rights_fewer k less (was_closed k own (covered file later i same_entries access k less all)
       before.allowed before.cause was refused)
 
-pub closed_law : FewerRightsLaw → ClosedLaw
-closed_law fewer file i events legal frozen writes access decided before after was is refused =
-    stays_closed fewer file i events legal frozen writes access decided before was refused after.allowed after.cause is
+pub protected_law : FewerRightsLaw → ProtectedLaw
+protected_law fewer file i events legal held writes = record {
+  decided = decided_the_same file i events held writes;
+  refused = λ access decided one other was is closed.
+      stays_closed fewer file i events legal held writes access decided one was closed other.allowed other.cause is;
+  held = held_still file i events held writes;
+}

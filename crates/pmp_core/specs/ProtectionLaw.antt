@@ -12,38 +12,33 @@ use Rattle.pmp_core.specs.declared.decision.Decision.{Decision}
 use Rattle.pmp_core.specs.declared.event.Event.{Event}
 use Rattle.pmp_core.specs.Configuration.{is_reserved}
 use Rattle.pmp_core.specs.Decision.{IsDecider, IsDecision}
-use Rattle.pmp_core.specs.RegisterFile.{RegisterFile, is_frozen, IsLegal}
+use Rattle.pmp_core.specs.RegisterFile.{RegisterFile, is_frozen, is_held, IsLegal}
 use Rattle.pmp_core.specs.RegisterWrite.{step}
 use Rattle.pmp_core.specs.Rights.{allows, rule_rights}
 use Rattle.pmp_core.specs.LockLaw.{is_write, StaysLocked}
 
--- entries 0 to i are all frozen
-abbrev pub AreFrozenTo : RegisterFile → ℕ → Type 0
-AreFrozenTo file i = (j : ℕ) → j ≤ i → is_frozen file j ≡ true
-
 -- one of the entries 0 to i decides the access, wholly or in part
 abbrev pub IsDecidedWithin : RegisterFile → Access → ℕ → Type 0
 IsDecidedWithin file access i = (j : ℕ) × (j ≤ i) × IsDecider file.entries access (Some j)
-
--- what entries 0 to i decide where all are frozen is decided the same after every list of writes, if MML is then as
--- before
-abbrev pub ProtectedLaw : Type 0
-ProtectedLaw = (file : RegisterFile) (i : ℕ) (events : List Event) → AreFrozenTo file i
-    → list_all is_write events ≡ true → (fold step file events).mseccfg.mml ≡ file.mseccfg.mml
-    → (access : Access) → IsDecidedWithin file access i → (decision : Decision)
-    → IsDecision file access decision ↔ IsDecision (fold step file events) access decision
 
 -- lockdown gives no rule a right that it hasn't without, but for the combinations that are reserved without
 abbrev pub FewerRightsLaw : Type 0
 FewerRightsLaw = (c : Configuration) → is_reserved c ≡ false → (mode : Mode) (kind : Kind)
     → IsTrue (allows (rule_rights true c mode) kind) → IsTrue (allows (rule_rights false c mode) kind)
 
--- so what entries 0 to i refuse where all are frozen stays refused after every list of writes, also where MML rises
-abbrev pub ClosedLaw : Type 0
-ClosedLaw = (file : RegisterFile) (i : ℕ) (events : List Event) → IsLegal file → AreFrozenTo file i
-    → list_all is_write events ≡ true → (access : Access) → IsDecidedWithin file access i
-    → (before after : Decision) → IsDecision file access before → IsDecision (fold step file events) access after
-    → before.allowed ≡ false → after.allowed ≡ false
+-- what entries 0 to i decide in the first they decide so in the second, where MML is the same; and what they refuse in
+-- the first is refused in the second
+pub record StaysProtected (before after : RegisterFile) (i : ℕ) : Type 0 where
+  pub decided : after.mseccfg.mml ≡ before.mseccfg.mml → (access : Access) → IsDecidedWithin before access i
+      → (decision : Decision) → IsDecision before access decision ↔ IsDecision after access decision
+  pub refused : (access : Access) → IsDecidedWithin before access i → (one other : Decision)
+      → IsDecision before access one → IsDecision after access other → one.allowed ≡ false → other.allowed ≡ false
+  pub held : is_held after i ≡ true
+
+-- entries 0 to i, where all are frozen, protect so through every list of writes, also where MML rises
+abbrev pub ProtectedLaw : Type 0
+ProtectedLaw = (file : RegisterFile) (i : ℕ) (events : List Event) → IsLegal file → is_held file i ≡ true
+    → list_all is_write events ≡ true → StaysProtected file (fold step file events) i
 
 -- under lockdown, with some entry frozen, each fetch that machine mode is allowed after any writes is by an entry that
 -- was frozen before, and has the same configuration and the same bytes (Smepmp)

@@ -1,6 +1,6 @@
 -- The register file (Volume II, 3.7.1 and Smepmp), for any number of entries: as many as the list has.
-use Rattle.std.specs.Prelude.{◌≡◌, ℕ, ◌^◌, ◌<◌, Bool, false, not, ◌&&◌, List, replicate}
-use Rattle.std.specs.List.{slice_index_or}
+use Rattle.std.specs.Prelude.{◌≡◌, ℕ, ◌+◌, ◌^◌, ◌<◌, Bool, false, not, ◌&&◌, List, replicate}
+use Rattle.std.specs.List.{list_all, range_with_len, slice_index_or}
 use Rattle.pmp_core.specs.declared.configuration.AddressMatching.TheVariants.{Off}
 use Rattle.pmp_core.specs.declared.entry.Entry.{Entry}
 use Rattle.pmp_core.specs.declared.mseccfg.MseccfgFields.{MseccfgFields}
@@ -35,6 +35,10 @@ entry_at entries i = slice_index_or entries i reset_entry
 -- L is set, and rule-locking bypass is off (3.7.1.2 and Smepmp)
 abbrev pub is_frozen : RegisterFile → ℕ → Bool
 is_frozen file i = (entry_at file.entries i).configuration.locked && not file.mseccfg.rlb
+
+-- entries 0 to i are all frozen
+abbrev pub is_held : RegisterFile → ℕ → Bool
+is_held file i = list_all (is_frozen file) (range_with_len 0 (i + 1))
 
 -- each address register has 54 bits (3.7.1)
 abbrev pub HasAddresses : List Entry → Type 0

@@ -12,7 +12,7 @@ ghost use Rattle.pmp_core.specs.Rights.{BarredRulesLaw, StoreLaw};
 ghost use Rattle.pmp_core.specs.Histories.{LegalLaw};
 ghost use Rattle.pmp_core.specs.PartsLaw.{PartsLaw};
 ghost use Rattle.pmp_core.specs.OthersLaw.{OthersLaw};
-ghost use Rattle.pmp_core.specs.ProtectionLaw.{ClosedLaw, FewerRightsLaw, MachineCodeLaw, ProtectedLaw};
+ghost use Rattle.pmp_core.specs.ProtectionLaw.{FewerRightsLaw, MachineCodeLaw, ProtectedLaw};
 ghost use Rattle.pmp_core.specs.ReachableLaw.{ReachableLaw};
 ghost use Rattle.pmp_core.specs.StickyLaw.{FrozenAddressLaw, StickyLaw};
 ghost use Rattle.pmp_core.specs.LockLaw.{LockLaw};
@@ -100,13 +100,11 @@ pub fn law_fewer_rights()
     ensures { FewerRightsLaw }
 {}
 
-/// Protection holds: what the entries up to one decide, where all of them are frozen, is decided the same after every
-/// list of writes, as long as MML is the same; and in a legal file what they refuse stays refused also where MML rises.
-/// An open entry with a lower number might take their bytes, so a lock alone protects its entry, and not what is
-/// decided.
+/// Protection holds: what the entries up to one that is held decide is decided the same after every list of writes, as
+/// long as MML is the same; and what they refuse stays refused also where MML rises. An open entry with a lower number
+/// might take their bytes, so a lock alone protects its entry, and not what is decided.
 pub fn law_protected()
-    ensures same { ProtectedLaw }
-    ensures closed { ClosedLaw }
+    ensures { ProtectedLaw }
 {
     law_fewer_rights();
 }

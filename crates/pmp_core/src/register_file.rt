@@ -1,7 +1,8 @@
 //! The register file.
 
 ghost use Rattle.std.specs.Prelude.{◌≡◌, ◌<◌, ◌≤◌, ◌^◌, ◌↔◌, IsTrue, length, fold};
-ghost use Rattle.pmp_core.specs.RegisterFile.{IsLegal, reset_file, entry_at, is_frozen};
+ghost use Rattle.std.specs.List.{list_all};
+ghost use Rattle.pmp_core.specs.RegisterFile.{IsLegal, reset_file, entry_at, is_frozen, is_held};
 ghost use Rattle.pmp_core.specs.Lock.{lock_of};
 ghost use Rattle.pmp_core.specs.Matching.{Matches};
 ghost use Rattle.pmp_core.specs.Span.{IsSpan, span_of};
@@ -36,6 +37,12 @@ use std::marker::Model;
 
 /// How many entries a unit of `Size::Sixteen` has.
 pub const ENTRIES: usize = 16;
+
+fn are_locked(entries: &[Entry]) -> bool
+    ensures { result ≡ list_all (λ entry. entry.configuration.locked) entries.now }
+{
+    entries.iter().all(|entry| entry.configuration.locked)
+}
 
 /// The registers of one unit. A contract sees them as a `RegisterFile` of `specs/`.
 #[derive(Clone, Copy, Debug, PartialEq, Eq)]
@@ -259,6 +266,16 @@ impl RegFile {
         ensures { result ≡ is_frozen self.now entry }
     {
         self.in_use()[usize::from(entry)].configuration.locked && !self.mseccfg.rlb
+    }
+
+    /// Whether the entry is held: it is frozen, and so are all entries before it. Then no write changes what they refuse,
+    /// nor what they allow while MML stays as it is. An entry that is frozen alone keeps its bytes, but an open one
+    /// before it may still take them.
+    pub fn is_held(&self, entry: u8) -> bool
+        requires { entry < length self.now.entries }
+        ensures { result ≡ is_held self.now entry }
+    {
+        !self.mseccfg.rlb && are_locked(&self.in_use()[..=usize::from(entry)])
     }
 
     /// How the entry is locked.
