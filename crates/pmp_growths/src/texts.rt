@@ -30,22 +30,22 @@ pub const RUNS: &[u8] = b"00000000000000,0000007fffffff,-,rwx,---
 ";
 
 /// The entries after the first publication.
-pub const ENTRIES: &[u8] = b"0,napot,00000080000000,00000080000fff,rwx,r--,-,-,
-1,off,-,-,rwx,---,-,-,
-2,off,-,-,rwx,---,-,-,
-3,off,-,-,rwx,---,-,-,
-4,off,-,-,rwx,---,-,-,
-5,off,-,-,rwx,---,-,-,
-6,off,-,-,rwx,---,-,-,
-7,off,-,-,rwx,---,-,-,
-8,off,-,-,rwx,---,-,-,
-9,off,-,-,rwx,---,-,-,
-10,off,-,-,rwx,---,-,-,
-11,off,-,-,rwx,---,-,-,
-12,off,-,-,rwx,---,-,-,
-13,off,-,-,rwx,---,-,-,
-14,off,-,-,rwx,---,-,-,
-15,off,-,-,rwx,---,-,-,
+pub const ENTRIES: &[u8] = b"0,napot,00000080000000,00000080000fff,rwx,r--,-,-,,
+1,off,-,-,rwx,---,-,-,,
+2,off,-,-,rwx,---,-,-,,
+3,off,-,-,rwx,---,-,-,,
+4,off,-,-,rwx,---,-,-,,
+5,off,-,-,rwx,---,-,-,,
+6,off,-,-,rwx,---,-,-,,
+7,off,-,-,rwx,---,-,-,,
+8,off,-,-,rwx,---,-,-,,
+9,off,-,-,rwx,---,-,-,,
+10,off,-,-,rwx,---,-,-,,
+11,off,-,-,rwx,---,-,-,,
+12,off,-,-,rwx,---,-,-,,
+13,off,-,-,rwx,---,-,-,,
+14,off,-,-,rwx,---,-,-,,
+15,off,-,-,rwx,---,-,-,,
 ";
 
 /// The registers after the first publication.

@@ -6,7 +6,7 @@ use crate::texts::{ENTRIES, LAST_ROW, REGISTERS, RUNS};
 use crate::worked::{decision_after, file_after};
 use pmp_core::{Access, MAX_ENTRIES};
 use pmp_map::RunMap;
-use pmp_text::{NoMemory, write_entries, write_registers, write_row, write_runs};
+use pmp_text::{NoMemory, Since, write_entries, write_registers, write_row, write_runs};
 use std::alloc::Global;
 
 /// Which call is tried.
@@ -29,6 +29,12 @@ impl Writing {
     }
 }
 
+/// Of an entry that isn't locked.
+const OPEN: Since = Since {
+    locked: None,
+    held: None,
+};
+
 const OLD_BYTES: &[u8] = b"old bytes\n";
 
 /// Makes the call on the file after the first batch, of which it has the map.
@@ -40,7 +46,7 @@ fn append(alloc: Global, case: Writing, page: &Access, out: &mut Vec<u8>) -> Res
         Writing::Row => write_row(out, 1, page, &decision_after(2)),
         Writing::Runs => write_runs(out, &file, &map),
         Writing::Registers => write_registers(out, &file),
-        Writing::Entries => write_entries(out, &file, &[None; MAX_ENTRIES]),
+        Writing::Entries => write_entries(out, &file, &[OPEN; MAX_ENTRIES]),
     };
     end(alloc);
     answer

@@ -1,7 +1,7 @@
 //! The longest rows, for which there is room.
 
 use pmp_core::*;
-use pmp_text::{write_entries, write_row};
+use pmp_text::{Since, write_entries, write_row};
 use std::test::Fail;
 
 /// The numbers have twenty digits, and the last entry of sixty-four is locked and has every byte.
@@ -18,11 +18,13 @@ fn the_longest_rows_have_room(rt: HostRuntime) -> Result<(), Fail> {
     let mut file = RegFile::reset_of(Size::SixtyFour);
     file.step(Event::Write(Csr::Addr(63), u64::MAX));
     file.step(Event::Write(Csr::Cfg(14), 0x9f << 56));
-    let mut since = [None; MAX_ENTRIES];
-    since[63] = Some(u64::MAX);
-    write_entries(&mut out, &file, &since)?;
-    let row =
-        b"63,napot,00000000000000,ffffffffffffff,rwx,rwx,locked,locked,18446744073709551615\n";
+    let last = Since {
+        locked: Some(u64::MAX),
+        held: Some(u64::MAX),
+    };
+    write_entries(&mut out, &file, &[last; MAX_ENTRIES])?;
+    let row = b"63,napot,00000000000000,ffffffffffffff,rwx,rwx,locked,locked,18446744073709551615,\
+        18446744073709551615\n";
     assert!(rt; out.ends_with(row.as_slice()));
     Ok(())
 }

@@ -10,8 +10,9 @@ use Rattle.pmp_core.specs.Lock.{lock_of}
 use Rattle.pmp_core.specs.RegisterFile.{RegisterFile, entry_at}
 use Rattle.pmp_core.specs.RegisterWrite.{is_address_frozen}
 use Rattle.pmp_core.specs.Rights.{rights}
-use Rattle.pmp_text.specs.EntryRows.{address_text, entry_row, lock_text, matching_text, span_text}
-use Rattle.pmp_text.specs.Reports.{fields_after, optional_text}
+use Rattle.pmp_text.specs.declared.lines.since.Since.{Since}
+use Rattle.pmp_text.specs.EntryRows.{address_text, entry_row, lock_text, matching_text, since_text, span_text}
+use Rattle.pmp_text.specs.Reports.{fields_after}
 use Rattle.pmp_text.specs.RunLines.{rights_text}
 
 -- two fields that are written as one, twice
@@ -21,19 +22,19 @@ seven_fields : (matching ends machine others lock address number : List ℕ)
 seven_fields matching ends machine others lock address number = simp append_assoc
 
 -- a row is made of these pieces
-pub row_of_pieces : (file : RegisterFile) (i : ℕ) (span : Option Span) (since : Option ℕ)
+pub row_of_pieces : (file : RegisterFile) (i : ℕ) (span : Option Span) (since : Since)
     (matching rule locks : List ℕ)
     → matching ≡ matching_text (entry_at file.entries i).configuration.matching
     → rule ≡ rights_text (rights file i M) ++ (codes "," ++ rights_text (rights file i U))
     → locks ≡ lock_text (lock_of file i) ++ (codes "," ++ address_text (is_address_frozen file i))
-    → decimal i ++ fields_after (matching ∷ span_text span ∷ rule ∷ locks ∷ optional_text since ∷ [])
+    → decimal i ++ fields_after (matching ∷ span_text span ∷ rule ∷ locks ∷ since_text since ∷ [])
     ≡ entry_row file i span since
 unfolding entry_row
 row_of_pieces file i span since matching rule locks matched ruled locked =
     rw (matched, ruled, locked) (ap (λ (fields : List ℕ). decimal i ++ fields)
     (seven_fields (matching_text (entry_at file.entries i).configuration.matching) (span_text span)
     (rights_text (rights file i M)) (rights_text (rights file i U)) (lock_text (lock_of file i))
-    (address_text (is_address_frozen file i)) (optional_text since)))
+    (address_text (is_address_frozen file i)) (since_text since)))
 
 range_with_len_more : (from count next : ℕ) → from + count ≡ next
     → range_with_len from (count + 1) ≡ range_with_len from count ++ next ∷ []

@@ -13,6 +13,7 @@ use Rattle.pmp_core.specs.Rights.{rights}
 use Rattle.pmp_core.specs.Lock.{lock_of}
 use Rattle.pmp_core.specs.Span.{IsSpan}
 use Rattle.pmp_core.specs.RegisterWrite.{is_address_frozen}
+use Rattle.pmp_text.specs.declared.lines.since.Since.{Since}
 use Rattle.pmp_text.specs.Hexadecimal.{hex_text}
 use Rattle.pmp_text.specs.Reports.{fields_after, optional_text}
 use Rattle.pmp_text.specs.RunLines.{rights_text}
@@ -38,17 +39,25 @@ lock_text Locked = codes "locked"
 abbrev pub address_text : Bool → List ℕ
 address_text is_locked = if is_locked then codes "locked" else codes "-"
 
+-- of an entry of which nothing is known
+abbrev pub no_since : Since
+no_since = record { locked = None; held = None }
+
+-- since when the entry is frozen, and since when it is held
+abbrev pub since_text : Since → List ℕ
+since_text since = optional_text since.locked ++ (codes "," ++ optional_text since.held)
+
 -- entry i: how it matches, its bytes, the rights of machine mode and of the other modes, its locks, and since when
-unfoldable pub entry_row : RegisterFile → ℕ → Option Span → Option ℕ → List ℕ
+unfoldable pub entry_row : RegisterFile → ℕ → Option Span → Since → List ℕ
 entry_row file i span since =
     decimal i
     ++ fields_after (matching_text (entry_at file.entries i).configuration.matching ∷ span_text span
     ∷ rights_text (rights file i M) ∷ rights_text (rights file i U) ∷ lock_text (lock_of file i)
-    ∷ address_text (is_address_frozen file i) ∷ optional_text since ∷ [])
+    ∷ address_text (is_address_frozen file i) ∷ since_text since ∷ [])
 
--- a row for each entry, with the number that the list has for it
-pub record IsEntryText (file : RegisterFile) (since : List (Option ℕ)) (text : List ℕ) : Type 0 where
+-- a row for each entry, with what the list has for it
+pub record IsEntryText (file : RegisterFile) (since : List Since) (text : List ℕ) : Type 0 where
   pub span : ℕ → Option Span
   pub spans : (i : ℕ) → i < length file.entries → IsSpan file.entries i (span i)
-  pub rows : text ≡ flat_map (λ i. entry_row file i (span i) (slice_index_or since i None))
+  pub rows : text ≡ flat_map (λ i. entry_row file i (span i) (slice_index_or since i no_since))
       (range_with_len 0 (length file.entries))

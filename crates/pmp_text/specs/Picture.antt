@@ -4,11 +4,11 @@ use Rattle.std.specs.Prelude.{Some, None, if◌then◌else◌, codes, decimal}
 use Rattle.std.specs.List.{enumerate_from, flat_map}
 use Rattle.pmp_core.specs.declared.access.Mode.TheVariants.{M, U}
 use Rattle.pmp_core.specs.declared.mseccfg.MseccfgFields.{MseccfgFields}
-use Rattle.pmp_core.specs.RegisterFile.{RegisterFile, is_frozen}
+use Rattle.pmp_core.specs.RegisterFile.{RegisterFile, is_frozen, is_held}
 use Rattle.pmp_map.specs.declared.run.Run.{Run}
 use Rattle.pmp_map.specs.Answers.{owned_rights}
 use Rattle.pmp_map.specs.Runs.{AreRuns}
-use Rattle.pmp_text.specs.declared.lines.picture.TheConstants.{FOOT, LEGEND, LOCK, STYLE}
+use Rattle.pmp_text.specs.declared.lines.picture.TheConstants.{FOOT, HELD, LEGEND, LOCKED, STYLE}
 use Rattle.pmp_text.specs.Hexadecimal.{hex_text}
 use Rattle.pmp_text.specs.RunLines.{rights_text}
 
@@ -51,10 +51,11 @@ abbrev pub permissions : (machine others : List ℕ) → List ℕ
 permissions machine others =
     codes "<text x='592'>" ++ (machine ++ (codes "</text><text x='700'>" ++ (others ++ codes "</text>")))
 
--- a lock, and the word for it, where the owner is frozen
+-- a closed lock where the owner is held, an empty one where it is only frozen, each with its word
 abbrev pub lock_sign : RegisterFile → Option ℕ → List ℕ
 lock_sign file None = []
-lock_sign file (Some entry) = if is_frozen file entry then LOCK.now else []
+lock_sign file (Some entry) =
+    if is_held file entry then HELD.now else (if is_frozen file entry then LOCKED.now else [])
 
 -- a band of these rights and with this sign
 abbrev pub drawn_band : (place : ℕ) → Run → (machine others sign : List ℕ) → List ℕ

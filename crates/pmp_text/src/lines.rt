@@ -10,6 +10,7 @@ mod picture;
 mod registers;
 mod report;
 mod runs;
+mod since;
 
 pub use effects::{EventPlace, write_effect};
 pub use entries::write_entries;
@@ -17,6 +18,7 @@ pub use picture::write_picture;
 pub use registers::write_registers;
 pub use report::write_row;
 pub use runs::write_runs;
+pub use since::Since;
 use std::alloc::AllocError;
 use std::fmt::Display;
 

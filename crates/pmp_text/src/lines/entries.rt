@@ -4,11 +4,11 @@ ghost use Rattle.std.specs.Prelude.{◌≡◌, ◌<◌, ◌≤◌, ◌++◌, Lis
 ghost use Rattle.std.specs.Io.{StartsWith};
 ghost use Rattle.pmp_core.specs.Span.{IsSpan, span_of};
 ghost use Rattle.pmp_text.specs.EntryRows.{IsEntryText, address_text, entry_row, lock_text, matching_text, span_text};
-ghost use Rattle.pmp_text.specs.Reports.{optional_text};
 ghost use Rattle.pmp_text.specs.Steps.Marks.{perms_text};
 
 use crate::lines::hexadecimal::Hex;
 use crate::lines::marks::Marks;
+use crate::lines::since::Since;
 use crate::lines::{NoMemory, append_line};
 use pmp_core::{AddressMatching, Lock, Mode, Perms, RegFile, Span};
 use std::fmt;
@@ -74,21 +74,6 @@ impl fmt::Display for Locks {
     }
 }
 
-/// A number, or nothing.
-#[derive(Clone, Copy)]
-struct Number(Option<u64>);
-
-impl fmt::Display for Number {
-    ghost output = { λ number. Some (optional_text number.0) };
-
-    fn fmt<W: fmt::Write>(&self, f: &mut fmt::Formatter<W>) -> fmt::Result {
-        match self.0 {
-            Some(number) => write!(f, "{number}"),
-            None => Ok(()),
-        }
-    }
-}
-
 fn matching_word(matching: AddressMatching) -> &'static str
     ensures { result.now ≡ matching_text matching }
 {
@@ -101,12 +86,7 @@ fn matching_word(matching: AddressMatching) -> &'static str
 }
 
 /// Appends the row of an entry.
-fn write_entry(
-    out: &mut Vec<u8>,
-    file: &RegFile,
-    entry: u8,
-    since: Option<u64>,
-) -> Result<(), NoMemory>
+fn write_entry(out: &mut Vec<u8>, file: &RegFile, entry: u8, since: Since) -> Result<(), NoMemory>
     requires { entry < length file.now.entries }
     ensures span { IsSpan file.now.entries entry (span_of file.now.entries entry) }
     ensures ok { OnOk result (out.new.items
@@ -123,14 +103,13 @@ fn write_entry(
         entry: file.lock(entry),
         is_address_locked: file.is_address_locked(entry),
     };
-    let since = Number(since);
     append_line(
         out,
         format_args!("{entry},{matching},{ends},{rule},{locks},{since}\n"),
     )
 }
 
-fn write_all(out: &mut Vec<u8>, file: &RegFile, since: &[Option<u64>]) -> Result<(), NoMemory>
+fn write_all(out: &mut Vec<u8>, file: &RegFile, since: &[Since]) -> Result<(), NoMemory>
     requires { length file.now.entries ≤ length since.now }
     ensures ok { OnOk result
         ((text : List ℕ) × IsEntryText file.now since.now text × (out.new.items ≡ out.old.items ++ text)) }
@@ -142,17 +121,14 @@ fn write_all(out: &mut Vec<u8>, file: &RegFile, since: &[Option<u64>]) -> Result
     Ok(())
 }
 
-/// Appends a row for each entry, `ENTRY,MATCHING,FIRST,LAST,MRIGHTS,SURIGHTS,LOCK,ADDRESS,SINCE` and LF.
+/// Appends a row for each entry, `ENTRY,MATCHING,FIRST,LAST,MRIGHTS,SURIGHTS,LOCK,ADDRESS,SINCE,HOLDS` and LF.
 ///
 /// MATCHING says how the address register is read. FIRST and LAST are the ends of the bytes that the entry matches, in
 /// fourteen hexadecimal digits, or dashes. MRIGHTS and SURIGHTS are what its rule gives machine mode and the other two.
 /// LOCK is `locked` where writes leave the entry as it is, and `bypassed` where they would but for rule-locking bypass;
-/// ADDRESS is `locked` where they leave its address register as it is. SINCE is the number in `since`, if any.
-pub fn write_entries(
-    out: &mut Vec<u8>,
-    file: &RegFile,
-    since: &[Option<u64>],
-) -> Result<(), NoMemory>
+/// ADDRESS is `locked` where they leave its address register as it is. SINCE and HOLDS are the numbers in `since`, if
+/// any.
+pub fn write_entries(out: &mut Vec<u8>, file: &RegFile, since: &[Since]) -> Result<(), NoMemory>
     requires { length file.now.entries ≤ length since.now }
     ensures ok { OnOk result
         ((text : List ℕ) × IsEntryText file.now since.now text × (out.new.items ≡ out.old.items ++ text)) }

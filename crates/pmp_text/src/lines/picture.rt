@@ -19,13 +19,15 @@ use std::fmt;
 const STYLE: &str = "\
 <desc>One band for each run of bytes that have one owner, from byte 0 down to byte 2^56 - 1, not to scale. A band has
 the first and the last byte of its run, its size, its owner, what machine mode may do there, what supervisor and user
-mode may do there, and a lock where the owner is locked.</desc>
+mode may do there, and a lock where the owner is locked: a full one where all entries before it are locked too, so that
+what the owner decides holds until a reset, and else an empty one.</desc>
 <style>
 text{font-family:monospace;font-size:13px;fill:#111}
 .large{font-size:20px;font-weight:bold}
 rect{fill:#fff}
 g rect{stroke:#fff}
 path{fill:#111}
+.empty{fill:none;stroke:#111}
 .su--- rect{fill:#dcdfe4}
 .su--x rect{fill:#e2d0ff}
 .sur-- rect{fill:#c9e2ff}
@@ -54,8 +56,13 @@ not to scale.</text>
 <g transform='translate(16,177)'>
 ";
 
-/// The sign of a lock, and the word.
-const LOCK: &str = "<path d='M846-6h12v8h-12zM848-6v-3a4 4 0 0 1 8 0v3h-2v-3a2 2 0 0 0-4 0v3z'/>\
+/// The sign of an owner that is held, a full lock, and the word.
+const HELD: &str = "<path d='M846-6h12v8h-12zM848-6v-3a4 4 0 0 1 8 0v3h-2v-3a2 2 0 0 0-4 0v3z'/>\
+<text x='864'>holds</text>";
+
+/// The sign of an owner that is locked while an entry before it isn't, an empty lock, and the word.
+const LOCKED: &str =
+    "<path class='empty' d='M846-6h12v8h-12zM848-6v-3a4 4 0 0 1 8 0v3h-2v-3a2 2 0 0 0-4 0v3z'/>\
 <text x='864'>locked</text>";
 
 /// The end of the bands and of the document.
@@ -138,13 +145,14 @@ fn switch_word(is_on: bool) -> &'static str
     if is_on { "on" } else { "off" }
 }
 
-/// The sign of a lock, where the owner is frozen.
+/// The sign of a lock, where the owner has one.
 fn lock_sign(file: &RegFile, owner: Option<u8>) -> &'static str
     requires { IfSome owner (λ entry. entry < length file.now.entries) }
     ensures { result.now ≡ lock_sign file.now owner }
 {
     match owner {
-        Some(entry) if file.is_locked(entry) => LOCK,
+        Some(entry) if file.is_held(entry) => HELD,
+        Some(entry) if file.is_locked(entry) => LOCKED,
         _ => "",
     }
 }
@@ -284,7 +292,7 @@ fn write_bands(out: &mut Vec<u8>, file: &RegFile, runs: &[Run]) -> Result<(), No
 }
 
 /// Appends a picture of the register file's runs, an SVG document with one band for each from the top down, which shows
-/// what a line of `write_runs` says, its size, and whether its owner is frozen. It tells how many publications are done
+/// what a line of `write_runs` says, its size, and whether its owner is held or locked. It tells how many publications are done
 /// and which of lockdown, allow-list policy and rule-locking bypass are on. The map is the one that was built from this
 /// file.
 pub fn write_picture(

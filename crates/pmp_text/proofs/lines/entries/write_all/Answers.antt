@@ -1,7 +1,7 @@
-use Rattle.std.proofs.Common.{◌≡◌, length, None, refl, below_more, arith}
+use Rattle.std.proofs.Common.{◌≡◌, length, refl, below_more, arith}
 use Rattle.std.specs.List.{flat_map, range_with_len, slice_index_or}
 use Rattle.pmp_core.specs.Span.{IsSpan, span_of}
-use Rattle.pmp_text.specs.EntryRows.{entry_row}
+use Rattle.pmp_text.specs.EntryRows.{entry_row, no_since}
 use Rattle.pmp_text.proofs.EntryRows.{rows_grow}
 use Rattle.pmp_text.proofs.Prefixes.{on_err, starts_after}
 use Rattle.pmp_text.proofs.lines.entries.write_all.Goals as goal
@@ -18,7 +18,7 @@ loop-entry-preserved c =
       spans = below_more (λ i. IsSpan file.entries i (span_of file.entries i)) c.loop-entry.entry
           c.loop-entry.invariant.spans c.write_entry.ensures.span;
       rows = rows_grow
-          (λ i. entry_row file i (span_of file.entries i) (slice_index_or since i None))
+          (λ i. entry_row file i (span_of file.entries i) (slice_index_or since i no_since))
           c.args.out.now.items c.loop-entry.out.items _ c.loop-entry.entry
           (rw c.from.ensures at c.in_ok-write_entry.ensures.ok) c.loop-entry.invariant.rows;
     }
@@ -28,7 +28,7 @@ returns-clause-ok c =
     let file = c.args.file.now in
     let since = c.args.since.now in
     let all : c.loop-entry.entry ≡ length file.entries = omega arith in (
-      flat_map (λ i. entry_row file i (span_of file.entries i) (slice_index_or since i None))
+      flat_map (λ i. entry_row file i (span_of file.entries i) (slice_index_or since i no_since))
           (range_with_len 0 (length file.entries)),
       record {
         span = span_of file.entries;

@@ -1,7 +1,7 @@
-use Rattle.std.proofs.Common.{◌≡◌, ℕ, ◌<◌, ◌++◌, None}
+use Rattle.std.proofs.Common.{◌≡◌, ℕ, ◌<◌, ◌++◌}
 use Rattle.std.specs.List.{flat_map, range_with_len, slice_index_or}
 use Rattle.pmp_core.specs.Span.{IsSpan, span_of}
-use Rattle.pmp_text.specs.EntryRows.{entry_row}
+use Rattle.pmp_text.specs.EntryRows.{entry_row, no_since}
 use Rattle.pmp_text.proofs.lines.entries.write_all.Given as goal
 
 -- the rows so far, with the entries' spans
@@ -9,6 +9,6 @@ abbrev pub invariant-loop-entry : goal.invariant-loop-entry
 invariant-loop-entry l = record {
   spans : (i : ℕ) → i < l.entry → IsSpan l.file.entries i (span_of l.file.entries i);
   rows : l.out.items ≡ l.initial.out.items
-      ++ flat_map (λ i. entry_row l.file i (span_of l.file.entries i) (slice_index_or l.since i None))
+      ++ flat_map (λ i. entry_row l.file i (span_of l.file.entries i) (slice_index_or l.since i no_since))
       (range_with_len 0 l.entry);
 }

@@ -1,0 +1,41 @@
+//! Since when an entry is locked, and since when it is held.
+
+ghost use Rattle.std.specs.Prelude.{Some};
+ghost use Rattle.pmp_text.specs.EntryRows.{since_text};
+ghost use Rattle.pmp_text.specs.Reports.{optional_text};
+
+use std::fmt;
+
+/// The number of a publication, or nothing.
+#[derive(Clone, Copy)]
+struct Number(Option<u64>);
+
+impl fmt::Display for Number {
+    ghost output = { λ number. Some (optional_text number.0) };
+
+    fn fmt<W: fmt::Write>(&self, f: &mut fmt::Formatter<W>) -> fmt::Result {
+        match self.0 {
+            Some(number) => write!(f, "{number}"),
+            None => Ok(()),
+        }
+    }
+}
+
+/// Numbers of publications since which an entry is as it is, with none where it isn't so.
+#[derive(Clone, Copy)]
+pub struct Since {
+    /// The entry is locked.
+    pub locked: Option<u64>,
+    /// The entry is held: it and all entries before it are locked.
+    pub held: Option<u64>,
+}
+
+impl fmt::Display for Since {
+    ghost output = { λ since. Some (since_text since) };
+
+    fn fmt<W: fmt::Write>(&self, f: &mut fmt::Formatter<W>) -> fmt::Result {
+        let locked = Number(self.locked);
+        let held = Number(self.held);
+        write!(f, "{locked},{held}")
+    }
+}
