@@ -1,5 +1,5 @@
 pub mod DecidedRows
-pub mod FrozenSince
+pub mod EntriesSince
 pub mod Crossing
 pub mod Merging
 pub mod Asking

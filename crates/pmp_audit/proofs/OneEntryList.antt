@@ -1,19 +1,21 @@
 -- A script has one entry list.
-use Rattle.std.proofs.Common.{◌≡◌, ℕ, zero, suc, ◌+◌, ◌<◌, List, length, take, Option, None, refl, sym, ap, subst}
+use Rattle.std.proofs.Common.{◌≡◌, ℕ, zero, suc, ◌+◌, ◌<◌, List, length, take, Option, refl, sym, ap, subst}
 use Rattle.std.proofs.Common.{◌∙◌, arith}
 use Rattle.std.specs.List.{flat_map, range_with_len, slice_index_or}
+use Rattle.pmp_core.specs.declared.event.Event.{Event}
 use Rattle.pmp_core.specs.declared.span.Span.{Span}
-use Rattle.pmp_core.specs.RegisterFile.{RegisterFile}
+use Rattle.pmp_core.specs.RegisterFile.{RegisterFile, is_frozen, is_held}
 use Rattle.pmp_core.specs.Size.{count_of}
 use Rattle.pmp_core.specs.Span.{OneSpanLaw}
 use Rattle.pmp_core.proofs.Decisions.{least_once}
+use Rattle.pmp_text.specs.declared.lines.since.Since.{Since}
 use Rattle.pmp_text.specs.Contents.{ScriptContents}
-use Rattle.pmp_text.specs.EntryRows.{entry_row}
+use Rattle.pmp_text.specs.EntryRows.{entry_row, no_since}
 use Rattle.pmp_text.specs.Reports.{file_of_script}
 use Rattle.pmp_audit.specs.EntryList.{IsEntryList, OneEntryListLaw}
 use Rattle.pmp_audit.specs.AskedFile.{asked_count}
-use Rattle.pmp_audit.specs.Since.{IsFrozenFrom}
-use Rattle.pmp_audit.proofs.FrozenSince.{length-file_after}
+use Rattle.pmp_audit.specs.Since.{IsFrom, IsSince}
+use Rattle.pmp_audit.proofs.EntriesSince.{length-file_after}
 
 -- pieces that are alike, place by place
 same_pieces : (one other : ℕ → List ℕ) (from count : ℕ) → ((i : ℕ) → i < from + count → one i ≡ other i)
@@ -24,32 +26,40 @@ same_pieces one other from (suc count) same =
     let rest = same_pieces one other (from + 1) count (λ i below. same i (omega arith)) in
     cc
 
+one_since : (n : ℕ) (batches : List (List Event)) (i : ℕ) (one other : Since) → IsSince n batches i one
+    → IsSince n batches i other → one ≡ other
+one_since n batches i one other is also =
+    ap (λ (k : Option ℕ). record one { locked = k })
+    (least_once (IsFrom is_frozen n batches i) one.locked other.locked is.locked also.locked)
+    ∙ ap (λ (k : Option ℕ). record other { held = k })
+    (least_once (IsFrom is_held n batches i) one.held other.held is.held also.held)
+
 module _ (one_span : OneSpanLaw) where
   module _ (script : ScriptContents) (done : ℕ) (text other : List ℕ) (one : IsEntryList script done text)
       (two : IsEntryList script done other) where
     abbrev file : RegisterFile
     file = file_of_script script done
 
-    abbrev row : (i : ℕ) → Option Span → Option ℕ → List ℕ
+    abbrev row : (i : ℕ) → Option Span → Since → List ℕ
     row i = entry_row file i
 
     same_row : (i : ℕ) → i < length file.entries
-        → row i (one.rows.span i) (slice_index_or one.since i None)
-        ≡ row i (two.rows.span i) (slice_index_or two.since i None)
+        → row i (one.rows.span i) (slice_index_or one.since i no_since)
+        ≡ row i (two.rows.span i) (slice_index_or two.since i no_since)
     same_row i below =
         let n = count_of script.size in
         let batches = take done script.batches in
         let inside : i < n = omega (arith, length-file_after n batches) in
         let span = one_span file.entries i _ _ (one.rows.spans i below) (two.rows.spans i below) in
-        let since = least_once (IsFrozenFrom n batches i) _ _ (one.since_are i inside) (two.since_are i inside) in
-        ap (λ (s : Option Span). row i s (slice_index_or one.since i None)) span
-        ∙ ap (λ (k : Option ℕ). row i (two.rows.span i) k) since
+        let since = one_since n batches i _ _ (one.since_are i inside) (two.since_are i inside) in
+        ap (λ (s : Option Span). row i s (slice_index_or one.since i no_since)) span
+        ∙ ap (λ (s : Since). row i (two.rows.span i) s) since
 
     same_list : text ≡ other
     same_list =
         one.rows.rows
-        ∙ same_pieces (λ i. row i (one.rows.span i) (slice_index_or one.since i None))
-        (λ i. row i (two.rows.span i) (slice_index_or two.since i None)) 0 (length file.entries)
+        ∙ same_pieces (λ i. row i (one.rows.span i) (slice_index_or one.since i no_since))
+        (λ i. row i (two.rows.span i) (slice_index_or two.since i no_since)) 0 (length file.entries)
         (λ i below. same_row i (omega arith))
         ∙ sym two.rows.rows
 

@@ -1,32 +1,43 @@
--- Since when an entry is frozen.
-use Rattle.std.specs.Prelude.{◌≡◌, ℕ, ◌<◌, ◌≤◌, true, false, List, take, drop, Option, Some, None}
+-- Since when an entry is locked, and since when it is held.
+use Rattle.std.specs.Prelude.{◌≡◌, ℕ, ◌<◌, ◌≤◌, Bool, true, false, List, take, drop, Option, Some, None}
 use Rattle.std.specs.List.{list_all, slice_index_or}
 use Rattle.pmp_core.specs.declared.event.Event.{Event}
-use Rattle.pmp_core.specs.RegisterFile.{is_frozen}
+use Rattle.pmp_core.specs.RegisterFile.{RegisterFile, is_frozen, is_held}
 use Rattle.pmp_core.specs.Decision.{IsLeast}
 use Rattle.pmp_core.specs.Histories.{joined, file_after}
 use Rattle.pmp_core.specs.LockLaw.{is_write, StaysLocked}
+use Rattle.pmp_core.specs.ProtectionLaw.{StaysProtected}
+use Rattle.pmp_text.specs.declared.lines.since.Since.{Since}
+use Rattle.pmp_text.specs.EntryRows.{no_since}
 
--- in a unit of n entries, entry i is frozen after the first k batches, and the batches behind them hold no reset
-pub record IsFrozenFrom (n : ℕ) (batches : List (List Event)) (i k : ℕ) : Type 0 where
-  pub frozen : is_frozen (file_after n (take k batches)) i ≡ true
+-- in a unit of n entries, entry i is so after the first k batches, and the batches behind them hold no reset
+pub record IsFrom (is_so : RegisterFile → ℕ → Bool) (n : ℕ) (batches : List (List Event)) (i k : ℕ) : Type 0 where
+  pub after : is_so (file_after n (take k batches)) i ≡ true
   pub writes : list_all is_write (joined (drop k batches)) ≡ true
 
--- the least such k, or none
-abbrev pub IsSince : (n : ℕ) → List (List Event) → (i : ℕ) → Option ℕ → Type 0
-IsSince n batches i = IsLeast (IsFrozenFrom n batches i)
+-- the least such k, or none: since when the entry is frozen, and since when it is held
+pub record IsSince (n : ℕ) (batches : List (List Event)) (i : ℕ) (since : Since) : Type 0 where
+  pub locked : IsLeast (IsFrom is_frozen n batches i) since.locked
+  pub held : IsLeast (IsFrom is_held n batches i) since.held
 
 -- the list has it for each of the entries
-abbrev pub AreSince : (n : ℕ) → List (List Event) → List (Option ℕ) → Type 0
-AreSince n batches since = (i : ℕ) → i < n → IsSince n batches i (slice_index_or since i None)
+abbrev pub AreSince : (n : ℕ) → List (List Event) → List Since → Type 0
+AreSince n batches since = (i : ℕ) → i < n → IsSince n batches i (slice_index_or since i no_since)
 
--- with no such number the entry isn't frozen in the end; with one, it is frozen after the first k batches and after any
+-- with no number the entry isn't frozen in the end; with one, it is frozen after the first k batches and after any
 -- number from there on, with the same configuration and the same bytes
 abbrev pub IsKept : (n : ℕ) → List (List Event) → (i : ℕ) → Option ℕ → Type 0
 IsKept n batches i None = is_frozen (file_after n batches) i ≡ false
 IsKept n batches i (Some k) =
     (done : ℕ) → k ≤ done → StaysLocked (file_after n (take k batches)) (file_after n (take done batches)) i
 
+-- with no number the entry isn't held in the end; with one, what it and the entries before it decide after the first k
+-- batches is protected from there on
+abbrev pub Protects : (n : ℕ) → List (List Event) → (i : ℕ) → Option ℕ → Type 0
+Protects n batches i None = is_held (file_after n batches) i ≡ false
+Protects n batches i (Some k) =
+    (done : ℕ) → k ≤ done → StaysProtected (file_after n (take k batches)) (file_after n (take done batches)) i
+
 abbrev pub SinceLaw : Type 0
-SinceLaw = (n : ℕ) (batches : List (List Event)) (i : ℕ) (since : Option ℕ)
-    → IsSince n batches i since → IsKept n batches i since
+SinceLaw = (n : ℕ) (batches : List (List Event)) (i : ℕ) (since : Since)
+    → IsSince n batches i since → IsKept n batches i since.locked × Protects n batches i since.held

@@ -8,13 +8,14 @@ ghost use Rattle.pmp_audit.specs.EntryList.{EntriesSay};
 use crate::answer::write_answer;
 use crate::fault::AuditFault;
 use crate::replay::Replay;
-use crate::since::frozen_since;
+use crate::since::since_of;
 use pmp_text::{read_script, write_entries};
 use std::alloc::Global;
 use std::io::Write;
 
 /// Writes what each entry is after the first `after` publications of the script, or after all of them where that is
-/// none: which bytes it matches, what its rule allows, how it is locked, and since which publication it is frozen.
+/// none: which bytes it matches, what its rule allows, how it is locked, and since which publications it is
+/// locked and held.
 ///
 /// The text is whole before its first byte is written, so every refusal but `Output` leaves the output untouched.
 pub fn entries_of<W: Write>(
@@ -31,7 +32,7 @@ pub fn entries_of<W: Write>(
 {
     let script = read_script(alloc, script)?;
     let replay = Replay::after(&script, after)?;
-    let since = frozen_since(&script, after.unwrap_or(script.batches()));
+    let since = since_of(&script, after.unwrap_or(script.batches()));
     let mut text = Vec::new(alloc);
     write_entries(&mut text, replay.file(), &since)?;
     write_answer(writer, &text, ())

@@ -4,7 +4,7 @@ ghost use Rattle.pmp_audit.specs.EntryList.{OneEntryListLaw};
 ghost use Rattle.pmp_audit.specs.Since.{SinceLaw};
 ghost use Rattle.pmp_audit.specs.TraceAudit.{OneListOfDecisionsLaw, OneReportLaw};
 
-use pmp_core::laws::{law_one_decision, law_one_span};
+use pmp_core::laws::{law_one_decision, law_one_span, law_protected};
 
 /// Rows have one list of decisions that are each the manual's, however they are come by.
 pub fn law_one_list_of_decisions()
@@ -20,11 +20,13 @@ pub fn law_one_report()
     law_one_list_of_decisions();
 }
 
-/// Where an entry is frozen, it has been so, with its configuration and its bytes, ever since the publication that an
-/// entry list names.
+/// Where an entry is locked, it has been so, with its configuration and its bytes, ever since the publication that an
+/// entry list names; and where it is held, what it and the entries before it decide has been protected since then.
 pub fn law_since()
     ensures { SinceLaw }
-{}
+{
+    law_protected();
+}
 
 /// A script has one entry list after each number of publications.
 pub fn law_one_entry_list()

@@ -1,16 +1,17 @@
-//! Since when entries are frozen.
+//! Since when entries are locked, and since when they are held.
 
-ghost use Rattle.std.specs.Prelude.{◌≡◌, ◌<◌, ◌≤◌, ℕ, None, length, take};
+ghost use Rattle.std.specs.Prelude.{◌≡◌, ◌<◌, ◌≤◌, ℕ, length, take};
 ghost use Rattle.std.specs.List.{list_all, slice_index_or};
 ghost use Rattle.pmp_core.specs.LockLaw.{is_write};
-ghost use Rattle.pmp_core.specs.RegisterFile.{is_frozen};
+ghost use Rattle.pmp_core.specs.RegisterFile.{is_frozen, is_held};
 ghost use Rattle.pmp_core.specs.Size.{count_of};
+ghost use Rattle.pmp_text.specs.EntryRows.{no_since};
 ghost use Rattle.pmp_audit.specs.Since.{AreSince};
 ghost use Rattle.pmp_audit.specs.SinceStep.{since_after};
 
 use crate::replay::Replay;
 use pmp_core::{Event, MAX_ENTRIES, RegFile};
-use pmp_text::Script;
+use pmp_text::{Script, Since};
 
 fn are_writes(events: &[Event]) -> bool
     ensures { result ≡ list_all is_write events.now }
@@ -18,11 +19,12 @@ fn are_writes(events: &[Event]) -> bool
     events.iter().all(|event| matches!(event, Event::Write(..)))
 }
 
-/// Since when an entry is frozen after one publication more, which is number `done`. A reset ends what was before it.
-fn since_after(before: Option<u64>, is_locked: bool, are_writes: bool, done: u64) -> Option<u64>
-    ensures { result ≡ since_after before is_locked are_writes done }
+/// Since when an entry is locked, or held, after one publication more, which is number `done`. A reset ends what was
+/// before it.
+fn since_after(before: Option<u64>, is_so: bool, are_writes: bool, done: u64) -> Option<u64>
+    ensures { result ≡ since_after before is_so are_writes done }
 {
-    match (is_locked, are_writes) {
+    match (is_so, are_writes) {
         (false, _) => None,
         (true, false) => Some(done),
         (true, true) => Some(before.unwrap_or(done)),
@@ -30,24 +32,34 @@ fn since_after(before: Option<u64>, is_locked: bool, are_writes: bool, done: u64
 }
 
 /// Takes in publication number `done`, which left this register file.
-fn count_in(since: &mut [Option<u64>], file: &RegFile, are_writes: bool, done: u64)
+fn count_in(since: &mut [Since], file: &RegFile, are_writes: bool, done: u64)
     requires { length file.now.entries ≤ length since.old }
-    ensures { (i : ℕ) → i < length file.now.entries → slice_index_or since.new i None
-        ≡ since_after (slice_index_or since.old i None) (is_frozen file.now i) are_writes done }
+    ensures locked { (i : ℕ) → i < length file.now.entries → (slice_index_or since.new i no_since).locked
+        ≡ since_after (slice_index_or since.old i no_since).locked (is_frozen file.now i) are_writes done }
+    ensures held { (i : ℕ) → i < length file.now.entries → (slice_index_or since.new i no_since).held
+        ≡ since_after (slice_index_or since.old i no_since).held (is_held file.now i) are_writes done }
 {
     for entry in 0..file.entries() {
         let place = usize::from(entry);
-        since[place] = since_after(since[place], file.is_locked(entry), are_writes, done);
+        let before = since[place];
+        since[place] = Since {
+            locked: since_after(before.locked, file.is_locked(entry), are_writes, done),
+            held: since_after(before.held, file.is_held(entry), are_writes, done),
+        };
     }
 }
 
-/// For each entry that is frozen after the first `count` publications, the number of the publication that froze it: it
-/// has been frozen ever since.
-pub fn frozen_since(script: &Script, count: u64) -> [Option<u64>; MAX_ENTRIES]
+/// For each entry that is locked after the first `count` publications, the number of the publication that locked it: it
+/// has been locked ever since. And so for each that is held, with all entries before it.
+pub fn since_of(script: &Script, count: u64) -> [Since; MAX_ENTRIES]
     requires { count ≤ length script.now.batches }
     ensures { AreSince (count_of script.now.size) (take count script.now.batches) result }
 {
-    let mut since = [None; MAX_ENTRIES];
+    let none = Since {
+        locked: None,
+        held: None,
+    };
+    let mut since = [none; MAX_ENTRIES];
     let mut replay = Replay::new(script);
     for index in 0..count {
         replay.advance(index + 1);

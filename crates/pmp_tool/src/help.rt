@@ -154,7 +154,7 @@ pub const MORE_OF_ENTRIES: &str = "\
 A number is 1 to 20 decimal digits, or 0x and 1 to 16 hexadecimal digits.
 
 Each line is an entry of the unit, from entry 0 on:
-ENTRY,MATCHING,FIRST,LAST,MRIGHTS,SURIGHTS,LOCK,ADDRESS,SINCE.
+ENTRY,MATCHING,FIRST,LAST,MRIGHTS,SURIGHTS,LOCK,ADDRESS,SINCE,HOLDS.
   MATCHING    off, tor, na4 or napot
   FIRST,LAST  the addresses of the first and last byte that it matches, in
               hexadecimal digits, or - and - where it matches none
@@ -165,8 +165,10 @@ ENTRY,MATCHING,FIRST,LAST,MRIGHTS,SURIGHTS,LOCK,ADDRESS,SINCE.
   ADDRESS     locked where its address register takes no write; else -
   SINCE       where LOCK is locked, the least number of publications after which
               it was, with no reset behind them
+  HOLDS       the same for it and all entries before it
 A locked entry keeps its configuration and its bytes through every later list of
-writes, until a reset.
+writes, until a reset. Where it HOLDS, what it refuses stays refused; else an
+entry before it may still take its bytes.
 
 Exit status:
   0  the entries were written
@@ -175,7 +177,7 @@ Exit status:
 
 Example:
   printf 'pmp 1\\nwrite pmpcfg0 0x98\\npublish\\n' | pmp entries stdin
-  It answers 0,napot,00000000000000,00000000000007,---,---,locked,locked,1
+  It answers 0,napot,00000000000000,00000000000007,---,---,locked,locked,1,1
 
 docs/FORMATS.md describes scripts, the entry lines, and every refusal with its
 number.";

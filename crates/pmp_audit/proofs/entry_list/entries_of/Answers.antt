@@ -12,14 +12,14 @@ says g c =
     let (text, rows, appended) = c.in_ok-write_entries.ensures.ok in
     let written = only_text _ _ _ _ c.deref.ensures.value appended c.new-text.ensures.items in
     let file = c.file.ensures ∙ ap file_at c.in_ok-replay.ensures.done in
-    let since = c.frozen_since-since.result in
+    let since = c.since_of-since.result in
     record {
       contents = c.in_ok-script.script;
       script_means = c.in_ok-script.ensures;
       within = c.in_ok-replay.ensures.within;
       text_is = record {
         since = since;
-        since_are = rw (c.unwrap_or.ensures, c.batches.ensures) at c.frozen_since-since.ensures;
+        since_are = rw (c.unwrap_or.ensures, c.batches.ensures) at c.since_of-since.ensures;
         rows = subst (λ file. IsEntryText file since c.deref.result.now) file
             (subst (λ (l : List ℕ). IsEntryText c.file.result.now since l) (sym written) rows);
       };

@@ -1,7 +1,7 @@
 use Rattle.std.proofs.Common.{◌≡◌, take}
 use Rattle.pmp_core.specs.Size.{count_of}
 use Rattle.pmp_audit.specs.Since.{AreSince}
-use Rattle.pmp_audit.proofs.since.frozen_since.Given as goal
+use Rattle.pmp_audit.proofs.since.since_of.Given as goal
 
 -- the publications so far are counted in
 abbrev pub invariant-loop-index : goal.invariant-loop-index

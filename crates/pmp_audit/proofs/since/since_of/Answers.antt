@@ -1,11 +1,13 @@
-use Rattle.std.proofs.Common.{◌≡◌, ◌+◌, ◌<◌, length, take, slice_index_or, None, ap, ◌∙◌, arith}
+use Rattle.std.proofs.Common.{◌≡◌, ◌+◌, ◌<◌, length, take, slice_index_or, ap, ◌∙◌, arith}
 use Rattle.std.specs.List.{list_all}
 use Rattle.pmp_core.specs.Histories.{file_after}
 use Rattle.pmp_core.specs.LockLaw.{is_write}
+use Rattle.pmp_core.specs.RegisterFile.{is_frozen, is_held}
 use Rattle.pmp_core.specs.Size.{count_of}
+use Rattle.pmp_text.specs.EntryRows.{no_since}
 use Rattle.pmp_audit.specs.Replay.{Position, file_at}
-use Rattle.pmp_audit.proofs.FrozenSince.{length-file_after, nothing_at, since-none, since_more}
-use Rattle.pmp_audit.proofs.since.frozen_since.Goals as goal
+use Rattle.pmp_audit.proofs.EntriesSince.{frozen_lasts, held_lasts, length-file_after, nothing_at, since-none, since_more}
+use Rattle.pmp_audit.proofs.since.since_of.Goals as goal
 
 pub loop-index-init : goal.loop-index-init
 loop-index-init c = record {
@@ -22,15 +24,20 @@ loop-index-preserved c =
     ∙ ap (λ (p : Position). record p { done = loop.index + 1 }) loop.invariant.position in
     let file : c.file.result.now ≡ file_after n (take (loop.index + 1) script.batches) =
     c.file.ensures ∙ ap file_at position in
+    let writes = c.are_writes-are_writes.ensures ∙ ap (list_all is_write) c.batch.ensures.events in
     record {
       position = position;
       so_far = λ i inside.
           let entry : i < length c.file.result.now.entries =
           rw (file, length-file_after n (take (loop.index + 1) script.batches)) inside in
-          since_more n script.batches loop.index i (slice_index_or loop.since i None) _ c.file.result.now _
-          (omega arith) file
-          (c.are_writes-are_writes.ensures ∙ ap (list_all is_write) c.batch.ensures.events)
-          (c.count_in.ensures i entry) (loop.invariant.so_far i inside);
+          let before = loop.invariant.so_far i inside in
+          let old = slice_index_or loop.since i no_since in
+          record {
+            locked = since_more is_frozen frozen_lasts n script.batches loop.index i old.locked _ c.file.result.now _
+                (omega arith) file writes (c.count_in.ensures.locked i entry) before.locked;
+            held = since_more is_held held_lasts n script.batches loop.index i old.held _ c.file.result.now _
+                (omega arith) file writes (c.count_in.ensures.held i entry) before.held;
+          };
     }
 
 pub returns : goal.returns

@@ -1,0 +1,239 @@
+-- Since when an entry is locked, and held, batch by batch.
+use Rattle.std.proofs.Common.{◌≡◌, ℕ, ◌+◌, ◌-◌, ◌<◌, ◌≤◌, Bool, true, false, ◌&&◌, List, [], ◌∷◌, ◌++◌, length}
+use Rattle.std.proofs.Common.{fold, take, drop, Option, None, Some, get_or, replicate, refl, sym, ap, subst, ◌∙◌}
+use Rattle.std.proofs.Common.{inl, inr, arith}
+use Rattle.std.specs.List.{list_all}
+use Rattle.std.proofs.lemmas.Bool.{and_parts, cases_lt, false≢true}
+use Rattle.std.proofs.lemmas.List.{take-append-le, drop-append-le, take-append-drop, take-take, drop-take}
+use Rattle.std.proofs.lemmas.List.{take_all, drop_all}
+use Rattle.std.proofs.lemmas.List.{append-nil, length-append, length-take-le, take_more, get_or-replicate, get_or_past}
+use Rattle.std.proofs.lemmas.List.{length-replicate}
+use Rattle.std.proofs.lemmas.List.Concat.{flat_map-append}
+use Rattle.std.proofs.lemmas.List.Folds.{list_all-append}
+use Rattle.pmp_core.specs.declared.event.Event.{Event}
+use Rattle.pmp_core.specs.Decision.{IsLeast}
+use Rattle.pmp_core.specs.RegisterFile.{RegisterFile, reset_entry, reset_file, is_frozen, is_held}
+use Rattle.pmp_core.specs.RegisterWrite.{step}
+use Rattle.pmp_core.specs.Histories.{joined, file_after}
+use Rattle.pmp_core.specs.LockLaw.{is_write, StaysLocked}
+use Rattle.pmp_core.specs.ProtectionLaw.{ProtectedLaw, StaysProtected}
+use Rattle.pmp_core.proofs.Held.{held_at, held_still}
+use Rattle.pmp_core.proofs.Locks.{lock_law}
+use Rattle.pmp_core.proofs.Legal.{legal_law, length-step, reset_at}
+use Rattle.pmp_text.specs.declared.lines.since.Since.{Since}
+use Rattle.pmp_text.specs.EntryRows.{no_since}
+use Rattle.pmp_audit.specs.Since.{IsFrom, IsKept, IsSince, Protects, SinceLaw}
+use Rattle.pmp_audit.specs.SinceStep.{since_after}
+
+-- ---- batches
+
+joined-append : (xs ys : List (List Event)) → joined (xs ++ ys) ≡ joined xs ++ joined ys
+joined-append xs ys = flat_map-append (λ (batch : List Event). batch) xs ys
+
+fold-append : (file : RegisterFile) (xs ys : List Event) → fold step file (xs ++ ys) ≡ fold step (fold step file xs) ys
+fold-append file [] ys = refl
+fold-append file (x ∷ xs) ys = fold-append (step file x) xs ys
+
+-- the file after all batches, from the one after the first k on
+file_split : (n k : ℕ) (batches : List (List Event))
+    → file_after n batches ≡ fold step (file_after n (take k batches)) (joined (drop k batches))
+file_split n k batches =
+    ap (file_after n) (sym (take-append-drop k batches))
+    ∙ ap (fold step (reset_file n)) (joined-append (take k batches) (drop k batches))
+    ∙ fold-append (reset_file n) (joined (take k batches)) (joined (drop k batches))
+
+-- so many batches, counted from the first k on
+file_from : (n k done : ℕ) (batches : List (List Event)) → k ≤ done
+    → file_after n (take done batches) ≡ fold step (file_after n (take k batches)) (joined (drop k (take done batches)))
+file_from n k done batches within =
+    file_split n k (take done batches)
+    ∙ ap (λ front. fold step (file_after n front) (joined (drop k (take done batches))))
+    (take-take k done batches within)
+
+-- a beginning of batches that hold no reset holds none
+writes_in_front : (batches : List (List Event)) (count : ℕ) → list_all is_write (joined batches) ≡ true
+    → list_all is_write (joined (take count batches)) ≡ true
+writes_in_front batches count writes =
+    let front = joined (take count batches) in
+    let rest = joined (drop count batches) in
+    let parts : joined batches ≡ front ++ rest = ap joined (sym (take-append-drop count batches))
+    ∙ joined-append (take count batches) (drop count batches) in
+    (and_parts _ _ (sym (list_all-append is_write front rest) ∙ ap (list_all is_write) (sym parts) ∙ writes)).0
+
+-- no write ends it
+abbrev pub Lasts : (RegisterFile → ℕ → Bool) → Type 0
+Lasts is_so = (file : RegisterFile) (i : ℕ) (events : List Event) → is_so file i ≡ true
+    → list_all is_write events ≡ true → is_so (fold step file events) i ≡ true
+
+pub frozen_lasts : Lasts is_frozen
+frozen_lasts file i events frozen writes = (lock_law file i events frozen writes).frozen
+
+pub held_lasts : Lasts is_held
+held_lasts = held_still
+
+-- from the first k batches to so many of them there are writes alone
+writes_between : (batches : List (List Event)) (k done : ℕ) → k ≤ done
+    → list_all is_write (joined (drop k batches)) ≡ true
+    → list_all is_write (joined (drop k (take done batches))) ≡ true
+writes_between batches k done within writes =
+    let taken : drop k (take done batches) ≡ take (done - k) (drop k batches) =
+    ap (λ (m : ℕ). drop k (take m batches)) (omega arith) ∙ drop-take k (done - k) batches in
+    rw taken (writes_in_front (drop k batches) (done - k) writes)
+
+module _ (is_so : RegisterFile → ℕ → Bool) (lasts : Lasts is_so) where
+  -- it is so after all batches
+  so_still : (n : ℕ) (batches : List (List Event)) (i k : ℕ) → IsFrom is_so n batches i k
+      → is_so (file_after n batches) i ≡ true
+  so_still n batches i k from =
+      ap (λ file. is_so file i) (file_split n k batches)
+      ∙ lasts (file_after n (take k batches)) i (joined (drop k batches)) from.after from.writes
+
+  -- the number of all batches is such a number where the entry is so in the end
+  so_by_all : (n : ℕ) (batches : List (List Event)) (i k : ℕ) → length batches ≤ k
+      → is_so (file_after n batches) i ≡ true → IsFrom is_so n batches i k
+  so_by_all n batches i k past so = record {
+    after = rw (take_all k batches past) so;
+    writes = rw (drop_all k batches past) refl;
+  }
+
+  -- the least such number is no greater
+  least_within : (n : ℕ) (batches : List (List Event)) (i k : ℕ) → IsLeast (IsFrom is_so n batches i) (Some k)
+      → k ≤ length batches
+  least_within n batches i k least =
+      let last = length batches in
+      elim (cases_lt last k) [
+        | inl beyond ↦
+            let still = so_still n batches i k least.0 in
+            absurd (least.1 last beyond (so_by_all n batches i last (omega arith) still))
+        | inr within ↦ within
+      ]
+
+  pub not_so : (n : ℕ) (batches : List (List Event)) (i : ℕ) (so : Bool) → is_so (file_after n batches) i ≡ so
+      → IsLeast (IsFrom is_so n batches i) None → is_so (file_after n batches) i ≡ false
+  not_so n batches i true so never =
+      absurd (never (length batches) (so_by_all n batches i (length batches) (omega arith) so))
+  not_so n batches i false so never = so
+
+  -- ---- one batch more
+
+  module _ (n : ℕ) (batches : List (List Event)) (batch : List Event) (i : ℕ) where
+    abbrev more : List (List Event)
+    more = batches ++ batch ∷ []
+
+    writes_behind : (k : ℕ) → k ≤ length batches → list_all is_write (joined (drop k more))
+        ≡ (list_all is_write (joined (drop k batches)) && list_all is_write batch)
+    writes_behind k within =
+        ap (λ rest. list_all is_write (joined rest)) (drop-append-le k batches (batch ∷ []) within)
+        ∙ ap (list_all is_write) (joined-append (drop k batches) (batch ∷ [])
+        ∙ ap (λ (events : List Event). joined (drop k batches) ++ events) (append-nil batch))
+        ∙ list_all-append is_write (joined (drop k batches)) batch
+
+    from_before : (k : ℕ) → k ≤ length batches → list_all is_write batch ≡ true → IsFrom is_so n batches i k
+        → IsFrom is_so n more i k
+    from_before k within writes from = record {
+      after = rw (take-append-le k batches (batch ∷ []) within) from.after;
+      writes = rw (writes_behind k within, from.writes, writes) refl;
+    }
+
+    to_before : (k : ℕ) → k ≤ length batches → IsFrom is_so n more i k
+        → IsFrom is_so n batches i k × (list_all is_write batch ≡ true)
+    to_before k within from =
+        let both_write = and_parts _ _ (rw (writes_behind k within) at from.writes) in (
+          record {
+            after = rw (take-append-le k batches (batch ∷ []) within) at from.after;
+            writes = both_write.0;
+          },
+          both_write.1,
+        )
+
+    by_tests : (before : Option ℕ) (so writes : Bool) → is_so (file_after n more) i ≡ so
+        → list_all is_write batch ≡ writes → IsLeast (IsFrom is_so n batches i) before
+        → IsLeast (IsFrom is_so n more i) (since_after before so writes (length batches + 1))
+    by_tests before false writes ended tested since =
+        λ k from. false≢true (sym ended ∙ so_still n more i k from)
+    by_tests before true false so tested since = (
+      so_by_all n more i (length batches + 1) (omega (arith, length-append batches (batch ∷ []))) so,
+      λ k below from. false≢true (sym tested ∙ (to_before k (omega arith) from).1),
+    )
+    by_tests None true true so tested since = (
+      so_by_all n more i (length batches + 1) (omega (arith, length-append batches (batch ∷ []))) so,
+      λ k below from. since k (to_before k (omega arith) from).0,
+    )
+    by_tests (Some first) true true so tested since =
+        let within = least_within n batches i first since in (
+          from_before first within tested since.0,
+          λ k below from. since.1 k below (to_before k (omega arith) from).0,
+        )
+
+    since-push : (before : Option ℕ) → IsLeast (IsFrom is_so n batches i) before → IsLeast (IsFrom is_so n more i)
+        (since_after before (is_so (file_after n more) i) (list_all is_write batch) (length batches + 1))
+    since-push before since =
+        by_tests before (is_so (file_after n more) i) (list_all is_write batch) refl refl since
+
+  -- the same over a list of batches, by what was read of the next one
+  pub since_more : (n : ℕ) (batches : List (List Event)) (index i : ℕ) (before after : Option ℕ) (file : RegisterFile)
+      (writes : Bool) → index < length batches → file ≡ file_after n (take (index + 1) batches)
+      → writes ≡ list_all is_write (get_or batches index [])
+      → after ≡ since_after before (is_so file i) writes (index + 1)
+      → IsLeast (IsFrom is_so n (take index batches) i) before
+      → IsLeast (IsFrom is_so n (take (index + 1) batches) i) after
+  since_more n batches index i before after file writes within file_is writes_are after_is since =
+      let batch = get_or batches index [] in
+      let From : List (List Event) → ℕ → Type 0 = λ more done. IsLeast (IsFrom is_so n more i)
+      (since_after before (is_so (file_after n more) i) (list_all is_write batch) done) in
+      let pushed = since-push n (take index batches) batch i before since in
+      let counted = length-take-le index batches (omega arith) in
+      rw (after_is, file_is, writes_are) (subst (λ more. From more (index + 1)) (sym (take_more batches index [] within))
+      (subst (λ (m : ℕ). From (take index batches ++ batch ∷ []) (m + 1)) counted pushed))
+
+-- before the first batch no entry is frozen, so none is held
+pub since-none : (n i : ℕ) → IsSince n [] i no_since
+since-none n i = record {
+  locked = λ k from. false≢true (rw (take_all {A = List Event} k [] (omega arith), reset_at n i) at from.after);
+  held = λ k from. false≢true (rw (take_all {A = List Event} k [] (omega arith), reset_at n i)
+      at (held_at (file_after n (take k [])) i i (omega arith) from.after));
+}
+
+pub nothing_at : (count i : ℕ) → get_or (replicate {A = Since} count no_since) i no_since ≡ no_since
+nothing_at count i = elim (cases_lt i count) [
+  | inl inside ↦ get_or-replicate count i no_since no_since inside
+  | inr past ↦
+      let nothing : List Since = replicate count no_since in
+      let few : length nothing ≤ i = omega (arith, length-replicate {A = Since} count no_since) in
+      get_or_past nothing i no_since few
+]
+
+-- ---- the law
+
+module _ (protects : ProtectedLaw) (n : ℕ) (batches : List (List Event)) (i : ℕ) where
+  abbrev file : ℕ → RegisterFile
+  file k = file_after n (take k batches)
+
+  kept : (since : Option ℕ) → IsLeast (IsFrom is_frozen n batches i) since → IsKept n batches i since
+  kept None never = not_so is_frozen frozen_lasts n batches i (is_frozen (file_after n batches) i) refl never
+  kept (Some k) since = λ done within.
+      let between = joined (drop k (take done batches)) in
+      subst (λ later. StaysLocked (file k) later i) (sym (file_from n k done batches within))
+      (lock_law (file k) i between since.0.after (writes_between batches k done within since.0.writes))
+
+  protected : (since : Option ℕ) → IsLeast (IsFrom is_held n batches i) since → Protects n batches i since
+  protected None never = not_so is_held held_lasts n batches i (is_held (file_after n batches) i) refl never
+  protected (Some k) since = λ done within.
+      let between = joined (drop k (take done batches)) in
+      subst (λ later. StaysProtected (file k) later i) (sym (file_from n k done batches within))
+      (protects (file k) i between (legal_law n (joined (take k batches))) since.0.after
+      (writes_between batches k done within since.0.writes))
+
+pub since_law : ProtectedLaw → SinceLaw
+since_law protects n batches i since is =
+    (kept protects n batches i since.locked is.locked, protected protects n batches i since.held is.held)
+
+-- ---- how many entries there are
+
+length-fold : (file : RegisterFile) (events : List Event)
+    → length (fold step file events).entries ≡ length file.entries
+length-fold file [] = refl
+length-fold file (event ∷ events) = length-fold (step file event) events ∙ length-step file event
+
+pub length-file_after : (n : ℕ) (batches : List (List Event)) → length (file_after n batches).entries ≡ n
+length-file_after n batches = length-fold (reset_file n) (joined batches) ∙ length-replicate n reset_entry
