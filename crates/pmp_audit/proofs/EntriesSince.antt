@@ -206,27 +206,27 @@ nothing_at count i = elim (cases_lt i count) [
 -- ---- the law
 
 module _ (protects : ProtectedLaw) (n : ℕ) (batches : List (List Event)) (i : ℕ) where
-  abbrev file : ℕ → RegisterFile
-  file k = file_after n (take k batches)
+  abbrev file_done : ℕ → RegisterFile
+  file_done k = file_after n (take k batches)
 
-  kept : (since : Option ℕ) → IsLeast (IsFrom is_frozen n batches i) since → IsKept n batches i since
-  kept None never = not_so is_frozen frozen_lasts n batches i (is_frozen (file_after n batches) i) refl never
-  kept (Some k) since = λ done within.
+  is_kept : (since : Option ℕ) → IsLeast (IsFrom is_frozen n batches i) since → IsKept n batches i since
+  is_kept None never = not_so is_frozen frozen_lasts n batches i (is_frozen (file_after n batches) i) refl never
+  is_kept (Some k) since = λ done within.
       let between = joined (drop k (take done batches)) in
-      subst (λ later. StaysLocked (file k) later i) (sym (file_from n k done batches within))
-      (lock_law (file k) i between since.0.after (writes_between batches k done within since.0.writes))
+      subst (λ later. StaysLocked (file_done k) later i) (sym (file_from n k done batches within))
+      (lock_law (file_done k) i between since.0.after (writes_between batches k done within since.0.writes))
 
-  protected : (since : Option ℕ) → IsLeast (IsFrom is_held n batches i) since → Protects n batches i since
-  protected None never = not_so is_held held_lasts n batches i (is_held (file_after n batches) i) refl never
-  protected (Some k) since = λ done within.
+  does_protect : (since : Option ℕ) → IsLeast (IsFrom is_held n batches i) since → Protects n batches i since
+  does_protect None never = not_so is_held held_lasts n batches i (is_held (file_after n batches) i) refl never
+  does_protect (Some k) since = λ done within.
       let between = joined (drop k (take done batches)) in
-      subst (λ later. StaysProtected (file k) later i) (sym (file_from n k done batches within))
-      (protects (file k) i between (legal_law n (joined (take k batches))) since.0.after
+      subst (λ later. StaysProtected (file_done k) later i) (sym (file_from n k done batches within))
+      (protects (file_done k) i between (legal_law n (joined (take k batches))) since.0.after
       (writes_between batches k done within since.0.writes))
 
 pub since_law : ProtectedLaw → SinceLaw
 since_law protects n batches i since is =
-    (kept protects n batches i since.locked is.locked, protected protects n batches i since.held is.held)
+    (is_kept protects n batches i since.locked is.locked, does_protect protects n batches i since.held is.held)
 
 -- ---- how many entries there are
 

@@ -37,29 +37,29 @@ one_since n batches i one other is also =
 module _ (one_span : OneSpanLaw) where
   module _ (script : ScriptContents) (done : ℕ) (text other : List ℕ) (one : IsEntryList script done text)
       (two : IsEntryList script done other) where
-    abbrev file : RegisterFile
-    file = file_of_script script done
+    abbrev file_shown : RegisterFile
+    file_shown = file_of_script script done
 
-    abbrev row : (i : ℕ) → Option Span → Since → List ℕ
-    row i = entry_row file i
+    abbrev row_shown : (i : ℕ) → Option Span → Since → List ℕ
+    row_shown i = entry_row file_shown i
 
-    same_row : (i : ℕ) → i < length file.entries
-        → row i (one.rows.span i) (slice_index_or one.since i no_since)
-        ≡ row i (two.rows.span i) (slice_index_or two.since i no_since)
+    same_row : (i : ℕ) → i < length file_shown.entries
+        → row_shown i (one.rows.span i) (slice_index_or one.since i no_since)
+        ≡ row_shown i (two.rows.span i) (slice_index_or two.since i no_since)
     same_row i below =
         let n = count_of script.size in
         let batches = take done script.batches in
         let inside : i < n = omega (arith, length-file_after n batches) in
-        let span = one_span file.entries i _ _ (one.rows.spans i below) (two.rows.spans i below) in
+        let span = one_span file_shown.entries i _ _ (one.rows.spans i below) (two.rows.spans i below) in
         let since = one_since n batches i _ _ (one.since_are i inside) (two.since_are i inside) in
-        ap (λ (s : Option Span). row i s (slice_index_or one.since i no_since)) span
-        ∙ ap (λ (s : Since). row i (two.rows.span i) s) since
+        ap (λ (s : Option Span). row_shown i s (slice_index_or one.since i no_since)) span
+        ∙ ap (λ (s : Since). row_shown i (two.rows.span i) s) since
 
     same_list : text ≡ other
     same_list =
         one.rows.rows
-        ∙ same_pieces (λ i. row i (one.rows.span i) (slice_index_or one.since i no_since))
-        (λ i. row i (two.rows.span i) (slice_index_or two.since i no_since)) 0 (length file.entries)
+        ∙ same_pieces (λ i. row_shown i (one.rows.span i) (slice_index_or one.since i no_since))
+        (λ i. row_shown i (two.rows.span i) (slice_index_or two.since i no_since)) 0 (length file_shown.entries)
         (λ i below. same_row i (omega arith))
         ∙ sym two.rows.rows
 

@@ -114,13 +114,13 @@ module _ (file : RegisterFile) (n : ℕ) (legal : IsLegal file) (count : length 
         rest = λ i from. other_address now k value i (λ same. absurd (omega arith)) ∙ before.rest i (omega arith);
       }
 
-  addressed : (start : RegisterFile) → IsAddressed start 0 → (k : ℕ) → k ≤ n
+  addressed_to : (start : RegisterFile) → IsAddressed start 0 → (k : ℕ) → k ≤ n
       → IsAddressed (fold step start (address_events k)) k
   unfolding address_events
-  addressed start first zero within = first
-  addressed start first (suc k) within =
+  addressed_to start first zero within = first
+  addressed_to start first (suc k) within =
       rw (fold-append step start (address_events k) (Write (Addr k) (entry_at file.entries k).address ∷ []))
-      (address_next (fold step start (address_events k)) k (omega arith) (addressed start first k (omega arith)))
+      (address_next (fold step start (address_events k)) k (omega arith) (addressed_to start first k (omega arith)))
 
   -- ---- configurations
 
@@ -178,14 +178,14 @@ module _ (file : RegisterFile) (n : ℕ) (legal : IsLegal file) (count : length 
         entry_kept now (word k) (Cfg (2 * k)) i none ∙ before.rest i (omega arith);
   }
 
-  all_configured : (start : RegisterFile) → IsConfigured start 0 → (k : ℕ) → 8 * k ≤ n
+  configured_to : (start : RegisterFile) → IsConfigured start 0 → (k : ℕ) → 8 * k ≤ n
       → IsConfigured (fold step start (configuration_events k)) k
   unfolding configuration_events
-  all_configured start first zero within = first
-  all_configured start first (suc k) within =
+  configured_to start first zero within = first
+  configured_to start first (suc k) within =
       rw (fold-append step start (configuration_events k) (Write (Cfg (2 * k)) (word k) ∷ []))
       (configuration_next (fold step start (configuration_events k)) k within
-      (all_configured start first k (omega arith)))
+      (configured_to start first k (omega arith)))
 
   from_addressed : (now : RegisterFile) → IsAddressed now n → IsConfigured now 0
   from_addressed now before = record {
@@ -208,10 +208,10 @@ module _ (file : RegisterFile) (n : ℕ) (legal : IsLegal file) (count : length 
       rw fields (settled file.mseccfg.mml file.mseccfg.mmwp file.mseccfg.rlb (is_any_locked now.entries)) in
       rw (set, entries) refl
 
-  abbrev start : RegisterFile
-  start = written (reset_file n) Mseccfg (mseccfg_value open_fields)
+  abbrev after_opening : RegisterFile
+  after_opening = written (reset_file n) Mseccfg (mseccfg_value open_fields)
 
-  started : is_any_locked (reset_file n).entries ≡ false → IsAddressed start 0
+  started : is_any_locked (reset_file n).entries ≡ false → IsAddressed after_opening 0
   started none = record {
     fields = rw none (opened file.mseccfg.mml file.mseccfg.mmwp);
     many = length-replicate n reset_entry;
@@ -222,8 +222,8 @@ module _ (file : RegisterFile) (n : ℕ) (legal : IsLegal file) (count : length 
     ];
   }
 
-  same_entries : (now : RegisterFile) → IsConfigured now (n / 8) → 8 * (n / 8) ≡ n → now.entries ≡ file.entries
-  same_entries now whole even =
+  entries_restored : (now : RegisterFile) → IsConfigured now (n / 8) → 8 * (n / 8) ≡ n → now.entries ≡ file.entries
+  entries_restored now whole even =
       entries_by now.entries (entry_at file.entries) (λ k inside. whole.done k (omega (arith, even, whole.many)))
       ∙ ap (λ (m : ℕ). map (entry_at file.entries) (range_with_len 0 m)) (whole.many ∙ sym count)
       ∙ sym (entries_by file.entries (entry_at file.entries) (λ k inside. refl))
@@ -234,14 +234,14 @@ module _ (file : RegisterFile) (n : ℕ) (legal : IsLegal file) (count : length 
       let addresses = address_events n in
       let configurations = configuration_events (n / 8) in
       let last : Event = Write Mseccfg (mseccfg_value file.mseccfg) in
-      let first = fold step start addresses in
-      let whole = all_configured first (from_addressed first (addressed start (started none) n (omega arith))) (n / 8)
+      let first = fold step after_opening addresses in
+      let whole = configured_to first (from_addressed first (addressed_to after_opening (started none) n (omega arith))) (n / 8)
       (omega (arith, even)) in (
         Write Mseccfg (mseccfg_value open_fields) ∷ (addresses ++ (configurations ++ last ∷ [])),
         rw (
-          fold-append step start addresses (configurations ++ last ∷ []),
+          fold-append step after_opening addresses (configurations ++ last ∷ []),
           fold-append step first configurations (last ∷ []),
-        ) (final (fold step first configurations) whole.fields (same_entries (fold step first configurations) whole even)),
+        ) (final (fold step first configurations) whole.fields (entries_restored (fold step first configurations) whole even)),
       )
 
 pub reachable_law : ReachableLaw
