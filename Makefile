@@ -46,6 +46,7 @@ test:
 	checks/launcher
 	checks/documents $(PROGRAM)
 	checks/files
+	checks/limits
 	checks/hostile $(PROGRAM)
 	checks/growths $(GROWTHS)
 

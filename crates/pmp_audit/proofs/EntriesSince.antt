@@ -1,4 +1,4 @@
--- Since when an entry is locked, and held, batch by batch.
+-- Since when an entry is frozen, and held, batch by batch.
 use Rattle.std.proofs.Common.{◌≡◌, ℕ, ◌+◌, ◌-◌, ◌<◌, ◌≤◌, Bool, true, false, ◌&&◌, List, [], ◌∷◌, ◌++◌, length}
 use Rattle.std.proofs.Common.{fold, take, drop, Option, None, Some, get_or, replicate, refl, sym, ap, subst, ◌∙◌}
 use Rattle.std.proofs.Common.{inl, inr, arith}
@@ -11,11 +11,15 @@ use Rattle.std.proofs.lemmas.List.{length-replicate}
 use Rattle.std.proofs.lemmas.List.Concat.{flat_map-append}
 use Rattle.std.proofs.lemmas.List.Folds.{list_all-append}
 use Rattle.pmp_core.specs.declared.event.Event.{Event}
+use Rattle.pmp_core.specs.declared.size.Size.{Size}
+use Rattle.pmp_core.specs.declared.size.Size.TheVariants.{Sixteen, SixtyFour}
+use Rattle.pmp_core.specs.declared.size.TheConstants.{MAX_ENTRIES}
 use Rattle.pmp_core.specs.Decision.{IsLeast}
+use Rattle.pmp_core.specs.Size.{count_of}
 use Rattle.pmp_core.specs.RegisterFile.{RegisterFile, reset_entry, reset_file, is_frozen, is_held}
 use Rattle.pmp_core.specs.RegisterWrite.{step}
 use Rattle.pmp_core.specs.Histories.{joined, file_after}
-use Rattle.pmp_core.specs.LockLaw.{is_write, StaysLocked}
+use Rattle.pmp_core.specs.LockLaw.{is_write, StaysFrozen}
 use Rattle.pmp_core.specs.ProtectionLaw.{ProtectedLaw, StaysProtected}
 use Rattle.pmp_core.proofs.Held.{held_at, held_still}
 use Rattle.pmp_core.proofs.Locks.{lock_law}
@@ -183,13 +187,14 @@ module _ (is_so : RegisterFile → ℕ → Bool) (lasts : Lasts is_so) where
       (since_after before (is_so (file_after n more) i) (list_all is_write batch) done) in
       let pushed = since-push n (take index batches) batch i before since in
       let counted = length-take-le index batches (omega arith) in
-      rw (after_is, file_is, writes_are) (subst (λ more. From more (index + 1)) (sym (take_more batches index [] within))
+      rw (after_is, file_is, writes_are)
+      (subst (λ more. From more (index + 1)) (sym (take_more batches index [] within))
       (subst (λ (m : ℕ). From (take index batches ++ batch ∷ []) (m + 1)) counted pushed))
 
 -- before the first batch no entry is frozen, so none is held
 pub since-none : (n i : ℕ) → IsSince n [] i no_since
 since-none n i = record {
-  locked = λ k from. false≢true (rw (take_all {A = List Event} k [] (omega arith), reset_at n i) at from.after);
+  frozen = λ k from. false≢true (rw (take_all {A = List Event} k [] (omega arith), reset_at n i) at from.after);
   held = λ k from. false≢true (rw (take_all {A = List Event} k [] (omega arith), reset_at n i)
       at (held_at (file_after n (take k [])) i i (omega arith) from.after));
 }
@@ -213,7 +218,7 @@ module _ (protects : ProtectedLaw) (n : ℕ) (batches : List (List Event)) (i : 
   is_kept None never = not_so is_frozen frozen_lasts n batches i (is_frozen (file_after n batches) i) refl never
   is_kept (Some k) since = λ done within.
       let between = joined (drop k (take done batches)) in
-      subst (λ later. StaysLocked (file_done k) later i) (sym (file_from n k done batches within))
+      subst (λ later. StaysFrozen (file_done k) later i) (sym (file_from n k done batches within))
       (lock_law (file_done k) i between since.0.after (writes_between batches k done within since.0.writes))
 
   does_protect : (since : Option ℕ) → IsLeast (IsFrom is_held n batches i) since → Protects n batches i since
@@ -226,7 +231,7 @@ module _ (protects : ProtectedLaw) (n : ℕ) (batches : List (List Event)) (i : 
 
 pub since_law : ProtectedLaw → SinceLaw
 since_law protects n batches i since is =
-    (is_kept protects n batches i since.locked is.locked, does_protect protects n batches i since.held is.held)
+    (is_kept protects n batches i since.frozen is.frozen, does_protect protects n batches i since.held is.held)
 
 -- ---- how many entries there are
 
@@ -237,3 +242,9 @@ length-fold file (event ∷ events) = length-fold (step file event) events ∙ l
 
 pub length-file_after : (n : ℕ) (batches : List (List Event)) → length (file_after n batches).entries ≡ n
 length-file_after n batches = length-fold (reset_file n) (joined batches) ∙ length-replicate n reset_entry
+
+-- the file has no more entries than there are places
+pub few_entries : (size : Size) (batches : List (List Event)) (file : RegisterFile)
+    → file ≡ file_after (count_of size) batches → length file.entries ≤ MAX_ENTRIES
+few_entries Sixteen batches file is = let count = length-file_after 16 batches in rw is (omega (arith, count))
+few_entries SixtyFour batches file is = let count = length-file_after 64 batches in rw is (omega (arith, count))

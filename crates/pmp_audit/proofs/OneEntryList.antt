@@ -29,8 +29,8 @@ same_pieces one other from (suc count) same =
 one_since : (n : ℕ) (batches : List (List Event)) (i : ℕ) (one other : Since) → IsSince n batches i one
     → IsSince n batches i other → one ≡ other
 one_since n batches i one other is also =
-    ap (λ (k : Option ℕ). record one { locked = k })
-    (least_once (IsFrom is_frozen n batches i) one.locked other.locked is.locked also.locked)
+    ap (λ (k : Option ℕ). record one { frozen = k })
+    (least_once (IsFrom is_frozen n batches i) one.frozen other.frozen is.frozen also.frozen)
     ∙ ap (λ (k : Option ℕ). record other { held = k })
     (least_once (IsFrom is_held n batches i) one.held other.held is.held also.held)
 

@@ -1,8 +1,6 @@
 -- What is said of the register file after the publications that are asked for, and when that is refused.
 use Rattle.std.specs.Prelude.{◌≡◌, ℕ, ◌<◌, ◌≤◌, List, length, Option, Ok, Err, unwrap_or}
-use Rattle.pmp_core.specs.RegisterFile.{RegisterFile}
 use Rattle.pmp_text.specs.Contents.{ScriptContents}
-use Rattle.pmp_text.specs.Reports.{file_of_script}
 use Rattle.pmp_text.specs.Scripts.{script_meaning}
 use Rattle.pmp_audit.specs.declared.fault.AuditFault.{AuditFault}
 use Rattle.pmp_audit.specs.declared.fault.AuditFault.TheVariants.{Script, BadAfter}
@@ -18,11 +16,6 @@ pub record SaysOfScript (IsTextOf : ScriptContents → (done : ℕ) → List ℕ
   pub script_means : script_meaning script ≡ Ok contents
   pub within : asked_count after contents ≤ length contents.batches
   pub text_is : IsTextOf contents (asked_count after contents) text
-
--- the text is one of the file that they give
-abbrev pub SaysOfFile : (IsTextOf : RegisterFile → List ℕ → Type 0)
-    → (script : List ℕ) → (after : Option ℕ) → (text : List ℕ) → Type 0
-SaysOfFile IsTextOf = SaysOfScript (λ contents done. IsTextOf (file_of_script contents done))
 
 -- more publications are asked for than there are
 pub record AsksTooMuch (script : List ℕ) (after : Option ℕ) : Type 0 where

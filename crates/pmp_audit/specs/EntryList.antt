@@ -8,17 +8,13 @@ use Rattle.pmp_text.specs.Reports.{file_of_script}
 use Rattle.pmp_audit.specs.AskedFile.{SaysOfScript}
 use Rattle.pmp_audit.specs.Since.{AreSince}
 
--- a row for each entry of the file that so many publications give, with since when the entry is locked and held
+-- a row for each entry of the file that so many publications give, with since when the entry is frozen and held
 pub record IsEntryList (script : ScriptContents) (done : ℕ) (text : List ℕ) : Type 0 where
   pub since : List Since
   pub since_are : AreSince (count_of script.size) (take done script.batches) since
   pub rows : IsEntryText (file_of_script script done) since text
 
--- the entries of the file that is asked for
-abbrev pub EntriesSay : (script : List ℕ) → (after : Option ℕ) → Unit {0} → (text : List ℕ) → Type 0
-EntriesSay script after _ text = SaysOfScript IsEntryList script after text
-
 -- a script has one entry list
 abbrev pub OneEntryListLaw : Type 0
 OneEntryListLaw = (script : List ℕ) (after : Option ℕ) (text other : List ℕ)
-    → EntriesSay script after tt text → EntriesSay script after tt other → text ≡ other
+    → SaysOfScript IsEntryList script after text → SaysOfScript IsEntryList script after other → text ≡ other

@@ -4,9 +4,7 @@ pub mod AccessCheck
 pub mod TraceAudit
 pub mod SharedAudit
 pub mod AskedFile
-pub mod RegisterDump
-pub mod Map
-pub mod Picture
+pub mod View
 pub mod WriteList
 pub mod Since
 pub mod EntryList

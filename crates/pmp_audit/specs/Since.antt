@@ -1,11 +1,11 @@
--- Since when an entry is locked, and since when it is held.
+-- Since when an entry is frozen, and since when it is held.
 use Rattle.std.specs.Prelude.{◌≡◌, ℕ, ◌<◌, ◌≤◌, Bool, true, false, List, take, drop, Option, Some, None}
 use Rattle.std.specs.List.{list_all, slice_index_or}
 use Rattle.pmp_core.specs.declared.event.Event.{Event}
 use Rattle.pmp_core.specs.RegisterFile.{RegisterFile, is_frozen, is_held}
 use Rattle.pmp_core.specs.Decision.{IsLeast}
 use Rattle.pmp_core.specs.Histories.{joined, file_after}
-use Rattle.pmp_core.specs.LockLaw.{is_write, StaysLocked}
+use Rattle.pmp_core.specs.LockLaw.{is_write, StaysFrozen}
 use Rattle.pmp_core.specs.ProtectionLaw.{StaysProtected}
 use Rattle.pmp_text.specs.declared.lines.since.Since.{Since}
 use Rattle.pmp_text.specs.EntryRows.{no_since}
@@ -17,7 +17,7 @@ pub record IsFrom (is_so : RegisterFile → ℕ → Bool) (n : ℕ) (batches : L
 
 -- the least such k, or none: since when the entry is frozen, and since when it is held
 pub record IsSince (n : ℕ) (batches : List (List Event)) (i : ℕ) (since : Since) : Type 0 where
-  pub locked : IsLeast (IsFrom is_frozen n batches i) since.locked
+  pub frozen : IsLeast (IsFrom is_frozen n batches i) since.frozen
   pub held : IsLeast (IsFrom is_held n batches i) since.held
 
 -- the list has it for each of the entries
@@ -29,7 +29,7 @@ AreSince n batches since = (i : ℕ) → i < n → IsSince n batches i (slice_in
 abbrev pub IsKept : (n : ℕ) → List (List Event) → (i : ℕ) → Option ℕ → Type 0
 IsKept n batches i None = is_frozen (file_after n batches) i ≡ false
 IsKept n batches i (Some k) =
-    (done : ℕ) → k ≤ done → StaysLocked (file_after n (take k batches)) (file_after n (take done batches)) i
+    (done : ℕ) → k ≤ done → StaysFrozen (file_after n (take k batches)) (file_after n (take done batches)) i
 
 -- with no number the entry isn't held in the end; with one, what it and the entries before it decide after the first k
 -- batches is protected from there on
@@ -40,4 +40,4 @@ Protects n batches i (Some k) =
 
 abbrev pub SinceLaw : Type 0
 SinceLaw = (n : ℕ) (batches : List (List Event)) (i : ℕ) (since : Since)
-    → IsSince n batches i since → IsKept n batches i since.locked × Protects n batches i since.held
+    → IsSince n batches i since → IsKept n batches i since.frozen × Protects n batches i since.held

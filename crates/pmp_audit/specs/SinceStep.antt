@@ -1,4 +1,4 @@
--- What one publication more makes of since when an entry is locked, or held.
+-- What one publication more makes of since when an entry is frozen, or held.
 use Rattle.std.specs.Prelude.{ℕ, Bool, true, false, Option, Some, None, unwrap_or}
 
 -- by whether the entry is so then, whether the batch holds no reset, and how many batches there are then

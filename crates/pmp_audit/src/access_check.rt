@@ -6,6 +6,7 @@ ghost use Rattle.pmp_audit.specs.Answers.{IsWritten, IsRefused};
 ghost use Rattle.pmp_audit.specs.AskedFile.{FileRefuses};
 
 use crate::answer::write_answer;
+use crate::asked_count::asked_count;
 use crate::fault::AuditFault;
 use crate::replay::Replay;
 use pmp_core::{Access, Decision};
@@ -31,8 +32,8 @@ pub fn check<W: Write>(
         (FileRefuses script.now after)) }
 {
     let script = read_script(alloc, script)?;
-    let mut replay = Replay::after(&script, after)?;
-    let decision = replay.decide(access);
+    let count = asked_count(&script, after)?;
+    let decision = Replay::after(&script, count).decide(access);
     let mut row = Vec::new(alloc);
     write_row(&mut row, 1, access, &decision)?;
     write_answer(writer, &row, decision)

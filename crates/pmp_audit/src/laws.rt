@@ -20,8 +20,8 @@ pub fn law_one_report()
     law_one_list_of_decisions();
 }
 
-/// Where an entry is locked, it has been so, with its configuration and its bytes, ever since the publication that an
-/// entry list names; and where it is held, what it and the entries before it decide has been protected since then.
+/// Where an entry is frozen, it has been so, with its configuration and its bytes, ever since the publication that
+/// SINCE names; and where it is held, what it and the entries before it decide has been protected since HOLDS.
 pub fn law_since()
     ensures { SinceLaw }
 {

@@ -1,12 +1,9 @@
 //! The register file as a script's publications are done.
 
-ghost use Rattle.std.specs.Prelude.{◌≡◌, ◌<◌, ◌≤◌, IfOk, IfErr, length};
+ghost use Rattle.std.specs.Prelude.{◌≡◌, ◌≤◌, length};
 ghost use Rattle.pmp_core.specs.Decision.{IsDecision};
-ghost use Rattle.pmp_audit.specs.AskedFile.{asked_count};
 ghost use Rattle.pmp_audit.specs.Replay.{file_at};
-ghost use Rattle.pmp_audit.specs.declared.fault.AuditFault.TheVariants.{BadAfter};
 
-use crate::fault::AuditFault;
 use pmp_core::{Access, Decision, RegFile};
 use pmp_map::RunMap;
 use pmp_text::Script;
@@ -51,21 +48,14 @@ impl<'a> Replay<'a> {
         }
     }
 
-    /// After the first `after` publications, or after all of them where that is none; `BadAfter` where there are fewer.
-    pub fn after(script: &'a Script, after: Option<u64>) -> Result<Replay<'a>, AuditFault>
-        ensures within { IfOk result (λ _. asked_count after script.now ≤ length script.now.batches) }
-        ensures done { IfOk result
-            (λ replay. replay ≡ record { script = script.now; done = asked_count after script.now }) }
-        ensures beyond { IfErr result
-            (λ fault. (fault ≡ BadAfter) × (length script.now.batches < asked_count after script.now)) }
+    /// After the first `count` publications.
+    pub fn after(script: &'a Script, count: u64) -> Replay<'a>
+        requires { count ≤ length script.now.batches }
+        ensures { result ≡ record { script = script.now; done = count } }
     {
-        let count = after.unwrap_or(script.batches());
-        if count > script.batches() {
-            return Err(AuditFault::BadAfter);
-        }
         let mut replay = Replay::new(script);
         replay.advance(count);
-        Ok(replay)
+        replay
     }
 
     /// Does publications until the first `count` are done.

@@ -1,4 +1,4 @@
-//! Since when entries are locked, and since when they are held.
+//! Since when entries are frozen, and since when they are held.
 
 ghost use Rattle.std.specs.Prelude.{◌≡◌, ◌<◌, ◌≤◌, ℕ, length, take};
 ghost use Rattle.std.specs.List.{list_all, slice_index_or};
@@ -19,7 +19,7 @@ fn are_writes(events: &[Event]) -> bool
     events.iter().all(|event| matches!(event, Event::Write(..)))
 }
 
-/// Since when an entry is locked, or held, after one publication more, which is number `done`. A reset ends what was
+/// Since when an entry is frozen, or held, after one publication more, which is number `done`. A reset ends what was
 /// before it.
 fn since_after(before: Option<u64>, is_so: bool, are_writes: bool, done: u64) -> Option<u64>
     ensures { result ≡ since_after before is_so are_writes done }
@@ -34,8 +34,8 @@ fn since_after(before: Option<u64>, is_so: bool, are_writes: bool, done: u64) ->
 /// Takes in publication number `done`, which left this register file.
 fn count_in(since: &mut [Since], file: &RegFile, are_writes: bool, done: u64)
     requires { length file.now.entries ≤ length since.old }
-    ensures locked { (i : ℕ) → i < length file.now.entries → (slice_index_or since.new i no_since).locked
-        ≡ since_after (slice_index_or since.old i no_since).locked (is_frozen file.now i) are_writes done }
+    ensures frozen { (i : ℕ) → i < length file.now.entries → (slice_index_or since.new i no_since).frozen
+        ≡ since_after (slice_index_or since.old i no_since).frozen (is_frozen file.now i) are_writes done }
     ensures held { (i : ℕ) → i < length file.now.entries → (slice_index_or since.new i no_since).held
         ≡ since_after (slice_index_or since.old i no_since).held (is_held file.now i) are_writes done }
 {
@@ -43,20 +43,21 @@ fn count_in(since: &mut [Since], file: &RegFile, are_writes: bool, done: u64)
         let place = usize::from(entry);
         let before = since[place];
         since[place] = Since {
-            locked: since_after(before.locked, file.is_locked(entry), are_writes, done),
+            frozen: since_after(before.frozen, file.is_locked(entry), are_writes, done),
             held: since_after(before.held, file.is_held(entry), are_writes, done),
         };
     }
 }
 
-/// For each entry that is locked after the first `count` publications, the number of the publication that locked it: it
-/// has been locked ever since. And so for each that is held, with all entries before it.
-pub fn since_of(script: &Script, count: u64) -> [Since; MAX_ENTRIES]
+/// The script after its first `count` publications, and for each entry that is frozen there the number of the
+/// publication that frozen it: it has been frozen ever since. And so for each that is held, with all entries before it.
+pub fn since_of(script: &Script, count: u64) -> (Replay<'_>, [Since; MAX_ENTRIES])
     requires { count ≤ length script.now.batches }
-    ensures { AreSince (count_of script.now.size) (take count script.now.batches) result }
+    ensures position { result.0 ≡ record { script = script.now; done = count } }
+    ensures since { AreSince (count_of script.now.size) (take count script.now.batches) result.1 }
 {
     let none = Since {
-        locked: None,
+        frozen: None,
         held: None,
     };
     let mut since = [none; MAX_ENTRIES];
@@ -66,5 +67,5 @@ pub fn since_of(script: &Script, count: u64) -> [Since; MAX_ENTRIES]
         let are_writes = are_writes(script.batch(index));
         count_in(&mut since, replay.file(), are_writes, index + 1);
     }
-    since
+    (replay, since)
 }

@@ -2,7 +2,7 @@
 
 ghost use Rattle.std.specs.Prelude.{◌≡◌, ◌+◌, ◌^◌, ◌<◌, ◌≤◌, IfOk, IfErr, ◌++◌, length, if◌then◌else◌};
 ghost use Rattle.pmp_core.specs.Size.{count_of};
-ghost use Rattle.pmp_text.specs.Limits.{script_limit};
+ghost use Rattle.pmp_text.specs.declared.script.reader.TheConstants.{MAX_SCRIPT};
 ghost use Rattle.pmp_text.specs.Sizes.{script_size};
 ghost use Rattle.pmp_audit.specs.Answers.{IsWritten, IsRefused};
 ghost use Rattle.pmp_audit.specs.EventRows.{AreWritten};
@@ -48,7 +48,7 @@ pub fn writes<W: Write>(
 
 /// Appends the rows of all events.
 fn write_events(out: &mut Vec<u8>, script: &Script) -> Result<WriteSummary, NoMemory>
-    requires { script_size script.now.batches ≤ script_limit }
+    requires { script_size script.now.batches ≤ MAX_SCRIPT }
     ensures rows { IfOk result (λ _. out.new.items ≡ out.old.items
         ++ rows_text (count_of script.now.size) (placed_events script.now)) }
     ensures counted { IfOk result

@@ -9,6 +9,7 @@ use Rattle.pmp_core.specs.declared.access.Access.{Access}
 use Rattle.pmp_core.specs.declared.access.Mode.TheVariants.{U}
 use Rattle.pmp_core.specs.declared.access.Kind.TheVariants.{Fetch}
 use Rattle.pmp_core.specs.declared.decision.Decision.{Decision}
+use Rattle.pmp_core.specs.declared.access.TheConstants.{ADDRESS_LIMIT}
 use Rattle.pmp_core.specs.RegisterFile.{RegisterFile}
 use Rattle.pmp_core.specs.Decision.{IsOwner, IsDecision}
 use Rattle.pmp_core.specs.FaultCode.{access_fault_code}
@@ -64,7 +65,7 @@ unowned_by_cause (Some i) small high = absurd (omega arith)
 module _ (file : RegisterFile) (tables : Tables) (are : AreTables file tables) where
   -- ---- places
 
-  pub run_found : (byte place : ℕ) → byte < 2 ^ 56 → place + 1 < PLACES → IsFound tables byte place
+  pub run_found : (byte place : ℕ) → byte < ADDRESS_LIMIT → place + 1 < PLACES → IsFound tables byte place
       → IsPlaceOf are.list byte place
   run_found byte place = place_found file.entries are.list tables.starts are.runs_are are.few are.starts_are tables.runs
       byte place are.count
@@ -88,7 +89,7 @@ module _ (file : RegisterFile) (tables : Tables) (are : AreTables file tables) w
         let ends = access.inside in
         run_found access.start place (omega arith) places is_found
 
-    next_start : slice_index tables.starts (place + 1) ≡ start_at (2 ^ 56) are.list (place + 1)
+    next_start : slice_index tables.starts (place + 1) ≡ start_at ADDRESS_LIMIT are.list (place + 1)
     next_start = are.starts_are (place + 1) places
 
     -- ---- an access inside the run
@@ -97,7 +98,7 @@ module _ (file : RegisterFile) (tables : Tables) (are : AreTables file tables) w
         → decision_by file (owner_at place) access ≡ decision_of file access
     whole short = computed access (decision_by file (owner_at place) access)
         (decided_whole file access (owner_at place) (λ byte inside. are.runs_are.owned place byte at.inside
-        (in_run (2 ^ 56) (IsOwner file.entries) are.list are.runs_are place byte at.inside
+        (in_run ADDRESS_LIMIT (IsOwner file.entries) are.list are.runs_are place byte at.inside
         (omega (arith, at.here.0, inside.0)) (omega (arith, inside.1, next_start)))))
 
     pub answered : access.start + access.length ≤ slice_index tables.starts (place + 1)
@@ -121,14 +122,14 @@ module _ (file : RegisterFile) (tables : Tables) (are : AreTables file tables) w
       rises = elim (cases_lt place last) [
         | inl lt ↦ lt
         | inr le ↦
-            let before = run_before (2 ^ 56) (IsOwner file.entries) are.list are.runs_are last
+            let before = run_before ADDRESS_LIMIT (IsOwner file.entries) are.list are.runs_are last
             (access.start + access.length - 1) end.inside end.here in
             absurd (omega (
               arith,
               before,
               next_start,
               at.inside,
-              starts_rise (2 ^ 56) (IsOwner file.entries) are.list are.runs_are (last + 1) (place + 1)
+              starts_rise ADDRESS_LIMIT (IsOwner file.entries) are.list are.runs_are (last + 1) (place + 1)
                   (omega arith) (omega (arith, at.inside)),
             ))
       ]
@@ -160,7 +161,7 @@ module _ (file : RegisterFile) (tables : Tables) (are : AreTables file tables) w
               (unowned place (omega arith) (omega arith) ∙ sym (unowned (place + 1) (omega arith) (omega arith))))
         ]
 
-        owns : OwnsOne (2 ^ 56) part least
+        owns : OwnsOne ADDRESS_LIMIT part least
         owns =
             let inside = end.inside in
             let one = is.one low in
@@ -173,7 +174,7 @@ module _ (file : RegisterFile) (tables : Tables) (are : AreTables file tables) w
                   ∙ owned_by_cause (owner_at k) least (sym (row_cause_at k (omega (arith, one.2))) ∙ one.3) low,
             )
 
-        none_lower : (j : ℕ) → j < least → ¬ (OwnsOne (2 ^ 56) part j)
+        none_lower : (j : ℕ) → j < least → ¬ (OwnsOne ADDRESS_LIMIT part j)
         none_lower j below (k, inside, owned) =
             let within = end.inside in
             let owned_here : owner_at (place + k) ≡ Some j =

@@ -8,6 +8,7 @@ use Rattle.pmp_core.specs.declared.access.Mode.{Mode}
 use Rattle.pmp_core.specs.declared.access.Kind.{Kind}
 use Rattle.pmp_core.specs.declared.access.Kind.TheVariants.{Fetch, Load, Store}
 use Rattle.pmp_core.specs.declared.decision.Decision.{Decision}
+use Rattle.pmp_core.specs.declared.access.TheConstants.{ADDRESS_LIMIT}
 use Rattle.pmp_core.specs.RegisterFile.{RegisterFile}
 use Rattle.pmp_core.specs.Configuration.{bit_of}
 use Rattle.pmp_core.specs.Decision.{IsOwner}
@@ -67,7 +68,7 @@ allowed_low cause Load false low = grind (arith, nat_tests)
 allowed_low cause Store false low = grind (arith, nat_tests)
 
 module _ (file : RegisterFile) (tables : Tables) (are : AreTables file tables) (mode : Mode) (start size place : ℕ)
-    (full : 0 < size) (ends : start + size ≤ 2 ^ 56) (places : place + 1 < PLACES)
+    (full : 0 < size) (ends : start + size ≤ ADDRESS_LIMIT) (places : place + 1 < PLACES)
     (is_found : IsFound tables start place) where
   abbrev owner_at : ℕ → Option ℕ
   owner_at k = (map_run are.list k).owner
@@ -75,7 +76,7 @@ module _ (file : RegisterFile) (tables : Tables) (are : AreTables file tables) (
   at : IsPlaceOf are.list start place
   at = run_found file tables are start place (omega arith) places is_found
 
-  next_start : slice_index tables.starts (place + 1) ≡ start_at (2 ^ 56) are.list (place + 1)
+  next_start : slice_index tables.starts (place + 1) ≡ start_at ADDRESS_LIMIT are.list (place + 1)
   next_start = are.starts_are (place + 1) places
 
   first_owner : IsOwner file.entries start (owner_at place)
@@ -89,7 +90,7 @@ module _ (file : RegisterFile) (tables : Tables) (are : AreTables file tables) (
       (is : number ≡ (perms_of (owned_rights file (owner_at place) mode)).0) where
     one_owner : IsOwnedBy file.entries start size (owner_at place)
     one_owner byte from to = are.runs_are.owned place byte at.inside
-        (in_run (2 ^ 56) (IsOwner file.entries) are.list are.runs_are place byte at.inside
+        (in_run ADDRESS_LIMIT (IsOwner file.entries) are.list are.runs_are place byte at.inside
         (omega (arith, at.here.0, from)) (omega (arith, to, next_start)))
 
     allowed_inside : (access : Access) → access.mode ≡ mode → start ≤ access.start
@@ -118,12 +119,12 @@ module _ (file : RegisterFile) (tables : Tables) (are : AreTables file tables) (
     next_inside : place + 1 < length are.list
     next_inside = elim (cases_lt (place + 1) (length are.list)) [
       | inl lt ↦ lt
-      | inr past ↦ absurd (omega (arith, next_start, start_past (2 ^ 56) are.list (place + 1) past))
+      | inr past ↦ absurd (omega (arith, next_start, start_past ADDRESS_LIMIT are.list (place + 1) past))
     ]
 
     two_owners : (owner : Option ℕ) → ¬ (IsOwnedBy file.entries start size owner)
     two_owners owner all =
-        let next = start_at (2 ^ 56) are.list (place + 1) in
+        let next = start_at ADDRESS_LIMIT are.list (place + 1) in
         let meet = are.runs_are.gapless place at.inside in
         let proper = are.runs_are.proper (place + 1) next_inside in
         let first = same_owner start (owner_at place) owner first_owner (all start (omega arith) (omega arith)) in

@@ -3,6 +3,7 @@ use Rattle.std.specs.Prelude.{◌≡◌, ℕ, ◌+◌, ◌/◌, ◌%◌, ◌^◌
 use Rattle.pmp_core.specs.declared.access.Access.{Access}
 use Rattle.pmp_core.specs.declared.access.Mode.{Mode}
 use Rattle.pmp_core.specs.declared.entry.Entry.{Entry}
+use Rattle.pmp_core.specs.declared.access.TheConstants.{ADDRESS_LIMIT}
 use Rattle.pmp_core.specs.RegisterFile.{RegisterFile}
 use Rattle.pmp_core.specs.Decision.{IsOwner}
 use Rattle.pmp_core.specs.Perms.{right_of}
@@ -15,9 +16,9 @@ use Rattle.pmp_c.specs.Request.{mode_number}
 pub record IsRangeOf (mode : Mode) (number start length : ℕ) : Type 0 where
   pub mode_is : mode_number mode ≡ number
   pub full : 0 < length
-  pub inside : start + length ≤ 2 ^ 56
+  pub inside : start + length ≤ ADDRESS_LIMIT
 
--- what is answered where no one owner has all bytes, and where numbers name no range: none of them has the bit of a right
+-- what is answered where no one owner has all bytes, and where numbers name no range: neither has the bit of a right
 abbrev pub mixed_number : ℕ
 mixed_number = 8
 

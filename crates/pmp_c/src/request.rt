@@ -1,6 +1,7 @@
 //! What is asked, as numbers.
 
 ghost use Rattle.std.specs.Prelude.{◌≡◌, ◌+◌, ◌<◌, ◌≤◌, ◌^◌, IfSome, None};
+ghost use Rattle.pmp_core.specs.declared.access.TheConstants.{ADDRESS_LIMIT};
 ghost use Rattle.pmp_core.specs.declared.access.Access.{Access};
 ghost use Rattle.pmp_core.specs.declared.access.Kind.{Kind};
 ghost use Rattle.pmp_core.specs.declared.access.Mode.{Mode};
@@ -52,7 +53,7 @@ pub struct Request {
     pub ghost level: { mode < 4 },
     pub ghost known: { kind < 3 },
     pub ghost not_empty: { 0 < length },
-    pub ghost inside: { start + length ≤ 2 ^ 56 },
+    pub ghost inside: { start + length ≤ ADDRESS_LIMIT },
 }
 
 impl Request {

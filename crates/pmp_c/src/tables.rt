@@ -13,6 +13,7 @@ ghost use Rattle.pmp_c.specs.Causes.{IsLeastCause};
 ghost use Rattle.pmp_c.specs.RangeRights.{IsRangeOf, AreRangeRights};
 ghost use Rattle.pmp_c.specs.Request.{IsNamed, kind_number};
 ghost use Rattle.pmp_c.specs.Tables.{AreTables, AreRows, IsFound};
+ghost use Rattle.pmp_core.specs.declared.access.TheConstants.{ADDRESS_LIMIT};
 
 use crate::answer::{NO_ACCESS, split_number};
 use crate::request::{Request, kind_of};
@@ -135,7 +136,7 @@ impl Tables {
     #[inline(always)]
     pub fn rights(&self, mode: u32, start: u64, length: u64) -> u32
         requires level { mode < 4 }
-        requires inside { start + length ≤ 2 ^ 56 }
+        requires inside { start + length ≤ ADDRESS_LIMIT }
         ensures { (file : RegisterFile) (named : Mode) → AreTables file self.now → IsRangeOf named mode start length
             → AreRangeRights file named start length result }
     {

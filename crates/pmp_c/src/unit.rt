@@ -9,6 +9,7 @@ ghost use Rattle.pmp_c.specs.Answer.{answer_number, no_access};
 ghost use Rattle.pmp_c.specs.RangeRights.{IsRangeOf, AreRangeRights};
 ghost use Rattle.pmp_c.specs.Request.{IsNamed};
 ghost use Rattle.pmp_c.specs.Unit.{file_of_unit, IsUnit};
+ghost use Rattle.pmp_core.specs.declared.access.TheConstants.{ADDRESS_LIMIT};
 
 use crate::answer::{NO_ACCESS, answer_number};
 use crate::request::{Request, access_of};
@@ -129,7 +130,7 @@ impl Unit {
     #[inline(never)]
     fn rights_by_registers(&self, mode: u32, start: u64, length: u64) -> u32
         requires level { mode < 4 }
-        requires inside { start + length ≤ 2 ^ 56 }
+        requires inside { start + length ≤ ADDRESS_LIMIT }
         ensures { (named : Mode) → IsRangeOf named mode start length
             → AreRangeRights (file_of_unit self.now) named start length result }
     {
@@ -140,7 +141,7 @@ impl Unit {
     #[inline(always)]
     pub fn rights(&self, mode: u32, start: u64, length: u64) -> u32
         requires level { mode < 4 }
-        requires inside { start + length ≤ 2 ^ 56 }
+        requires inside { start + length ≤ ADDRESS_LIMIT }
         ensures { (named : Mode) → IsRangeOf named mode start length → IsUnit self.now
             → AreRangeRights (file_of_unit self.now) named start length result }
     {

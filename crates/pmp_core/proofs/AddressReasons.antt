@@ -8,10 +8,11 @@ use Rattle.std.proofs.lemmas.Bool.{eqb-true, eq-eqb, ne_eqb, lt-ltb, le-ltb}
 use Rattle.std.proofs.lemmas.List.{get_or_past}
 use Rattle.pmp_core.specs.declared.csr.Csr.TheVariants.{Addr}
 use Rattle.pmp_core.specs.declared.entry.Entry.{Entry}
+use Rattle.pmp_core.specs.declared.register_write.TheConstants.{WORD_ADDRESSES}
 use Rattle.pmp_core.specs.RegisterFile.{RegisterFile, reset_entry, entry_at, is_frozen, IsLegal}
 use Rattle.pmp_core.specs.RegisterValue.{register_value}
 use Rattle.pmp_core.specs.RegisterWrite.{is_address_frozen, written}
-use Rattle.pmp_core.specs.WriteReasons.{is_changed, is_locked, is_low_end}
+use Rattle.pmp_core.specs.WriteReasons.{is_changed, changes_frozen, is_low_end}
 use Rattle.pmp_core.proofs.Reasons.{none_between, none_at, HasNone}
 use Rattle.pmp_core.proofs.StoredBytes.{and_true, not_same}
 
@@ -20,7 +21,7 @@ module _ (file : RegisterFile) (legal : IsLegal file) (i value : ℕ) where
   address = (entry_at file.entries i).address
 
   abbrev set_address : List Entry
-  set_address = set file.entries i (record (entry_at file.entries i) { address = value % 2 ^ 54 })
+  set_address = set file.entries i (record (entry_at file.entries i) { address = value % WORD_ADDRESSES })
 
   -- what it reads where it is frozen, where the unit doesn't have it, and else
   reads_frozen : is_address_frozen file i ≡ true
@@ -35,7 +36,7 @@ module _ (file : RegisterFile) (legal : IsLegal file) (i value : ℕ) where
       ]
 
   reads_value : is_address_frozen file i ≡ false → i < length file.entries
-      → (entry_at (written file (Addr i) value).entries i).address ≡ value % 2 ^ 54
+      → (entry_at (written file (Addr i) value).entries i).address ≡ value % WORD_ADDRESSES
   reads_value free inside = rw free (rw get_or-set_same refl)
 
   changed_here : is_changed file.entries (Addr i) value i ≡ not (value == address)
@@ -47,7 +48,7 @@ module _ (file : RegisterFile) (legal : IsLegal file) (i value : ℕ) where
   module _ (none : HasNone file (Addr i) value) where
     unchanged : is_address_frozen file i ≡ true → i < length file.entries → address ≡ value
     unchanged frozen inside =
-        let locked = none_at (is_locked file (Addr i) value) 0 (length file.entries) i none.locked (omega arith)
+        let locked = none_at (changes_frozen file (Addr i) value) 0 (length file.entries) i none.locked (omega arith)
         (omega arith) in
         let low = none_at (is_low_end file (Addr i) value) 0 (length file.entries) i none.tor (omega arith)
         (omega arith) in
@@ -60,8 +61,8 @@ module _ (file : RegisterFile) (legal : IsLegal file) (i value : ℕ) where
     zero_value past =
         eqb-true value 0 (not-false _ (and_true _ (rw (le-ltb i (length file.entries) past) at none.absent)))
 
-    mod_value : value % 2 ^ 54 ≡ value
-    mod_value = let few : value / 2 ^ 54 ≡ 0 = eqb-true _ 0 (not-false _ none.bits) in omega arith
+    mod_value : value % WORD_ADDRESSES ≡ value
+    mod_value = let few : value / WORD_ADDRESSES ≡ 0 = eqb-true _ 0 (not-false _ none.bits) in omega arith
 
     pub address_stored : register_value (written file (Addr i) value) (Addr i) ≡ value
     address_stored = elim (cases_lt i (length file.entries)) [
@@ -73,7 +74,7 @@ module _ (file : RegisterFile) (legal : IsLegal file) (i value : ℕ) where
     ]
 
   module _ (same : register_value (written file (Addr i) value) (Addr i) ≡ value) where
-    few_bits : value < 2 ^ 54
+    few_bits : value < WORD_ADDRESSES
     few_bits = elim (cases_lt i (length file.entries)) [
       | inr past ↦ omega (arith, sym (reads_nothing past) ∙ same)
       | inl inside ↦ elim (cases_Bool (is_address_frozen file i)) [
@@ -97,7 +98,7 @@ module _ (file : RegisterFile) (legal : IsLegal file) (i value : ℕ) where
 
     -- else this entry isn't frozen
     free_at : (k : ℕ) → is_address_frozen file i ≡ false
-        → (is_locked file (Addr i) value k ≡ false) × (is_low_end file (Addr i) value k ≡ false)
+        → (changes_frozen file (Addr i) value k ≡ false) × (is_low_end file (Addr i) value k ≡ false)
     free_at k free = elim (cases_eq i k) [
       | inl here ↦ rw (← here) (
         and_left (is_frozen file i) _ (or_parts (is_frozen file i) _ free).0,
@@ -106,7 +107,7 @@ module _ (file : RegisterFile) (legal : IsLegal file) (i value : ℕ) where
       | inr other ↦ rw (ne_eqb i k other) (and_right _ false refl, and_right _ false refl)
     ]
 
-    fine : (k : ℕ) → (is_locked file (Addr i) value k ≡ false) × (is_low_end file (Addr i) value k ≡ false)
+    fine : (k : ℕ) → (changes_frozen file (Addr i) value k ≡ false) × (is_low_end file (Addr i) value k ≡ false)
     fine k = elim (cases_Bool (is_address_frozen file i)) [
       | inl frozen ↦ (and_right _ _ (unchanged_at k frozen), and_right _ _ (unchanged_at k frozen))
       | inr free ↦ free_at k free
@@ -115,8 +116,8 @@ module _ (file : RegisterFile) (legal : IsLegal file) (i value : ℕ) where
     pub address_reasonless : HasNone file (Addr i) value
     address_reasonless = record {
       absent = reads_absent;
-      bits = not_same (value / 2 ^ 54) 0 (let few : value < 2 ^ 54 = few_bits in omega arith);
-      locked = none_between (is_locked file (Addr i) value) 0 (length file.entries) (λ k _ inside. (fine k).0);
+      bits = not_same (value / WORD_ADDRESSES) 0 (let few : value < WORD_ADDRESSES = few_bits in omega arith);
+      locked = none_between (changes_frozen file (Addr i) value) 0 (length file.entries) (λ k _ inside. (fine k).0);
       tor = none_between (is_low_end file (Addr i) value) 0 (length file.entries) (λ k _ inside. (fine k).1);
       reserved = none_between (λ k. false) 0 (length file.entries) (λ k _ inside. refl);
       lockdown = none_between (λ k. false) 0 (length file.entries) (λ k _ inside. refl);

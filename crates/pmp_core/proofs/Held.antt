@@ -51,7 +51,11 @@ held_by_bits file i inside off =
     ∙ get_or_default file.entries j d reset_entry (omega arith) in
     both_ways (list_all is_locked first) (is_held file i)
     (λ all. held_by_all file i (λ j within.
-    rw (off, sym (at j reset_entry within), AllPass-from_list_all is_locked first all j reset_entry (omega (arith, count))) refl))
+    rw (
+      off,
+      sym (at j reset_entry within),
+      AllPass-from_list_all is_locked first all j reset_entry (omega (arith, count)),
+    ) refl))
     (λ held. list_all-from_AllPass is_locked first (λ j d below.
     let within : j ≤ i = omega (arith, count) in
     ap is_locked (at j d within) ∙ (and_parts _ _ (held_at file i j within held)).0))

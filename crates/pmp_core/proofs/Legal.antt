@@ -13,6 +13,7 @@ use Rattle.pmp_core.specs.declared.csr.Csr.TheVariants.{Cfg, Addr, Mseccfg}
 use Rattle.pmp_core.specs.declared.entry.Entry.{Entry}
 use Rattle.pmp_core.specs.declared.event.Event.{Event}
 use Rattle.pmp_core.specs.declared.event.Event.TheVariants.{Write, Reset}
+use Rattle.pmp_core.specs.declared.register_write.TheConstants.{WORD_ADDRESSES}
 use Rattle.pmp_core.specs.Configuration.{configuration_of, is_reserved}
 use Rattle.pmp_core.specs.RegisterFile.{RegisterFile, reset_entry, reset_file, entry_at, IsLegal}
 use Rattle.pmp_core.specs.Histories.{LegalLaw}
@@ -66,7 +67,7 @@ pub length-written : (file : RegisterFile) (csr : Csr) (value : ℕ)
 length-written file (Cfg q) value = length-map-range_with_len (configured file q value) 0 (length file.entries)
 length-written file (Addr i) value = elim (is_address_frozen file i) as
     (λ frozen. length (cond frozen file.entries (set file.entries i (record (entry_at file.entries i) {
-      address = value % 2 ^ 54;
+      address = value % WORD_ADDRESSES;
     }))) ≡ length file.entries) [
       | true ↦ refl
       | false ↦ simp length-set
@@ -75,7 +76,7 @@ length-written file Mseccfg value = refl
 
 -- what a legal file has at each place
 abbrev IsLegalEntry : Bool → Entry → Type 0
-IsLegalEntry mml entry = (entry.address < 2 ^ 54) × (mml ≡ false → is_reserved entry.configuration ≡ false)
+IsLegalEntry mml entry = (entry.address < WORD_ADDRESSES) × (mml ≡ false → is_reserved entry.configuration ≡ false)
 
 either : (b : Bool) (mml : Bool) (x y : Entry) → IsLegalEntry mml x → IsLegalEntry mml y → IsLegalEntry mml (cond b x y)
 either true mml x y p q = p
@@ -107,7 +108,7 @@ module _ (file : RegisterFile) (legal : IsLegal file) where
 
   addressed_legal : (j value i : ℕ)
       → IsLegalEntry file.mseccfg.mml (entry_at (set file.entries j (record (entry_at file.entries j) {
-        address = value % 2 ^ 54;
+        address = value % WORD_ADDRESSES;
       })) i)
   addressed_legal j value i = elim (cases_lt i (length file.entries)) [
     | inr over ↦ past _ i (simp length-set over)
@@ -125,7 +126,7 @@ module _ (file : RegisterFile) (legal : IsLegal file) where
     | inr over ↦ past (written file (Cfg q) value).entries i (omega (arith, length-written file (Cfg q) value))
   ]
   written_legal (Addr j) value i =
-      let new = set file.entries j (record (entry_at file.entries j) { address = value % 2 ^ 54 }) in
+      let new = set file.entries j (record (entry_at file.entries j) { address = value % WORD_ADDRESSES }) in
       elim (is_address_frozen file j) as
       (λ frozen. IsLegalEntry file.mseccfg.mml (entry_at (cond frozen file.entries new) i)) [
         | true ↦ legal_place i

@@ -14,6 +14,7 @@ use Rattle.pmp_core.specs.declared.csr.Csr.TheVariants.{Cfg, Addr, Mseccfg}
 use Rattle.pmp_core.specs.declared.entry.Entry.{Entry}
 use Rattle.pmp_core.specs.declared.event.Event.{Event}
 use Rattle.pmp_core.specs.declared.event.Event.TheVariants.{Write, Reset}
+use Rattle.pmp_core.specs.declared.register_write.TheConstants.{WORD_ADDRESSES}
 use Rattle.pmp_core.specs.RegisterFile.{RegisterFile, reset_entry, entry_at, is_frozen}
 use Rattle.pmp_core.specs.Matching.{low_address, MatchesBy, Matches}
 use Rattle.pmp_core.specs.RegisterWrite.{stored, holds_byte_of, configured, is_tor, is_address_frozen, address_written}
@@ -60,7 +61,7 @@ configured_address file q value k =
 pub other_address : (file : RegisterFile) (j value k : ℕ) → k ≢ j
     → entry_at (address_written file j value) k ≡ entry_at file.entries k
 other_address file j value k other =
-    let new = set file.entries j (record (entry_at file.entries j) { address = value % 2 ^ 54 }) in
+    let new = set file.entries j (record (entry_at file.entries j) { address = value % WORD_ADDRESSES }) in
     elim (is_address_frozen file j) as (λ kept. entry_at (cond kept file.entries new) k ≡ entry_at file.entries k) [
       | true ↦ refl
       | false ↦ rw get_or-set_other refl

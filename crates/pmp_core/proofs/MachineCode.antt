@@ -18,13 +18,14 @@ use Rattle.pmp_core.specs.declared.decision.Cause.TheVariants.{Rule, Split, NoMa
 use Rattle.pmp_core.specs.declared.entry.Entry.{Entry}
 use Rattle.pmp_core.specs.declared.event.Event.{Event}
 use Rattle.pmp_core.specs.declared.event.Event.TheVariants.{Write, Reset}
+use Rattle.pmp_core.specs.declared.register_write.TheConstants.{WORD_ADDRESSES}
 use Rattle.pmp_core.specs.Configuration.{configuration_of}
 use Rattle.pmp_core.specs.Decision.{IsDecisionBy}
 use Rattle.pmp_core.specs.RegisterFile.{RegisterFile, reset_entry, entry_at, is_frozen}
 use Rattle.pmp_core.specs.RegisterWrite.{admitted, configured, holds_byte_of, is_address_frozen, step, stored_over}
 use Rattle.pmp_core.specs.RegisterWrite.{written}
 use Rattle.pmp_core.specs.Rights.{allows, default_rights_by, is_barred, lockdown_rights, rule_rights}
-use Rattle.pmp_core.specs.LockLaw.{is_write, StaysLocked}
+use Rattle.pmp_core.specs.LockLaw.{is_write, StaysFrozen}
 use Rattle.pmp_core.specs.ProtectionLaw.{MachineCodeLaw}
 use Rattle.pmp_core.proofs.Legal.{configured_place, length-written}
 use Rattle.pmp_core.proofs.Locks.{both, other_address, Held, held_on, lock_law, still_frozen}
@@ -113,8 +114,8 @@ module _ (file : RegisterFile) (mml : file.mseccfg.mml ≡ true) (rlb : file.mse
       ≡ (entry_at file.entries i).configuration
   addressed_configuration j value = elim (cases_eq i j) [
     | inl same ↦ rw (← same) (elim (is_address_frozen file i) as (λ kept. (entry_at (cond kept file.entries
-        (set file.entries i (record (entry_at file.entries i) { address = value % 2 ^ 54 }))) i).configuration
-        ≡ (entry_at file.entries i).configuration) [ true ↦ refl | false ↦ own_configuration (value % 2 ^ 54) ])
+        (set file.entries i (record (entry_at file.entries i) { address = value % WORD_ADDRESSES }))) i).configuration
+        ≡ (entry_at file.entries i).configuration) [ true ↦ refl | false ↦ own_configuration (value % WORD_ADDRESSES) ])
     | inr other ↦ ap (λ (e : Entry). e.configuration) (other_address file j value i other)
   ]
 
@@ -161,7 +162,7 @@ module _ (file : RegisterFile) (k : ℕ) (events : List Event) (mml : file.msecc
       rw (locked, bypass) refl
 
   by_frozen : (allowed : Bool) (cause : Cause) → IsDecisionBy later access allowed cause → allowed ≡ true
-      → (i : ℕ) × (cause ≡ Rule i) × (is_frozen file i ≡ true) × StaysLocked file later i
+      → (i : ℕ) × (cause ≡ Rule i) × (is_frozen file i ≡ true) × StaysFrozen file later i
   by_frozen allowed NoMatch (none, by_default) granted = absurd (none_by_default later.mseccfg.mmwp
       (rw (mml_stays file events writes mml, machine, fetch) at (sym by_default ∙ granted)))
   by_frozen allowed (Split i) (decider, lacks, refused) granted = absurd (false≢true (sym refused ∙ granted))

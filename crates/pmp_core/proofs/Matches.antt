@@ -8,20 +8,21 @@ use Rattle.std.proofs.Math.Pow.{pow_pos}
 use Rattle.pmp_core.specs.declared.configuration.AddressMatching.{AddressMatching}
 use Rattle.pmp_core.specs.declared.configuration.AddressMatching.TheVariants.{Off, Tor, Na4, Napot}
 use Rattle.pmp_core.specs.declared.entry.Entry.{Entry}
+use Rattle.pmp_core.specs.declared.register_write.TheConstants.{WORD_ADDRESSES}
 use Rattle.pmp_core.specs.RegisterFile.{reset_entry, HasAddresses}
 use Rattle.pmp_core.specs.Matching.{InNapot, MatchesBy, Matches}
 use Rattle.pmp_core.specs.Ranges.{IsInRange, AreRanges, napot_range, range_by, range_of, ranges_of}
 use Rattle.pmp_core.proofs.Places.{no_range, range_at, length-ranges_of}
 use Rattle.pmp_core.proofs.Napot.{spelled_once, spelled_by_ones}
 
-in_napot : (address byte : ℕ) → address < 2 ^ 54 → InNapot address byte → IsInRange (napot_range address) byte
+in_napot : (address byte : ℕ) → address < WORD_ADDRESSES → InNapot address byte → IsInRange (napot_range address) byte
 in_napot address byte small h =
     let ones = trailing_ones w64 address in
     let one : address + 1 ≡ h.y * 2 ^ suc h.k + 2 ^ h.k = omega (arith, rw add-one at h.spelled, pow_pos h.k) in
     let same = spelled_once ones h.k (address / 2 ^ suc ones) h.y (sym (spelled_by_ones address small) ∙ one) in
     rw (add-one, same.1, same.0) (h.from, omega (arith, h.to))
 
-from_napot : (address byte : ℕ) → address < 2 ^ 54 → IsInRange (napot_range address) byte → InNapot address byte
+from_napot : (address byte : ℕ) → address < WORD_ADDRESSES → IsInRange (napot_range address) byte → InNapot address byte
 from_napot address byte small h =
     let k = trailing_ones w64 address in
     record {
@@ -32,7 +33,7 @@ from_napot address byte small h =
       to = omega (arith, h.1);
     }
 
-matched_by : (mode : AddressMatching) (low address byte : ℕ) → address < 2 ^ 54
+matched_by : (mode : AddressMatching) (low address byte : ℕ) → address < WORD_ADDRESSES
     → MatchesBy mode low address byte ↔ IsInRange (range_by mode low address) byte
 matched_by Off low address byte small = (λ h. absurd h, λ h. omega arith)
 matched_by Tor low address byte small = (λ h. h, λ h. h)

@@ -6,6 +6,8 @@ use Rattle.std.proofs.Math.Pow.{pow_mono}
 use Rattle.std.proofs.lemmas.Bool.{cases_lt}
 use Rattle.std.proofs.lemmas.Nat.{pow-add}
 use Rattle.std.proofs.lemmas.Nat.Bits.{bit_at-trailing_ones, bit_at-suc, bit_at_lowest, bit_at_above}
+use Rattle.pmp_core.specs.declared.access.TheConstants.{ADDRESS_LIMIT}
+use Rattle.pmp_core.specs.declared.register_write.TheConstants.{WORD_ADDRESSES}
 
 -- k one bits below a zero bit
 record EndsInOnes (a k : ℕ) : Type 0 where
@@ -62,10 +64,10 @@ spelled_once (suc k) (suc j) y z e =
     let rest = spelled_once k j y z half in
     (ap suc rest.0, rest.1)
 
-ends_in_ones : (a : ℕ) → a < 2 ^ 54 → EndsInOnes a (trailing_ones w64 a)
+ends_in_ones : (a : ℕ) → a < WORD_ADDRESSES → EndsInOnes a (trailing_ones w64 a)
 ends_in_ones a small = let h = bit_at-trailing_ones w64 a (omega arith) in record { ones = h.2; gap = h.1 }
 
-pub ones_at_most : (a : ℕ) → a < 2 ^ 54 → trailing_ones w64 a ≤ 54
+pub ones_at_most : (a : ℕ) → a < WORD_ADDRESSES → trailing_ones w64 a ≤ 54
 ones_at_most a small =
     let h = ends_in_ones a small in
     elim (cases_lt 54 (trailing_ones w64 a)) [
@@ -73,17 +75,17 @@ ones_at_most a small =
       | inr le ↦ le
     ]
 
-pub spelled_by_ones : (a : ℕ) → a < 2 ^ 54
+pub spelled_by_ones : (a : ℕ) → a < WORD_ADDRESSES
     → a + 1 ≡ a / 2 ^ suc (trailing_ones w64 a) * 2 ^ suc (trailing_ones w64 a) + 2 ^ trailing_ones w64 a
 spelled_by_ones a small = spelled_by (trailing_ones w64 a) a (ends_in_ones a small)
 
 -- what the shifts of the code compute stays within 58 bits
 pub record Shifts (a k : ℕ) : Type 0 where
   pub ones : k ≤ 54
-  pub from : a / 2 ^ (k + 1) * 2 ^ (k + 3) < 2 ^ 56
+  pub from : a / 2 ^ (k + 1) * 2 ^ (k + 3) < ADDRESS_LIMIT
   pub size : 2 ^ (k + 3) ≤ 2 ^ 57
 
-pub shifts : (a : ℕ) → a < 2 ^ 54 → Shifts a (trailing_ones w64 a)
+pub shifts : (a : ℕ) → a < WORD_ADDRESSES → Shifts a (trailing_ones w64 a)
 shifts a small =
     let k = trailing_ones w64 a in
     let ones = ones_at_most a small in

@@ -5,6 +5,7 @@ use Rattle.std.specs.List.{range_with_len}
 use Rattle.std.proofs.lemmas.List.FromFn.{fill_by_all, length-map-range_with_len, get_or-map-range_with_len}
 use Rattle.pmp_core.specs.declared.entry.Entry.{Entry}
 use Rattle.pmp_core.specs.declared.range.ByteRange.{ByteRange}
+use Rattle.pmp_core.specs.declared.register_write.TheConstants.{WORD_ADDRESSES}
 use Rattle.pmp_core.specs.RegisterFile.{reset_entry, entry_at, HasAddresses}
 use Rattle.pmp_core.specs.Matching.{low_address}
 use Rattle.pmp_core.specs.Ranges.{range_of, ranges_of}
@@ -20,7 +21,7 @@ pub all_decoded : (entries : List Entry) (ranges : List ByteRange) → length ra
     → Decoded entries ranges (length entries) → ranges ≡ ranges_of entries
 all_decoded entries ranges len done = fill_by_all (range_of entries) ranges (length entries) no_range len done
 
-pub low_address_below : (entries : List Entry) (i : ℕ) → HasAddresses entries → low_address entries i < 2 ^ 54
+pub low_address_below : (entries : List Entry) (i : ℕ) → HasAddresses entries → low_address entries i < WORD_ADDRESSES
 low_address_below entries zero h = omega arith
 low_address_below entries (suc i) h = h i
 

@@ -1,5 +1,6 @@
 -- Writes that give a legal register file from reset: bypass on, addresses, configurations, and then its mseccfg.
-use Rattle.std.proofs.Common.{◌≡◌, ℕ, zero, suc, ◌+◌, ◌-◌, ◌*◌, ◌/◌, ◌%◌, ◌^◌, ◌<◌, ◌≤◌, Bool, true, false, not, ◌&&◌, ◌||◌}
+use Rattle.std.proofs.Common.{◌≡◌, ℕ, zero, suc, ◌+◌, ◌-◌, ◌*◌, ◌/◌, ◌%◌, ◌^◌, ◌<◌, ◌≤◌, Bool, true, false}
+use Rattle.std.proofs.Common.{not, ◌&&◌, ◌||◌}
 use Rattle.std.proofs.Common.{List, [], ◌∷◌, ◌++◌, length, map, fold, slice_index, refl, sym, ap, ◌∙◌, inl, inr, arith}
 use Rattle.std.specs.List.{range_with_len}
 use Rattle.std.specs.Int.{w64, to_le_bytes}
@@ -14,6 +15,7 @@ use Rattle.pmp_core.specs.declared.event.Event.TheVariants.{Write}
 use Rattle.pmp_core.specs.declared.mseccfg.MseccfgFields.{MseccfgFields}
 use Rattle.pmp_core.specs.declared.size.Size.{Size}
 use Rattle.pmp_core.specs.declared.size.Size.TheVariants.{Sixteen, SixtyFour}
+use Rattle.pmp_core.specs.declared.register_write.TheConstants.{WORD_ADDRESSES}
 use Rattle.pmp_core.specs.Configuration.{byte_of}
 use Rattle.pmp_core.specs.Mseccfg.{mseccfg_value, mseccfg_written}
 use Rattle.pmp_core.specs.RegisterFile.{RegisterFile, entry_at, reset_entry, reset_file, IsLegal}
@@ -100,7 +102,7 @@ module _ (file : RegisterFile) (n : ℕ) (legal : IsLegal file) (count : length 
       → IsAddressed (written now (Addr k) (entry_at file.entries k).address) (suc k)
   address_next now k inside before =
       let value = (entry_at file.entries k).address in
-      let small : value % 2 ^ 54 ≡ value = omega (arith, legal.addresses k) in
+      let small : value % WORD_ADDRESSES ≡ value = omega (arith, legal.addresses k) in
       let own : entry_at (written now (Addr k) value).entries k ≡ addressed_entry k =
       own_address_written now k value (omega (arith, before.many))
       ∙ rw (thawed now k (ap (λ (m : MseccfgFields). m.rlb) before.fields), before.rest k (omega arith), small) refl in
@@ -235,13 +237,15 @@ module _ (file : RegisterFile) (n : ℕ) (legal : IsLegal file) (count : length 
       let configurations = configuration_events (n / 8) in
       let last : Event = Write Mseccfg (mseccfg_value file.mseccfg) in
       let first = fold step after_opening addresses in
-      let whole = configured_to first (from_addressed first (addressed_to after_opening (started none) n (omega arith))) (n / 8)
+      let whole = configured_to first
+      (from_addressed first (addressed_to after_opening (started none) n (omega arith))) (n / 8)
       (omega (arith, even)) in (
         Write Mseccfg (mseccfg_value open_fields) ∷ (addresses ++ (configurations ++ last ∷ [])),
         rw (
           fold-append step after_opening addresses (configurations ++ last ∷ []),
           fold-append step first configurations (last ∷ []),
-        ) (final (fold step first configurations) whole.fields (entries_restored (fold step first configurations) whole even)),
+        ) (final (fold step first configurations) whole.fields
+            (entries_restored (fold step first configurations) whole even)),
       )
 
 pub reachable_law : ReachableLaw

@@ -7,7 +7,7 @@ use Rattle.std.proofs.lemmas.List.Folds.{list_any_at}
 use Rattle.std.proofs.lemmas.List.FromFn.{length-range_with_len, get_or-range_with_len}
 use Rattle.pmp_core.specs.declared.csr.Csr.{Csr}
 use Rattle.pmp_core.specs.declared.write_reasons.WriteReason.{WriteReason}
-use Rattle.pmp_core.specs.declared.write_reasons.WriteReason.TheVariants.{Absent, Bits, Locked, Tor, Reserved, Lockdown}
+use Rattle.pmp_core.specs.declared.write_reasons.WriteReason.TheVariants.{Absent, Bits, Frozen, Tor, Reserved, Lockdown}
 use Rattle.pmp_core.specs.declared.write_reasons.WriteReason.TheVariants.{Sticky, Bypass}
 use Rattle.pmp_core.specs.RegisterFile.{RegisterFile}
 use Rattle.pmp_core.specs.WriteReasons.{turns_away, all_reasons, write_reasons}
@@ -56,14 +56,14 @@ none_of p xs i none near =
 pub record HasNone (file : RegisterFile) (csr : Csr) (value : ℕ) : Type 0 where
   pub absent : turns_away Absent file csr value ≡ false
   pub bits : turns_away Bits file csr value ≡ false
-  pub locked : turns_away Locked file csr value ≡ false
+  pub locked : turns_away Frozen file csr value ≡ false
   pub tor : turns_away Tor file csr value ≡ false
   pub reserved : turns_away Reserved file csr value ≡ false
   pub lockdown : turns_away Lockdown file csr value ≡ false
   pub sticky : turns_away Sticky file csr value ≡ false
   pub bypass : turns_away Bypass file csr value ≡ false
 
-none_all : (p : WriteReason → Bool) → p Absent ≡ false → p Bits ≡ false → p Locked ≡ false → p Tor ≡ false
+none_all : (p : WriteReason → Bool) → p Absent ≡ false → p Bits ≡ false → p Frozen ≡ false → p Tor ≡ false
     → p Reserved ≡ false → p Lockdown ≡ false → p Sticky ≡ false → p Bypass ≡ false → filter p all_reasons ≡ []
 none_all p a b c d e f g h = rw (a, b, c, d, e, f, g, h) refl
 

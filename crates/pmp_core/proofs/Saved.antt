@@ -15,6 +15,7 @@ use Rattle.pmp_core.specs.declared.saved_registers.SavedRegisters.{SavedRegister
 use Rattle.pmp_core.specs.declared.range.ByteRange.{ByteRange}
 use Rattle.pmp_core.specs.declared.size.Size.{Size}
 use Rattle.pmp_core.specs.declared.size.Size.TheVariants.{Sixteen, SixtyFour}
+use Rattle.pmp_core.specs.declared.register_write.TheConstants.{WORD_ADDRESSES}
 use Rattle.pmp_core.specs.Configuration.{configuration_of, byte_of, bit_of, field_of, matching_of, is_reserved}
 use Rattle.pmp_core.specs.Mseccfg.{mseccfg_value, mseccfg_fields}
 use Rattle.pmp_core.specs.RegisterFile.{RegisterFile, file_of, reset_entry, reset_file, entry_at, HasAddresses, IsLegal}
@@ -159,7 +160,7 @@ module _ (file : RegisterFile) (size : Size) (legal : IsLegal file) (count : len
   entry_back : (k : ℕ) → k < length file.entries → entry_at file.entries k ≡ restored_entry (saved_registers file) k
   entry_back k inside =
       let within : k < 64 = omega (arith, count, few size) in
-      let small : (entry_at file.entries k).address % 2 ^ 54 ≡ (entry_at file.entries k).address =
+      let small : (entry_at file.entries k).address % WORD_ADDRESSES ≡ (entry_at file.entries k).address =
       omega (arith, legal.addresses k) in
       let stored : admitted file.mseccfg.mml true reset_entry.configuration (entry_at file.entries k).configuration
       ≡ (entry_at file.entries k).configuration =

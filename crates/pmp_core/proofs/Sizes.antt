@@ -16,6 +16,7 @@ use Rattle.pmp_core.specs.declared.decision.Decision.{Decision}
 use Rattle.pmp_core.specs.declared.entry.Entry.{Entry}
 use Rattle.pmp_core.specs.declared.event.Event.{Event}
 use Rattle.pmp_core.specs.declared.event.Event.TheVariants.{Write, Reset}
+use Rattle.pmp_core.specs.declared.register_write.TheConstants.{WORD_ADDRESSES}
 use Rattle.pmp_core.specs.RegisterFile.{RegisterFile, reset_entry, reset_file, entry_at}
 use Rattle.pmp_core.specs.Matching.{low_address, Matches}
 use Rattle.pmp_core.specs.Decision.{IsLeast, Touches, Covers, IsDecider, IsDecision, IsDecisionBy}
@@ -58,10 +59,10 @@ configured_anywhere file q value i room low = elim (cases_lt i (length file.entr
 pub own_address_written : (file : RegisterFile) (j value : ℕ) → j < length file.entries
     → entry_at (address_written file j value) j
     ≡ cond (is_address_frozen file j) (entry_at file.entries j) (record (entry_at file.entries j) {
-      address = value % 2 ^ 54;
+      address = value % WORD_ADDRESSES;
     })
 own_address_written file j value inside =
-    let new : Entry = record (entry_at file.entries j) { address = value % 2 ^ 54 } in
+    let new : Entry = record (entry_at file.entries j) { address = value % WORD_ADDRESSES } in
     elim (is_address_frozen file j) as
     (λ frozen. entry_at (cond frozen file.entries (set file.entries j new)) j
     ≡ cond frozen (entry_at file.entries j) new) [

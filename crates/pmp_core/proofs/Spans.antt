@@ -6,6 +6,7 @@ use Rattle.std.proofs.lemmas.Bool.Decides.{nat_tests}
 use Rattle.pmp_core.specs.declared.entry.Entry.{Entry}
 use Rattle.pmp_core.specs.declared.range.ByteRange.{ByteRange}
 use Rattle.pmp_core.specs.declared.span.Span.{Span}
+use Rattle.pmp_core.specs.declared.access.TheConstants.{ADDRESS_LIMIT}
 use Rattle.pmp_core.specs.RegisterFile.{HasAddresses}
 use Rattle.pmp_core.specs.Matching.{Matches}
 use Rattle.pmp_core.specs.Ranges.{IsInRange, range_of}
@@ -45,7 +46,7 @@ one_span entries i (Some one) (Some other) p q =
 span_by : (entries : List Entry) (i : ℕ) (range : ByteRange)
     → ((byte : ℕ) → Matches entries i byte ↔ IsInRange range byte) → IsSpan entries i (span_in range)
 span_by entries i range matched =
-    let end = min range.end (2 ^ 56) in
+    let end = min range.end ADDRESS_LIMIT in
     elim (cases_lt range.start end) [
       | inl some ↦
           let test : ltb range.start end ≡ true = grind (arith, nat_tests) in

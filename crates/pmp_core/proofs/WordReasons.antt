@@ -14,12 +14,12 @@ use Rattle.std.proofs.lemmas.Nat.{from_le_bytes-to_le_bytes_8, le_bytes_8}
 use Rattle.pmp_core.specs.declared.configuration.Configuration.{Configuration}
 use Rattle.pmp_core.specs.declared.csr.Csr.TheVariants.{Cfg}
 use Rattle.pmp_core.specs.declared.entry.Entry.{Entry}
-use Rattle.pmp_core.specs.declared.write_reasons.WriteReason.TheVariants.{Locked, Reserved, Lockdown}
+use Rattle.pmp_core.specs.declared.write_reasons.WriteReason.TheVariants.{Frozen, Reserved, Lockdown}
 use Rattle.pmp_core.specs.Configuration.{byte_of}
 use Rattle.pmp_core.specs.RegisterFile.{RegisterFile, reset_entry, entry_at, is_frozen}
 use Rattle.pmp_core.specs.RegisterValue.{configuration_word, register_value}
 use Rattle.pmp_core.specs.RegisterWrite.{holds_byte_of, written}
-use Rattle.pmp_core.specs.WriteReasons.{byte_for, is_locked, adds_reserved, adds_barred, turns_entry_away_by}
+use Rattle.pmp_core.specs.WriteReasons.{byte_for, changes_frozen, adds_reserved, adds_barred, turns_entry_away_by}
 use Rattle.pmp_core.proofs.Legal.{configured_place, length-written}
 use Rattle.pmp_core.proofs.Reasons.{none_between, none_at, none_in, none_of, HasNone}
 use Rattle.pmp_core.proofs.StoredBytes.{and_true, not_same, is_plain, byte_plain, IsTaken, left_of, taken}
@@ -115,7 +115,7 @@ module _ (file : RegisterFile) (q value : ℕ) where
         record {
           plain = not-false _ (none_of (λ b. not (is_plain b)) (to_le_bytes w64 value) (i - 4 * q) none.bits
               (omega arith));
-          unlocked = rw holds at (none_at (turns_entry_away_by Locked file (Cfg q) value) 0 n i none.locked
+          unlocked = rw holds at (none_at (turns_entry_away_by Frozen file (Cfg q) value) 0 n i none.locked
               (omega arith) (omega arith));
           unreserved = rw holds at (none_at (turns_entry_away_by Reserved file (Cfg q) value) 0 n i none.reserved
               (omega arith) (omega arith));
@@ -199,7 +199,7 @@ module _ (file : RegisterFile) (q value : ℕ) where
 
     -- none of the entries' reasons
     abbrev IsFine : ℕ → Type 0
-    IsFine i = (is_locked file (Cfg q) value i ≡ false) × (adds_reserved file (Cfg q) value i ≡ false)
+    IsFine i = (changes_frozen file (Cfg q) value i ≡ false) × (adds_reserved file (Cfg q) value i ≡ false)
         × (adds_barred file (Cfg q) value i ≡ false)
 
     fine : (i : ℕ) → i < n → IsFine i
@@ -216,7 +216,7 @@ module _ (file : RegisterFile) (q value : ℕ) where
           reads_absent;
       bits = none_in (λ b. not (is_plain b)) (to_le_bytes w64 value)
           (λ j near. rw (reads_plain j near) refl);
-      locked = none_between (is_locked file (Cfg q) value) 0 n (λ i _ inside. (fine i (omega arith)).0);
+      locked = none_between (changes_frozen file (Cfg q) value) 0 n (λ i _ inside. (fine i (omega arith)).0);
       tor = none_between (λ i. false) 0 n (λ i _ inside. refl);
       reserved = none_between (adds_reserved file (Cfg q) value) 0 n (λ i _ inside. (fine i (omega arith)).1);
       lockdown = none_between (adds_barred file (Cfg q) value) 0 n (λ i _ inside. (fine i (omega arith)).2);

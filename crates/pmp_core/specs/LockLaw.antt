@@ -12,7 +12,7 @@ is_write (Write csr value) = true
 is_write Reset = false
 
 -- entry i has the same configuration in both, matches the same bytes, and is frozen still
-pub record StaysLocked (before after : RegisterFile) (i : ℕ) : Type 0 where
+pub record StaysFrozen (before after : RegisterFile) (i : ℕ) : Type 0 where
   pub configuration : (entry_at after.entries i).configuration ≡ (entry_at before.entries i).configuration
   pub bytes : (byte : ℕ) → Matches after.entries i byte ↔ Matches before.entries i byte
   pub frozen : is_frozen after i ≡ true
@@ -20,4 +20,4 @@ pub record StaysLocked (before after : RegisterFile) (i : ℕ) : Type 0 where
 -- a frozen entry stays as it is through every list of writes, if no reset is among them (3.7.1.2 and Smepmp)
 abbrev pub LockLaw : Type 0
 LockLaw = (file : RegisterFile) (i : ℕ) (events : List Event) → is_frozen file i ≡ true
-    → list_all is_write events ≡ true → StaysLocked file (fold step file events) i
+    → list_all is_write events ≡ true → StaysFrozen file (fold step file events) i

@@ -15,7 +15,7 @@ use Rattle.pmp_core.specs.Decision.{IsDecider, IsDecision}
 use Rattle.pmp_core.specs.RegisterFile.{RegisterFile, is_frozen, is_held, IsLegal}
 use Rattle.pmp_core.specs.RegisterWrite.{step}
 use Rattle.pmp_core.specs.Rights.{allows, rule_rights}
-use Rattle.pmp_core.specs.LockLaw.{is_write, StaysLocked}
+use Rattle.pmp_core.specs.LockLaw.{is_write, StaysFrozen}
 
 -- one of the entries 0 to i decides the access, wholly or in part
 abbrev pub IsDecidedWithin : RegisterFile → Access → ℕ → Type 0
@@ -47,4 +47,4 @@ MachineCodeLaw = (file : RegisterFile) (k : ℕ) (events : List Event) → IsTru
     → is_frozen file k ≡ true → list_all is_write events ≡ true → (access : Access) (decision : Decision)
     → access.mode ≡ M → access.kind ≡ Fetch → IsDecision (fold step file events) access decision
     → IsTrue decision.allowed
-    → (i : ℕ) × (decision.cause ≡ Rule i) × (is_frozen file i ≡ true) × StaysLocked file (fold step file events) i
+    → (i : ℕ) × (decision.cause ≡ Rule i) × (is_frozen file i ≡ true) × StaysFrozen file (fold step file events) i

@@ -4,6 +4,7 @@ use Rattle.std.specs.List.{list_all, range_with_len, slice_index_or}
 use Rattle.pmp_core.specs.declared.configuration.AddressMatching.TheVariants.{Off}
 use Rattle.pmp_core.specs.declared.entry.Entry.{Entry}
 use Rattle.pmp_core.specs.declared.mseccfg.MseccfgFields.{MseccfgFields}
+use Rattle.pmp_core.specs.declared.register_write.TheConstants.{WORD_ADDRESSES}
 use Rattle.pmp_core.specs.Configuration.{is_reserved}
 
 -- the entries (3.7.1), and the bits MML, MMWP and RLB of mseccfg (Smepmp)
@@ -42,7 +43,7 @@ is_held file i = list_all (is_frozen file) (range_with_len 0 (i + 1))
 
 -- each address register has 54 bits (3.7.1)
 abbrev pub HasAddresses : List Entry → Type 0
-HasAddresses entries = (i : ℕ) → (entry_at entries i).address < 2 ^ 54
+HasAddresses entries = (i : ℕ) → (entry_at entries i).address < WORD_ADDRESSES
 
 -- what every write keeps: no longer addresses, and no reserved combination
 pub record IsLegal (file : RegisterFile) : Type 0 where

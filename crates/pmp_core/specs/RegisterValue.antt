@@ -5,6 +5,7 @@ use Rattle.std.specs.Int.{w64, from_le_bytes}
 use Rattle.pmp_core.specs.declared.csr.Csr.{Csr}
 use Rattle.pmp_core.specs.declared.csr.Csr.TheVariants.{Cfg, Addr, Mseccfg}
 use Rattle.pmp_core.specs.declared.entry.Entry.{Entry}
+use Rattle.pmp_core.specs.declared.register_write.TheConstants.{ENTRIES_PER_CFG}
 use Rattle.pmp_core.specs.Configuration.{byte_of}
 use Rattle.pmp_core.specs.Mseccfg.{mseccfg_value}
 use Rattle.pmp_core.specs.RegisterFile.{RegisterFile, entry_at}
@@ -12,7 +13,8 @@ use Rattle.pmp_core.specs.RegisterFile.{RegisterFile, entry_at}
 -- the bytes of the eight entries from the first on, that one's lowest (3.7.1)
 unfoldable pub configuration_word : List Entry → ℕ → ℕ
 configuration_word entries first =
-    from_le_bytes w64 (map (λ j. byte_of (entry_at entries (first + j)).configuration) (range_with_len 0 8))
+    from_le_bytes w64
+    (map (λ j. byte_of (entry_at entries (first + j)).configuration) (range_with_len 0 ENTRIES_PER_CFG))
 
 -- zero where the register holds nothing of an entry (3.7.1)
 abbrev pub register_value : RegisterFile → Csr → ℕ

@@ -11,6 +11,7 @@ use Rattle.pmp_core.specs.declared.csr.Csr.TheVariants.{Cfg, Addr, Mseccfg}
 use Rattle.pmp_core.specs.declared.entry.Entry.{Entry}
 use Rattle.pmp_core.specs.declared.event.Event.{Event}
 use Rattle.pmp_core.specs.declared.event.Event.TheVariants.{Write, Reset}
+use Rattle.pmp_core.specs.declared.register_write.TheConstants.{ENTRIES_PER_CFG, WORD_ADDRESSES}
 use Rattle.pmp_core.specs.Configuration.{configuration_of, is_reserved}
 use Rattle.pmp_core.specs.Mseccfg.{mseccfg_written}
 use Rattle.pmp_core.specs.RegisterFile.{RegisterFile, reset_file, entry_at, is_frozen}
@@ -36,7 +37,7 @@ stored file i = stored_over file.mseccfg.mml file.mseccfg.rlb (entry_at file.ent
 
 -- pmpcfg q holds the bytes of the eight entries from 4q on, where q is even (3.7.1)
 abbrev pub holds_byte_of : (q i : ℕ) → Bool
-holds_byte_of q i = q % 2 == 0 && nat_le (4 * q) i && nat_lt i (4 * q + 8)
+holds_byte_of q i = q % 2 == 0 && nat_le (4 * q) i && nat_lt i (4 * q + ENTRIES_PER_CFG)
 
 -- entry i after pmpcfg q is written, the lowest byte for the lowest entry
 abbrev pub configured : RegisterFile → (q value i : ℕ) → Entry
@@ -63,7 +64,7 @@ is_address_frozen file i =
 abbrev pub address_written : RegisterFile → (i value : ℕ) → List Entry
 address_written file i value =
     if is_address_frozen file i then file.entries
-    else slice_set file.entries i (record (entry_at file.entries i) { address = value % 2 ^ 54 })
+    else slice_set file.entries i (record (entry_at file.entries i) { address = value % WORD_ADDRESSES })
 
 -- the entries after pmpcfg q is written (3.7.1)
 abbrev pub configurations_written : RegisterFile → (q value : ℕ) → List Entry

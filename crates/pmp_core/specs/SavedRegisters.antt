@@ -7,6 +7,7 @@ use Rattle.pmp_core.specs.declared.saved_registers.SavedRegisters.{SavedRegister
 use Rattle.pmp_core.specs.declared.size.Size.{Size}
 use Rattle.pmp_core.specs.declared.size.Size.TheVariants.{Sixteen, SixtyFour}
 use Rattle.pmp_core.specs.declared.size.TheConstants.{MAX_ENTRIES}
+use Rattle.pmp_core.specs.declared.register_write.TheConstants.{WORD_ADDRESSES}
 use Rattle.pmp_core.specs.Configuration.{byte_of}
 use Rattle.pmp_core.specs.Mseccfg.{mseccfg_fields}
 use Rattle.pmp_core.specs.RegisterFile.{RegisterFile, file_of, reset_entry, entry_at, IsLegal}
@@ -25,14 +26,14 @@ saved_registers file = record {
 
 -- 64 is sixty-four, and every other number sixteen
 abbrev pub saved_size : (entries : ℕ) → Size
-saved_size entries = if entries == 64 then SixtyFour else Sixteen
+saved_size entries = if entries == MAX_ENTRIES then SixtyFour else Sixteen
 
 -- entry i as writes to a reset entry leave it, with bypass on: 54 bits, and reserved rights under lockdown alone
 abbrev pub restored_entry : SavedRegisters → ℕ → Entry
 restored_entry saved i = record {
   configuration = stored_over (mseccfg_fields saved.mseccfg).mml true reset_entry.configuration
       (slice_index saved.configurations i);
-  address = slice_index saved.addresses i % 2 ^ 54;
+  address = slice_index saved.addresses i % WORD_ADDRESSES;
 }
 
 -- the first n entries

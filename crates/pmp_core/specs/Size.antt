@@ -5,17 +5,18 @@ use Rattle.pmp_core.specs.declared.range.ByteRange.{ByteRange}
 use Rattle.pmp_core.specs.declared.size.Size.{Size}
 use Rattle.pmp_core.specs.declared.size.Size.TheVariants.{Sixteen, SixtyFour}
 use Rattle.pmp_core.specs.declared.size.TheConstants.{MAX_ENTRIES}
+use Rattle.pmp_core.specs.declared.register_file.TheConstants.{ENTRIES}
 use Rattle.pmp_core.specs.RegisterFile.{RegisterFile, reset_entry, IsLegal}
 use Rattle.pmp_core.specs.Ranges.{ranges_of}
 
 -- 16 or 64 (3.7.1)
 abbrev pub count_of : Size → ℕ
-count_of Sixteen = 16
-count_of SixtyFour = 64
+count_of Sixteen = ENTRIES
+count_of SixtyFour = MAX_ENTRIES
 
 -- the size that has so many
 abbrev pub size_with : ℕ → Size
-size_with n = if n == 16 then Sixteen else SixtyFour
+size_with n = if n == ENTRIES then Sixteen else SixtyFour
 
 -- the items in use
 abbrev pub used : {X : Type 0} → Size → List X → List X

@@ -7,6 +7,8 @@ use Rattle.pmp_core.specs.declared.csr.Csr.TheVariants.{Cfg, Addr, Mseccfg}
 use Rattle.pmp_core.specs.declared.decision.Decision.{Decision}
 use Rattle.pmp_core.specs.declared.event.Event.{Event}
 use Rattle.pmp_core.specs.declared.event.Event.TheVariants.{Write, Reset}
+use Rattle.pmp_core.specs.declared.register_file.TheConstants.{ENTRIES}
+use Rattle.pmp_core.specs.declared.size.TheConstants.{MAX_ENTRIES}
 use Rattle.pmp_core.specs.RegisterFile.{RegisterFile}
 use Rattle.pmp_core.specs.Decision.{IsDecision}
 use Rattle.pmp_core.specs.Histories.{replay}
@@ -15,7 +17,7 @@ use Rattle.pmp_core.specs.Ranges.{decision_of}
 -- pmpcfg0, pmpcfg2, pmpaddr0 to pmpaddr15, mseccfg: the registers of a unit of sixteen entries
 abbrev pub is_of_sixteen : Csr → Bool
 is_of_sixteen (Cfg q) = q == 0 || q == 2
-is_of_sixteen (Addr i) = nat_lt i 16
+is_of_sixteen (Addr i) = nat_lt i ENTRIES
 is_of_sixteen Mseccfg = true
 
 abbrev pub writes_sixteen : Event → Bool
@@ -30,4 +32,4 @@ pub record DecideAlike (one other : RegisterFile) (access : Access) : Type 0 whe
 -- events that write no other registers give files of sixteen and of sixty-four entries that decide alike
 abbrev pub SizeLaw : Type 0
 SizeLaw = (events : List Event) (access : Access) → list_all writes_sixteen events ≡ true
-    → DecideAlike (replay 16 events) (replay 64 events) access
+    → DecideAlike (replay ENTRIES events) (replay MAX_ENTRIES events) access

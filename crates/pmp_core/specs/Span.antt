@@ -3,6 +3,7 @@ use Rattle.std.specs.Prelude.{◌≡◌, ◌↔◌, ℕ, ◌-◌, ◌^◌, ◌<�
 use Rattle.pmp_core.specs.declared.entry.Entry.{Entry}
 use Rattle.pmp_core.specs.declared.range.ByteRange.{ByteRange}
 use Rattle.pmp_core.specs.declared.span.Span.{Span}
+use Rattle.pmp_core.specs.declared.access.TheConstants.{ADDRESS_LIMIT}
 use Rattle.pmp_core.specs.Matching.{Matches}
 use Rattle.pmp_core.specs.Ranges.{range_of}
 
@@ -11,10 +12,10 @@ IsInSpan span byte = (span.first ≤ byte) × (byte ≤ span.last)
 
 -- addresses have 56 bits: of the bytes below 2^56, entry i matches none, or those of the span and no others
 abbrev pub IsSpan : List Entry → ℕ → Option Span → Type 0
-IsSpan entries i None = (byte : ℕ) → byte < 2 ^ 56 → ¬ (Matches entries i byte)
+IsSpan entries i None = (byte : ℕ) → byte < ADDRESS_LIMIT → ¬ (Matches entries i byte)
 IsSpan entries i (Some span) =
-    (span.first ≤ span.last) × (span.last < 2 ^ 56)
-    × ((byte : ℕ) → byte < 2 ^ 56 → Matches entries i byte ↔ IsInSpan span byte)
+    (span.first ≤ span.last) × (span.last < ADDRESS_LIMIT)
+    × ((byte : ℕ) → byte < ADDRESS_LIMIT → Matches entries i byte ↔ IsInSpan span byte)
 
 -- an entry has one span
 abbrev pub OneSpanLaw : Type 0
@@ -26,7 +27,7 @@ OneSpanLaw = (entries : List Entry) (i : ℕ) (one other : Option Span)
 -- the bytes of the range that are below 2^56
 abbrev pub span_in : ByteRange → Option Span
 span_in range =
-    let end = min range.end (2 ^ 56) in
+    let end = min range.end ADDRESS_LIMIT in
     if nat_lt range.start end then Some (record { first = range.start; last = end - 1 }) else None
 
 -- entry i's

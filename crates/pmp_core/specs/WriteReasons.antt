@@ -8,8 +8,9 @@ use Rattle.pmp_core.specs.declared.csr.Csr.TheVariants.{Cfg, Addr, Mseccfg}
 use Rattle.pmp_core.specs.declared.entry.Entry.{Entry}
 use Rattle.pmp_core.specs.declared.mseccfg.MseccfgFields.{MseccfgFields}
 use Rattle.pmp_core.specs.declared.write_reasons.WriteReason.{WriteReason}
-use Rattle.pmp_core.specs.declared.write_reasons.WriteReason.TheVariants.{Absent, Bits, Locked, Tor, Reserved, Lockdown}
+use Rattle.pmp_core.specs.declared.write_reasons.WriteReason.TheVariants.{Absent, Bits, Frozen, Tor, Reserved, Lockdown}
 use Rattle.pmp_core.specs.declared.write_reasons.WriteReason.TheVariants.{Sticky, Bypass}
+use Rattle.pmp_core.specs.declared.register_write.TheConstants.{ENTRIES_PER_CFG, WORD_ADDRESSES}
 use Rattle.pmp_core.specs.Configuration.{configuration_of, byte_of, is_reserved}
 use Rattle.pmp_core.specs.Mseccfg.{mseccfg_fields}
 use Rattle.pmp_core.specs.RegisterFile.{RegisterFile, entry_at, is_frozen, IsLegal}
@@ -18,7 +19,7 @@ use Rattle.pmp_core.specs.RegisterWrite.{holds_byte_of, is_address_frozen, is_an
 use Rattle.pmp_core.specs.Rights.{is_barred}
 
 abbrev pub all_reasons : List WriteReason
-all_reasons = Absent ∷ Bits ∷ Locked ∷ Tor ∷ Reserved ∷ Lockdown ∷ Sticky ∷ Bypass ∷ []
+all_reasons = Absent ∷ Bits ∷ Frozen ∷ Tor ∷ Reserved ∷ Lockdown ∷ Sticky ∷ Bypass ∷ []
 
 -- ---- one entry
 
@@ -34,8 +35,8 @@ is_changed entries (Addr k) value i = k == i && not (value == (entry_at entries 
 is_changed entries Mseccfg value i = false
 
 -- a frozen entry is to change (3.7.1.2)
-abbrev pub is_locked : RegisterFile → Csr → (value i : ℕ) → Bool
-is_locked file csr value i = is_frozen file i && is_changed file.entries csr value i
+abbrev pub changes_frozen : RegisterFile → Csr → (value i : ℕ) → Bool
+changes_frozen file csr value i = is_frozen file i && is_changed file.entries csr value i
 
 -- the low end of a frozen entry's range is to change, and is of an entry that isn't frozen (3.7.1.2)
 abbrev pub is_low_end : RegisterFile → Csr → (value i : ℕ) → Bool
@@ -65,7 +66,7 @@ adds_barred file Mseccfg value i = false
 abbrev pub turns_entry_away_by : WriteReason → RegisterFile → Csr → (value i : ℕ) → Bool
 turns_entry_away_by Absent file csr value i = false
 turns_entry_away_by Bits file csr value i = false
-turns_entry_away_by Locked file csr value i = is_locked file csr value i
+turns_entry_away_by Frozen file csr value i = changes_frozen file csr value i
 turns_entry_away_by Tor file csr value i = is_low_end file csr value i
 turns_entry_away_by Reserved file csr value i = adds_reserved file csr value i
 turns_entry_away_by Lockdown file csr value i = adds_barred file csr value i
@@ -86,7 +87,8 @@ entries_turned_away file csr value =
 -- the value isn't zero for an entry, or a register, that a unit of n entries doesn't have (3.7.1)
 abbrev pub is_absent : (n : ℕ) → Csr → (value : ℕ) → Bool
 is_absent n (Cfg q) value =
-    list_any (λ i. not (byte_for q value i == 0) && not (holds_byte_of q i && nat_lt i n)) (range_with_len (4 * q) 8)
+    list_any (λ i. not (byte_for q value i == 0) && not (holds_byte_of q i && nat_lt i n))
+    (range_with_len (4 * q) ENTRIES_PER_CFG)
 is_absent n (Addr i) value = not (value == 0) && not (nat_lt i n)
 is_absent n Mseccfg value = false
 
@@ -97,7 +99,7 @@ has_bit_6_or_5 byte = not (byte / 32 % 4 == 0)
 -- bits 6 and 5 of a byte, 63 to 54 of an address, 63 to 3 of mseccfg (3.7.1 and Smepmp)
 abbrev pub has_other_bits : Csr → (value : ℕ) → Bool
 has_other_bits (Cfg q) value = list_any has_bit_6_or_5 (to_le_bytes w64 value)
-has_other_bits (Addr i) value = not (value / 2 ^ 54 == 0)
+has_other_bits (Addr i) value = not (value / WORD_ADDRESSES == 0)
 has_other_bits Mseccfg value = not (value / 8 == 0)
 
 -- MML or MMWP is to be cleared (Smepmp)
@@ -124,7 +126,7 @@ turns_some_entry_away reason file csr value =
 abbrev pub turns_away : WriteReason → RegisterFile → Csr → (value : ℕ) → Bool
 turns_away Absent file csr value = is_absent (length file.entries) csr value
 turns_away Bits file csr value = has_other_bits csr value
-turns_away Locked file csr value = turns_some_entry_away Locked file csr value
+turns_away Frozen file csr value = turns_some_entry_away Frozen file csr value
 turns_away Tor file csr value = turns_some_entry_away Tor file csr value
 turns_away Reserved file csr value = turns_some_entry_away Reserved file csr value
 turns_away Lockdown file csr value = turns_some_entry_away Lockdown file csr value

@@ -1,7 +1,7 @@
 //! What the unit is asked to decide.
 
 ghost use Rattle.std.specs.Prelude.{◌≡◌, ◌+◌, ◌<◌, ◌≤◌, ◌^◌, IfOk, IfErr, None, Some};
-ghost use Rattle.pmp_core.specs.declared.access.TheConstants.{MAX_LENGTH};
+ghost use Rattle.pmp_core.specs.declared.access.TheConstants.{ADDRESS_LIMIT, MAX_LENGTH};
 
 /// The effective privilege mode of an access, after MPRV and MPP were taken into account
 /// (Volume II, 3.1.6.3).
@@ -41,7 +41,7 @@ pub struct Access {
     pub length: u64,
     pub ghost not_empty: { 0 < length },
     pub ghost not_long: { length ≤ MAX_LENGTH },
-    pub ghost inside: { start + length ≤ 2 ^ 56 },
+    pub ghost inside: { start + length ≤ ADDRESS_LIMIT },
 }
 
 /// Why numbers make no access.

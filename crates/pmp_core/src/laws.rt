@@ -100,17 +100,17 @@ pub fn law_fewer_rights()
     ensures { FewerRightsLaw }
 {}
 
-/// Protection holds: what the entries up to one that is held decide is decided the same after every list of writes, as
-/// long as MML is the same; and what they refuse stays refused also where MML rises. An open entry with a lower number
-/// might take their bytes, so a lock alone protects its entry, and not what is decided.
+/// Protection holds: what the entries up to one that is held decide, in a legal file, is decided the same after every
+/// list of writes, as long as MML is the same; and what they refuse stays refused also where MML rises. An open entry
+/// with a lower number might take their bytes, so a lock alone protects its entry, and not what is decided.
 pub fn law_protected()
     ensures { ProtectedLaw }
 {
     law_fewer_rights();
 }
 
-/// Under lockdown, with some entry frozen, no list of writes gives machine mode more to execute: each fetch that it is
-/// allowed later is by an entry that was frozen before, with the same configuration and bytes.
+/// Under lockdown, with some entry frozen, after every list of writes each fetch that machine mode is allowed is by an
+/// entry that was frozen before, with the same configuration and bytes. An open entry may have refused it before.
 pub fn law_machine_code()
     ensures { MachineCodeLaw }
 {}
@@ -125,18 +125,19 @@ pub fn law_frozen_address()
     ensures { FrozenAddressLaw }
 {}
 
-/// Each part of an access that is allowed is allowed too, by the same cause.
+/// Each part of an access that is allowed, in its mode and of its kind, is allowed too, by the same cause.
 pub fn law_parts()
     ensures { PartsLaw }
 {}
 
 /// A write leaves the others alone: the entries of which the register holds nothing; the bytes of those that it can't
-/// move; and, unless it is to `mseccfg`, the decisions on accesses with no byte of those that it may move.
+/// move; and, unless it is to `mseccfg`, the decisions on accesses with no byte of those that it may move, before and
+/// after.
 pub fn law_others()
     ensures { OthersLaw }
 {}
 
-/// Every legal register file of sixteen or sixty-four entries is one that a reset and writes give. So what is restored
+/// Every legal register file of sixteen or sixty-four entries is one that a reset and events give. So what is restored
 /// is never a state that a hart can't have.
 pub fn law_reachable()
     ensures { ReachableLaw }

@@ -8,5 +8,5 @@ pub enum Lock {
     /// The lock bit is set, but rule-locking bypass is on: writes change the entry.
     Bypassed,
     /// The entry is frozen: until a reset, writes leave it as it is.
-    Locked,
+    Frozen,
 }

@@ -2,6 +2,7 @@
 
 ghost use Rattle.std.specs.Prelude.{◌≡◌, ◌<◌, ◌^◌, ◌↔◌, IsTrue};
 ghost use Rattle.pmp_core.specs.Ranges.{IsInRange, napot_range, range_by, is_touched, is_covered};
+ghost use Rattle.pmp_core.specs.declared.register_write.TheConstants.{WORD_ADDRESSES};
 
 use crate::access::Access;
 use crate::configuration::AddressMatching;
@@ -40,7 +41,7 @@ impl ByteRange {
 
 /// The naturally aligned power of two that the word address spells.
 fn napot_range(address: u64) -> ByteRange
-    requires { address < 2 ^ 54 }
+    requires { address < WORD_ADDRESSES }
     ensures { result ≡ napot_range address }
 {
     let ones = address.trailing_ones();
@@ -53,8 +54,8 @@ fn napot_range(address: u64) -> ByteRange
 
 /// The range of an entry after one with the address register `low`.
 pub fn range_by(low: u64, entry: &Entry) -> ByteRange
-    requires low { low < 2 ^ 54 }
-    requires address { entry.now.address < 2 ^ 54 }
+    requires low { low < WORD_ADDRESSES }
+    requires address { entry.now.address < WORD_ADDRESSES }
     ensures { result ≡ range_by entry.now.configuration.matching low entry.now.address }
 {
     let address = entry.address;

@@ -14,6 +14,7 @@ ghost use Rattle.pmp_core.specs.WriteReasons.{turns_away, turns_entry_away};
 ghost use Rattle.pmp_core.specs.Ranges.{AreRanges, ranges_of, decision_of};
 ghost use Rattle.pmp_core.specs.SavedRegisters.{saved_registers, restored_file};
 ghost use Rattle.pmp_core.specs.Size.{count_of};
+ghost use Rattle.pmp_core.specs.declared.access.TheConstants.{ADDRESS_LIMIT};
 
 use crate::access::{Access, Mode};
 use crate::configuration::AddressMatching;
@@ -226,7 +227,7 @@ impl RegFile {
         write_reasons::turns_away(reason, self.in_use(), &self.mseccfg, csr, value)
     }
 
-    /// Whether `Locked`, `Tor`, `Reserved` or `Lockdown` would hold for the entry, if the value were written now.
+    /// Whether `Frozen`, `Tor`, `Reserved` or `Lockdown` would hold for the entry, if the value were written now.
     pub fn turns_entry_away(&self, entry: u8, csr: Csr, value: u64) -> bool
         requires { entry < length self.now.entries }
         ensures { result ≡ turns_entry_away self.now csr value entry }
@@ -268,9 +269,9 @@ impl RegFile {
         self.in_use()[usize::from(entry)].configuration.locked && !self.mseccfg.rlb
     }
 
-    /// Whether the entry is held: it is frozen, and so are all entries before it. Then no write changes what they refuse,
-    /// nor what they allow while MML stays as it is. An entry that is frozen alone keeps its bytes, but an open one
-    /// before it may still take them.
+    /// Whether the entry is held: it is frozen, and so are all entries before it. Then no write changes what they
+    /// refuse, nor what they allow while MML stays as it is. An entry that is frozen alone keeps its bytes, but an open
+    /// one before it may still take them.
     pub fn is_held(&self, entry: u8) -> bool
         requires { entry < length self.now.entries }
         ensures { result ≡ is_held self.now entry }
@@ -284,7 +285,7 @@ impl RegFile {
         ensures { result ≡ lock_of self.now entry }
     {
         if self.is_locked(entry) {
-            Lock::Locked
+            Lock::Frozen
         } else if self.in_use()[usize::from(entry)].configuration.locked {
             Lock::Bypassed
         } else {
@@ -294,7 +295,7 @@ impl RegFile {
 
     /// Whether writes leave the entry's address register as it is: the entry is frozen, or the next one is and its
     /// range ends there.
-    pub fn is_address_locked(&self, entry: u8) -> bool
+    pub fn is_address_frozen(&self, entry: u8) -> bool
         requires { entry < length self.now.entries }
         ensures { result ≡ is_address_frozen self.now entry }
     {
@@ -333,7 +334,7 @@ impl RegFile {
     /// Whether the entry matches the byte at this byte address.
     pub fn matches(&self, entry: u8, byte: u64) -> bool
         requires entry { entry < length self.now.entries }
-        requires byte { byte < 2 ^ 56 }
+        requires byte { byte < ADDRESS_LIMIT }
         ensures { IsTrue result ↔ Matches self.now.entries entry byte }
     {
         self.decoded()[usize::from(entry)].contains(byte)

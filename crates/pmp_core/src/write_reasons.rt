@@ -26,7 +26,7 @@ pub enum WriteReason {
     /// The value has bits that the register doesn't have.
     Bits,
     /// The value would change an entry that is frozen.
-    Locked,
+    Frozen,
     /// The value would change the low end of a frozen entry's range.
     Tor,
     /// The value has W without R for an entry, and MML is 0.
@@ -44,7 +44,7 @@ impl WriteReason {
     pub const ALL: [WriteReason; 8] = [
         WriteReason::Absent,
         WriteReason::Bits,
-        WriteReason::Locked,
+        WriteReason::Frozen,
         WriteReason::Tor,
         WriteReason::Reserved,
         WriteReason::Lockdown,
@@ -109,7 +109,7 @@ fn turns_entry_away_by(
 {
     let frozen = entries[index].configuration.locked && !mseccfg.rlb;
     match (reason, csr) {
-        (WriteReason::Locked, _) => frozen && is_changed(entries, csr, value, index),
+        (WriteReason::Frozen, _) => frozen && is_changed(entries, csr, value, index),
         (WriteReason::Tor, Csr::Addr(_)) => {
             !frozen
                 && is_address_frozen(entries, mseccfg, index)

@@ -29,9 +29,9 @@ impl Writing {
     }
 }
 
-/// Of an entry that isn't locked.
+/// Of an entry that isn't frozen.
 const OPEN: Since = Since {
-    locked: None,
+    frozen: None,
     held: None,
 };
 

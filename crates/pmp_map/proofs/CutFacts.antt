@@ -3,6 +3,7 @@ use Rattle.std.proofs.Common.{◌≡◌, ℕ, ◌+◌, ◌^◌, ◌<◌, ◌≤�
 use Rattle.std.proofs.lemmas.Bool.{cases_lt}
 use Rattle.std.proofs.lemmas.List.{get_or_past}
 use Rattle.pmp_core.specs.declared.range.ByteRange.{ByteRange}
+use Rattle.pmp_core.specs.declared.access.TheConstants.{ADDRESS_LIMIT}
 use Rattle.pmp_core.specs.Decision.{IsLeast}
 use Rattle.pmp_core.specs.Ranges.{IsInRange, range_in}
 use Rattle.pmp_map.specs.Owners.{OwnsBytes}
@@ -22,11 +23,11 @@ module _ (ranges : List ByteRange) (first : ℕ) where
   -- none of the ranges before `index` has a byte from `first` up to `end`, and one of them has `end`
   pub record Swept (index end : ℕ) : Type 0 where
     pub above : first < end
-    pub bounded : end ≤ 2 ^ 56
+    pub bounded : end ≤ ADDRESS_LIMIT
     pub clear : (i byte : ℕ) → i < index → first ≤ byte → byte < end → ¬ (Has i byte)
-    pub apart : end < 2 ^ 56 → (i : ℕ) × (i < index) × Has i end
+    pub apart : end < ADDRESS_LIMIT → (i : ℕ) × (i < index) × Has i end
 
-  pub none_swept : first < 2 ^ 56 → Swept 0 (2 ^ 56)
+  pub none_swept : first < ADDRESS_LIMIT → Swept 0 ADDRESS_LIMIT
   none_swept small = record {
     above = small;
     bounded = omega arith;

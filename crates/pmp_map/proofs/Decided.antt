@@ -4,6 +4,7 @@ use Rattle.std.proofs.Common.{◌∙◌, arith, inl, inr}
 use Rattle.std.proofs.lemmas.Bool.{cases_lt}
 use Rattle.pmp_core.specs.declared.access.Access.{Access}
 use Rattle.pmp_core.specs.declared.entry.Entry.{Entry}
+use Rattle.pmp_core.specs.declared.access.TheConstants.{ADDRESS_LIMIT}
 use Rattle.pmp_core.specs.RegisterFile.{RegisterFile}
 use Rattle.pmp_core.specs.Matching.{Matches}
 use Rattle.pmp_core.specs.Decision.{IsByteOf, IsLeast, IsOwner, Covers, IsDecision}
@@ -47,29 +48,30 @@ no_owner (Some i) h = absurd (h i refl)
 pub record Straddles (runs : List Run) (access : Access) (p q : ℕ) (part : List Run) : Type 0 where
   pub several : p < q
   pub inside : q < length runs
-  pub first : IsInRun (run_at (2 ^ 56) runs p) access.start
-  pub last : IsInRun (run_at (2 ^ 56) runs q) (access.start + access.length - 1)
+  pub first : IsInRun (run_at ADDRESS_LIMIT runs p) access.start
+  pub last : IsInRun (run_at ADDRESS_LIMIT runs q) (access.start + access.length - 1)
   pub count : length part ≡ q + 1 - p
-  pub runs_are : (k : ℕ) → k < length part → run_at (2 ^ 56) part k ≡ run_at (2 ^ 56) runs (p + k)
+  pub runs_are : (k : ℕ) → k < length part → run_at ADDRESS_LIMIT part k ≡ run_at ADDRESS_LIMIT runs (p + k)
 
 module _ (file : RegisterFile) (access : Access) (runs part : List Run) (p q : ℕ) (are : AreRuns file.entries runs)
     (straddles : Straddles runs access p q part) where
   abbrev owner_at : ℕ → Option ℕ
-  owner_at k = (run_at (2 ^ 56) runs k).owner
+  owner_at k = (run_at ADDRESS_LIMIT runs k).owner
 
   -- each of the runs has a byte of the access
-  touched : (k : ℕ) → p ≤ k → k ≤ q → (byte : ℕ) × IsByteOf access byte × IsInRun (run_at (2 ^ 56) runs k) byte
+  touched : (k : ℕ) → p ≤ k → k ≤ q → (byte : ℕ) × IsByteOf access byte × IsInRun (run_at ADDRESS_LIMIT runs k) byte
   touched k from to =
       let full : 0 < access.length = access.not_empty in
       elim (cases_lt p k) [
         | inr same ↦ let here : p ≡ k = omega arith in
             (access.start, (omega arith, omega arith), rw here at straddles.first)
         | inl after ↦
-            let higher = starts_rise (2 ^ 56) (IsOwner file.entries) runs are (p + 1) k (omega arith)
+            let higher = starts_rise ADDRESS_LIMIT (IsOwner file.entries) runs are (p + 1) k (omega arith)
             (omega (arith, straddles.inside)) in
-            let lower = starts_rise (2 ^ 56) (IsOwner file.entries) runs are k q to (omega (arith, straddles.inside)) in
+            let lower =
+            starts_rise ADDRESS_LIMIT (IsOwner file.entries) runs are k q to (omega (arith, straddles.inside)) in
             let gap = are.gapless p (omega (arith, straddles.inside)) in (
-              start_at (2 ^ 56) runs k,
+              start_at ADDRESS_LIMIT runs k,
               (
                 omega (arith, higher, gap, straddles.first.1),
                 omega (arith, lower, straddles.last.0),
@@ -79,31 +81,33 @@ module _ (file : RegisterFile) (access : Access) (runs part : List Run) (p q : �
       ]
 
   -- and each byte of the access is in one of them
-  found : (byte : ℕ) → IsByteOf access byte → (k : ℕ) × (p ≤ k) × (k ≤ q) × IsInRun (run_at (2 ^ 56) runs k) byte
+  found : (byte : ℕ) → IsByteOf access byte → (k : ℕ) × (p ≤ k) × (k ≤ q) × IsInRun (run_at ADDRESS_LIMIT runs k) byte
   found byte here =
       let gap = are.gapless q straddles.inside in
-      run_among (2 ^ 56) (IsOwner file.entries) runs are byte p q (omega (arith, straddles.several)) straddles.inside
+      run_among ADDRESS_LIMIT (IsOwner file.entries) runs are byte p q (omega (arith, straddles.several))
+      straddles.inside
       (omega (arith, straddles.first.0, here.0)) (omega (arith, gap, straddles.last.1, here.1))
 
-  pub owns_part : (k i : ℕ) → p ≤ k → k ≤ q → owner_at k ≡ Some i → OwnsOne (2 ^ 56) part i
+  pub owns_part : (k i : ℕ) → p ≤ k → k ≤ q → owner_at k ≡ Some i → OwnsOne ADDRESS_LIMIT part i
   owns_part k i from to owned =
       let within : k - p < length part = omega (arith, straddles.count) in
       let same : p + (k - p) ≡ k = omega arith in
       (k - p, within, ap (λ (run : Run). run.owner) (straddles.runs_are (k - p) within) ∙ ap owner_at same ∙ owned)
 
-  owner_of_byte : (k byte : ℕ) → k ≤ q → IsInRun (run_at (2 ^ 56) runs k) byte → IsOwner file.entries byte (owner_at k)
+  owner_of_byte : (k byte : ℕ) → k ≤ q → IsInRun (run_at ADDRESS_LIMIT runs k) byte
+      → IsOwner file.entries byte (owner_at k)
   owner_of_byte k byte to here = are.owned k byte (omega (arith, straddles.inside)) here
 
   -- entry i's byte is in a run with an owner up to i
   owned_up_to : (i byte : ℕ) → IsByteOf access byte → Matches file.entries i byte
-      → (j : ℕ) × OwnsOne (2 ^ 56) part j × (j ≤ i)
+      → (j : ℕ) × OwnsOne ADDRESS_LIMIT part j × (j ≤ i)
   owned_up_to i byte here matched =
       let run = found byte here in
       let owner = owner_up_to file.entries byte i (owner_at run.0) (owner_of_byte run.0 byte run.2 run.3) matched in
       (owner.0, owns_part run.0 owner.0 run.1 run.2 owner.1, owner.2)
 
   -- an entry that matches every byte of the access owns each of the runs, if no lower one owns any
-  owned_alone : (i : ℕ) → ((j : ℕ) → j < i → ¬ (OwnsOne (2 ^ 56) part j)) → Covers file.entries access i → (k : ℕ)
+  owned_alone : (i : ℕ) → ((j : ℕ) → j < i → ¬ (OwnsOne ADDRESS_LIMIT part j)) → Covers file.entries access i → (k : ℕ)
       → p ≤ k → k ≤ q → owner_at k ≡ Some i
   owned_alone i least covers k from to =
       let byte = touched k from to in
@@ -115,7 +119,7 @@ module _ (file : RegisterFile) (access : Access) (runs part : List Run) (p q : �
       ]
 
   -- neighbours have different owners, so one of the runs has one
-  pub some_owner : ¬ (IsLeast (OwnsOne (2 ^ 56) part) None)
+  pub some_owner : ¬ (IsLeast (OwnsOne ADDRESS_LIMIT part) None)
   some_owner unowned =
       let none : (k : ℕ) → p ≤ k → k ≤ q → owner_at k ≡ None =
       λ k from to. no_owner (owner_at k) (λ i owned. unowned i (owns_part k i from to owned)) in
@@ -123,7 +127,7 @@ module _ (file : RegisterFile) (access : Access) (runs part : List Run) (p q : �
       are.apart p (omega (arith, straddles.inside))
       (none p (omega arith) (omega arith) ∙ sym (none (p + 1) (omega arith) (omega arith)))
 
-  pub decided_split : (least : Option ℕ) → IsLeast (OwnsOne (2 ^ 56) part) least
+  pub decided_split : (least : Option ℕ) → IsLeast (OwnsOne ADDRESS_LIMIT part) least
       → IsDecision file access (refusal_by least)
   decided_split None unowned = absurd (some_owner unowned)
   decided_split (Some i) least =

@@ -5,6 +5,7 @@ use Rattle.std.specs.List.{slice_range}
 use Rattle.std.proofs.lemmas.List.{get_or-take, get_or-drop}
 use Rattle.pmp_core.specs.declared.access.Access.{Access}
 use Rattle.pmp_core.specs.declared.decision.Cause.TheVariants.{Split}
+use Rattle.pmp_core.specs.declared.access.TheConstants.{ADDRESS_LIMIT}
 use Rattle.pmp_core.specs.RegisterFile.{RegisterFile}
 use Rattle.pmp_core.specs.Decision.{IsDecision, IsLeast}
 use Rattle.pmp_map.specs.declared.run.Run.{Run}
@@ -20,7 +21,7 @@ inside_run file runs are k within access inside =
 
 module _ (file : RegisterFile) (access : Access) (runs part : List Run) (p q : ℕ) (are : AreRuns file.entries runs)
     (straddles : Straddles runs access p q part) where
-  owns_run : (i : ℕ) → OwnsOne (2 ^ 56) part i → OwnsOneOf runs p q i
+  owns_run : (i : ℕ) → OwnsOne ADDRESS_LIMIT part i → OwnsOneOf runs p q i
   owns_run i (k, within, owned) = (
     p + k,
     omega arith,
@@ -28,7 +29,7 @@ module _ (file : RegisterFile) (access : Access) (runs part : List Run) (p q : �
     sym (ap (λ (run : Run). run.owner) (straddles.runs_are k within)) ∙ owned,
   )
 
-  refused_by : (least : Option ℕ) → IsLeast (OwnsOne (2 ^ 56) part) least
+  refused_by : (least : Option ℕ) → IsLeast (OwnsOne ADDRESS_LIMIT part) least
       → (i : ℕ) × IsLeast (OwnsOneOf runs p q) (Some i)
       × IsDecision file access (record { allowed = false; cause = Split i })
   refused_by None unowned = absurd (some_owner file access runs part p q are straddles unowned)
@@ -53,4 +54,4 @@ across_runs file runs are first last several within access begins ends =
       count = count;
       runs_are = λ k inside. get_or-take (last + 1 - first) (drop first runs) k _ (omega (arith, count))
           ∙ get_or-drop first runs k _;
-    }) (least_owner part) (least_owner_is (2 ^ 56) part)
+    }) (least_owner part) (least_owner_is ADDRESS_LIMIT part)

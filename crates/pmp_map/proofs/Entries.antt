@@ -6,6 +6,7 @@ use Rattle.std.proofs.lemmas.Bool.{cases_lt}
 use Rattle.std.proofs.lemmas.List.{get_or_past}
 use Rattle.pmp_core.specs.declared.entry.Entry.{Entry}
 use Rattle.pmp_core.specs.declared.range.ByteRange.{ByteRange}
+use Rattle.pmp_core.specs.declared.access.TheConstants.{ADDRESS_LIMIT}
 use Rattle.pmp_core.specs.Decision.{IsOwner}
 use Rattle.pmp_core.specs.Matching.{Matches}
 use Rattle.pmp_core.specs.RegisterFile.{HasAddresses}
@@ -48,8 +49,8 @@ few_runs_of_entries entries runs small are =
     omega (
       arith,
       decoded.count,
-      few_runs (2 ^ 56) (ranges_of entries) runs
-          (runs_by_ranges entries (ranges_of entries) decoded (2 ^ 56) runs are),
+      few_runs ADDRESS_LIMIT (ranges_of entries) runs
+          (runs_by_ranges entries (ranges_of entries) decoded ADDRESS_LIMIT runs are),
     )
 
 -- only a range that there is has a byte
@@ -62,7 +63,7 @@ owner_below ranges byte (Some i) owned = elim (cases_lt i (length ranges)) [
       absurd (omega arith)
 ]
 
-pub owners_below : (ranges : List ByteRange) (runs : List Run) → AreRunsTo (2 ^ 56) (IsOwnerIn ranges) runs
+pub owners_below : (ranges : List ByteRange) (runs : List Run) → AreRunsTo ADDRESS_LIMIT (IsOwnerIn ranges) runs
     → HasOwnersBelow (length ranges) runs
 owners_below ranges runs are = All-from_get_or (λ (run : Run). IfSome run.owner (λ i. i < length ranges)) runs _
     (λ k inside. owner_below ranges (map_run runs k).first (map_run runs k).owner

@@ -6,6 +6,7 @@ use Rattle.std.proofs.lemmas.Bool.{cases_lt}
 use Rattle.std.proofs.lemmas.List.{get_or-take, get_or-drop}
 use Rattle.pmp_core.specs.declared.access.Access.{Access}
 use Rattle.pmp_core.specs.declared.decision.Decision.{Decision}
+use Rattle.pmp_core.specs.declared.access.TheConstants.{ADDRESS_LIMIT}
 use Rattle.pmp_core.specs.Decision.{IsOwner, IsDecision}
 use Rattle.pmp_core.specs.Ranges.{decision_of}
 use Rattle.pmp_core.proofs.Decisions.{decided_by_ranges, one_decision}
@@ -24,7 +25,7 @@ use Rattle.pmp_map.proofs.Decided.{decided_whole, decided_split}
 
 module _ (m : Inside) (map : IsMapOf m.file.value m.runs.items m.starts m.answers) where
   -- what the search says, in this map
-  pub placed : (count byte place : ℕ) → count ≡ length m.runs.items → byte < 2 ^ 56 → place + 1 < PLACES
+  pub placed : (count byte place : ℕ) → count ≡ length m.runs.items → byte < ADDRESS_LIMIT → place + 1 < PLACES
       → (IsWithin m.starts count byte → IsBetween m.starts byte place 1) → IsPlaceOf m.runs.items byte place
   placed = place_found m.file.value.entries m.runs.items m.starts map.runs_are map.few map.starts_are
 
@@ -32,14 +33,14 @@ module _ (m : Inside) (map : IsMapOf m.file.value m.runs.items m.starts m.answer
   few_places byte place at = omega (arith, at.inside, map.few)
 
   module _ (access : Access) (place : ℕ) (at : IsPlaceOf m.runs.items access.start place) where
-    pub next_start : slice_index m.starts (place + 1) ≡ start_at (2 ^ 56) m.runs.items (place + 1)
+    pub next_start : slice_index m.starts (place + 1) ≡ start_at ADDRESS_LIMIT m.runs.items (place + 1)
     next_start = map.starts_are (place + 1) (omega (arith, at.inside, map.few))
 
     pub whole_decided : access.start + access.length ≤ slice_index m.starts (place + 1)
         → IsDecision m.file.value access (decision_by m.file.value (map_run m.runs.items place).owner access)
     whole_decided short = decided_whole m.file.value access (map_run m.runs.items place).owner
         (λ byte inside. map.runs_are.owned place byte at.inside
-        (in_run (2 ^ 56) (IsOwner m.file.value.entries) m.runs.items map.runs_are place byte at.inside
+        (in_run ADDRESS_LIMIT (IsOwner m.file.value.entries) m.runs.items map.runs_are place byte at.inside
         (omega (arith, at.here.0, inside.0)) (omega (arith, inside.1, next_start))))
 
     module _ (last : ℕ) (end : IsPlaceOf m.runs.items (access.start + access.length - 1) last)
@@ -48,14 +49,14 @@ module _ (m : Inside) (map : IsMapOf m.file.value m.runs.items m.starts m.answer
       places_rise = elim (cases_lt place last) [
         | inl lt ↦ lt
         | inr le ↦
-            let before = run_before (2 ^ 56) (IsOwner m.file.value.entries) m.runs.items map.runs_are last
+            let before = run_before ADDRESS_LIMIT (IsOwner m.file.value.entries) m.runs.items map.runs_are last
             (access.start + access.length - 1) end.inside end.here in
             absurd (omega (
               arith,
               before,
               map.runs_are.gapless place at.inside,
               at.inside,
-              starts_rise (2 ^ 56) (IsOwner m.file.value.entries) m.runs.items map.runs_are (last + 1) (place + 1)
+              starts_rise ADDRESS_LIMIT (IsOwner m.file.value.entries) m.runs.items map.runs_are (last + 1) (place + 1)
                   (omega arith) (omega (arith, at.inside)),
             ))
       ]
@@ -77,7 +78,7 @@ module _ (m : Inside) (map : IsMapOf m.file.value m.runs.items m.starts m.answer
             runs_are = λ k inside. get_or-take (last + 1 - place) (drop place m.runs.items) k _ (omega (arith, count))
                 ∙ get_or-drop place m.runs.items k _;
           })
-          (least_owner part) (least_owner_is (2 ^ 56) part)
+          (least_owner part) (least_owner_is ADDRESS_LIMIT part)
 
   pub computed : (access : Access) (decision : Decision) → IsDecision m.file.value access decision
       → decision ≡ decision_of m.file.value access

@@ -2,6 +2,7 @@
 use Rattle.std.proofs.Common.{◌≡◌, ℕ, ◌+◌, ◌-◌, ◌^◌, ◌<◌, ◌≤◌, List, length, slice_index, arith, inl, inr}
 use Rattle.std.proofs.lemmas.Bool.{cases_lt}
 use Rattle.pmp_core.specs.declared.entry.Entry.{Entry}
+use Rattle.pmp_core.specs.declared.access.TheConstants.{ADDRESS_LIMIT}
 use Rattle.pmp_core.specs.Decision.{IsOwner}
 use Rattle.pmp_map.specs.declared.run.Run.{Run}
 use Rattle.pmp_map.specs.declared.run.TheConstants.{RUNS}
@@ -21,19 +22,19 @@ module _ (entries : List Entry) (runs : List Run) (starts : List ℕ) (are : Are
   rising : IsRising starts
   rising i j ordered within = rw (starts_are i (omega arith), starts_are j within)
       (elim (cases_lt (length runs) j) [
-        | inr inside ↦ starts_rise (2 ^ 56) (IsOwner entries) runs are i j ordered inside
+        | inr inside ↦ starts_rise ADDRESS_LIMIT (IsOwner entries) runs are i j ordered inside
         | inl past ↦ omega (
           arith,
-          start_past (2 ^ 56) runs j (omega arith),
-          start_most (2 ^ 56) (IsOwner entries) runs are i,
+          start_past ADDRESS_LIMIT runs j (omega arith),
+          start_most ADDRESS_LIMIT (IsOwner entries) runs are i,
         )
       ])
 
   -- past the last run all starts are the end of all bytes
-  below_past : (byte k : ℕ) → byte < 2 ^ 56 → k < PLACES → length runs ≤ k → byte < slice_index starts k
-  below_past byte k small inside past = omega (arith, starts_are k inside, start_past (2 ^ 56) runs k past)
+  below_past : (byte k : ℕ) → byte < ADDRESS_LIMIT → k < PLACES → length runs ≤ k → byte < slice_index starts k
+  below_past byte k small inside past = omega (arith, starts_are k inside, start_past ADDRESS_LIMIT runs k past)
 
-  within : (byte : ℕ) → byte < 2 ^ 56 → IsWithin starts (length runs) byte
+  within : (byte : ℕ) → byte < ADDRESS_LIMIT → IsWithin starts (length runs) byte
   within byte small = record {
     rising = rising;
     whole = (
@@ -43,7 +44,7 @@ module _ (entries : List Entry) (runs : List Run) (starts : List ℕ) (are : Are
     short = λ short. below_past byte SHORT small (omega arith) short;
   }
 
-  found : (byte place : ℕ) → byte < 2 ^ 56 → place + 1 < PLACES → IsBetween starts byte place 1
+  found : (byte place : ℕ) → byte < ADDRESS_LIMIT → place + 1 < PLACES → IsBetween starts byte place 1
       → IsPlaceOf runs byte place
   found byte place small places between =
       let inside : place < length runs = elim (cases_lt place (length runs)) [
@@ -51,19 +52,19 @@ module _ (entries : List Entry) (runs : List Run) (starts : List ℕ) (are : Are
         | inr past ↦ absurd (omega (
           arith,
           starts_are place (omega arith),
-          start_past (2 ^ 56) runs place past,
+          start_past ADDRESS_LIMIT runs place past,
           between.0,
         ))
       ] in
       record {
         inside = inside;
-        here = in_run (2 ^ 56) (IsOwner entries) runs are place byte inside
+        here = in_run ADDRESS_LIMIT (IsOwner entries) runs are place byte inside
             (omega (arith, starts_are place (omega arith), between.0))
             (omega (arith, between.1, starts_are (place + 1) places));
       }
 
   -- as `place_of` says it
-  pub place_found : (count byte place : ℕ) → count ≡ length runs → byte < 2 ^ 56 → place + 1 < PLACES
+  pub place_found : (count byte place : ℕ) → count ≡ length runs → byte < ADDRESS_LIMIT → place + 1 < PLACES
       → (IsWithin starts count byte → IsBetween starts byte place 1) → IsPlaceOf runs byte place
   place_found count byte place all small places between =
       found byte place small places (between (rw all (within byte small)))

@@ -2,6 +2,7 @@
 use Rattle.std.specs.Prelude.{◌≡◌, ◌≢◌, ℕ, ◌+◌, ◌^◌, ◌<◌, ◌≤◌, Option, None, IfSome, List, length, All}
 use Rattle.std.specs.List.{slice_index_or}
 use Rattle.pmp_core.specs.declared.entry.Entry.{Entry}
+use Rattle.pmp_core.specs.declared.access.TheConstants.{ADDRESS_LIMIT}
 use Rattle.pmp_core.specs.Decision.{IsOwner}
 use Rattle.pmp_map.specs.declared.run.Run.{Run}
 
@@ -28,11 +29,11 @@ pub record AreRunsTo (to : ℕ) (Owns : ℕ → Option ℕ → Type 0) (runs : L
 
 -- run k of all bytes; past the last, one that begins at their end
 abbrev pub map_run : List Run → ℕ → Run
-map_run = run_at (2 ^ 56)
+map_run = run_at ADDRESS_LIMIT
 
 -- the runs of all bytes
 abbrev pub AreRuns : List Entry → List Run → Type 0
-AreRuns entries = AreRunsTo (2 ^ 56) (IsOwner entries)
+AreRuns entries = AreRunsTo ADDRESS_LIMIT (IsOwner entries)
 
 -- every owner is below n
 abbrev pub HasOwnersBelow : (n : ℕ) → List Run → Type 0

@@ -18,7 +18,7 @@ InsideRunLaw = (file : RegisterFile) (runs : List Run) → AreRuns file.entries 
 abbrev pub OwnsOneOf : List Run → (first last i : ℕ) → Type 0
 OwnsOneOf runs first last i = (k : ℕ) × (first ≤ k) × (k ≤ last) × ((map_run runs k).owner ≡ Some i)
 
--- an access from one run into a later one is refused, as a partial match of the least owner of these runs
+-- an access from one run into a later one is refused, as a partial match of the least owner from the one to the other
 abbrev pub AcrossRunsLaw : Type 0
 AcrossRunsLaw = (file : RegisterFile) (runs : List Run) → AreRuns file.entries runs
     → (first last : ℕ) → first < last → last < length runs

@@ -34,11 +34,11 @@ fn cut_by(range: &ByteRange, first: u64, end: u64) -> u64
 /// nothing.
 pub fn stretch_from(ranges: &[ByteRange], first: u64) -> Stretch
     requires few { length ranges.now ≤ 256 }
-    requires first { first < 2 ^ 56 }
+    requires first { first < ADDRESS_LIMIT }
     ensures above { first < result.end }
-    ensures bounded { result.end ≤ 2 ^ 56 }
+    ensures bounded { result.end ≤ ADDRESS_LIMIT }
     ensures owned { OwnsBytes ranges.now first result.end result.owner }
-    ensures apart { result.end < 2 ^ 56 → (other : Option ℕ) → IsOwnerIn ranges.now result.end other
+    ensures apart { result.end < ADDRESS_LIMIT → (other : Option ℕ) → IsOwnerIn ranges.now result.end other
         → result.owner ≢ other }
 {
     let mut end = ADDRESS_LIMIT;

@@ -24,7 +24,7 @@ pub fn law_inside_run()
     ensures { InsideRunLaw }
 {}
 
-/// An access from one run into a later one is refused, as a partial match of the least owner of these runs.
+/// An access from one run into a later one is refused, as a partial match of the least owner from the one to the other.
 pub fn law_across_runs()
     ensures { AcrossRunsLaw }
 {}

@@ -7,6 +7,7 @@ ghost use Rattle.pmp_map.specs.declared.run.Run.{Run};
 ghost use Rattle.pmp_map.specs.Owners.{IsLeft};
 ghost use Rattle.pmp_map.specs.Runs.{AreRuns, HasOwnersBelow};
 ghost use Rattle.pmp_map.specs.Search.{AreStarts};
+ghost use Rattle.pmp_core.specs.declared.access.TheConstants.{ADDRESS_LIMIT};
 
 use crate::answers::Answers;
 use crate::run::{RUNS, Run};
@@ -70,7 +71,7 @@ impl RunMap {
 
     /// The lowest-numbered entry that matches the byte at this byte address (Volume II, 3.7.1.3).
     pub fn owner(&self, byte: u64) -> Option<u8>
-        requires { byte < 2 ^ 56 }
+        requires { byte < ADDRESS_LIMIT }
         ensures { IsOwner self.now.entries byte result }
     {
         self.runs[place_of(&self.starts, self.runs.len(), byte)].owner

@@ -16,7 +16,7 @@ use pmp_core::{ADDRESS_LIMIT, ByteRange, MAX_ENTRIES, RegFile};
 /// The runs of these ranges' owners, from one change of owner to the next.
 pub fn runs_of(ranges: &[ByteRange]) -> ArrayVec<Run, RUNS>
     requires { length ranges.now ≤ MAX_ENTRIES }
-    ensures { AreRunsTo (2 ^ 56) (IsOwnerIn ranges.now) result.items }
+    ensures { AreRunsTo ADDRESS_LIMIT (IsOwnerIn ranges.now) result.items }
 {
     let mut runs = ArrayVec::new();
     let mut first = 0;

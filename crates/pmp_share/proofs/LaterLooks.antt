@@ -7,7 +7,7 @@ use Rattle.pmp_core.specs.declared.event.Event.{Event}
 use Rattle.pmp_core.specs.RegisterFile.{reset_file, is_frozen}
 use Rattle.pmp_core.specs.RegisterWrite.{step}
 use Rattle.pmp_core.specs.Histories.{joined, file_after}
-use Rattle.pmp_core.specs.LockLaw.{LockLaw, StaysLocked}
+use Rattle.pmp_core.specs.LockLaw.{LockLaw, StaysFrozen}
 use Rattle.pmp_share.specs.Batches.{Batches, StartsWith, event_count}
 use Rattle.pmp_share.specs.Looks.{latest}
 use Rattle.pmp_share.specs.Laws.{further_events, FurtherEventsLaw, LaterLookLaw}

@@ -5,7 +5,7 @@ use Rattle.pmp_core.specs.declared.event.Event.{Event}
 use Rattle.pmp_core.specs.RegisterFile.{is_frozen}
 use Rattle.pmp_core.specs.RegisterWrite.{step}
 use Rattle.pmp_core.specs.Histories.{joined, file_after}
-use Rattle.pmp_core.specs.LockLaw.{is_write, StaysLocked}
+use Rattle.pmp_core.specs.LockLaw.{is_write, StaysFrozen}
 use Rattle.pmp_share.specs.declared.opening.TheConstants.{CHECKERS}
 use Rattle.pmp_share.specs.declared.stage.TheConstants.{PLACES}
 use Rattle.pmp_share.specs.Batches.{Batches, StartsWith, event_count}
@@ -36,7 +36,7 @@ abbrev pub LaterLookLaw : Type 0
 LaterLookLaw = (n : ℕ) (held later : List Batches) (earlier : Batches) → Bound held earlier → Looked held later
     → (i : ℕ) → is_frozen (file_after n earlier) i ≡ true
     → list_all is_write (further_events (latest later) earlier) ≡ true
-    → StaysLocked (file_after n earlier) (file_after n (latest later)) i
+    → StaysFrozen (file_after n earlier) (file_after n (latest later)) i
 
 -- a unit has a place for each of its checkers, and one for a notice to each
 abbrev pub PlacesLaw : Type 0

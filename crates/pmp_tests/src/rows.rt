@@ -4,7 +4,7 @@ use pmp_core::*;
 use pmp_text::{Since, write_entries, write_row};
 use std::test::Fail;
 
-/// The numbers have twenty digits, and the last entry of sixty-four is locked and has every byte.
+/// The numbers have twenty digits, and the last entry of sixty-four is frozen and has every byte.
 #[test]
 fn the_longest_rows_have_room(rt: HostRuntime) -> Result<(), Fail> {
     let mut out = Vec::new(rt.alloc());
@@ -19,11 +19,11 @@ fn the_longest_rows_have_room(rt: HostRuntime) -> Result<(), Fail> {
     file.step(Event::Write(Csr::Addr(63), u64::MAX));
     file.step(Event::Write(Csr::Cfg(14), 0x9f << 56));
     let last = Since {
-        locked: Some(u64::MAX),
+        frozen: Some(u64::MAX),
         held: Some(u64::MAX),
     };
     write_entries(&mut out, &file, &[last; MAX_ENTRIES])?;
-    let row = b"63,napot,00000000000000,ffffffffffffff,rwx,rwx,locked,locked,18446744073709551615,\
+    let row = b"63,napot,00000000000000,ffffffffffffff,rwx,rwx,frozen,frozen,18446744073709551615,\
         18446744073709551615\n";
     assert!(rt; out.ends_with(row.as_slice()));
     Ok(())

@@ -23,7 +23,7 @@ use Rattle.pmp_text.specs.Steps.Progress.{Progress, longer, nothing_read, publis
 use Rattle.pmp_text.specs.Steps.Progress.{resumed}
 use Rattle.pmp_text.specs.Sizes.{script_size}
 use Rattle.pmp_text.specs.Contents.{Publications, ScriptContents}
-use Rattle.pmp_text.specs.Limits.{script_limit}
+use Rattle.pmp_text.specs.declared.script.reader.TheConstants.{MAX_SCRIPT}
 use Rattle.pmp_text.proofs.Meanings.{long_script, no_version, no_size, with_size}
 
 -- what was read so far, with the open batch
@@ -131,7 +131,7 @@ publications_in size (Ok all) script e =
     ap (λ (s : ScriptContents). Ok (published_in s)) same
 publications_in size (Err fault) script e = absurd cc
 
-by_size : (size : Option Size) (text : List ℕ) (short : length text ≤ script_limit) (version : Line) (more : List Line)
+by_size : (size : Option Size) (text : List ℕ) (short : length text ≤ MAX_SCRIPT) (version : Line) (more : List Line)
     (script : ScriptContents) → significant_lines text ≡ version ∷ more → size_named version.words ≡ size
     → script_meaning text ≡ Ok script → script_size script.batches ≤ length text
 by_size None text short version more script lines named e = let refused = sym e
@@ -143,16 +143,16 @@ by_size (Some size) text short version more script lines named e =
     let k = ap length lines in
     omega arith
 
-by_lines_read : (ls : List Line) (text : List ℕ) (short : length text ≤ script_limit) (script : ScriptContents)
+by_lines_read : (ls : List Line) (text : List ℕ) (short : length text ≤ MAX_SCRIPT) (script : ScriptContents)
     → significant_lines text ≡ ls → script_meaning text ≡ Ok script → script_size script.batches ≤ length text
 by_lines_read [] text short script lines e = let refused = sym e ∙ no_version text short lines in absurd cc
 by_lines_read (version ∷ more) text short script lines e =
     by_size (size_named version.words) text short version more script lines refl e
 
 pub size_at_most : (text : List ℕ) (script : ScriptContents) → script_meaning text ≡ Ok script
-    → (script_size script.batches ≤ length text) × (length text ≤ script_limit)
+    → (script_size script.batches ≤ length text) × (length text ≤ MAX_SCRIPT)
 size_at_most text script e =
-    elim (cases_lt script_limit (length text)) [
+    elim (cases_lt MAX_SCRIPT (length text)) [
       | inl long ↦ let refused = sym e ∙ long_script text long in absurd cc
       | inr short ↦ (by_lines_read (significant_lines text) text short script refl e, short)
     ]

@@ -7,7 +7,7 @@ use Rattle.pmp_core.specs.declared.event.Event.{Event}
 use Rattle.pmp_core.specs.declared.size.Size.{Size}
 use Rattle.pmp_text.specs.declared.script.ScriptFault.{ScriptFault}
 use Rattle.pmp_text.specs.Contents.{Publications, ScriptContents}
-use Rattle.pmp_text.specs.Limits.{script_limit}
+use Rattle.pmp_text.specs.declared.script.reader.TheConstants.{MAX_SCRIPT}
 use Rattle.pmp_text.specs.Scripts.{Line, event_of, event_line_of, publications, fault_or_publications}
 use Rattle.pmp_text.specs.Scripts.{first_fault, first_unpublished, meaning_behind, lines_meaning, significant_lines}
 use Rattle.pmp_text.specs.Scripts.{size_named}
@@ -59,7 +59,7 @@ of_lines (version ∷ more) script e =
 
 pub event_lines : EventLinesLaw
 event_lines text script e =
-    elim (cases_lt script_limit (length text)) [
+    elim (cases_lt MAX_SCRIPT (length text)) [
       | inl long ↦ let refused = sym e ∙ long_script text long in absurd cc
       | inr short ↦ of_lines (significant_lines text) script (sym (by_lines text short) ∙ e)
     ]

@@ -16,7 +16,7 @@ use Rattle.pmp_text.specs.Traces.{first_row_fault, is_header, records_meaning, r
 use Rattle.pmp_text.specs.Traces.{rows_meaning, trace_meaning, trace_records}
 use Rattle.pmp_text.specs.Outcomes.{GivesRows}
 use Rattle.pmp_text.specs.TraceFaults.{after_before, row_fault_at, IsInOrder, afters}
-use Rattle.pmp_text.specs.Limits.{trace_limit}
+use Rattle.pmp_text.specs.declared.trace.reader.TheConstants.{MAX_TRACE}
 use Rattle.pmp_text.proofs.LeastFaults.{Judges, judged_here, judged_as, the_first}
 use Rattle.pmp_text.proofs.Rows.{by_records, this_header}
 
@@ -74,7 +74,7 @@ module _ (publications : ℕ) where
       (first_row_fault publications None 1 rows) (counted_from_one rows) (judged_behind rows None 1)
 
   pub least_row_is_answered : (text : List ℕ) (header : List (List ℕ)) (rows : Records) (fault : TraceFault)
-      → length text ≤ trace_limit → trace_records text ≡ header ∷ rows → is_header header ≡ true
+      → length text ≤ MAX_TRACE → trace_records text ≡ header ∷ rows → is_header header ≡ true
       → IsLeastFault (row_fault_at publications rows) fault → trace_meaning publications text ≡ Err fault
   least_row_is_answered text header rows fault short records named least =
       by_records publications text short ∙ this_header publications (trace_records text) header rows records named
@@ -162,7 +162,7 @@ module _ (publications : ℕ) where
     pub trace_in_order : (text : List ℕ) → trace_meaning publications text ≡ Ok rows
         → IsInOrder publications 0 (afters rows)
     unfolding trace_meaning
-    trace_in_order text e = from_text (nat_lt trace_limit (length text)) text e
+    trace_in_order text e = from_text (nat_lt MAX_TRACE (length text)) text e
 
   pub given_in_order : (text : List ℕ) (result : Result (Vec Row Global) TraceFault)
       → GivesRows (λ rows. map row_fields rows.items) result (trace_meaning publications text)

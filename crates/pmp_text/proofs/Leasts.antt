@@ -12,7 +12,7 @@ use Rattle.pmp_text.specs.Scripts.{Line, at_line, line_fault, first_fault, fault
 use Rattle.pmp_text.specs.Scripts.{publications, size_named, for_unit, meaning_behind, lines_meaning}
 use Rattle.pmp_text.specs.Scripts.{significant_lines, script_meaning}
 use Rattle.pmp_text.specs.Faults.{fault_at, IsLeastFault}
-use Rattle.pmp_text.specs.Limits.{script_limit}
+use Rattle.pmp_text.specs.declared.script.reader.TheConstants.{MAX_SCRIPT}
 use Rattle.pmp_text.proofs.LeastFaults.{Judges, judged_here, judged_as, the_first}
 use Rattle.pmp_text.proofs.Meanings.{by_lines}
 
@@ -64,7 +64,7 @@ refused : (lines : List Line) (fault : ScriptFault) → first_fault [] lines ≡
 refused [] fault e = absurd cc
 refused (version ∷ more) fault e = refused_behind (size_named version.words) version more fault e
 
-pub least_is_answered : (text : List ℕ) (fault : ScriptFault) → length text ≤ script_limit
+pub least_is_answered : (text : List ℕ) (fault : ScriptFault) → length text ≤ MAX_SCRIPT
     → IsLeastFault (fault_at (significant_lines text)) fault → script_meaning text ≡ Err fault
 least_is_answered text fault short least =
     by_lines text short ∙ refused (significant_lines text) fault

@@ -26,7 +26,7 @@ use Rattle.pmp_text.specs.Scripts.{significant_lines, for_unit, meaning_behind, 
 use Rattle.pmp_text.specs.Scripts.{publications, first_unpublished}
 use Rattle.pmp_text.specs.Steps.Progress.{Progress, longer, nothing_read, published, after_statement, all_published}
 use Rattle.pmp_text.specs.Steps.Progress.{resumed}
-use Rattle.pmp_text.specs.Limits.{script_limit}
+use Rattle.pmp_text.specs.declared.script.reader.TheConstants.{MAX_SCRIPT}
 
 -- what pieces publish, of what a line may add
 module _ {X : Type 0} (pick : Line → Option X) where
@@ -269,14 +269,14 @@ no_statement (name ∷ version ∷ []) size e = by_name (bytes_eq name (codes "p
 no_statement (name ∷ version ∷ word ∷ more) size e = absurd cc
 
 module _ (text : List ℕ) where
-  pub long_script : script_limit < length text → script_meaning text ≡ Err (at_line 0 TooLong)
+  pub long_script : MAX_SCRIPT < length text → script_meaning text ≡ Err (at_line 0 TooLong)
   unfolding script_meaning
-  long_script long = cond-true _ _ _ (lt-ltb script_limit (length text) long)
+  long_script long = cond-true _ _ _ (lt-ltb MAX_SCRIPT (length text) long)
 
-  module _ (short : length text ≤ script_limit) where
+  module _ (short : length text ≤ MAX_SCRIPT) where
     pub by_lines : script_meaning text ≡ lines_meaning (significant_lines text)
     unfolding script_meaning
-    by_lines = cond-false _ _ _ (le-ltb script_limit (length text) short)
+    by_lines = cond-false _ _ _ (le-ltb MAX_SCRIPT (length text) short)
 
     pub no_version : significant_lines text ≡ [] → script_meaning text ≡ Err (at_line 1 BadVersion)
     no_version lines = by_lines ∙ ap lines_meaning lines

@@ -5,6 +5,7 @@ use Rattle.std.specs.List.{enumerate_from, flat_map}
 use Rattle.std.proofs.lemmas.List.{flat_map_more, get_or_default, length-take-le, take_more}
 use Rattle.pmp_core.specs.declared.entry.Entry.{Entry}
 use Rattle.pmp_core.specs.declared.mseccfg.MseccfgFields.{MseccfgFields}
+use Rattle.pmp_core.specs.declared.access.TheConstants.{ADDRESS_LIMIT}
 use Rattle.pmp_core.specs.Decision.{IsOwner}
 use Rattle.pmp_core.specs.Mseccfg.{mseccfg_fields, mseccfg_value}
 use Rattle.pmp_core.specs.RegisterFile.{RegisterFile}
@@ -54,16 +55,16 @@ bits_of_value bits mseccfg is = ap mseccfg_fields is ∙ by_bits mseccfg.mml mse
 -- a run isn't empty, and ends in memory
 module _ (entries : List Entry) (runs : List Run) (are : AreRuns entries runs) (k : ℕ) (inside : k < length runs)
     (none : Run) where
-  same_run : run_at (2 ^ 56) runs k ≡ get_or runs k none
+  same_run : run_at ADDRESS_LIMIT runs k ≡ get_or runs k none
   same_run = get_or_default runs k _ none inside
 
   pub is_proper : (get_or runs k none).first ≤ (get_or runs k none).last
   is_proper = rw same_run at (are.proper k inside)
 
-  pub ends_in_memory : (get_or runs k none).last < 2 ^ 56
+  pub ends_in_memory : (get_or runs k none).last < ADDRESS_LIMIT
   ends_in_memory =
-      let last : (run_at (2 ^ 56) runs k).last < 2 ^ 56 =
-      omega (arith, are.gapless k inside, start_most (2 ^ 56) (IsOwner entries) runs are (k + 1)) in
+      let last : (run_at ADDRESS_LIMIT runs k).last < ADDRESS_LIMIT =
+      omega (arith, are.gapless k inside, start_most ADDRESS_LIMIT (IsOwner entries) runs are (k + 1)) in
       rw same_run at last
 
 -- a band more

@@ -8,7 +8,7 @@ use Rattle.pmp_text.specs.declared.trace.TraceKind.TheVariants.{BadHeader, TooLo
 use Rattle.pmp_text.specs.declared.trace.TraceFault.{TraceFault}
 use Rattle.pmp_text.specs.Traces.{at_row, first_row_fault, is_header, records_meaning, row_of_record}
 use Rattle.pmp_text.specs.Traces.{fault_or_rows, rows_meaning, trace_meaning, trace_records}
-use Rattle.pmp_text.specs.Limits.{trace_limit}
+use Rattle.pmp_text.specs.declared.trace.reader.TheConstants.{MAX_TRACE}
 
 -- what is meant where so many rows were read, which say this, the last one `last`, and these records are left
 abbrev pub with_rows_read : (publications : ℕ) → (last : Option ℕ) → (count : ℕ) → List RowFields → List (List (List ℕ))
@@ -19,14 +19,14 @@ with_rows_read publications last count rows left =
 -- ---- from the header on
 
 module _ (publications : ℕ) (text : List ℕ) where
-  pub long_trace : trace_limit < length text → trace_meaning publications text ≡ Err (at_row 0 TooLong)
+  pub long_trace : MAX_TRACE < length text → trace_meaning publications text ≡ Err (at_row 0 TooLong)
   unfolding trace_meaning
-  long_trace long = cond-true _ _ _ (lt-ltb trace_limit (length text) long)
+  long_trace long = cond-true _ _ _ (lt-ltb MAX_TRACE (length text) long)
 
-  pub by_records : length text ≤ trace_limit
+  pub by_records : length text ≤ MAX_TRACE
       → trace_meaning publications text ≡ records_meaning publications (trace_records text)
   unfolding trace_meaning
-  by_records short = cond-false _ _ _ (le-ltb trace_limit (length text) short)
+  by_records short = cond-false _ _ _ (le-ltb MAX_TRACE (length text) short)
 
 module _ (publications : ℕ) (records : List (List (List ℕ))) where
   pub no_record : records ≡ [] → records_meaning publications records ≡ Err (at_row 0 BadHeader)

@@ -16,7 +16,7 @@ use Rattle.pmp_text.specs.declared.script.ScriptFault.{ScriptFault}
 use Rattle.pmp_text.specs.declared.script.ScriptKind.TheVariants.{BadVersion, TooLong}
 use Rattle.pmp_text.specs.declared.trace.Row.{Row}
 use Rattle.pmp_text.specs.Contents.{Publications, ScriptContents}
-use Rattle.pmp_text.specs.Limits.{script_limit}
+use Rattle.pmp_text.specs.declared.script.reader.TheConstants.{MAX_SCRIPT}
 use Rattle.pmp_text.specs.Lines.{words, lines}
 use Rattle.pmp_text.specs.Reports.{AreDecided, IsReport}
 use Rattle.pmp_text.specs.Scripts.{Line, at_line, counts, numbered_from, significant_from, significant_lines}
@@ -70,7 +70,7 @@ as_in_one : (text : List ℕ) → lines_meaning (significant_lines text)
     ≡ for_unit Sixteen (lines_meaning_in_one (significant_lines text))
     → script_meaning text ≡ for_unit Sixteen (meaning_in_one text)
 unfolding script_meaning
-as_in_one text same = by_length (ltb script_limit (length text)) (significant_lines text) same
+as_in_one text same = by_length (ltb MAX_SCRIPT (length text)) (significant_lines text) same
 
 module _ (batches : List (List Event)) (lines : List (List ℕ)) (trace text : List ℕ) where
   abbrev in_sixteen : ScriptContents
@@ -153,9 +153,9 @@ unfolding significant_from
 lines_behind text ls e = ap (significant 1) e
 
 -- a script that has a meaning isn't too long
-short_script : (text : List ℕ) (script : ScriptContents) → script_meaning text ≡ Ok script → length text ≤ script_limit
+short_script : (text : List ℕ) (script : ScriptContents) → script_meaning text ≡ Ok script → length text ≤ MAX_SCRIPT
 short_script text script e =
-    elim (cases_lt script_limit (length text)) [
+    elim (cases_lt MAX_SCRIPT (length text)) [
       | inl long ↦ let refused = sym e ∙ long_script text long in absurd cc
       | inr short ↦ short
     ]
@@ -165,7 +165,7 @@ module _ (one two : List ℕ) (script : ScriptContents) (same : IsSameInTwo one 
   behind : StandsBehind 1 same.before same.after
   behind = stands_behind 1 same.before same.after same.insignificant
 
-  short : length one ≤ script_limit
+  short : length one ≤ MAX_SCRIPT
   short = short_script one script means
 
   in_one : script_meaning one ≡ for_unit Sixteen (resumed nothing_read behind.more)

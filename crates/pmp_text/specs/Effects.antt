@@ -5,8 +5,9 @@ use Rattle.pmp_core.specs.declared.csr.Csr.{Csr}
 use Rattle.pmp_core.specs.declared.event.Event.{Event}
 use Rattle.pmp_core.specs.declared.event.Event.TheVariants.{Write, Reset}
 use Rattle.pmp_core.specs.declared.write_reasons.WriteReason.{WriteReason}
-use Rattle.pmp_core.specs.declared.write_reasons.WriteReason.TheVariants.{Absent, Bits, Locked, Tor, Reserved, Lockdown}
+use Rattle.pmp_core.specs.declared.write_reasons.WriteReason.TheVariants.{Absent, Bits, Frozen, Tor, Reserved, Lockdown}
 use Rattle.pmp_core.specs.declared.write_reasons.WriteReason.TheVariants.{Sticky, Bypass}
+use Rattle.pmp_text.specs.declared.lines.hexadecimal.TheConstants.{VALUE_DIGITS}
 use Rattle.pmp_core.specs.RegisterFile.{RegisterFile}
 use Rattle.pmp_core.specs.RegisterValue.{register_value}
 use Rattle.pmp_core.specs.RegisterWrite.{written}
@@ -19,12 +20,12 @@ use Rattle.pmp_text.specs.Reports.{fields_after}
 -- what the register reads after the write, beside what was written and what it read before
 abbrev pub effect_text : (value before after : ℕ) → List ℕ
 effect_text value before after =
-    if after == value then codes "stored" else (if after == before then codes "kept" else codes "part")
+    if after == value then codes "stored" else (if after == before then codes "ignored" else codes "altered")
 
 abbrev pub reason_text : WriteReason → List ℕ
 reason_text Absent = codes "absent"
 reason_text Bits = codes "bits"
-reason_text Locked = codes "locked"
+reason_text Frozen = codes "frozen"
 reason_text Tor = codes "tor"
 reason_text Reserved = codes "reserved"
 reason_text Lockdown = codes "lockdown"
@@ -33,7 +34,7 @@ reason_text Bypass = codes "bypass"
 
 -- `0x` and sixteen digits
 abbrev pub value_text : ℕ → List ℕ
-value_text value = codes "0x" ++ hex_text 16 value
+value_text value = codes "0x" ++ hex_text VALUE_DIGITS value
 
 -- the reasons why the register doesn't read the value, parted by one space
 abbrev pub reasons_text : RegisterFile → Csr → (value : ℕ) → List ℕ

@@ -6,8 +6,9 @@ use Rattle.pmp_core.specs.declared.access.Mode.TheVariants.{M, U}
 use Rattle.pmp_core.specs.declared.configuration.AddressMatching.{AddressMatching}
 use Rattle.pmp_core.specs.declared.configuration.AddressMatching.TheVariants.{Off, Tor, Na4, Napot}
 use Rattle.pmp_core.specs.declared.lock.Lock.{Lock}
-use Rattle.pmp_core.specs.declared.lock.Lock.TheVariants.{Open, Bypassed, Locked}
+use Rattle.pmp_core.specs.declared.lock.Lock.TheVariants.{Open, Bypassed, Frozen}
 use Rattle.pmp_core.specs.declared.span.Span.{Span}
+use Rattle.pmp_text.specs.declared.lines.hexadecimal.TheConstants.{ADDRESS_DIGITS}
 use Rattle.pmp_core.specs.RegisterFile.{RegisterFile, entry_at}
 use Rattle.pmp_core.specs.Rights.{rights}
 use Rattle.pmp_core.specs.Lock.{lock_of}
@@ -28,24 +29,24 @@ matching_text Napot = codes "napot"
 -- the first and the last byte in fourteen digits, or two dashes
 abbrev pub span_text : Option Span → List ℕ
 span_text None = codes "-,-"
-span_text (Some span) = hex_text 14 span.first ++ (codes "," ++ hex_text 14 span.last)
+span_text (Some span) = hex_text ADDRESS_DIGITS span.first ++ (codes "," ++ hex_text ADDRESS_DIGITS span.last)
 
 abbrev pub lock_text : Lock → List ℕ
 lock_text Open = codes "-"
 lock_text Bypassed = codes "bypassed"
-lock_text Locked = codes "locked"
+lock_text Frozen = codes "frozen"
 
 -- whether the address register takes no write
 abbrev pub address_text : Bool → List ℕ
-address_text is_locked = if is_locked then codes "locked" else codes "-"
+address_text is_frozen = if is_frozen then codes "frozen" else codes "-"
 
 -- of an entry of which nothing is known
 abbrev pub no_since : Since
-no_since = record { locked = None; held = None }
+no_since = record { frozen = None; held = None }
 
 -- since when the entry is frozen, and since when it is held
 abbrev pub since_text : Since → List ℕ
-since_text since = optional_text since.locked ++ (codes "," ++ optional_text since.held)
+since_text since = optional_text since.frozen ++ (codes "," ++ optional_text since.held)
 
 -- entry i: how it matches, its bytes, the rights of machine mode and of the other modes, its locks, and since when
 unfoldable pub entry_row : RegisterFile → ℕ → Option Span → Since → List ℕ

@@ -3,7 +3,7 @@ use Rattle.std.specs.Prelude.{◌≡◌, ℕ, ◌<◌, ◌≤◌, List, [], leng
 use Rattle.std.specs.Prelude.{option_map, option_and_then, slice_get}
 use Rattle.pmp_text.specs.declared.script.ScriptFault.{ScriptFault}
 use Rattle.pmp_text.specs.Scripts.{Line, at_line, line_fault, first_fault, significant_lines, script_meaning}
-use Rattle.pmp_text.specs.Limits.{script_limit}
+use Rattle.pmp_text.specs.declared.script.reader.TheConstants.{MAX_SCRIPT}
 
 -- the fault of the significant line with this index, by the lines before it
 abbrev pub fault_at : List Line → (index : ℕ) → Option ScriptFault
@@ -24,5 +24,5 @@ FirstFaultLaw = (lines : List Line)
 
 -- a text that isn't too long is refused with the fault of its least faulty line, where it has one
 abbrev pub LeastFaultLaw : Type 0
-LeastFaultLaw = (text : List ℕ) → (fault : ScriptFault) → length text ≤ script_limit
+LeastFaultLaw = (text : List ℕ) → (fault : ScriptFault) → length text ≤ MAX_SCRIPT
     → IsLeastFault (fault_at (significant_lines text)) fault → script_meaning text ≡ Err fault

@@ -7,7 +7,6 @@ pub mod Effects
 pub mod EntryRows
 pub mod Hexadecimal
 pub mod Inputs
-pub mod Limits
 pub mod Lines
 pub mod Names
 pub mod Numbers

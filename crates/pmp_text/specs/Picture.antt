@@ -8,7 +8,8 @@ use Rattle.pmp_core.specs.RegisterFile.{RegisterFile, is_frozen, is_held}
 use Rattle.pmp_map.specs.declared.run.Run.{Run}
 use Rattle.pmp_map.specs.Answers.{owned_rights}
 use Rattle.pmp_map.specs.Runs.{AreRuns}
-use Rattle.pmp_text.specs.declared.lines.picture.TheConstants.{FOOT, HELD, LEGEND, LOCKED, STYLE}
+use Rattle.pmp_text.specs.declared.lines.hexadecimal.TheConstants.{ADDRESS_DIGITS}
+use Rattle.pmp_text.specs.declared.lines.picture.TheConstants.{BAND, FOOT, HELD, LEGEND, FROZEN, STYLE}
 use Rattle.pmp_text.specs.Hexadecimal.{hex_text}
 use Rattle.pmp_text.specs.RunLines.{rights_text}
 
@@ -31,14 +32,14 @@ owner_name (Some entry) = codes "entry " ++ decimal entry
 -- the strip in this place, in the colour of these rights
 abbrev pub strip : (place : ℕ) → (rights : List ℕ) → List ℕ
 strip place rights =
-    codes "<g class='su" ++ (rights ++ (codes "' transform='translate(0," ++ (decimal (24 * place)
-    ++ codes ")'><rect y='-17' width='928' height='24'/>")))
+    codes "<g class='su" ++ (rights ++ (codes "' transform='translate(0," ++ (decimal (BAND * place)
+    ++ (codes ")'><rect y='-17' width='928' height='" ++ (decimal BAND ++ codes "'/>")))))
 
--- the first and the last byte, in fourteen digits
+-- the first and the last byte
 abbrev pub ends : (first last : ℕ) → List ℕ
 ends first last =
-    codes "<text x='8'>0x" ++ (hex_text 14 first ++ (codes "</text><text x='148'>0x" ++ (hex_text 14 last
-    ++ codes "</text>")))
+    codes "<text x='8'>0x" ++ (hex_text ADDRESS_DIGITS first ++ (codes "</text><text x='148'>0x"
+    ++ (hex_text ADDRESS_DIGITS last ++ codes "</text>")))
 
 -- the size and the owner
 abbrev pub extent : (bytes : ℕ) → Option ℕ → List ℕ
@@ -55,7 +56,7 @@ permissions machine others =
 abbrev pub lock_sign : RegisterFile → Option ℕ → List ℕ
 lock_sign file None = []
 lock_sign file (Some entry) =
-    if is_held file entry then HELD.now else (if is_frozen file entry then LOCKED.now else [])
+    if is_held file entry then HELD.now else (if is_frozen file entry then FROZEN.now else [])
 
 -- a band of these rights and with this sign
 abbrev pub drawn_band : (place : ℕ) → Run → (machine others sign : List ℕ) → List ℕ
@@ -71,10 +72,10 @@ band file place run =
 
 -- ---- the document
 
--- for so many bands of 24 units
+-- for so many bands
 abbrev pub opening : (bands : ℕ) → List ℕ
 opening bands =
-    let height = decimal (24 * bands + 176) in
+    let height = decimal (BAND * bands + 176) in
     codes "<svg xmlns='http://www.w3.org/2000/svg' width='960' height='" ++ (height
     ++ (codes "' viewBox='0 0 960 " ++ (height ++ (codes "'>" ++ 10 ∷ []))))
 

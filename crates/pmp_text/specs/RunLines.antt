@@ -2,6 +2,7 @@
 use Rattle.std.specs.Prelude.{◌≡◌, ℕ, Bool, List, [], ◌∷◌, ◌++◌, Option, Some, None, if◌then◌else◌, codes, decimal}
 use Rattle.std.specs.List.{flat_map}
 use Rattle.pmp_core.specs.declared.access.Mode.TheVariants.{M, U}
+use Rattle.pmp_text.specs.declared.lines.hexadecimal.TheConstants.{ADDRESS_DIGITS}
 use Rattle.pmp_core.specs.RegisterFile.{RegisterFile}
 use Rattle.pmp_core.specs.Rights.{Rights}
 use Rattle.pmp_map.specs.declared.run.Run.{Run}
@@ -26,8 +27,9 @@ owner_text (Some entry) = decimal entry
 -- the first and the last byte in fourteen digits, the owner, and the rights of machine mode and of the other modes
 unfoldable pub run_line : RegisterFile → Run → List ℕ
 run_line file run =
-    hex_text 14 run.first
-    ++ fields_after (hex_text 14 run.last ∷ owner_text run.owner ∷ rights_text (owned_rights file run.owner M)
+    hex_text ADDRESS_DIGITS run.first
+    ++ fields_after (hex_text ADDRESS_DIGITS run.last ∷ owner_text run.owner
+    ∷ rights_text (owned_rights file run.owner M)
     ∷ rights_text (owned_rights file run.owner U) ∷ [])
 
 -- a line for each of the file's runs, of which there is one list

@@ -16,7 +16,7 @@ use Rattle.pmp_text.specs.declared.script.statement.Statement.TheVariants as sta
 use Rattle.pmp_text.specs.Lines.{words, lines}
 use Rattle.pmp_text.specs.Statements.{statement_of}
 use Rattle.pmp_text.specs.Contents.{Publications, ScriptContents}
-use Rattle.pmp_text.specs.Limits.{script_limit}
+use Rattle.pmp_text.specs.declared.script.reader.TheConstants.{MAX_SCRIPT}
 
 -- a line with its number in the text
 pub record Line : Type 0 where
@@ -161,4 +161,4 @@ lines_meaning (version ∷ more) = meaning_behind version more (size_named versi
 -- what a text means; one of more bytes than the limit is too long, whatever it says
 unfoldable pub script_meaning : List ℕ → Result ScriptContents ScriptFault
 script_meaning text =
-    if nat_lt script_limit (length text) then Err (at_line 0 TooLong) else lines_meaning (significant_lines text)
+    if nat_lt MAX_SCRIPT (length text) then Err (at_line 0 TooLong) else lines_meaning (significant_lines text)

@@ -16,7 +16,7 @@ use Rattle.pmp_text.specs.declared.trace.TraceKind.TheVariants.{TooLong}
 use Rattle.pmp_text.specs.declared.trace.TraceFault.{TraceFault}
 use Rattle.pmp_text.specs.AccessWords.{mode_named, kind_named}
 use Rattle.pmp_text.specs.Numbers.{word_number}
-use Rattle.pmp_text.specs.Limits.{trace_limit}
+use Rattle.pmp_text.specs.declared.trace.reader.TheConstants.{MAX_TRACE}
 
 -- the records of a text, each a list of fields, as the crate `csv` reads them with its defaults: no byte-order mark
 -- is part of the first one
@@ -131,5 +131,5 @@ records_meaning publications (header ∷ rows) =
 -- it says
 unfoldable pub trace_meaning : (publications : ℕ) → List ℕ → Result (List RowFields) TraceFault
 trace_meaning publications text =
-    if nat_lt trace_limit (length text) then Err (at_row 0 TooLong)
+    if nat_lt MAX_TRACE (length text) then Err (at_row 0 TooLong)
     else records_meaning publications (trace_records text)

@@ -13,7 +13,7 @@ use Rattle.pmp_text.specs.declared.script.ScriptFault.{ScriptFault}
 use Rattle.pmp_text.specs.declared.script.ScriptKind.TheVariants.{BadVersion, TooLong}
 use Rattle.pmp_text.specs.declared.trace.Row.{Row}
 use Rattle.pmp_text.specs.Contents.{Publications, ScriptContents}
-use Rattle.pmp_text.specs.Limits.{script_limit}
+use Rattle.pmp_text.specs.declared.script.reader.TheConstants.{MAX_SCRIPT}
 use Rattle.pmp_text.specs.Lines.{words, lines}
 use Rattle.pmp_text.specs.Reports.{IsReport, file_of_script, report_text}
 use Rattle.pmp_text.specs.Scripts.{Line, at_line, counts, significant_lines, first_fault, first_unpublished}
@@ -39,7 +39,7 @@ lines_meaning_in_one (version ∷ more) =
 -- what a text means where version 1 is the only one
 abbrev pub meaning_in_one : List ℕ → Result Publications ScriptFault
 meaning_in_one text =
-    if nat_lt script_limit (length text) then Err (at_line 0 TooLong)
+    if nat_lt MAX_SCRIPT (length text) then Err (at_line 0 TooLong)
     else lines_meaning_in_one (significant_lines text)
 
 -- the first significant line of the text has the words `pmp` and `1`

@@ -4,7 +4,8 @@ ghost use Rattle.std.specs.Prelude.{◌≡◌, ◌≢◌, ◌+◌, ◌<◌, ◌�
 ghost use Rattle.std.specs.Io.KnownBytes.{Consumes, IsAtEnd, Keeps};
 ghost use Rattle.pmp_text.specs.Bytes.{Takes};
 ghost use Rattle.pmp_text.specs.Inputs.{IsReadWhole};
-ghost use Rattle.pmp_text.specs.Limits.{script_limit, trace_limit};
+ghost use Rattle.pmp_text.specs.declared.script.reader.TheConstants.{MAX_SCRIPT};
+ghost use Rattle.pmp_text.specs.declared.trace.reader.TheConstants.{MAX_TRACE};
 ghost use Rattle.pmp_text.specs.declared.input.InputFault.TheVariants.{Input, Memory};
 
 use crate::script::MAX_SCRIPT;
@@ -41,7 +42,7 @@ impl From<io::Error> for InputFault {
 }
 
 /// The largest limit that `read_bytes` keeps.
-pub const MAX_LIMIT: u64 = 1 << 24;
+pub const MAX_LIMIT: u64 = MAX_TRACE as u64;
 
 /// The most bytes that one read asks for.
 const CHUNK: usize = 8 * 1024;
@@ -92,14 +93,14 @@ fn read_part<R: Read>(reader: &mut R, chunk: &mut [u8], room: u64) -> Result<usi
 
 /// All bytes of a script, as `read_bytes` reads them.
 pub fn read_script_bytes<R: Read>(alloc: Global, reader: &mut R) -> Result<Vec<u8>, InputFault>
-    ensures { IsReadWhole script_limit (R.remaining reader.old) (R.remaining reader.new) result }
+    ensures { IsReadWhole MAX_SCRIPT (R.remaining reader.old) (R.remaining reader.new) result }
 {
     read_bytes(alloc, reader, MAX_SCRIPT as u64)
 }
 
 /// All bytes of a trace, as `read_bytes` reads them.
 pub fn read_trace_bytes<R: Read>(alloc: Global, reader: &mut R) -> Result<Vec<u8>, InputFault>
-    ensures { IsReadWhole trace_limit (R.remaining reader.old) (R.remaining reader.new) result }
+    ensures { IsReadWhole MAX_TRACE (R.remaining reader.old) (R.remaining reader.new) result }
 {
     read_bytes(alloc, reader, MAX_TRACE as u64)
 }

@@ -10,13 +10,13 @@ use Rattle.pmp_core.specs.declared.access.Mode.{Mode}
 use Rattle.pmp_core.specs.Access.{access_fault}
 use Rattle.pmp_text.specs.AccessWords.{kind_named, mode_named}
 use Rattle.pmp_text.specs.Numbers.{word_number}
+use Rattle.pmp_audit.specs.declared.view.View.{View}
+use Rattle.pmp_audit.specs.declared.view.View.TheVariants.{Registers, Runs, Picture, Entries}
 use Rattle.pmp_tool.specs.declared.command.Command.{Command}
 use Rattle.pmp_tool.specs.declared.command.CommandName.{CommandName}
 use Rattle.pmp_tool.specs.declared.command.CommandName.TheVariants as name
 use Rattle.pmp_tool.specs.declared.command.Request.{Request}
 use Rattle.pmp_tool.specs.declared.command.Request.TheVariants as request
-use Rattle.pmp_tool.specs.declared.command.View.{View}
-use Rattle.pmp_tool.specs.declared.command.View.TheVariants.{Registers, Runs, Picture, Entries}
 use Rattle.pmp_tool.specs.declared.refusal.Refusal.{Refusal}
 use Rattle.pmp_tool.specs.declared.refusal.Refusal.TheVariants.{BadWord}
 use Rattle.pmp_tool.specs.Checkers.{checkers_given}

@@ -3,28 +3,16 @@ use Rattle.std.specs.Prelude.{ℕ, List, Option, Some, None}
 use Rattle.pmp_audit.specs.declared.fault.AuditFault.{AuditFault}
 use Rattle.pmp_audit.specs.AccessCheck.{CheckSays}
 use Rattle.pmp_audit.specs.AskedFile.{FileRefuses}
-use Rattle.pmp_audit.specs.EntryList.{EntriesSay}
-use Rattle.pmp_audit.specs.Map.{MapSays}
-use Rattle.pmp_audit.specs.Picture.{PictureSays}
-use Rattle.pmp_audit.specs.RegisterDump.{DumpSays}
 use Rattle.pmp_audit.specs.SharedAudit.{SharedAuditRefuses}
 use Rattle.pmp_audit.specs.TraceAudit.{AuditRefuses, AuditSays}
+use Rattle.pmp_audit.specs.View.{ViewSays}
 use Rattle.pmp_audit.specs.WriteList.{WritesRefuse, WritesSay}
 use Rattle.pmp_tool.specs.declared.checkers.Checkers.{Checkers}
 use Rattle.pmp_tool.specs.declared.command.Request.{Request}
 use Rattle.pmp_tool.specs.declared.command.Request.TheVariants.{Check, Audit, Show, Writes}
-use Rattle.pmp_tool.specs.declared.command.View.{View}
-use Rattle.pmp_tool.specs.declared.command.View.TheVariants.{Registers, Runs, Picture, Entries}
 use Rattle.pmp_tool.specs.declared.run.Outcome.{Outcome}
 use Rattle.pmp_tool.specs.declared.run.Outcome.TheVariants.{Decided, Audited, Listed, Replayed}
 use Rattle.pmp_tool.specs.Inputs.{AreBytesOf, Inputs}
-
--- which text shows this of the file that is asked for
-abbrev pub ViewSays : View → (script : List ℕ) → (after : Option ℕ) → Unit {0} → (text : List ℕ) → Type 0
-ViewSays Registers = DumpSays
-ViewSays Runs = MapSays
-ViewSays Picture = PictureSays
-ViewSays Entries = EntriesSay
 
 -- which text goes with which outcome of a request of this script
 abbrev pub RequestSays : (traces : Inputs) (script : List ℕ) → Request → Outcome → (text : List ℕ) → Type 0

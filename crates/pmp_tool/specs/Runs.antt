@@ -6,7 +6,8 @@ use Rattle.clap.specs.Words.{Text}
 use Rattle.clap.specs.declared.error.Error.{Error}
 use Rattle.pmp_text.specs.declared.input.InputFault.{InputFault}
 use Rattle.pmp_text.specs.Bytes.{AppendsBeginning}
-use Rattle.pmp_text.specs.Limits.{script_limit, trace_limit}
+use Rattle.pmp_text.specs.declared.script.reader.TheConstants.{MAX_SCRIPT}
+use Rattle.pmp_text.specs.declared.trace.reader.TheConstants.{MAX_TRACE}
 use Rattle.pmp_audit.specs.declared.fault.AuditFault.{AuditFault}
 use Rattle.pmp_audit.specs.Answers.{IsRefused, IsWritten}
 use Rattle.pmp_tool.specs.declared.checkers.Checkers.{Checkers}
@@ -42,12 +43,12 @@ Answers words scripts traces before after outcome =
 pub data CommandFails (scripts traces : Inputs) (command : Command)
     (before after : Option (List ℕ)) : Failure → Type 0 where
   -- its script can't be read
-  no_script : (fault : InputFault) → CantBeRead script_limit (scripts command.script.now) fault → Keeps before after
+  no_script : (fault : InputFault) → CantBeRead MAX_SCRIPT (scripts command.script.now) fault → Keeps before after
       → CommandFails scripts traces command before after (refused (refusal_of_input fault))
   -- nor can the trace that it names
   no_trace : (trace : Bor (List ℕ)) (checkers : Option Checkers) (fault : InputFault)
       → command.request ≡ Audit trace checkers
-      → CantBeRead trace_limit (traces trace.now) fault → Keeps before after
+      → CantBeRead MAX_TRACE (traces trace.now) fault → Keeps before after
       → CommandFails scripts traces command before after (refused (refusal_of_input fault))
   -- what was read is refused, or memory or the output failed
   no_answer : (script : List ℕ) (fault : AuditFault) → AreBytesOf (scripts command.script.now) script

@@ -11,18 +11,9 @@ ghost use Rattle.pmp_tool.specs.Refusals.{result_map};
 use crate::checkers::{Checkers, read_checkers};
 use crate::refusal::Refusal;
 use clap::ArgMatches;
+use pmp_audit::View;
 use pmp_core::Access;
 use pmp_text::{read_kind, read_mode, read_word_number};
-
-/// What is shown of a register file.
-#[derive(Clone, Copy)]
-pub enum View {
-    Registers,
-    Runs,
-    /// The runs, as a picture.
-    Picture,
-    Entries,
-}
 
 /// What is asked for of a script.
 #[derive(Clone, Copy)]

@@ -134,7 +134,7 @@ A number is 1 to 20 decimal digits, or 0x and 1 to 16 hexadecimal digits.
 The document has a band for each line of pmp map, from byte 0 at the top to the
 last byte at the bottom, not to scale. A band shows the first and last byte, the
 size, the owner, what machine mode and what supervisor and user mode may do
-there, and a lock where the owner is locked. Its colour is by what supervisor
+there, and a lock where the owner is frozen. Its colour is by what supervisor
 and user mode may do. Above the bands stand how many publications are done, and
 whether lockdown, allow-list policy and rule-locking bypass are on.
 
@@ -160,13 +160,13 @@ ENTRY,MATCHING,FIRST,LAST,MRIGHTS,SURIGHTS,LOCK,ADDRESS,SINCE,HOLDS.
               hexadecimal digits, or - and - where it matches none
   MRIGHTS     what machine mode may do where it decides: r, w and x, or -
   SURIGHTS    the same for supervisor and user mode
-  LOCK        locked where its lock bit is set and rule-locking bypass is off;
+  LOCK        frozen where its lock bit is set and rule-locking bypass is off;
               bypassed where both are on; else -
-  ADDRESS     locked where its address register takes no write; else -
-  SINCE       where LOCK is locked, the least number of publications after which
+  ADDRESS     frozen where its address register takes no write; else -
+  SINCE       where LOCK is frozen, the least number of publications after which
               it was, with no reset behind them
   HOLDS       the same for it and all entries before it
-A locked entry keeps its configuration and its bytes through every later list of
+A frozen entry keeps its configuration and its bytes through every later list of
 writes, until a reset. Where it HOLDS, what it refuses stays refused; else an
 entry before it may still take its bytes.
 
@@ -177,7 +177,7 @@ Exit status:
 
 Example:
   printf 'pmp 1\\nwrite pmpcfg0 0x98\\npublish\\n' | pmp entries stdin
-  It answers 0,napot,00000000000000,00000000000007,---,---,locked,locked,1,1
+  It answers 0,napot,00000000000000,00000000000007,---,---,frozen,frozen,1,1
 
 docs/FORMATS.md describes scripts, the entry lines, and every refusal with its
 number.";
@@ -188,19 +188,19 @@ N,PUBLICATION,LINE,REGISTER,WRITTEN,BEFORE,AFTER,EFFECT,REASONS,ENTRIES.
   WRITTEN     the value that is written
   BEFORE      the value that the register reads before
   AFTER       the value that it reads after
-  EFFECT      stored, kept or part: AFTER is what was written, what was there
+  EFFECT      stored, ignored or altered: AFTER is what was written, what was there
               before, or neither
   REASONS     why AFTER isn't what was written:
     absent    it is not zero for an entry that the unit doesn't have
     bits      the register doesn't have these bits
-    locked    it would change a locked entry
-    tor       it would change the low end of a locked entry's range
+    frozen    it would change a frozen entry
+    tor       it would change the low end of a frozen entry's range
     reserved  it has W without R, without machine-mode lockdown
     lockdown  it would add a rule by which machine mode executes, under lockdown
               without rule-locking bypass
     sticky    it would clear lockdown or the allow-list policy
     bypass    it would set rule-locking bypass, and an entry is locked
-  ENTRIES     the entries for which locked, tor, reserved or lockdown holds
+  ENTRIES     the entries for which frozen, tor, reserved or lockdown holds
 A reset has the word reset for REGISTER and EFFECT.
 
 Exit status:
@@ -211,7 +211,7 @@ Exit status:
 
 Example:
   printf 'pmp 1\\nwrite mseccfg 8\\npublish\\n' | pmp writes stdin
-  It answers 1,1,2,mseccfg,0x0000000000000008,0x0000000000000000,0x0000000000000000,kept,bits,
+  It answers 1,1,2,mseccfg,0x0000000000000008,0x0000000000000000,0x0000000000000000,ignored,bits,
 
 docs/FORMATS.md describes scripts, the event rows, and every refusal with its
 number.";

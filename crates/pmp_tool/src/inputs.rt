@@ -1,7 +1,8 @@
 //! Where the program's inputs come from.
 
 ghost use Rattle.std.specs.Prelude.{◌≡◌, ℕ, ◌≤◌, List, length, Option, None, IfOk, IfErr};
-ghost use Rattle.pmp_text.specs.Limits.{script_limit, trace_limit};
+ghost use Rattle.pmp_text.specs.declared.script.reader.TheConstants.{MAX_SCRIPT};
+ghost use Rattle.pmp_text.specs.declared.trace.reader.TheConstants.{MAX_TRACE};
 ghost use Rattle.pmp_tool.specs.Inputs.{AreBytesOf, CantBeRead};
 
 use pmp_text::{InputFault, read_script_bytes, read_trace_bytes};
@@ -19,13 +20,13 @@ pub trait Inputs {
     /// The bytes of the script at this path.
     fn script(&mut self, path: &str) -> Result<Vec<u8>, InputFault>
         ensures read { IfOk result (λ bytes. AreBytesOf (scripts self.old path.now) bytes.items) }
-        ensures unread { IfErr result (CantBeRead script_limit (scripts self.old path.now)) }
+        ensures unread { IfErr result (CantBeRead MAX_SCRIPT (scripts self.old path.now)) }
         ensures traces { traces self.new ≡ traces self.old };
 
     /// The bytes of the trace at this path.
     fn trace(&mut self, path: &str) -> Result<Vec<u8>, InputFault>
         ensures read { IfOk result (λ bytes. AreBytesOf (traces self.old path.now) bytes.items) }
-        ensures unread { IfErr result (CantBeRead trace_limit (traces self.old path.now)) };
+        ensures unread { IfErr result (CantBeRead MAX_TRACE (traces self.old path.now)) };
 }
 
 /// The files of the system. `stdin` as a script's path means standard input.
@@ -55,7 +56,7 @@ fn read_script_at<R: Files + Input + AllocGlobal>(
     runtime: &R,
     path: &str,
 ) -> Result<Vec<u8>, InputFault>
-    ensures { IfOk result (λ bytes. length bytes.items ≤ script_limit) }
+    ensures { IfOk result (λ bytes. length bytes.items ≤ MAX_SCRIPT) }
 {
     match path {
         "stdin" => read_script_bytes(runtime.alloc(), &mut runtime.reader()),
@@ -65,7 +66,7 @@ fn read_script_at<R: Files + Input + AllocGlobal>(
 
 /// The bytes of the trace at the path.
 fn read_trace_at<R: Files + AllocGlobal>(runtime: &R, path: &str) -> Result<Vec<u8>, InputFault>
-    ensures { IfOk result (λ bytes. length bytes.items ≤ trace_limit) }
+    ensures { IfOk result (λ bytes. length bytes.items ≤ MAX_TRACE) }
 {
     read_trace_bytes(runtime.alloc(), &mut fs::open(runtime, path)?)
 }

@@ -3,23 +3,21 @@
 ghost use Rattle.std.specs.Prelude.{◌≡◌, ℕ, ◌≤◌, List, map, IfOk, IfErr, string_bytes};
 ghost use Rattle.std.specs.Io.KnownBytes.{Appends, Keeps};
 ghost use Rattle.pmp_audit.specs.Answers.{IsRefused, IsWritten};
-ghost use Rattle.pmp_audit.specs.AskedFile.{FileRefuses};
 ghost use Rattle.pmp_audit.specs.TraceAudit.{AuditSays};
 ghost use Rattle.pmp_tool.specs.Failures.{Tells, failure_status};
-ghost use Rattle.pmp_tool.specs.Requests.{AuditByRefuses, ViewSays};
+ghost use Rattle.pmp_tool.specs.Requests.{AuditByRefuses};
 ghost use Rattle.pmp_tool.specs.Runs.{Answers, CommandAnswers, CommandFails, Fails, TextFails, outcome_status};
 ghost use Rattle.pmp_tool.specs.declared.failure.Failure.{Failure};
 ghost use Rattle.pmp_tool.specs.declared.run.Outcome.{Outcome};
 ghost use Rattle.pmp_tool.specs.declared.run.Outcome.TheVariants.{Told};
 
 use crate::checkers::Checkers;
-use crate::command::{Command, Request, View, read_command};
+use crate::command::{Command, Request, read_command};
 use crate::command_line::parse_words;
 use crate::failure::Failure;
 use crate::inputs::Inputs;
 use pmp_audit::{
-    AuditFault, OpenGate, Summary, WriteSummary, audit, audit_shared, check, dump, entries_of,
-    map_of, picture_of, writes,
+    AuditFault, OpenGate, Summary, WriteSummary, audit, audit_shared, check, show, writes,
 };
 use pmp_core::Decision;
 use pmp_text::write_out;
@@ -139,28 +137,6 @@ fn answer<R: Threads + Wait + Sync, I: Inputs, O: Write>(
             let summary = writes(alloc, &script, out)?;
             Ok(Outcome::Replayed(summary))
         }
-    }
-}
-
-/// Shows this of the register file after so many publications, or after all.
-fn show<O: Write>(
-    alloc: Global,
-    view: View,
-    script: &[u8],
-    after: Option<u64>,
-    out: &mut O,
-) -> Result<(), AuditFault>
-    ensures ok { IfOk result
-        (IsWritten (ViewSays view script.now after) (O.contents out.old) (O.contents out.new)) }
-    ensures err { IfErr result
-        (IsRefused (ViewSays view script.now after) (O.contents out.old) (O.contents out.new)
-        (FileRefuses script.now after)) }
-{
-    match view {
-        View::Registers => dump(alloc, script, after, out),
-        View::Runs => map_of(alloc, script, after, out),
-        View::Picture => picture_of(alloc, script, after, out),
-        View::Entries => entries_of(alloc, script, after, out),
     }
 }
 

@@ -9,7 +9,7 @@ ghost use Rattle.pmp_text.specs.Effects.{event_fields, place_text, effect_row};
 ghost use Rattle.pmp_text.specs.Names.{register_name};
 ghost use Rattle.pmp_text.specs.Reports.{fields_after};
 
-use crate::lines::hexadecimal::Hex;
+use crate::lines::hexadecimal::{Hex, VALUE_DIGITS};
 use crate::lines::{NoMemory, append_line};
 use crate::names::RegisterName;
 use pmp_core::{Csr, Event, RegFile, WriteReason};
@@ -31,9 +31,9 @@ fn effect_word(value: u64, before: u64, after: u64) -> &'static str
     if after == value {
         "stored"
     } else if after == before {
-        "kept"
+        "ignored"
     } else {
-        "part"
+        "altered"
     }
 }
 
@@ -43,7 +43,7 @@ fn reason_word(reason: WriteReason) -> &'static str
     match reason {
         WriteReason::Absent => "absent",
         WriteReason::Bits => "bits",
-        WriteReason::Locked => "locked",
+        WriteReason::Frozen => "frozen",
         WriteReason::Tor => "tor",
         WriteReason::Reserved => "reserved",
         WriteReason::Lockdown => "lockdown",
@@ -66,7 +66,7 @@ fn write_value(out: &mut Vec<u8>, csr: Csr, value: u64) -> Result<(), NoMemory>
     ensures err { OnErr result (out.new.items ≡ out.old.items) }
 {
     let name = RegisterName(csr);
-    let value = Hex::<16>::new(value);
+    let value = Hex::<VALUE_DIGITS>::new(value);
     append_line(out, format_args!(",{name},0x{value}"))
 }
 
@@ -83,8 +83,8 @@ fn write_reading(out: &mut Vec<u8>, file: &RegFile, csr: Csr, value: u64) -> Res
     next.step(Event::Write(csr, value));
     let after = next.read(csr);
     let effect = effect_word(value, before, after);
-    let before = Hex::<16>::new(before);
-    let after = Hex::<16>::new(after);
+    let before = Hex::<VALUE_DIGITS>::new(before);
+    let after = Hex::<VALUE_DIGITS>::new(after);
     append_line(out, format_args!(",0x{before},0x{after},{effect}"))
 }
 
@@ -194,9 +194,9 @@ fn write_all(
 }
 
 /// Appends the row of an event that comes to this register file: `N,PUBLICATION,LINE,REGISTER,WRITTEN,BEFORE,AFTER,`
-/// `EFFECT,REASONS,ENTRIES` and LF. EFFECT is `stored` where the register then reads what was written, `kept` where it
-/// reads what it read before, and else `part`. A reset has `reset` for REGISTER and EFFECT, and nothing for what a
-/// write has besides.
+/// `EFFECT,REASONS,ENTRIES` and LF. EFFECT is `stored` where the register then reads what was written, `ignored` where
+/// it reads what it read before, and else `altered`. A reset has `reset` for REGISTER and EFFECT, and nothing for what
+/// a write has besides.
 pub fn write_effect(
     out: &mut Vec<u8>,
     place: &EventPlace,

@@ -6,7 +6,7 @@ ghost use Rattle.pmp_core.specs.Span.{IsSpan, span_of};
 ghost use Rattle.pmp_text.specs.EntryRows.{IsEntryText, address_text, entry_row, lock_text, matching_text, span_text};
 ghost use Rattle.pmp_text.specs.Steps.Marks.{perms_text};
 
-use crate::lines::hexadecimal::Hex;
+use crate::lines::hexadecimal::{ADDRESS_DIGITS, Hex};
 use crate::lines::marks::Marks;
 use crate::lines::since::Since;
 use crate::lines::{NoMemory, append_line};
@@ -23,8 +23,8 @@ impl fmt::Display for Ends {
     fn fmt<W: fmt::Write>(&self, f: &mut fmt::Formatter<W>) -> fmt::Result {
         match self.0 {
             Some(span) => {
-                let first = Hex::<14>::new(span.first);
-                let last = Hex::<14>::new(span.last);
+                let first = Hex::<ADDRESS_DIGITS>::new(span.first);
+                let last = Hex::<ADDRESS_DIGITS>::new(span.last);
                 write!(f, "{first},{last}")
             }
             None => write!(f, "-,-"),
@@ -53,20 +53,20 @@ impl fmt::Display for Rule {
 #[derive(Clone, Copy)]
 struct Locks {
     entry: Lock,
-    is_address_locked: bool,
+    is_address_frozen: bool,
 }
 
 impl fmt::Display for Locks {
-    ghost output = { λ locks. Some (lock_text locks.entry ++ (codes "," ++ address_text locks.is_address_locked)) };
+    ghost output = { λ locks. Some (lock_text locks.entry ++ (codes "," ++ address_text locks.is_address_frozen)) };
 
     fn fmt<W: fmt::Write>(&self, f: &mut fmt::Formatter<W>) -> fmt::Result {
         let entry = match self.entry {
             Lock::Open => "-",
             Lock::Bypassed => "bypassed",
-            Lock::Locked => "locked",
+            Lock::Frozen => "frozen",
         };
-        let address = if self.is_address_locked {
-            "locked"
+        let address = if self.is_address_frozen {
+            "frozen"
         } else {
             "-"
         };
@@ -101,7 +101,7 @@ fn write_entry(out: &mut Vec<u8>, file: &RegFile, entry: u8, since: Since) -> Re
     };
     let locks = Locks {
         entry: file.lock(entry),
-        is_address_locked: file.is_address_locked(entry),
+        is_address_frozen: file.is_address_frozen(entry),
     };
     append_line(
         out,
@@ -125,8 +125,8 @@ fn write_all(out: &mut Vec<u8>, file: &RegFile, since: &[Since]) -> Result<(), N
 ///
 /// MATCHING says how the address register is read. FIRST and LAST are the ends of the bytes that the entry matches, in
 /// fourteen hexadecimal digits, or dashes. MRIGHTS and SURIGHTS are what its rule gives machine mode and the other two.
-/// LOCK is `locked` where writes leave the entry as it is, and `bypassed` where they would but for rule-locking bypass;
-/// ADDRESS is `locked` where they leave its address register as it is. SINCE and HOLDS are the numbers in `since`, if
+/// LOCK is `frozen` where writes leave the entry as it is, and `bypassed` where they would but for rule-locking bypass;
+/// ADDRESS is `frozen` where they leave its address register as it is. SINCE and HOLDS are the numbers in `since`, if
 /// any.
 pub fn write_entries(out: &mut Vec<u8>, file: &RegFile, since: &[Since]) -> Result<(), NoMemory>
     requires { length file.now.entries ≤ length since.now }

@@ -5,6 +5,12 @@ ghost use Rattle.pmp_text.specs.Hexadecimal.{hex_digit, hex_text};
 
 use std::fmt;
 
+/// How many hexadecimal digits a byte address has, which is one of 56 bits.
+pub const ADDRESS_DIGITS: usize = 14;
+
+/// How many a register's value has.
+pub const VALUE_DIGITS: usize = 16;
+
 fn hex_digit(digit: u8) -> char
     requires { digit < 16 }
     ensures { result ≡ hex_digit digit }

@@ -6,8 +6,9 @@ ghost use Rattle.pmp_map.specs.declared.run.TheConstants.{RUNS};
 ghost use Rattle.pmp_map.specs.Runs.{AreRuns, HasOwnersBelow};
 ghost use Rattle.pmp_text.specs.Picture.{IsPicture, band, bands, ends, extent, head, lock_sign, owner_name};
 ghost use Rattle.pmp_text.specs.Picture.{settings, size_text, switch_text, title};
+ghost use Rattle.pmp_core.specs.declared.access.TheConstants.{ADDRESS_LIMIT};
 
-use crate::lines::hexadecimal::Hex;
+use crate::lines::hexadecimal::{ADDRESS_DIGITS, Hex};
 use crate::lines::marks::Marks;
 use crate::lines::runs::run_rights;
 use crate::lines::{NoMemory, append_line};
@@ -19,7 +20,7 @@ use std::fmt;
 const STYLE: &str = "\
 <desc>One band for each run of bytes that have one owner, from byte 0 down to byte 2^56 - 1, not to scale. A band has
 the first and the last byte of its run, its size, its owner, what machine mode may do there, what supervisor and user
-mode may do there, and a lock where the owner is locked: a full one where all entries before it are locked too, so that
+mode may do there, and a lock where the owner is frozen: a full one where all entries before it are frozen too, so that
 what the owner decides holds until a reset, and else an empty one.</desc>
 <style>
 text{font-family:monospace;font-size:13px;fill:#111}
@@ -60,13 +61,16 @@ not to scale.</text>
 const HELD: &str = "<path d='M846-6h12v8h-12zM848-6v-3a4 4 0 0 1 8 0v3h-2v-3a2 2 0 0 0-4 0v3z'/>\
 <text x='864'>holds</text>";
 
-/// The sign of an owner that is locked while an entry before it isn't, an empty lock, and the word.
-const LOCKED: &str =
+/// The sign of an owner that is frozen while an entry before it isn't, an empty lock, and the word.
+const FROZEN: &str =
     "<path class='empty' d='M846-6h12v8h-12zM848-6v-3a4 4 0 0 1 8 0v3h-2v-3a2 2 0 0 0-4 0v3z'/>\
-<text x='864'>locked</text>";
+<text x='864'>frozen</text>";
 
 /// The end of the bands and of the document.
 const FOOT: &str = "</g>\n</svg>\n";
+
+/// How high a band is.
+pub const BAND: usize = 24;
 
 const KIB: u64 = 1 << 10;
 
@@ -152,7 +156,7 @@ fn lock_sign(file: &RegFile, owner: Option<u8>) -> &'static str
 {
     match owner {
         Some(entry) if file.is_held(entry) => HELD,
-        Some(entry) if file.is_locked(entry) => LOCKED,
+        Some(entry) if file.is_locked(entry) => FROZEN,
         _ => "",
     }
 }
@@ -213,7 +217,7 @@ fn write_head(
     requires { bands ≤ RUNS }
     ensures { OnOk result (out.new.items ≡ out.old.items ++ head file.now publications bands) }
 {
-    let height = 24 * bands + 176;
+    let height = BAND * bands + 176;
     let title = Title(publications);
     append_line(
         out,
@@ -234,12 +238,12 @@ fn write_head(
 /// Appends what a band says of its run: the first and the last byte, the size and the owner.
 fn write_extent(out: &mut Vec<u8>, run: &Run) -> Result<(), NoMemory>
     requires proper { run.now.first ≤ run.now.last }
-    requires inside { run.now.last < 2 ^ 56 }
+    requires inside { run.now.last < ADDRESS_LIMIT }
     ensures { OnOk result (out.new.items ≡ out.old.items ++ (ends run.now.first run.now.last
         ++ extent (run.now.last + 1 - run.now.first) run.now.owner)) }
 {
-    let first = Hex::<14>::new(run.first);
-    let last = Hex::<14>::new(run.last);
+    let first = Hex::<ADDRESS_DIGITS>::new(run.first);
+    let last = Hex::<ADDRESS_DIGITS>::new(run.last);
     let size = Size(run.last + 1 - run.first);
     let owner = OwnerName(run.owner);
     append_line(
@@ -256,17 +260,17 @@ fn write_extent(out: &mut Vec<u8>, run: &Run) -> Result<(), NoMemory>
 fn write_band(out: &mut Vec<u8>, file: &RegFile, place: usize, run: &Run) -> Result<(), NoMemory>
     requires place { place < RUNS }
     requires proper { run.now.first ≤ run.now.last }
-    requires inside { run.now.last < 2 ^ 56 }
+    requires inside { run.now.last < ADDRESS_LIMIT }
     requires owner { IfSome run.now.owner (λ entry. entry < length file.now.entries) }
     ensures { OnOk result (out.new.items ≡ out.old.items ++ band file.now place run.now) }
 {
-    let top = 24 * place;
+    let top = BAND * place;
     let machine = Marks(run_rights(file, run, Mode::M));
     let others = Marks(run_rights(file, run, Mode::U));
     append_line(
         out,
         format_args!(
-            "<g class='su{others}' transform='translate(0,{top})'><rect y='-17' width='928' height='24'/>"
+            "<g class='su{others}' transform='translate(0,{top})'><rect y='-17' width='928' height='{BAND}'/>"
         ),
     )?;
     write_extent(out, run)?;
@@ -292,9 +296,9 @@ fn write_bands(out: &mut Vec<u8>, file: &RegFile, runs: &[Run]) -> Result<(), No
 }
 
 /// Appends a picture of the register file's runs, an SVG document with one band for each from the top down, which shows
-/// what a line of `write_runs` says, its size, and whether its owner is held or locked. It tells how many publications are done
-/// and which of lockdown, allow-list policy and rule-locking bypass are on. The map is the one that was built from this
-/// file.
+/// what a line of `write_runs` says, its size, and whether its owner is held or frozen. It tells how many publications
+/// are done and which of lockdown, allow-list policy and rule-locking bypass are on. The map is the one that was built
+/// from this file.
 pub fn write_picture(
     out: &mut Vec<u8>,
     file: &RegFile,

@@ -4,7 +4,7 @@ ghost use Rattle.std.specs.Prelude.{◌≡◌, ◌++◌, OnOk, OnErr, flat_map, 
 ghost use Rattle.std.specs.Io.{StartsWith};
 ghost use Rattle.pmp_text.specs.Dumps.{register_line, cfg_registers, addr_registers, dump_text};
 
-use crate::lines::hexadecimal::Hex;
+use crate::lines::hexadecimal::{Hex, VALUE_DIGITS};
 use crate::lines::{NoMemory, append_line};
 use crate::names::RegisterName;
 use pmp_core::{Csr, RegFile};
@@ -16,7 +16,7 @@ fn write_register(out: &mut Vec<u8>, file: &RegFile, csr: Csr) -> Result<(), NoM
     ensures err { OnErr result (out.new.items ≡ out.old.items) }
 {
     let name = RegisterName(csr);
-    let value = Hex::<16>::new(file.read(csr));
+    let value = Hex::<VALUE_DIGITS>::new(file.read(csr));
     append_line(out, format_args!("{name} 0x{value}\n"))
 }
 

@@ -6,7 +6,7 @@ ghost use Rattle.pmp_core.specs.Rights.{perms_of};
 ghost use Rattle.pmp_map.specs.Answers.{owned_rights};
 ghost use Rattle.pmp_text.specs.RunLines.{IsMapText, owner_text, run_line};
 
-use crate::lines::hexadecimal::Hex;
+use crate::lines::hexadecimal::{ADDRESS_DIGITS, Hex};
 use crate::lines::marks::Marks;
 use crate::lines::{NoMemory, append_line};
 use pmp_core::{Mode, Perms, RegFile};
@@ -46,8 +46,8 @@ fn write_run(out: &mut Vec<u8>, file: &RegFile, run: &Run) -> Result<(), NoMemor
     ensures ok { OnOk result (out.new.items ≡ out.old.items ++ run_line file.now run.now) }
     ensures err { OnErr result (out.new.items ≡ out.old.items) }
 {
-    let first = Hex::<14>::new(run.first);
-    let last = Hex::<14>::new(run.last);
+    let first = Hex::<ADDRESS_DIGITS>::new(run.first);
+    let last = Hex::<ADDRESS_DIGITS>::new(run.last);
     let owner = Owner(run.owner);
     let machine = Marks(run_rights(file, run, Mode::M));
     let others = Marks(run_rights(file, run, Mode::U));

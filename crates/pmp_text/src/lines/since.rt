@@ -1,4 +1,4 @@
-//! Since when an entry is locked, and since when it is held.
+//! Since when an entry is frozen, and since when it is held.
 
 ghost use Rattle.std.specs.Prelude.{Some};
 ghost use Rattle.pmp_text.specs.EntryRows.{since_text};
@@ -24,9 +24,9 @@ impl fmt::Display for Number {
 /// Numbers of publications since which an entry is as it is, with none where it isn't so.
 #[derive(Clone, Copy)]
 pub struct Since {
-    /// The entry is locked.
-    pub locked: Option<u64>,
-    /// The entry is held: it and all entries before it are locked.
+    /// The entry is frozen.
+    pub frozen: Option<u64>,
+    /// The entry is held: it and all entries before it are frozen.
     pub held: Option<u64>,
 }
 
@@ -34,8 +34,8 @@ impl fmt::Display for Since {
     ghost output = { λ since. Some (since_text since) };
 
     fn fmt<W: fmt::Write>(&self, f: &mut fmt::Formatter<W>) -> fmt::Result {
-        let locked = Number(self.locked);
+        let frozen = Number(self.frozen);
         let held = Number(self.held);
-        write!(f, "{locked},{held}")
+        write!(f, "{frozen},{held}")
     }
 }

@@ -9,8 +9,8 @@ says : (g : _) (c : After-write_answer g)
 says g c = record {
   contents = c.in_ok-script.script;
   script_means = c.in_ok-script.ensures;
-  within = c.in_ok-replay.ensures.within;
-  by_bytes = rw c.in_ok-replay.ensures.done at c.decide-decision.ensures.by_bytes;
+  within = rw c.in_ok-count.ensures.count at c.in_ok-count.ensures.within;
+  by_bytes = rw (c.after.ensures, c.in_ok-count.ensures.count) at c.decide-decision.ensures.by_bytes;
   row = only_text _ _ _ _ c.deref.ensures.value c.in_ok-write_row.ensures.ok c.new-row.ensures.items;
 }
 

@@ -6,7 +6,8 @@ use Rattle.pmp_core.specs.RegisterFile.{is_frozen, is_held}
 use Rattle.pmp_core.specs.Size.{count_of}
 use Rattle.pmp_text.specs.EntryRows.{no_since}
 use Rattle.pmp_audit.specs.Replay.{Position, file_at}
-use Rattle.pmp_audit.proofs.EntriesSince.{frozen_lasts, held_lasts, length-file_after, nothing_at, since-none, since_more}
+use Rattle.pmp_audit.proofs.EntriesSince.{few_entries, frozen_lasts, held_lasts, length-file_after, nothing_at}
+use Rattle.pmp_audit.proofs.EntriesSince.{since-none, since_more}
 use Rattle.pmp_audit.proofs.since.since_of.Goals as goal
 
 pub loop-index-init : goal.loop-index-init
@@ -14,6 +15,16 @@ loop-index-init c = record {
   position = c.new-replay.ensures;
   so_far = λ i inside. rw (nothing_at 64 i) (since-none (count_of c.args.script.now.size) i);
 }
+
+pub count_in-requires : goal.count_in-requires
+count_in-requires c =
+    let script = c.args.script.now in
+    let loop = c.loop-index in
+    let position : c.advance.new.self ≡ record { script = script; done = loop.index + 1 } = c.advance.ensures
+    ∙ ap (λ (p : Position). record p { done = loop.index + 1 }) loop.invariant.position in
+    let few = few_entries script.size (take (loop.index + 1) script.batches) c.file.result.now
+    (c.file.ensures ∙ ap file_at position) in
+    omega (arith, few, c.are_writes-are_writes.array_long)
 
 pub loop-index-preserved : goal.loop-index-preserved
 loop-index-preserved c =
@@ -33,14 +44,19 @@ loop-index-preserved c =
           let before = loop.invariant.so_far i inside in
           let old = slice_index_or loop.since i no_since in
           record {
-            locked = since_more is_frozen frozen_lasts n script.batches loop.index i old.locked _ c.file.result.now _
-                (omega arith) file writes (c.count_in.ensures.locked i entry) before.locked;
+            frozen = since_more is_frozen frozen_lasts n script.batches loop.index i old.frozen _ c.file.result.now _
+                (omega arith) file writes (c.count_in.ensures.frozen i entry) before.frozen;
             held = since_more is_held held_lasts n script.batches loop.index i old.held _ c.file.result.now _
                 (omega arith) file writes (c.count_in.ensures.held i entry) before.held;
           };
     }
 
-pub returns : goal.returns
-returns c =
+pub returns-clause-position : goal.returns-clause-position
+returns-clause-position c =
+    let all : c.loop-index.index ≡ c.args.count = omega arith in
+    rw all at c.loop-index.invariant.position
+
+pub returns-clause-since : goal.returns-clause-since
+returns-clause-since c =
     let all : c.loop-index.index ≡ c.args.count = omega arith in
     rw all at c.loop-index.invariant.so_far

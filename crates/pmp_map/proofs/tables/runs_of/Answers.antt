@@ -1,4 +1,5 @@
 use Rattle.std.proofs.Common.{◌≡◌, ◌-◌, ◌<◌, ◌^◌, [], ◌∷◌, ◌++◌, length, length-append, sym, ap, ◌∙◌, arith}
+use Rattle.pmp_core.specs.declared.access.TheConstants.{ADDRESS_LIMIT}
 use Rattle.pmp_map.specs.declared.run.Run.{Run}
 use Rattle.pmp_map.specs.declared.run.TheConstants.{RUNS}
 use Rattle.pmp_map.specs.Owners.{IsOwnerIn}
@@ -56,5 +57,5 @@ loop-first-preserved c =
 
 pub returns : goal.returns
 returns c =
-    let whole : c.loop-first.first ≡ 2 ^ 56 = omega (arith, c.loop-first.invariant.1, c.loop-first-test.false) in
+    let whole : c.loop-first.first ≡ ADDRESS_LIMIT = omega (arith, c.loop-first.invariant.1, c.loop-first-test.false) in
     rw whole at c.loop-first.invariant.0

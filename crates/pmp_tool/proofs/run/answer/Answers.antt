@@ -3,10 +3,11 @@ use Rattle.std.proofs.KnownBytes.{Keeps-refl}
 use Rattle.pmp_audit.specs.AccessCheck.{CheckSays}
 use Rattle.pmp_audit.specs.AskedFile.{FileRefuses}
 use Rattle.pmp_audit.specs.TraceAudit.{AuditSays}
+use Rattle.pmp_audit.specs.View.{ViewSays}
 use Rattle.pmp_audit.specs.WriteList.{WritesRefuse, WritesSay}
 use Rattle.pmp_tool.specs.declared.command.Request.TheVariants.{Audit, Check, Show, Writes}
 use Rattle.pmp_tool.specs.declared.run.Outcome.TheVariants.{Audited, Decided, Listed, Replayed}
-use Rattle.pmp_tool.specs.Requests.{AuditByRefuses, ViewSays}
+use Rattle.pmp_tool.specs.Requests.{AuditByRefuses}
 use Rattle.pmp_tool.specs.Runs.{no_script, no_trace}
 use Rattle.pmp_tool.proofs.Requesting.{not_answered}
 use Rattle.pmp_tool.proofs.run.answer.Goals as goal

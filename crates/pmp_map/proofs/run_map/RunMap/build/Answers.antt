@@ -1,4 +1,5 @@
 use Rattle.std.proofs.Common.{◌^◌, ◌≤◌, length}
+use Rattle.pmp_core.specs.declared.access.TheConstants.{ADDRESS_LIMIT}
 use Rattle.pmp_map.specs.declared.run.TheConstants.{RUNS}
 use Rattle.pmp_map.specs.Tables.{AreAnswers}
 use Rattle.pmp_map.specs.Search.{AreStarts}
@@ -22,7 +23,8 @@ invariant_of-result c =
     rw c.deref-2.ensures.0 at c.answers_of-answers.ensures in
     rw c.of.ensures (record {
       addresses = c.ranges-2.ensures.legal.addresses;
-      runs_are = runs_by_entries c.args.file.now.entries c.ranges-2.result.now c.ranges-2.ensures.ranges (2 ^ 56) runs
+      runs_are = runs_by_entries c.args.file.now.entries c.ranges-2.result.now c.ranges-2.ensures.ranges
+          ADDRESS_LIMIT runs
           c.runs_of-runs.ensures;
       few = few;
       owners = rw (← c.ranges-2.ensures.ranges.count) (owners_below c.ranges-2.result.now runs c.runs_of-runs.ensures);

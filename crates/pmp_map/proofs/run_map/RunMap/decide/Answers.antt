@@ -1,5 +1,6 @@
 use Rattle.std.proofs.Common.{◌≡◌, ◌<◌, ◌^◌, arith}
 use Rattle.std.proofs.lemmas.Option.{get_or_from_slice_get}
+use Rattle.pmp_core.specs.declared.access.TheConstants.{ADDRESS_LIMIT}
 use Rattle.pmp_core.specs.Decision.{IsDecision}
 use Rattle.pmp_map.specs.Runs.{map_run}
 use Rattle.pmp_map.proofs.OneList.{one_list_of_runs}
@@ -10,7 +11,7 @@ use Rattle.pmp_map.proofs.run_map.RunMap.decide.Goals.{After-place_of-place, Aft
 
 first : (c : After-place_of-place) → IsPlaceOf c.self.inside.runs.items c.args.access.now.start c.place_of-place.result
 first c =
-    let small : c.args.access.now.start < 2 ^ 56 =
+    let small : c.args.access.now.start < ADDRESS_LIMIT =
     omega (arith, c.args.access.now.not_empty, c.args.access.now.inside) in
     placed c.self.inside c.self.invariant c.len.result c.args.access.now.start c.place_of-place.result
     c.len.ensures.value small c.place_of-place.ensures.inside c.place_of-place.ensures.between

@@ -1,4 +1,5 @@
 use Rattle.std.proofs.Common.{◌+◌, ◌-◌, ◌<◌, ◌≤◌, ◌^◌, length, arith}
+use Rattle.pmp_core.specs.declared.access.TheConstants.{ADDRESS_LIMIT}
 use Rattle.pmp_core.specs.Decision.{IsDecision}
 use Rattle.pmp_map.specs.Owners.{IsLeft}
 use Rattle.pmp_map.proofs.Starts.{IsPlaceOf}
@@ -20,7 +21,7 @@ last : (c : After-place_of-last) → IsPlaceOf c.self.inside.runs.items (c.args.
     + c.args.access.now.length - 1) c.place_of-last.result
 last c =
     let byte = c.args.access.now.start + c.args.access.now.length - 1 in
-    let small : byte < 2 ^ 56 = omega (arith, c.args.access.now.not_empty, c.args.access.now.inside) in
+    let small : byte < ADDRESS_LIMIT = omega (arith, c.args.access.now.not_empty, c.args.access.now.inside) in
     placed c.self.inside c.self.invariant c.len.result byte c.place_of-last.result c.len.ensures.value small
     c.place_of-last.ensures.inside c.place_of-last.ensures.between
 

@@ -1,5 +1,6 @@
 use Rattle.std.proofs.Common.{◌^◌, None}
 use Rattle.std.proofs.lemmas.List.{get_or_default}
+use Rattle.pmp_core.specs.declared.access.TheConstants.{ADDRESS_LIMIT}
 use Rattle.pmp_map.specs.declared.run.Run.{Run}
 use Rattle.pmp_map.proofs.Starts.{IsPlaceOf}
 use Rattle.pmp_map.proofs.Lookups.{placed}
@@ -16,7 +17,7 @@ bounds-deref-place_of c = rw c.deref.ensures.0 ((place c).inside)
 pub returns : goal.returns
 returns c =
     let at = place (goal.at.returns c).After-place_of in
-    let past : Run = record { first = 2 ^ 56; last = 2 ^ 56; owner = None } in
+    let past : Run = record { first = ADDRESS_LIMIT; last = ADDRESS_LIMIT; owner = None } in
     let owned = c.self.invariant.runs_are.owned c.place_of.result c.args.byte at.inside at.here in
     rw (
       ← c.self.view_is,

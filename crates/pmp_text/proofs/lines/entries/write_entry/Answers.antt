@@ -20,10 +20,10 @@ returns-clause-ok c =
     let others = ap perms_text c.rights-2.ensures.rights ∙ text_of_perms (rights file i U) in
     let row = row_of_pieces file i (span_of file.entries i) c.args.since c.matching_word-matching.result.now
     (perms_text c.rights.result ++ (codes "," ++ perms_text c.rights-2.result))
-    (lock_text c.lock.result ++ (codes "," ++ address_text c.is_address_locked.result))
+    (lock_text c.lock.result ++ (codes "," ++ address_text c.is_address_frozen.result))
     (c.matching_word-matching.ensures ∙ ap matching_text c.matching.ensures)
     (ap (λ (m : List ℕ). m ++ (codes "," ++ perms_text c.rights-2.result)) machine
     ∙ ap (λ (o : List ℕ). rights_text (rights file i M) ++ (codes "," ++ o)) others)
-    (ap (λ lock. lock_text lock ++ (codes "," ++ address_text c.is_address_locked.result)) c.lock.ensures
-    ∙ ap (λ kept. lock_text (lock_of file i) ++ (codes "," ++ address_text kept)) c.is_address_locked.ensures) in
+    (ap (λ lock. lock_text lock ++ (codes "," ++ address_text c.is_address_frozen.result)) c.lock.ensures
+    ∙ ap (λ kept. lock_text (lock_of file i) ++ (codes "," ++ address_text kept)) c.is_address_frozen.ensures) in
     subst Written row (rw (← c.span.ensures.computed) c.append_line.ensures.ok)

@@ -17,7 +17,8 @@ write_band-requires-clause-proper c =
 
 pub write_band-requires-clause-inside : goal.write_band-requires-clause-inside
 write_band-requires-clause-inside c =
-    ends_in_memory c.args.file.now.entries c.args.runs.now c.requires.runs c.loop-place.place c.loop-place-test.true none
+    ends_in_memory c.args.file.now.entries c.args.runs.now c.requires.runs c.loop-place.place
+    c.loop-place-test.true none
 
 pub loop-place-preserved : goal.loop-place-preserved
 loop-place-preserved c =

@@ -10,7 +10,8 @@ returns-clause-ok c =
     let runs = c.runs-runs.result.now in
     let above = head file c.args.publications (length runs) in
     let whole =
-    three_texts c.new-text.result.items c.write_head.new.out.items c.write_bands.new.out.items c.append_text.new.out.items
+    three_texts c.new-text.result.items c.write_head.new.out.items c.write_bands.new.out.items
+    c.append_text.new.out.items
     above (bands file runs) FOOT.now c.new-text.ensures.items c.in_ok-write_head.ensures c.in_ok-write_bands.ensures
     c.in_ok-append_text.ensures.ok in (
       above ++ (bands file runs ++ FOOT.now),

@@ -1,0 +1,142 @@
+//! What is shown of the register file after publications of a script.
+
+ghost use Rattle.std.specs.Prelude.{◌≡◌, ◌≤◌, ◌++◌, List, ℕ, IfOk, IfErr, OnOk, length};
+ghost use Rattle.pmp_audit.specs.Answers.{IsWritten, IsRefused};
+ghost use Rattle.pmp_audit.specs.AskedFile.{FileRefuses};
+ghost use Rattle.pmp_audit.specs.View.{IsViewText, ViewSays};
+ghost use Rattle.pmp_audit.specs.declared.view.View.TheVariants.{Registers, Runs, Picture, Entries};
+
+use crate::answer::write_answer;
+use crate::asked_count::asked_count;
+use crate::fault::AuditFault;
+use crate::replay::Replay;
+use crate::since::since_of;
+use pmp_map::RunMap;
+use pmp_text::{
+    NoMemory, Script, read_script, write_entries, write_picture, write_registers, write_runs,
+};
+use std::alloc::Global;
+use std::io::Write;
+
+/// What is shown of a register file.
+#[derive(Clone, Copy)]
+pub enum View {
+    Registers,
+    Runs,
+    /// The runs, as a picture.
+    Picture,
+    /// The entries, with since when each is frozen and held.
+    Entries,
+}
+
+/// Writes the registers, a line for each.
+pub fn dump<W: Write>(
+    alloc: Global,
+    script: &[u8],
+    after: Option<u64>,
+    writer: &mut W,
+) -> Result<(), AuditFault>
+    ensures ok { IfOk result
+        (IsWritten (ViewSays Registers script.now after) (W.contents writer.old) (W.contents writer.new)) }
+    ensures err { IfErr result
+        (IsRefused (ViewSays Registers script.now after) (W.contents writer.old) (W.contents writer.new)
+        (FileRefuses script.now after)) }
+{
+    show(alloc, View::Registers, script, after, writer)
+}
+
+/// Writes the runs, a line for each: which bytes each entry owns, and what it lets each mode do there.
+pub fn map_of<W: Write>(
+    alloc: Global,
+    script: &[u8],
+    after: Option<u64>,
+    writer: &mut W,
+) -> Result<(), AuditFault>
+    ensures ok { IfOk result
+        (IsWritten (ViewSays Runs script.now after) (W.contents writer.old) (W.contents writer.new)) }
+    ensures err { IfErr result
+        (IsRefused (ViewSays Runs script.now after) (W.contents writer.old) (W.contents writer.new)
+        (FileRefuses script.now after)) }
+{
+    show(alloc, View::Runs, script, after, writer)
+}
+
+/// Writes the runs as a picture, an SVG document with a band for each.
+pub fn picture_of<W: Write>(
+    alloc: Global,
+    script: &[u8],
+    after: Option<u64>,
+    writer: &mut W,
+) -> Result<(), AuditFault>
+    ensures ok { IfOk result
+        (IsWritten (ViewSays Picture script.now after) (W.contents writer.old) (W.contents writer.new)) }
+    ensures err { IfErr result
+        (IsRefused (ViewSays Picture script.now after) (W.contents writer.old) (W.contents writer.new)
+        (FileRefuses script.now after)) }
+{
+    show(alloc, View::Picture, script, after, writer)
+}
+
+/// Writes a row for each entry: which bytes it matches, what its rule allows, how it is frozen, and since which
+/// publications it is frozen and held.
+pub fn entries_of<W: Write>(
+    alloc: Global,
+    script: &[u8],
+    after: Option<u64>,
+    writer: &mut W,
+) -> Result<(), AuditFault>
+    ensures ok { IfOk result
+        (IsWritten (ViewSays Entries script.now after) (W.contents writer.old) (W.contents writer.new)) }
+    ensures err { IfErr result
+        (IsRefused (ViewSays Entries script.now after) (W.contents writer.old) (W.contents writer.new)
+        (FileRefuses script.now after)) }
+{
+    show(alloc, View::Entries, script, after, writer)
+}
+
+/// Writes this of the register file after the first `after` publications of the script, or after all of them where that
+/// is none.
+///
+/// The text is whole before its first byte is written, so every refusal but `Output` leaves the output untouched.
+pub fn show<W: Write>(
+    alloc: Global,
+    view: View,
+    script: &[u8],
+    after: Option<u64>,
+    writer: &mut W,
+) -> Result<(), AuditFault>
+    ensures ok { IfOk result
+        (IsWritten (ViewSays view script.now after) (W.contents writer.old) (W.contents writer.new)) }
+    ensures err { IfErr result
+        (IsRefused (ViewSays view script.now after) (W.contents writer.old) (W.contents writer.new)
+        (FileRefuses script.now after)) }
+{
+    let script = read_script(alloc, script)?;
+    let done = asked_count(&script, after)?;
+    let mut text = Vec::new(alloc);
+    write_view(&mut text, view, &script, done)?;
+    write_answer(writer, &text, ())
+}
+
+/// Appends the text that shows this after so many publications.
+fn write_view(out: &mut Vec<u8>, view: View, script: &Script, done: u64) -> Result<(), NoMemory>
+    requires { done ≤ length script.now.batches }
+    ensures { OnOk result ((text : List ℕ) × IsViewText view script.now done text
+        × (out.new.items ≡ out.old.items ++ text)) }
+{
+    match view {
+        View::Registers => write_registers(out, Replay::after(script, done).file()),
+        View::Runs => {
+            let replay = Replay::after(script, done);
+            write_runs(out, replay.file(), &RunMap::build(replay.file()))
+        }
+        View::Picture => {
+            let replay = Replay::after(script, done);
+            write_picture(out, replay.file(), &RunMap::build(replay.file()), done)
+        }
+        View::Entries => {
+            let (replay, since) = since_of(script, done);
+            write_entries(out, replay.file(), &since)
+        }
+    }
+}
