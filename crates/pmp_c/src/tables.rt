@@ -82,7 +82,7 @@ impl Tables {
         place_of(&self.starts, self.runs as usize, byte)
     }
 
-    /// The same, which tries a place first.
+    /// The same place, found sooner where it is `near`.
     #[inline(always)]
     pub fn place_near(&self, near: usize, byte: u64) -> usize
         ensures inside { result + 1 < PLACES }

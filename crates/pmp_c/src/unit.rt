@@ -99,7 +99,7 @@ impl Unit {
         }
     }
 
-    /// The same, which tries a run first.
+    /// The same answer, found sooner where the byte is in the run at `near`.
     #[inline(always)]
     pub fn answer_near(&self, near: u32, request: &Request) -> Found
         ensures { (access : Access)

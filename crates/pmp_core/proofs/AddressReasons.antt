@@ -23,7 +23,7 @@ module _ (file : RegisterFile) (legal : IsLegal file) (i value : ℕ) where
   abbrev set_address : List Entry
   set_address = set file.entries i (record (entry_at file.entries i) { address = value % WORD_ADDRESSES })
 
-  -- what it reads where it is frozen, where the unit doesn't have it, and else
+  -- what the register reads after the write: frozen, not there, or neither
   reads_frozen : is_address_frozen file i ≡ true
       → (entry_at (written file (Addr i) value).entries i).address ≡ address
   reads_frozen frozen = rw frozen refl
@@ -89,14 +89,14 @@ module _ (file : RegisterFile) (legal : IsLegal file) (i value : ℕ) where
       | inl inside ↦ rw (lt-ltb i (length file.entries) inside) (and_right _ false refl)
     ]
 
-    -- where the address is frozen, no entry's is another
+    -- where the address is frozen, the value changes no entry
     unchanged_at : (k : ℕ) → is_address_frozen file i ≡ true → is_changed file.entries (Addr i) value k ≡ false
     unchanged_at k frozen = elim (cases_eq i k) [
       | inl here ↦ rw (← here) (changed_here ∙ not_same value address (sym same ∙ reads_frozen frozen))
       | inr other ↦ rw (ne_eqb i k other) refl
     ]
 
-    -- else this entry isn't frozen
+    -- where it isn't, the entry isn't frozen and isn't the low end of a frozen range
     free_at : (k : ℕ) → is_address_frozen file i ≡ false
         → (changes_frozen file (Addr i) value k ≡ false) × (is_low_end file (Addr i) value k ≡ false)
     free_at k free = elim (cases_eq i k) [

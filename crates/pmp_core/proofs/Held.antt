@@ -36,7 +36,7 @@ held_still file i events held writes =
     held_by_all (fold step file events) i (λ j within.
     (lock_law file j events (held_at file i j within held) writes).frozen)
 
--- ---- by the bits of the entries
+-- ---- held, as the lock bits of the entries say it
 
 abbrev pub is_locked : Entry → Bool
 is_locked entry = entry.configuration.locked

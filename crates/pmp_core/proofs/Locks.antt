@@ -101,7 +101,7 @@ module _ (file : RegisterFile) (i : ℕ) (frozen : is_frozen file i ≡ true) wh
         | false ↦ refl
       ]
 
-  -- the address below, written or not
+  -- a write to a configuration register leaves every address
   low_configured : (k q value : ℕ) → k < length file.entries
       → (entry_at (written file (Cfg q) value).entries k).address ≡ (entry_at file.entries k).address
   low_configured k q value below = rw (configured_place file q value k below) (configured_address file q value k)

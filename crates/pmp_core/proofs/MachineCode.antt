@@ -57,14 +57,14 @@ barred_locked : (l r w x : Bool) → is_barred l r w x ≡ true → l ≡ true
 barred_locked true r w x h = refl
 barred_locked false r w x h = absurd (false≢true h)
 
--- by default it doesn't
+-- and not where no entry matches
 none_by_default : (mmwp : Bool) → (default_rights_by true mmwp M).execute ≡ true → ⊥
 none_by_default true h = false≢true h
 none_by_default false h = false≢true h
 
--- ---- one write adds no such rule
+-- ---- one write adds no barred rule
 
--- what a byte leaves is barred only where that was there
+-- what a byte leaves is a barred rule only where one was there
 kept_barred : (old new : Configuration) (barred : Bool) → is_barred_rule new ≡ barred
     → is_barred_rule (cond barred old new) ≡ true → is_barred_rule old ≡ true
 kept_barred old new true e h = h
@@ -129,7 +129,7 @@ module _ (file : RegisterFile) (mml : file.mseccfg.mml ≡ true) (rlb : file.mse
   was_barred (Addr j) value h = rw (addressed_configuration j value) at h
   was_barred Mseccfg value h = h
 
--- ---- nor do several
+-- ---- nor do several writes
 
 ever_barred : (file : RegisterFile) (k i : ℕ) (events : List Event) → file.mseccfg.mml ≡ true
     → is_frozen file k ≡ true → list_all is_write events ≡ true

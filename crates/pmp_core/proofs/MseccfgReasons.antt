@@ -16,7 +16,7 @@ bit_is zero low = refl
 bit_is (suc zero) low = refl
 bit_is (suc (suc r)) low = absurd (omega arith)
 
--- a bit that stays, and one that doesn't rise
+-- MML and MMWP stay where they are set, and RLB doesn't rise over a lock: without a reason each is as written
 stays : (before new : Bool) → (before && not new) ≡ false → (before || new) ≡ new
 stays true true h = refl
 stays false new h = refl
@@ -28,6 +28,7 @@ rises true any true h = refl
 rises false false true h = refl
 rises false true true h = absurd cc
 
+-- and a bit that is as written has no reason
 was_kept : (before new : Bool) → (before || new) ≡ new → (before && not new) ≡ false
 was_kept true true h = refl
 was_kept false new h = refl
@@ -47,7 +48,7 @@ three_bits value few = rw (
   bit_is (value / 4 % 2) (omega arith),
 ) (omega arith)
 
--- three bits are of the number that they make
+-- the bits of a number that is made of three
 one_of_three : (a b c : ℕ) → a < 2 → b < 2 → c < 2 → ((a + 2 * b + 4 * c) % 2 ≡ a)
     × ((a + 2 * b + 4 * c) / 2 % 2 ≡ b) × ((a + 2 * b + 4 * c) / 4 % 2 ≡ c) × ((a + 2 * b + 4 * c) / 8 ≡ 0)
 one_of_three a b c ha hb hc = (omega arith, omega arith, omega arith, omega arith)

@@ -117,7 +117,7 @@ module _ (one other : RegisterFile) (mseccfg : other.mseccfg ≡ one.mseccfg) (a
   decider : (found : Option ℕ) → IsDecider one.entries access found → IsDecider other.entries access found
   decider = least_alike (Touches one.entries access) (Touches other.entries access) touches touched_before
 
-  -- the decider is the same in both
+  -- the entry that decides is the same in both files
   alike : (i : ℕ) → IsDecider one.entries access (Some i)
       → (entry_at other.entries i ≡ entry_at one.entries i)
       × ((byte : ℕ) → Matches other.entries i byte ↔ Matches one.entries i byte)

@@ -54,7 +54,6 @@ module _ (one other : RegisterFile) (i : ℕ) (same : Agree one other i) (access
   covered : (j : ℕ) → j ≤ i → Covers other.entries access j → Covers one.entries access j
   covered j within all byte inside = (same.bytes j within byte).0 (all byte inside)
 
--- one access has one decider
 one_decider : (file : RegisterFile) (access : Access) (j k : ℕ) → IsDecider file.entries access (Some j)
     → IsDecider file.entries access (Some k) → j ≡ k
 one_decider file access j k one other = elim (cases_lt j k) [

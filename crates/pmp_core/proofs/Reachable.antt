@@ -48,7 +48,7 @@ unlocked : (size : Size) → is_any_locked (reset_file (count_of size)).entries 
 unlocked Sixteen = refl
 unlocked SixtyFour = refl
 
--- the fields that bypass lets a last write give, and those that a first one gives
+-- with bypass on a last write of mseccfg gives any fields; and a first one, after reset, any with bypass on
 settled : (mml mmwp rlb is_any : Bool)
     → mseccfg_written (record { mml = mml; mmwp = mmwp; rlb = true }) is_any
     (mseccfg_value (record { mml = mml; mmwp = mmwp; rlb = rlb }))
@@ -76,7 +76,7 @@ eights Sixteen = refl
 eights SixtyFour = refl
 
 module _ (file : RegisterFile) (n : ℕ) (legal : IsLegal file) (count : length file.entries ≡ n) where
-  -- its mseccfg with bypass on
+  -- the file's mseccfg, with bypass on
   abbrev open_fields : MseccfgFields
   open_fields = record { mml = file.mseccfg.mml; mmwp = file.mseccfg.mmwp; rlb = true }
 

@@ -38,7 +38,7 @@ pub record IsFilledTo (f : ℕ → ℕ) (xs : List ℕ) (place : ℕ) : Type 0 w
   pub done : (k : ℕ) → k < place → slice_index xs k ≡ f k
   pub rest : (k : ℕ) → place ≤ k → k < 64 → slice_index xs k ≡ 0
 
--- where f is zero from there on
+-- a table so filled is all of f, where f is zero from there on
 pub filled : (f : ℕ → ℕ) (xs : List ℕ) (place : ℕ) → IsFilledTo f xs place
     → ((k : ℕ) → place ≤ k → f k ≡ 0) → xs ≡ map f (range_with_len 0 64)
 filled f xs place so_far none = fill_by_all f xs 64 0 so_far.len (λ k inside. elim (cases_lt k place) [
@@ -80,7 +80,6 @@ module _ (saved : SavedRegisters) where
   unfolding restored_file
   restored_legal = entries_legal (count_of (saved_size saved.entries))
 
--- zeros
 pub restored_zero : restored_file zero_registers ≡ reset_file 16
 unfolding restored_file
 restored_zero = refl

@@ -42,7 +42,7 @@ turned one other alike = record { mseccfg = sym alike.mseccfg; entries = λ i. s
 
 -- ---- one write
 
--- the place of an entry that the configuration register doesn't hold may be past the end
+-- also past the end, where pmpcfg0 to pmpcfg2 hold no byte
 configured_anywhere : (file : RegisterFile) (q value i : ℕ) → 16 ≤ length file.entries → q ≤ 2
     → entry_at (written file (Cfg q) value).entries i ≡ configured file q value i
 configured_anywhere file q value i room low = elim (cases_lt i (length file.entries)) [

@@ -41,7 +41,7 @@ one_span entries i (Some one) (Some other) p q =
     let there = inside entries i other one q p in
     ap (λ (span : Span). Some span) (same_span one other (omega arith) (omega arith))
 
--- ---- the entry's
+-- ---- the span of an entry's range
 
 span_by : (entries : List Entry) (i : ℕ) (range : ByteRange)
     → ((byte : ℕ) → Matches entries i byte ↔ IsInRange range byte) → IsSpan entries i (span_in range)

@@ -32,7 +32,7 @@ parts_plain : (l f x w r : ℕ) → l ≤ 1 → f ≤ 3 → x ≤ 1 → w ≤ 1 
     → ((128 * l + 8 * f + 4 * x + 2 * w + r) / 32 % 4 ≡ 0) × (128 * l + 8 * f + 4 * x + 2 * w + r < 256)
 parts_plain l f x w r hl hf hx hw hr = (omega arith, omega arith)
 
--- what an entry reads
+-- what a configuration reads is a byte with bits 6 and 5 clear
 pub byte_plain : (c : Configuration) → (byte_of c / 32 % 4 ≡ 0) × (byte_of c < 256)
 byte_plain c = parts_plain (bit_of c.locked) (field_of c.matching) (bit_of c.execute) (bit_of c.write) (bit_of c.read)
     (bit_le c.locked) (field_le c.matching) (bit_le c.execute) (bit_le c.write) (bit_le c.read)
@@ -55,7 +55,7 @@ pub record IsTaken (frozen mml rlb : Bool) (old : Configuration) (byte : ℕ) : 
   pub unreserved : (not frozen && not mml && is_reserved (configuration_of byte)) ≡ false
   pub unbarred : (not frozen && mml && not rlb && is_barred_byte byte) ≡ false
 
--- what the entry has then
+-- the configuration that the byte leaves
 abbrev pub left_of : (frozen mml rlb : Bool) (old : Configuration) (byte : ℕ) → Configuration
 left_of frozen mml rlb old byte = cond frozen old (admitted mml rlb old (configuration_of byte))
 

@@ -6,7 +6,7 @@ use Rattle.pmp_core.specs.RegisterFile.{RegisterFile, IsLegal}
 use Rattle.pmp_core.specs.Histories.{replay}
 use Rattle.pmp_core.specs.Size.{count_of}
 
--- every legal one of either size, after a reset and some events
+-- every legal file of either size is what some events leave of a reset
 abbrev pub ReachableLaw : Type 0
 ReachableLaw = (file : RegisterFile) (size : Size) → IsLegal file → length file.entries ≡ count_of size
     → (events : List Event) × (replay (count_of size) events ≡ file)

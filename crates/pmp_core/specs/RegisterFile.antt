@@ -12,7 +12,7 @@ pub record RegisterFile : Type 0 where
   pub entries : List Entry
   pub mseccfg : MseccfgFields
 
--- as code keeps them
+-- the file of these fields and entries, which code keeps apart
 abbrev pub file_of : MseccfgFields → List Entry → RegisterFile
 file_of mseccfg entries = record { entries = entries; mseccfg = mseccfg }
 

@@ -103,7 +103,7 @@ is_barred true false true true = true
 is_barred true true false true = true
 is_barred _ _ _ _ = false
 
--- they are the locked rules by which machine mode executes
+-- the barred rules are the locked ones by which machine mode executes
 abbrev pub BarredRulesLaw : Type 0
 BarredRulesLaw = (l r w x : Bool) → is_barred l r w x ≡ (l && (lockdown_rights l r w x M).execute)
 
@@ -111,7 +111,7 @@ BarredRulesLaw = (l r w x : Bool) → is_barred l r w x ≡ (l && (lockdown_righ
 abbrev pub LoadsWhatItStores : Rights → Type 0
 LoadsWhatItStores rights = IsTrue (allows rights Store) → IsTrue (allows rights Load)
 
--- by every rule of a legal file, and where no entry matches
+-- so it is by every rule of a legal file, and where no entry matches
 abbrev pub StoreLaw : Type 0
 StoreLaw = (file : RegisterFile) → IsLegal file → (i : ℕ) (mode : Mode)
     → LoadsWhatItStores (rights file i mode) × LoadsWhatItStores (default_rights file mode)

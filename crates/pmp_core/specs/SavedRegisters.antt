@@ -40,7 +40,7 @@ restored_entry saved i = record {
 abbrev pub restored_entries : SavedRegisters → (n : ℕ) → List Entry
 restored_entries saved n = map (restored_entry saved) (range_with_len 0 n)
 
--- the file, whatever the numbers are
+-- the file that the numbers stand for, whatever they are
 unfoldable pub restored_file : SavedRegisters → RegisterFile
 restored_file saved = file_of (mseccfg_fields saved.mseccfg)
     (restored_entries saved (count_of (saved_size saved.entries)))

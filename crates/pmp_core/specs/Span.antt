@@ -30,6 +30,6 @@ span_in range =
     let end = min range.end ADDRESS_LIMIT in
     if nat_lt range.start end then Some (record { first = range.start; last = end - 1 }) else None
 
--- entry i's
+-- the span of entry i
 unfoldable pub span_of : List Entry → ℕ → Option Span
 span_of entries i = span_in (range_of entries i)

@@ -16,7 +16,7 @@ pub record StaysSet (before after : RegisterFile) : Type 0 where
   pub closed : before.mseccfg.mmwp ≡ true → (mode : Mode) (kind : Kind)
       → allows (default_rights after mode) kind ≡ false
 
--- through every list of writes, if no reset is among them
+-- so they do through every list of writes, if no reset is among them
 abbrev pub StickyLaw : Type 0
 StickyLaw = (file : RegisterFile) (events : List Event) → list_all is_write events ≡ true
     → StaysSet file (fold step file events)

@@ -62,7 +62,7 @@ adds_barred file (Cfg q) value i =
 adds_barred file (Addr k) value i = false
 adds_barred file Mseccfg value i = false
 
--- the reasons that are reasons for one entry
+-- whether this is a reason for entry i, which only four of the reasons can be
 abbrev pub turns_entry_away_by : WriteReason → RegisterFile → Csr → (value i : ℕ) → Bool
 turns_entry_away_by Absent file csr value i = false
 turns_entry_away_by Bits file csr value i = false
@@ -73,11 +73,11 @@ turns_entry_away_by Lockdown file csr value i = adds_barred file csr value i
 turns_entry_away_by Sticky file csr value i = false
 turns_entry_away_by Bypass file csr value i = false
 
--- entry i is turned away by one of these
+-- entry i is turned away by some reason
 abbrev pub turns_entry_away : RegisterFile → Csr → (value i : ℕ) → Bool
 turns_entry_away file csr value i = list_any (λ reason. turns_entry_away_by reason file csr value i) all_reasons
 
--- the entries that are
+-- the numbers of the entries that are turned away
 abbrev pub entries_turned_away : RegisterFile → Csr → (value : ℕ) → List ℕ
 entries_turned_away file csr value =
     filter (turns_entry_away file csr value) (range_with_len 0 (length file.entries))
@@ -122,7 +122,7 @@ abbrev pub turns_some_entry_away : WriteReason → RegisterFile → Csr → (val
 turns_some_entry_away reason file csr value =
     list_any (turns_entry_away_by reason file csr value) (range_with_len 0 (length file.entries))
 
--- whether it is a reason why the register doesn't read the value
+-- whether this is a reason why the register doesn't read the value
 abbrev pub turns_away : WriteReason → RegisterFile → Csr → (value : ℕ) → Bool
 turns_away Absent file csr value = is_absent (length file.entries) csr value
 turns_away Bits file csr value = has_other_bits csr value

@@ -159,7 +159,6 @@ impl RegFile {
         self.size.entries()
     }
 
-    /// The entries in use.
     fn in_use(&self) -> &[Entry]
         ensures { result.now ≡ self.now.entries }
     {

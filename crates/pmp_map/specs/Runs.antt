@@ -6,7 +6,6 @@ use Rattle.pmp_core.specs.declared.access.TheConstants.{ADDRESS_LIMIT}
 use Rattle.pmp_core.specs.Decision.{IsOwner}
 use Rattle.pmp_map.specs.declared.run.Run.{Run}
 
--- the byte is one of the run's
 abbrev pub IsInRun : Run → ℕ → Type 0
 IsInRun run byte = (run.first ≤ byte) × (byte ≤ run.last)
 
