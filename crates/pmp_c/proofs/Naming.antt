@@ -1,5 +1,5 @@
 -- Numbers name one access.
-use Rattle.std.proofs.Common.{◌≡◌, ◌≢◌, ℕ, zero, suc, ◌+◌, ◌<◌, ◌≤◌, ◌^◌, refl, sym, ap, ◌∙◌, subst, arith}
+use Rattle.std.proofs.Common.{◌≡◌, ◌≢◌, ℕ, zero, suc, ◌+◌, ◌<◌, ◌≤◌, refl, sym, ap, ◌∙◌, subst, arith}
 use Rattle.std.proofs.Math.Bridge.{le_prop}
 use Rattle.pmp_core.specs.declared.access.Access.{Access}
 use Rattle.pmp_core.specs.declared.access.Mode.{Mode}

@@ -1,6 +1,6 @@
 -- A frozen entry stays as it is, write by write.
 use Rattle.std.proofs.Common.{◌≡◌, ◌≢◌, ◌↔◌, ℕ, zero, suc, ◌<◌, Bool, true, false, cond, not, ◌&&◌, ◌||◌, List, [], ◌∷◌}
-use Rattle.std.proofs.Common.{length, fold, get_or, slice_index, ◌-◌, ◌*◌, ◌/◌, ◌%◌, ◌^◌, ◌==◌, refl, sym, ap, ◌∙◌, inl}
+use Rattle.std.proofs.Common.{length, fold, get_or, slice_index, ◌-◌, ◌*◌, ◌/◌, ◌%◌, ◌==◌, refl, sym, ap, ◌∙◌, inl}
 use Rattle.std.proofs.Common.{inr, arith, get_or-set_other}
 use Rattle.std.specs.List.{list_all, list_any}
 use Rattle.std.specs.Int.{w64, to_le_bytes}

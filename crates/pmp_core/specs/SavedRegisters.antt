@@ -1,5 +1,5 @@
 -- The registers of a unit as plain numbers, and the file that numbers stand for (Volume II, 3.7.1 and Smepmp).
-use Rattle.std.specs.Prelude.{◌≡◌, ℕ, ◌%◌, ◌^◌, ◌==◌, true, if◌then◌else◌, List, length, map, replicate, slice_index}
+use Rattle.std.specs.Prelude.{◌≡◌, ℕ, ◌%◌, ◌==◌, true, if◌then◌else◌, List, length, map, replicate, slice_index}
 use Rattle.std.specs.List.{range_with_len}
 use Rattle.pmp_core.specs.declared.csr.Csr.TheVariants.{Addr, Mseccfg}
 use Rattle.pmp_core.specs.declared.entry.Entry.{Entry}

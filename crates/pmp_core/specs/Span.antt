@@ -1,5 +1,5 @@
 -- The first and the last byte that an entry matches (Volume II, 3.7.1.1).
-use Rattle.std.specs.Prelude.{◌≡◌, ◌↔◌, ℕ, ◌-◌, ◌^◌, ◌<◌, ◌≤◌, List, min, nat_lt, Option, Some, None, if◌then◌else◌}
+use Rattle.std.specs.Prelude.{◌≡◌, ◌↔◌, ℕ, ◌-◌, ◌<◌, ◌≤◌, List, min, nat_lt, Option, Some, None, if◌then◌else◌}
 use Rattle.pmp_core.specs.declared.entry.Entry.{Entry}
 use Rattle.pmp_core.specs.declared.range.ByteRange.{ByteRange}
 use Rattle.pmp_core.specs.declared.span.Span.{Span}

@@ -1,5 +1,5 @@
 -- What the search finds in the table of where the runs of a register file begin.
-use Rattle.std.proofs.Common.{◌≡◌, ℕ, ◌+◌, ◌-◌, ◌^◌, ◌<◌, ◌≤◌, List, length, slice_index, arith, inl, inr}
+use Rattle.std.proofs.Common.{◌≡◌, ℕ, ◌+◌, ◌-◌, ◌<◌, ◌≤◌, List, length, slice_index, arith, inl, inr}
 use Rattle.std.proofs.lemmas.Bool.{cases_lt}
 use Rattle.pmp_core.specs.declared.entry.Entry.{Entry}
 use Rattle.pmp_core.specs.declared.access.TheConstants.{ADDRESS_LIMIT}

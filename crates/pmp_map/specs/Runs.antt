@@ -1,5 +1,5 @@
 -- The runs of a register file: bytes side by side that have one owner (Volume II, 3.7.1.3).
-use Rattle.std.specs.Prelude.{◌≡◌, ◌≢◌, ℕ, ◌+◌, ◌^◌, ◌<◌, ◌≤◌, Option, None, IfSome, List, length, All}
+use Rattle.std.specs.Prelude.{◌≡◌, ◌≢◌, ℕ, ◌+◌, ◌<◌, ◌≤◌, Option, None, IfSome, List, length, All}
 use Rattle.std.specs.List.{slice_index_or}
 use Rattle.pmp_core.specs.declared.entry.Entry.{Entry}
 use Rattle.pmp_core.specs.declared.access.TheConstants.{ADDRESS_LIMIT}
