@@ -1,14 +1,15 @@
 -- mseccfg is stored as written exactly where there is no reason.
 use Rattle.std.proofs.Common.{◌≡◌, ℕ, zero, suc, ◌+◌, ◌*◌, ◌/◌, ◌%◌, ◌<◌, Bool, true, false, not}
-use Rattle.std.proofs.Common.{◌&&◌, ◌||◌, ◌==◌, length, refl, sym, ap, ◌∙◌, arith}
+use Rattle.std.proofs.Common.{◌&&◌, ◌||◌, ◌==◌, refl, sym, ap, ◌∙◌, arith}
 use Rattle.std.proofs.lemmas.Bool.{not-false, and_right, or_parts, or_from}
 use Rattle.std.proofs.lemmas.Bool.{eqb-true}
 use Rattle.pmp_core.specs.declared.csr.Csr.TheVariants.{Mseccfg}
+use Rattle.pmp_core.specs.declared.write_reasons.WriteReason.TheVariants.{Frozen, Tor, Reserved, Lockdown}
 use Rattle.pmp_core.specs.Configuration.{bit_of}
 use Rattle.pmp_core.specs.RegisterFile.{RegisterFile, is_frozen}
 use Rattle.pmp_core.specs.RegisterValue.{register_value}
 use Rattle.pmp_core.specs.RegisterWrite.{is_any_locked, written}
-use Rattle.pmp_core.proofs.Reasons.{none_between, HasNone}
+use Rattle.pmp_core.proofs.Reasons.{none_at_entries, HasNone}
 use Rattle.pmp_core.proofs.StoredBytes.{not_same}
 
 bit_is : (r : ℕ) → r < 2 → bit_of (r == 1) ≡ r
@@ -88,11 +89,10 @@ module _ (file : RegisterFile) (value : ℕ) where
       record {
         absent = refl;
         bits = not_same (value / 8) 0 each.3;
-        locked = none_between (λ k. is_frozen file k && false) 0 (length file.entries)
-            (λ k _ inside. and_right _ false refl);
-        tor = none_between (λ k. false) 0 (length file.entries) (λ k _ inside. refl);
-        reserved = none_between (λ k. false) 0 (length file.entries) (λ k _ inside. refl);
-        lockdown = none_between (λ k. false) 0 (length file.entries) (λ k _ inside. refl);
+        frozen = none_at_entries Frozen file Mseccfg value (λ k inside. and_right (is_frozen file k) false refl);
+        tor = none_at_entries Tor file Mseccfg value (λ k inside. refl);
+        reserved = none_at_entries Reserved file Mseccfg value (λ k inside. refl);
+        lockdown = none_at_entries Lockdown file Mseccfg value (λ k inside. refl);
         sticky = or_from _ _ (was_kept _ _ each.0) (was_kept _ _ each.1);
         bypass = has_risen _ _ _ each.2;
       }

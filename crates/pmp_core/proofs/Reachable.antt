@@ -32,7 +32,7 @@ use Rattle.pmp_core.proofs.Places.{entries_by}
 use Rattle.pmp_core.proofs.Saved.{configuration_back, stored_as_is}
 use Rattle.pmp_core.proofs.Sizes.{own_address_written}
 use Rattle.pmp_core.proofs.StoredBytes.{byte_plain}
-use Rattle.pmp_core.proofs.WordReasons.{word_gives}
+use Rattle.pmp_core.proofs.WordBytes.{word_gives}
 
 -- with bypass on no address is frozen
 thawed_by : (here next top : Bool) → ((here && not true) || ((next && not true) && top)) ≡ false
