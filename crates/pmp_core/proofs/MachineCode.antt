@@ -5,7 +5,7 @@ use Rattle.std.proofs.Common.{length-set}
 use Rattle.std.specs.List.{list_all}
 use Rattle.std.specs.Int.{w64, to_le_bytes}
 use Rattle.std.proofs.Math.ListN.{set}
-use Rattle.std.proofs.lemmas.Bool.{cases_lt, cases_eq, false≢true, not-true}
+use Rattle.std.proofs.lemmas.Bool.{and_parts, cases_lt, cases_eq, false≢true, not-true}
 use Rattle.std.proofs.lemmas.List.{get_or_past}
 use Rattle.pmp_core.specs.declared.access.Access.{Access}
 use Rattle.pmp_core.specs.declared.access.Kind.TheVariants.{Fetch}
@@ -28,8 +28,8 @@ use Rattle.pmp_core.specs.Rights.{allows, default_rights_by, is_barred, lockdown
 use Rattle.pmp_core.specs.LockLaw.{is_write, StaysFrozen}
 use Rattle.pmp_core.specs.ProtectionLaw.{MachineCodeLaw}
 use Rattle.pmp_core.proofs.Legal.{configured_place, length-written}
-use Rattle.pmp_core.proofs.Locks.{both, other_address, Held, held_on, lock_law, still_frozen}
-use Rattle.pmp_core.proofs.Sticky.{mml_written, mml_stays}
+use Rattle.pmp_core.proofs.Locks.{other_address, Held, held_on, lock_law, still_frozen}
+use Rattle.pmp_core.proofs.Sticky.{mml_stays}
 
 abbrev is_barred_rule : Configuration → Bool
 is_barred_rule c = is_barred c.locked c.read c.write c.execute
@@ -140,8 +140,9 @@ ever_barred file k i (Reset ∷ events) mml frozen writes h = absurd (false≢tr
 ever_barred file k i (Write csr value ∷ events) mml frozen writes h =
     let next = written file csr value in
     let held : Held file next k = held_on file k (Write csr value ∷ []) frozen refl in
-    was_barred file mml (not-true _ (both _ _ frozen).1) i csr value
-    (ever_barred next k i events (mml_written file csr value mml) (still_frozen file next k frozen held) writes h)
+    was_barred file mml (not-true _ (and_parts _ _ frozen).1) i csr value
+    (ever_barred next k i events (mml_stays file (Write csr value ∷ []) refl mml)
+    (still_frozen file next k frozen held) writes h)
 
 module _ (file : RegisterFile) (k : ℕ) (events : List Event) (mml : file.mseccfg.mml ≡ true)
     (frozen : is_frozen file k ≡ true) (writes : list_all is_write events ≡ true) (access : Access)
@@ -158,7 +159,7 @@ module _ (file : RegisterFile) (k : ℕ) (events : List Event) (mml : file.msecc
       rw (mml_stays file events writes mml, machine, fetch) at allowed in
       let barred = ever_barred file k i events mml frozen writes (executes c.locked c.read c.write c.execute by_rule) in
       let locked : own.locked ≡ true = barred_locked own.locked own.read own.write own.execute barred in
-      let bypass : file.mseccfg.rlb ≡ false = not-true _ (both _ _ frozen).1 in
+      let bypass : file.mseccfg.rlb ≡ false = not-true _ (and_parts _ _ frozen).1 in
       rw (locked, bypass) refl
 
   by_frozen : (allowed : Bool) (cause : Cause) → IsDecisionBy later access allowed cause → allowed ≡ true

@@ -4,7 +4,7 @@ use Rattle.std.proofs.Common.{List, [], ◌∷◌, fold, length, Option, Some, N
 use Rattle.std.proofs.Common.{arith, get_or-set_same}
 use Rattle.std.specs.List.{list_all, list_any}
 use Rattle.std.proofs.Math.ListN.{set}
-use Rattle.std.proofs.lemmas.Bool.{cases_lt, cases_eq, ltb-true}
+use Rattle.std.proofs.lemmas.Bool.{and_parts, cases_lt, cases_eq, ltb-true}
 use Rattle.std.proofs.lemmas.Bool.Decides.{nat_tests}
 use Rattle.std.proofs.lemmas.List.{get_or_past, length-replicate}
 use Rattle.pmp_core.specs.declared.access.Access.{Access}
@@ -27,7 +27,7 @@ use Rattle.pmp_core.specs.Ranges.{decision_of}
 use Rattle.pmp_core.proofs.Configuring.{kept_above}
 use Rattle.pmp_core.proofs.Decisions.{decided_by_ranges, one_decision}
 use Rattle.pmp_core.proofs.Legal.{reset_at, configured_place, length-step, legal_law}
-use Rattle.pmp_core.proofs.Locks.{both, other_address, low_kept}
+use Rattle.pmp_core.proofs.Locks.{other_address, low_kept}
 
 -- the same mseccfg, and the same entry at every place, of which past the end there are reset ones
 record Alike (one other : RegisterFile) : Type 0 where
@@ -137,7 +137,7 @@ replays_alike : (events : List Event) (one other : RegisterFile) → 16 ≤ leng
     → Alike (fold step one events) (fold step other events)
 replays_alike [] one other room more alike named = alike
 replays_alike (event ∷ events) one other room more alike named =
-    let each = both _ _ named in
+    let each = and_parts _ _ named in
     replays_alike events (step one event) (step other event) (rw (length-step one event) room)
     (rw (length-step other event) more) (step_alike one other room more alike event each.0) each.1
 
