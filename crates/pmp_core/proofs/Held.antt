@@ -11,7 +11,7 @@ use Rattle.pmp_core.specs.declared.entry.Entry.{Entry}
 use Rattle.pmp_core.specs.declared.event.Event.{Event}
 use Rattle.pmp_core.specs.RegisterFile.{RegisterFile, entry_at, is_frozen, is_held, reset_entry}
 use Rattle.pmp_core.specs.RegisterWrite.{step}
-use Rattle.pmp_core.specs.LockLaw.{is_write}
+use Rattle.pmp_core.specs.Histories.{is_write}
 use Rattle.pmp_core.proofs.Locks.{lock_law}
 
 number_at : (i k d : ℕ) → k ≤ i → get_or (range_with_len 0 (i + 1)) k d ≡ k

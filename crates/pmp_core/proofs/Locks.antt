@@ -20,7 +20,8 @@ use Rattle.pmp_core.specs.RegisterFile.{RegisterFile, reset_entry, entry_at, is_
 use Rattle.pmp_core.specs.Matching.{low_address, MatchesBy, Matches}
 use Rattle.pmp_core.specs.RegisterWrite.{stored, holds_byte_of, configured, is_tor, is_address_frozen, address_written}
 use Rattle.pmp_core.specs.RegisterWrite.{is_any_locked, written, step}
-use Rattle.pmp_core.specs.LockLaw.{is_write, LockLaw}
+use Rattle.pmp_core.specs.LockLaw.{LockLaw}
+use Rattle.pmp_core.specs.Histories.{is_write}
 use Rattle.pmp_core.proofs.Legal.{configured_place}
 
 -- entry i is the same in both files, with the address below it where it is the top of a range; and bypass is off

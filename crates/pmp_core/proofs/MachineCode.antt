@@ -25,7 +25,8 @@ use Rattle.pmp_core.specs.RegisterFile.{RegisterFile, reset_entry, entry_at, is_
 use Rattle.pmp_core.specs.RegisterWrite.{admitted, configured, holds_byte_of, is_address_frozen, step, stored_over}
 use Rattle.pmp_core.specs.RegisterWrite.{written}
 use Rattle.pmp_core.specs.Rights.{allows, default_rights_by, is_barred, lockdown_rights, rule_rights}
-use Rattle.pmp_core.specs.LockLaw.{is_write, StaysFrozen}
+use Rattle.pmp_core.specs.LockLaw.{StaysFrozen}
+use Rattle.pmp_core.specs.Histories.{is_write}
 use Rattle.pmp_core.specs.ProtectionLaw.{MachineCodeLaw}
 use Rattle.pmp_core.proofs.Legal.{configured_place, length-written}
 use Rattle.pmp_core.proofs.Locks.{other_address, Held, held_on, lock_law, still_frozen}

@@ -18,7 +18,7 @@ use Rattle.pmp_core.specs.Configuration.{is_reserved}
 use Rattle.pmp_core.specs.RegisterFile.{RegisterFile, entry_at, is_held, IsLegal}
 use Rattle.pmp_core.specs.RegisterWrite.{step}
 use Rattle.pmp_core.specs.Rights.{allows, rights, rule_rights}
-use Rattle.pmp_core.specs.LockLaw.{is_write}
+use Rattle.pmp_core.specs.Histories.{is_write}
 use Rattle.pmp_core.specs.ProtectionLaw.{IsDecidedWithin, FewerRightsLaw, ProtectedLaw}
 use Rattle.pmp_core.proofs.Decisions.{one_decider}
 use Rattle.pmp_core.proofs.Held.{held_at, held_still}

@@ -22,7 +22,8 @@ use Rattle.pmp_core.specs.RegisterFile.{RegisterFile, file_of, reset_entry, rese
 use Rattle.pmp_core.specs.RegisterWrite.{admitted}
 use Rattle.pmp_core.specs.Ranges.{ranges_of}
 use Rattle.pmp_core.specs.SavedRegisters.{saved_registers, saved_size, restored_entry, restored_entries, restored_file}
-use Rattle.pmp_core.specs.SavedRegisters.{zero_registers, SavedLaw}
+use Rattle.pmp_core.specs.SavedRegisters.{zero_registers}
+use Rattle.pmp_core.specs.SavedLaw.{SavedLaw}
 use Rattle.pmp_core.specs.Size.{count_of, used, empty_range, IsStored}
 use Rattle.pmp_core.proofs.Legal.{stored_unreserved}
 use Rattle.pmp_core.proofs.Places.{entries_by}

@@ -10,7 +10,8 @@ use Rattle.pmp_core.specs.declared.access.TheConstants.{ADDRESS_LIMIT}
 use Rattle.pmp_core.specs.RegisterFile.{HasAddresses}
 use Rattle.pmp_core.specs.Matching.{Matches}
 use Rattle.pmp_core.specs.Ranges.{IsInRange, range_of}
-use Rattle.pmp_core.specs.Span.{IsSpan, OneSpanLaw, span_in, span_of}
+use Rattle.pmp_core.specs.Span.{IsSpan, span_in, span_of}
+use Rattle.pmp_core.specs.SpanLaw.{OneSpanLaw}
 use Rattle.pmp_core.proofs.Matches.{matches_range}
 
 -- ---- one span

@@ -16,7 +16,7 @@ use Rattle.pmp_core.specs.Mseccfg.{mseccfg_written}
 use Rattle.pmp_core.specs.RegisterFile.{RegisterFile, entry_at, is_frozen}
 use Rattle.pmp_core.specs.RegisterWrite.{is_any_locked, is_tor, step, written}
 use Rattle.pmp_core.specs.Rights.{allows, default_rights_by}
-use Rattle.pmp_core.specs.LockLaw.{is_write}
+use Rattle.pmp_core.specs.Histories.{is_write}
 use Rattle.pmp_core.specs.StickyLaw.{StickyLaw, FrozenAddressLaw}
 use Rattle.pmp_core.proofs.Locks.{still_frozen, held_on}
 

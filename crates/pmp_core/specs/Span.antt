@@ -1,5 +1,5 @@
 -- The first and the last byte that an entry matches (Volume II, 3.7.1.1).
-use Rattle.std.specs.Prelude.{◌≡◌, ◌↔◌, ℕ, ◌-◌, ◌<◌, ◌≤◌, List, min, nat_lt, Option, Some, None, if◌then◌else◌}
+use Rattle.std.specs.Prelude.{◌↔◌, ℕ, ◌-◌, ◌<◌, ◌≤◌, List, min, nat_lt, Option, Some, None, if◌then◌else◌}
 use Rattle.pmp_core.specs.declared.entry.Entry.{Entry}
 use Rattle.pmp_core.specs.declared.range.ByteRange.{ByteRange}
 use Rattle.pmp_core.specs.declared.span.Span.{Span}
@@ -16,11 +16,6 @@ IsSpan entries i None = (byte : ℕ) → byte < ADDRESS_LIMIT → ¬ (Matches en
 IsSpan entries i (Some span) =
     (span.first ≤ span.last) × (span.last < ADDRESS_LIMIT)
     × ((byte : ℕ) → byte < ADDRESS_LIMIT → Matches entries i byte ↔ IsInSpan span byte)
-
--- an entry has one span
-abbrev pub OneSpanLaw : Type 0
-OneSpanLaw = (entries : List Entry) (i : ℕ) (one other : Option Span)
-    → IsSpan entries i one → IsSpan entries i other → one ≡ other
 
 -- ---- computed
 

@@ -7,7 +7,7 @@ use Rattle.pmp_core.specs.declared.event.Event.{Event}
 use Rattle.pmp_core.specs.RegisterFile.{RegisterFile, entry_at}
 use Rattle.pmp_core.specs.RegisterWrite.{is_address_frozen, step}
 use Rattle.pmp_core.specs.Rights.{allows, default_rights}
-use Rattle.pmp_core.specs.LockLaw.{is_write}
+use Rattle.pmp_core.specs.Histories.{is_write}
 
 -- MML and MMWP stay where they are set, and with MMWP nothing is open where no entry matches (Smepmp)
 pub record StaysSet (before after : RegisterFile) : Type 0 where

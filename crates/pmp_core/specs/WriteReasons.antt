@@ -1,5 +1,5 @@
 -- Why a register doesn't read what was written to it (Volume II, 3.7.1, 3.7.1.2 and Smepmp).
-use Rattle.std.specs.Prelude.{◌≡◌, ◌<◌, ◌↔◌, ℕ, ◌-◌, ◌*◌, ◌/◌, ◌%◌, ◌^◌, ◌==◌, nat_lt, Bool, false, not, ◌&&◌, ◌||◌}
+use Rattle.std.specs.Prelude.{ℕ, ◌-◌, ◌*◌, ◌/◌, ◌%◌, ◌==◌, nat_lt, Bool, false, not, ◌&&◌, ◌||◌}
 use Rattle.std.specs.Prelude.{List, [], ◌∷◌, length, slice_index}
 use Rattle.std.specs.List.{range_with_len, list_any, filter}
 use Rattle.std.specs.Int.{w64, to_le_bytes}
@@ -13,9 +13,8 @@ use Rattle.pmp_core.specs.declared.write_reasons.WriteReason.TheVariants.{Sticky
 use Rattle.pmp_core.specs.declared.register_write.TheConstants.{ENTRIES_PER_CFG, WORD_ADDRESSES}
 use Rattle.pmp_core.specs.Configuration.{configuration_of, byte_of, is_reserved}
 use Rattle.pmp_core.specs.Mseccfg.{mseccfg_fields}
-use Rattle.pmp_core.specs.RegisterFile.{RegisterFile, entry_at, is_frozen, IsLegal}
-use Rattle.pmp_core.specs.RegisterValue.{register_value}
-use Rattle.pmp_core.specs.RegisterWrite.{holds_byte_of, is_address_frozen, is_any_locked, written}
+use Rattle.pmp_core.specs.RegisterFile.{RegisterFile, entry_at, is_frozen}
+use Rattle.pmp_core.specs.RegisterWrite.{holds_byte_of, is_address_frozen, is_any_locked}
 use Rattle.pmp_core.specs.Rights.{is_barred}
 
 abbrev pub all_reasons : List WriteReason
@@ -136,8 +135,3 @@ turns_away Bypass file csr value = sets_bypass file csr value
 -- the reasons why the register doesn't read the value, in this order
 abbrev pub write_reasons : RegisterFile → Csr → (value : ℕ) → List WriteReason
 write_reasons file csr value = filter (λ reason. turns_away reason file csr value) all_reasons
-
--- a write has no reason exactly where the register then reads what was written
-abbrev pub WriteReasonsLaw : Type 0
-WriteReasonsLaw = (file : RegisterFile) → IsLegal file → (csr : Csr) (value : ℕ) → value < 2 ^ 64
-    → (write_reasons file csr value ≡ []) ↔ (register_value (written file csr value) csr ≡ value)
