@@ -12,7 +12,8 @@ use Rattle.pmp_core.specs.declared.decision.Decision.{Decision}
 use Rattle.pmp_core.specs.declared.event.Event.{Event}
 use Rattle.pmp_core.specs.Size.{count_of}
 use Rattle.pmp_core.specs.Decision.{IsDecision}
-use Rattle.pmp_core.specs.Histories.{LegalLaw, file_after, joined}
+use Rattle.pmp_core.specs.Histories.{file_after, joined}
+use Rattle.pmp_core.specs.ReachableLaw.{LegalLaw}
 use Rattle.pmp_core.specs.Ranges.{decision_of}
 use Rattle.pmp_core.specs.RegisterFile.{HasAddresses, RegisterFile}
 use Rattle.pmp_share.specs.declared.room.TheConstants.{HISTORY_LIMIT}

@@ -19,7 +19,8 @@ use Rattle.pmp_core.specs.Size.{count_of}
 use Rattle.pmp_core.specs.RegisterFile.{RegisterFile, reset_entry, reset_file, is_frozen, is_held}
 use Rattle.pmp_core.specs.RegisterWrite.{step}
 use Rattle.pmp_core.specs.Histories.{joined, file_after}
-use Rattle.pmp_core.specs.LockLaw.{is_write, StaysFrozen}
+use Rattle.pmp_core.specs.LockLaw.{StaysFrozen}
+use Rattle.pmp_core.specs.Histories.{is_write}
 use Rattle.pmp_core.specs.ProtectionLaw.{ProtectedLaw, StaysProtected}
 use Rattle.pmp_core.proofs.Held.{held_at, held_still}
 use Rattle.pmp_core.proofs.Locks.{lock_law}

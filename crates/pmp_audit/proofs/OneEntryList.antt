@@ -6,7 +6,7 @@ use Rattle.pmp_core.specs.declared.event.Event.{Event}
 use Rattle.pmp_core.specs.declared.span.Span.{Span}
 use Rattle.pmp_core.specs.RegisterFile.{RegisterFile, is_frozen, is_held}
 use Rattle.pmp_core.specs.Size.{count_of}
-use Rattle.pmp_core.specs.Span.{OneSpanLaw}
+use Rattle.pmp_core.specs.SpanLaw.{OneSpanLaw}
 use Rattle.pmp_core.proofs.Decisions.{least_once}
 use Rattle.pmp_text.specs.declared.lines.since.Since.{Since}
 use Rattle.pmp_text.specs.Contents.{ScriptContents}

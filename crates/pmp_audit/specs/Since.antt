@@ -5,7 +5,8 @@ use Rattle.pmp_core.specs.declared.event.Event.{Event}
 use Rattle.pmp_core.specs.RegisterFile.{RegisterFile, is_frozen, is_held}
 use Rattle.pmp_core.specs.Decision.{IsLeast}
 use Rattle.pmp_core.specs.Histories.{joined, file_after}
-use Rattle.pmp_core.specs.LockLaw.{is_write, StaysFrozen}
+use Rattle.pmp_core.specs.LockLaw.{StaysFrozen}
+use Rattle.pmp_core.specs.Histories.{is_write}
 use Rattle.pmp_core.specs.ProtectionLaw.{StaysProtected}
 use Rattle.pmp_text.specs.declared.lines.since.Since.{Since}
 use Rattle.pmp_text.specs.EntryRows.{no_since}

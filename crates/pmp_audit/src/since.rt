@@ -2,7 +2,7 @@
 
 ghost use Rattle.std.specs.Prelude.{◌≡◌, ◌<◌, ◌≤◌, ℕ, length, take};
 ghost use Rattle.std.specs.List.{list_all, slice_index_or};
-ghost use Rattle.pmp_core.specs.LockLaw.{is_write};
+ghost use Rattle.pmp_core.specs.Histories.{is_write};
 ghost use Rattle.pmp_core.specs.RegisterFile.{is_frozen, is_held};
 ghost use Rattle.pmp_core.specs.Size.{count_of};
 ghost use Rattle.pmp_text.specs.EntryRows.{no_since};

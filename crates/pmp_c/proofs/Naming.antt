@@ -1,5 +1,5 @@
 -- Numbers name one access.
-use Rattle.std.proofs.Common.{◌≡◌, ◌≢◌, ℕ, zero, suc, ◌+◌, ◌<◌, ◌≤◌, ◌^◌, refl, sym, ap, ◌∙◌, subst, arith}
+use Rattle.std.proofs.Common.{◌≡◌, ◌≢◌, ℕ, zero, suc, ◌+◌, ◌<◌, ◌≤◌, refl, sym, ap, ◌∙◌, subst, arith}
 use Rattle.std.proofs.Math.Bridge.{le_prop}
 use Rattle.pmp_core.specs.declared.access.Access.{Access}
 use Rattle.pmp_core.specs.declared.access.Mode.{Mode}
@@ -81,12 +81,12 @@ named_once one other mode kind start length p q = same_numbers one other
     (kind_once one.kind other.kind (p.kind_is ∙ sym q.kind_is))
     (p.start_is ∙ sym q.start_is) (p.length_is ∙ sym q.length_is)
 
--- what the one is answered, the other is answered
+-- accesses of the same numbers have the same answer
 pub named_alike : (answer : Access → ℕ) (one other : Access) (mode kind start length : ℕ)
     → IsNamed one mode kind start length → IsNamed other mode kind start length → answer one ≡ answer other
 named_alike answer one other mode kind start length p q = ap answer (named_once one other mode kind start length p q)
 
--- ---- some access
+-- ---- numbers that an access has
 
 pub mode_with : (n : ℕ) → n ≤ 3 → n ≢ 2 → (mode : Mode) × (mode_number mode ≡ n)
 mode_with zero few other = (U, refl)

@@ -1,7 +1,6 @@
 -- What a reader has to believe: what the numbers at the boundary mean.
 pub mod Request
 pub mod Answer
-pub mod AnswerLaw
 pub mod RangeRights
 pub mod Status
 pub mod Unit
@@ -10,3 +9,5 @@ pub mod Columns
 pub mod Rows
 pub mod Causes
 pub mod Tables
+-- Laws: statements that are proved, with the words that they alone need.
+pub mod AnswerLaw

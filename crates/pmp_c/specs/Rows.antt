@@ -9,7 +9,7 @@ use Rattle.pmp_map.specs.Answers.{owned_rights, whole_cause}
 use Rattle.pmp_c.specs.Answer.{number_by}
 use Rattle.pmp_c.specs.Columns.{column_of}
 
--- what an access of this mode and kind is answered whose bytes all have this owner
+-- the answer to an access of this mode and kind, whose bytes all have this owner
 abbrev pub owned_answer : RegisterFile → Option ℕ → Mode → Kind → ℕ
 owned_answer file owner mode kind = number_by kind (whole_cause owner) (allows (owned_rights file owner mode) kind)
 
@@ -18,6 +18,6 @@ pub record IsRow (file : RegisterFile) (owner : Option ℕ) (row : List ℕ) : T
   pub number : IfSome owner (λ i. i < 256)
   pub answers : (mode : Mode) (kind : Kind) → slice_index row (column_of mode kind) ≡ owned_answer file owner mode kind
 
--- row k
+-- row k; past the last, an empty one
 abbrev pub row_at : List (List ℕ) → ℕ → List ℕ
 row_at rows k = slice_index_or rows k []

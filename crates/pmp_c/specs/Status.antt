@@ -4,7 +4,7 @@ use Rattle.pmp_core.specs.declared.csr.Csr.{Csr}
 use Rattle.pmp_core.specs.declared.csr.CsrFault.{CsrFault}
 use Rattle.pmp_core.specs.declared.csr.CsrFault.TheVariants.{OddCfg, NotPmp}
 
--- 0 where it did
+-- 0 where the call took it
 abbrev pub status_number : Result Csr CsrFault → ℕ
 status_number (Ok csr) = 0
 status_number (Err OddCfg) = 1

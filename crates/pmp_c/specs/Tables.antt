@@ -12,7 +12,7 @@ use Rattle.pmp_c.specs.Rows.{IsRow, row_at}
 abbrev pub AreRows : RegisterFile → List Run → List (List ℕ) → Type 0
 AreRows file runs rows = (k : ℕ) → k < length runs → IsRow file (map_run runs k).owner (row_at rows k)
 
--- the tables of a register file
+-- a list of runs ties the tables to the register file
 pub record AreTables (file : RegisterFile) (tables : Tables) : Type 0 where
   pub list : List Run
   pub addresses : HasAddresses file.entries

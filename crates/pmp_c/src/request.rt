@@ -1,6 +1,6 @@
 //! What is asked, as numbers.
 
-ghost use Rattle.std.specs.Prelude.{◌≡◌, ◌+◌, ◌<◌, ◌≤◌, ◌^◌, IfSome, None};
+ghost use Rattle.std.specs.Prelude.{◌≡◌, ◌+◌, ◌<◌, ◌≤◌, IfSome, None};
 ghost use Rattle.pmp_core.specs.declared.access.TheConstants.{ADDRESS_LIMIT};
 ghost use Rattle.pmp_core.specs.declared.access.Access.{Access};
 ghost use Rattle.pmp_core.specs.declared.access.Kind.{Kind};

@@ -1,6 +1,6 @@
 //! The tables by which a unit answers.
 
-ghost use Rattle.std.specs.Prelude.{◌≡◌, ◌+◌, ◌<◌, ◌≤◌, ◌^◌, length, slice_index};
+ghost use Rattle.std.specs.Prelude.{◌≡◌, ◌+◌, ◌<◌, ◌≤◌, length, slice_index};
 ghost use Rattle.pmp_core.specs.declared.access.Access.{Access};
 ghost use Rattle.pmp_core.specs.declared.access.Mode.{Mode};
 ghost use Rattle.pmp_core.specs.RegisterFile.{RegisterFile};
@@ -82,7 +82,7 @@ impl Tables {
         place_of(&self.starts, self.runs as usize, byte)
     }
 
-    /// The same, which tries a place first.
+    /// The same place, found sooner where it is `near`.
     #[inline(always)]
     pub fn place_near(&self, near: usize, byte: u64) -> usize
         ensures inside { result + 1 < PLACES }

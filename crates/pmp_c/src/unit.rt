@@ -1,6 +1,6 @@
 //! The unit: its registers, and the tables of its map.
 
-ghost use Rattle.std.specs.Prelude.{◌≡◌, ◌+◌, ◌<◌, ◌≤◌, ◌^◌, nat_lt};
+ghost use Rattle.std.specs.Prelude.{◌≡◌, ◌+◌, ◌<◌, ◌≤◌, nat_lt};
 ghost use Rattle.pmp_core.specs.declared.access.Access.{Access};
 ghost use Rattle.pmp_core.specs.declared.access.Mode.{Mode};
 ghost use Rattle.pmp_core.specs.Ranges.{decision_of};
@@ -99,7 +99,7 @@ impl Unit {
         }
     }
 
-    /// The same, which tries a run first.
+    /// The same answer, found sooner where the byte is in the run at `near`.
     #[inline(always)]
     pub fn answer_near(&self, near: u32, request: &Request) -> Found
         ensures { (access : Access)

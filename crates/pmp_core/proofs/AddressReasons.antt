@@ -1,5 +1,5 @@
 -- An address register is stored as written exactly where there is no reason.
-use Rattle.std.proofs.Common.{◌≡◌, ℕ, ◌/◌, ◌%◌, ◌^◌, ◌<◌, ◌≤◌, Bool, true, false, cond, not}
+use Rattle.std.proofs.Common.{◌≡◌, ℕ, ◌/◌, ◌%◌, ◌<◌, ◌≤◌, Bool, true, false, cond, not}
 use Rattle.std.proofs.Common.{◌&&◌, ◌==◌, nat_lt, List, length, refl, sym, ap, ◌∙◌, inl, inr, arith}
 use Rattle.std.proofs.Common.{length-set, get_or-set_same}
 use Rattle.std.proofs.Math.ListN.{set}
@@ -9,11 +9,12 @@ use Rattle.std.proofs.lemmas.List.{get_or_past}
 use Rattle.pmp_core.specs.declared.csr.Csr.TheVariants.{Addr}
 use Rattle.pmp_core.specs.declared.entry.Entry.{Entry}
 use Rattle.pmp_core.specs.declared.register_write.TheConstants.{WORD_ADDRESSES}
+use Rattle.pmp_core.specs.declared.write_reasons.WriteReason.TheVariants.{Frozen, Tor, Reserved, Lockdown}
 use Rattle.pmp_core.specs.RegisterFile.{RegisterFile, reset_entry, entry_at, is_frozen, IsLegal}
 use Rattle.pmp_core.specs.RegisterValue.{register_value}
 use Rattle.pmp_core.specs.RegisterWrite.{is_address_frozen, written}
 use Rattle.pmp_core.specs.WriteReasons.{is_changed, changes_frozen, is_low_end}
-use Rattle.pmp_core.proofs.Reasons.{none_between, none_at, HasNone}
+use Rattle.pmp_core.proofs.Reasons.{none_at_entry, none_at_entries, HasNone}
 use Rattle.pmp_core.proofs.StoredBytes.{and_true, not_same}
 
 module _ (file : RegisterFile) (legal : IsLegal file) (i value : ℕ) where
@@ -23,7 +24,7 @@ module _ (file : RegisterFile) (legal : IsLegal file) (i value : ℕ) where
   abbrev set_address : List Entry
   set_address = set file.entries i (record (entry_at file.entries i) { address = value % WORD_ADDRESSES })
 
-  -- what it reads where it is frozen, where the unit doesn't have it, and else
+  -- what the register reads after the write: frozen, not there, or neither
   reads_frozen : is_address_frozen file i ≡ true
       → (entry_at (written file (Addr i) value).entries i).address ≡ address
   reads_frozen frozen = rw frozen refl
@@ -48,13 +49,11 @@ module _ (file : RegisterFile) (legal : IsLegal file) (i value : ℕ) where
   module _ (none : HasNone file (Addr i) value) where
     unchanged : is_address_frozen file i ≡ true → i < length file.entries → address ≡ value
     unchanged frozen inside =
-        let locked = none_at (changes_frozen file (Addr i) value) 0 (length file.entries) i none.locked (omega arith)
-        (omega arith) in
-        let low = none_at (is_low_end file (Addr i) value) 0 (length file.entries) i none.tor (omega arith)
-        (omega arith) in
+        let entry = none_at_entry Frozen file (Addr i) value none.frozen i inside in
+        let low_end = none_at_entry Tor file (Addr i) value none.tor i inside in
         is_same (sym changed_here ∙ elim (cases_Bool (is_frozen file i)) [
-          | inl own ↦ rw own at locked
-          | inr other ↦ rw (frozen, other) at low
+          | inl own ↦ rw own at entry
+          | inr other ↦ rw (frozen, other) at low_end
         ])
 
     zero_value : length file.entries ≤ i → value ≡ 0
@@ -89,14 +88,14 @@ module _ (file : RegisterFile) (legal : IsLegal file) (i value : ℕ) where
       | inl inside ↦ rw (lt-ltb i (length file.entries) inside) (and_right _ false refl)
     ]
 
-    -- where the address is frozen, no entry's is another
+    -- where the address is frozen, the value changes no entry
     unchanged_at : (k : ℕ) → is_address_frozen file i ≡ true → is_changed file.entries (Addr i) value k ≡ false
     unchanged_at k frozen = elim (cases_eq i k) [
       | inl here ↦ rw (← here) (changed_here ∙ not_same value address (sym same ∙ reads_frozen frozen))
       | inr other ↦ rw (ne_eqb i k other) refl
     ]
 
-    -- else this entry isn't frozen
+    -- where it isn't, the entry isn't frozen and isn't the low end of a frozen range
     free_at : (k : ℕ) → is_address_frozen file i ≡ false
         → (changes_frozen file (Addr i) value k ≡ false) × (is_low_end file (Addr i) value k ≡ false)
     free_at k free = elim (cases_eq i k) [
@@ -117,10 +116,10 @@ module _ (file : RegisterFile) (legal : IsLegal file) (i value : ℕ) where
     address_reasonless = record {
       absent = reads_absent;
       bits = not_same (value / WORD_ADDRESSES) 0 (let few : value < WORD_ADDRESSES = few_bits in omega arith);
-      locked = none_between (changes_frozen file (Addr i) value) 0 (length file.entries) (λ k _ inside. (fine k).0);
-      tor = none_between (is_low_end file (Addr i) value) 0 (length file.entries) (λ k _ inside. (fine k).1);
-      reserved = none_between (λ k. false) 0 (length file.entries) (λ k _ inside. refl);
-      lockdown = none_between (λ k. false) 0 (length file.entries) (λ k _ inside. refl);
+      frozen = none_at_entries Frozen file (Addr i) value (λ k inside. (fine k).0);
+      tor = none_at_entries Tor file (Addr i) value (λ k inside. (fine k).1);
+      reserved = none_at_entries Reserved file (Addr i) value (λ k inside. refl);
+      lockdown = none_at_entries Lockdown file (Addr i) value (λ k inside. refl);
       sticky = refl;
       bypass = refl;
     }

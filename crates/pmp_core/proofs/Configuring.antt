@@ -33,7 +33,7 @@ module _ (file : RegisterFile) (q value k : ℕ) where
   kept_above h = kept (grind (arith, nat_tests))
 
 module _ (file : RegisterFile) (q value : ℕ) where
-  -- the entry whose byte has the place
+  -- the byte at this place is that of entry 4q + place
   pub configured_at : (place : ℕ) → q % 2 ≡ 0 → place < 8 → configured file q value (4 * q + place)
       ≡ (let entry = entry_at file.entries (4 * q + place) in
       record entry {

@@ -138,8 +138,8 @@ least_once P (Some i) (Some j) p q = elim (cases_lt i j) [
 ]
 
 module _ (file : RegisterFile) (access : Access) where
-  same_entry : (i j : ℕ) → IsDecider file.entries access (Some i) → IsDecider file.entries access (Some j) → i ≡ j
-  same_entry i j p q = let same = least_once (Touches file.entries access) (Some i) (Some j) p q in cc
+  pub one_decider : (i j : ℕ) → IsDecider file.entries access (Some i) → IsDecider file.entries access (Some j) → i ≡ j
+  one_decider i j p q = let same = least_once (Touches file.entries access) (Some i) (Some j) p q in cc
 
   decided_once : (one other : Bool) (why because : Cause) → IsDecisionBy file access one why
       → IsDecisionBy file access other because → (one ≡ other) × (why ≡ because)
@@ -147,12 +147,12 @@ module _ (file : RegisterFile) (access : Access) where
   decided_once one other NoMatch (Split j) p q = absurd (p.0 j q.0.0)
   decided_once one other NoMatch (Rule j) p q = absurd (p.0 j q.0.0)
   decided_once one other (Split i) NoMatch p q = absurd (q.0 i p.0.0)
-  decided_once one other (Split i) (Split j) p q = (p.2 ∙ sym q.2, ap Split (same_entry i j p.0 q.0))
-  decided_once one other (Split i) (Rule j) p q = absurd (p.1 (rw (same_entry i j p.0 q.0) q.1))
+  decided_once one other (Split i) (Split j) p q = (p.2 ∙ sym q.2, ap Split (one_decider i j p.0 q.0))
+  decided_once one other (Split i) (Rule j) p q = absurd (p.1 (rw (one_decider i j p.0 q.0) q.1))
   decided_once one other (Rule i) NoMatch p q = absurd (q.0 i p.0.0)
-  decided_once one other (Rule i) (Split j) p q = absurd (q.1 (rw (← same_entry i j p.0 q.0) p.1))
+  decided_once one other (Rule i) (Split j) p q = absurd (q.1 (rw (← one_decider i j p.0 q.0) p.1))
   decided_once one other (Rule i) (Rule j) p q =
-      let same = same_entry i j p.0 q.0 in
+      let same = one_decider i j p.0 q.0 in
       (p.2 ∙ ap (λ (k : ℕ). allows (rights file k access.mode) access.kind) same ∙ sym q.2, ap Rule same)
 
 pub one_decision : (file : RegisterFile) (access : Access) (one other : Decision) → IsDecision file access one

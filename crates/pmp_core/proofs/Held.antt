@@ -1,18 +1,17 @@
 -- Entries that are all frozen.
-use Rattle.std.proofs.Common.{◌≡◌, ℕ, ◌+◌, ◌<◌, ◌≤◌, Bool, true, false, not, ◌&&◌, List, take, length, fold, get_or}
+use Rattle.std.proofs.Common.{◌≡◌, ℕ, ◌+◌, ◌<◌, ◌≤◌, Bool, true, false, List, take, length, fold, get_or}
 use Rattle.std.proofs.Common.{refl, sym, ap, ◌∙◌, arith}
 use Rattle.std.specs.List.{list_all, range_with_len}
 use Rattle.std.specs.Cmp.{both_ways}
 use Rattle.std.proofs.lemmas.Bool.{and_parts}
 use Rattle.std.proofs.lemmas.List.{get_or_default, get_or-take, length-take-le}
-use Rattle.std.proofs.lemmas.List.Folds.{list_all_more}
 use Rattle.std.proofs.lemmas.List.FromFn.{get_or-range_with_len, length-range_with_len}
 use Rattle.std.proofs.lemmas.List.Sums.{AllPass-from_list_all, list_all-from_AllPass}
 use Rattle.pmp_core.specs.declared.entry.Entry.{Entry}
 use Rattle.pmp_core.specs.declared.event.Event.{Event}
-use Rattle.pmp_core.specs.RegisterFile.{RegisterFile, entry_at, is_frozen, is_held, reset_entry, reset_file}
+use Rattle.pmp_core.specs.RegisterFile.{RegisterFile, entry_at, is_frozen, is_held, reset_entry}
 use Rattle.pmp_core.specs.RegisterWrite.{step}
-use Rattle.pmp_core.specs.LockLaw.{is_write}
+use Rattle.pmp_core.specs.Histories.{is_write}
 use Rattle.pmp_core.proofs.Locks.{lock_law}
 
 number_at : (i k d : ℕ) → k ≤ i → get_or (range_with_len 0 (i + 1)) k d ≡ k
@@ -36,7 +35,7 @@ held_still file i events held writes =
     held_by_all (fold step file events) i (λ j within.
     (lock_law file j events (held_at file i j within held) writes).frozen)
 
--- ---- by the bits of the entries
+-- ---- held, as the lock bits of the entries say it
 
 abbrev pub is_locked : Entry → Bool
 is_locked entry = entry.configuration.locked

@@ -1,10 +1,10 @@
 -- Every step keeps a register file legal, and as long as it is.
-use Rattle.std.proofs.Common.{◌≡◌, ℕ, ◌-◌, ◌*◌, ◌^◌, ◌%◌, ◌<◌, ◌≤◌, Bool, true, false, cond, not, ◌&&◌, ◌||◌, ◌==◌}
+use Rattle.std.proofs.Common.{◌≡◌, ℕ, ◌-◌, ◌*◌, ◌%◌, ◌<◌, ◌≤◌, Bool, true, false, cond, not, ◌&&◌, ◌==◌}
 use Rattle.std.proofs.Common.{List, [], ◌∷◌, fold, length, replicate, slice_index, refl, inl, inr, arith, length-set, ◌∙◌}
 use Rattle.std.proofs.Common.{get_or-set_other, get_or-set_same}
 use Rattle.std.specs.Int.{w64, to_le_bytes}
 use Rattle.std.proofs.Math.ListN.{set}
-use Rattle.std.proofs.lemmas.Bool.{cases_lt, cases_eq}
+use Rattle.std.proofs.lemmas.Bool.{cases_lt, cases_eq, cond_both, or_parts}
 use Rattle.std.proofs.lemmas.List.{get_or_past, get_or-replicate, length-replicate}
 use Rattle.std.proofs.lemmas.List.FromFn.{length-map-range_with_len, get_or-map-range_with_len}
 use Rattle.pmp_core.specs.declared.configuration.Configuration.{Configuration}
@@ -16,7 +16,8 @@ use Rattle.pmp_core.specs.declared.event.Event.TheVariants.{Write, Reset}
 use Rattle.pmp_core.specs.declared.register_write.TheConstants.{WORD_ADDRESSES}
 use Rattle.pmp_core.specs.Configuration.{configuration_of, is_reserved}
 use Rattle.pmp_core.specs.RegisterFile.{RegisterFile, reset_entry, reset_file, entry_at, IsLegal}
-use Rattle.pmp_core.specs.Histories.{LegalLaw, joined, file_after}
+use Rattle.pmp_core.specs.Histories.{joined, file_after}
+use Rattle.pmp_core.specs.ReachableLaw.{LegalLaw}
 use Rattle.pmp_core.specs.RegisterWrite.{without_reserved, stored_over, stored, holds_byte_of, configured}
 use Rattle.pmp_core.specs.RegisterWrite.{is_address_frozen}
 use Rattle.pmp_core.specs.RegisterWrite.{written, step}
@@ -78,16 +79,8 @@ length-written file Mseccfg value = refl
 abbrev IsLegalEntry : Bool → Entry → Type 0
 IsLegalEntry mml entry = (entry.address < WORD_ADDRESSES) × (mml ≡ false → is_reserved entry.configuration ≡ false)
 
-either : (b : Bool) (mml : Bool) (x y : Entry) → IsLegalEntry mml x → IsLegalEntry mml y → IsLegalEntry mml (cond b x y)
-either true mml x y p q = p
-either false mml x y p q = q
-
 reset_entry_legal : (mml : Bool) → IsLegalEntry mml reset_entry
 reset_entry_legal mml = (omega arith, λ off. refl)
-
-or_false : (a b : Bool) → (a || b) ≡ false → a ≡ false
-or_false true b h = h
-or_false false b h = refl
 
 module _ (file : RegisterFile) (legal : IsLegal file) where
   legal_place : (i : ℕ) → IsLegalEntry file.mseccfg.mml (entry_at file.entries i)
@@ -99,9 +92,8 @@ module _ (file : RegisterFile) (legal : IsLegal file) where
       let byte = slice_index (to_le_bytes w64 value) (i - 4 * q) in
       let kept : file.mseccfg.mml ≡ false → is_reserved (stored file i byte) ≡ false =
       λ off. rw off (stored_unreserved file.mseccfg.rlb entry.configuration byte (legal.unreserved off i)) in
-      either (holds_byte_of q i) file.mseccfg.mml (record entry {
-        configuration = stored file i byte;
-      }) entry (legal.addresses i, kept) (legal_place i)
+      cond_both (holds_byte_of q i) (record entry { configuration = stored file i byte }) entry
+      (IsLegalEntry file.mseccfg.mml) (λ _. (legal.addresses i, kept)) (λ _. legal_place i)
 
   past : (entries : List Entry) (i : ℕ) → length entries ≤ i → IsLegalEntry file.mseccfg.mml (entry_at entries i)
   past entries i over = rw (get_or_past entries i reset_entry over) (reset_entry_legal file.mseccfg.mml)
@@ -138,7 +130,7 @@ module _ (file : RegisterFile) (legal : IsLegal file) where
   was_off : (csr : Csr) (value : ℕ) → (written file csr value).mseccfg.mml ≡ false → file.mseccfg.mml ≡ false
   was_off (Cfg q) value off = off
   was_off (Addr j) value off = off
-  was_off Mseccfg value off = or_false file.mseccfg.mml (value % 2 == 1) off
+  was_off Mseccfg value off = (or_parts file.mseccfg.mml (value % 2 == 1) off).0
 
   pub step_legal : (event : Event) → IsLegal (step file event)
   step_legal Reset = reset_legal (length file.entries)

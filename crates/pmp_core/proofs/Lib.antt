@@ -20,6 +20,8 @@ pub mod Spans
 pub mod StoredBytes
 pub mod Saved
 pub mod Reasons
+pub mod WordBytes
+pub mod AbsentBytes
 pub mod WordReasons
 pub mod AddressReasons
 pub mod MseccfgReasons

@@ -1,12 +1,13 @@
 -- A frozen entry stays as it is, write by write.
-use Rattle.std.proofs.Common.{◌≡◌, ◌≢◌, ◌↔◌, ℕ, zero, suc, ◌<◌, Bool, true, false, cond, not, ◌&&◌, ◌||◌, List, [], ◌∷◌}
-use Rattle.std.proofs.Common.{length, fold, get_or, slice_index, ◌-◌, ◌*◌, ◌/◌, ◌%◌, ◌^◌, ◌==◌, refl, sym, ap, ◌∙◌, inl}
+use Rattle.std.proofs.Common.{◌≡◌, ◌≢◌, ◌↔◌, ℕ, zero, suc, ◌<◌, true, false, cond, not, ◌||◌, List, [], ◌∷◌}
+use Rattle.std.proofs.Common.{length, fold, slice_index, ◌-◌, ◌*◌, ◌/◌, ◌%◌, ◌==◌, refl, sym, ap, ◌∙◌, inl}
 use Rattle.std.proofs.Common.{inr, arith, get_or-set_other}
-use Rattle.std.specs.List.{list_all, list_any}
+use Rattle.std.specs.List.{list_all}
 use Rattle.std.specs.Int.{w64, to_le_bytes}
 use Rattle.std.proofs.Math.ListN.{set}
-use Rattle.std.proofs.lemmas.Bool.{cases_lt, cases_eq, false≢true, not-true}
+use Rattle.std.proofs.lemmas.Bool.{and_parts, and_right, cases_lt, cases_eq, false≢true, not-true, or_right}
 use Rattle.std.proofs.lemmas.List.{get_or_past}
+use Rattle.std.proofs.lemmas.List.Folds.{list_any_at}
 use Rattle.pmp_core.specs.declared.configuration.AddressMatching.{AddressMatching}
 use Rattle.pmp_core.specs.declared.configuration.AddressMatching.TheVariants.{Off, Tor, Na4, Napot}
 use Rattle.pmp_core.specs.declared.csr.Csr.{Csr}
@@ -19,7 +20,8 @@ use Rattle.pmp_core.specs.RegisterFile.{RegisterFile, reset_entry, entry_at, is_
 use Rattle.pmp_core.specs.Matching.{low_address, MatchesBy, Matches}
 use Rattle.pmp_core.specs.RegisterWrite.{stored, holds_byte_of, configured, is_tor, is_address_frozen, address_written}
 use Rattle.pmp_core.specs.RegisterWrite.{is_any_locked, written, step}
-use Rattle.pmp_core.specs.LockLaw.{is_write, LockLaw}
+use Rattle.pmp_core.specs.LockLaw.{LockLaw}
+use Rattle.pmp_core.specs.Histories.{is_write}
 use Rattle.pmp_core.proofs.Legal.{configured_place}
 
 -- entry i is the same in both files, with the address below it where it is the top of a range; and bypass is off
@@ -28,24 +30,6 @@ pub record Held (before after : RegisterFile) (i : ℕ) : Type 0 where
   pub low : is_tor (entry_at before.entries i).configuration.matching ≡ true
       → low_address after.entries i ≡ low_address before.entries i
   pub bypass : after.mseccfg.rlb ≡ false
-
-pub both : (a b : Bool) → (a && b) ≡ true → (a ≡ true) × (b ≡ true)
-both true b h = (refl, h)
-both false b h = absurd (false≢true h)
-
-or_true : (a b : Bool) → b ≡ true → (a || b) ≡ true
-or_true true b h = refl
-or_true false b h = h
-
-and_false : (a b : Bool) → b ≡ false → (a && b) ≡ false
-and_false true b h = h
-and_false false b h = refl
-
-list_any_at : {X : Type 0} (p : X → Bool) → (xs : List X) (i : ℕ) (d : X) → i < length xs → p (get_or xs i d) ≡ true
-    → list_any p xs ≡ true
-list_any_at p [] i d inside h = absurd (omega arith)
-list_any_at p (x ∷ xs) zero d inside h = rw h refl
-list_any_at p (x ∷ xs) (suc i) d inside h = or_true (p x) (list_any p xs) (list_any_at p xs i d (omega arith) h)
 
 -- ---- one write
 
@@ -79,10 +63,10 @@ low_kept before after (suc k) h = h k refl
 
 module _ (file : RegisterFile) (i : ℕ) (frozen : is_frozen file i ≡ true) where
   locked : (entry_at file.entries i).configuration.locked ≡ true
-  locked = (both _ _ frozen).0
+  locked = (and_parts _ _ frozen).0
 
   no_bypass : file.mseccfg.rlb ≡ false
-  no_bypass = not-true _ (both _ _ frozen).1
+  no_bypass = not-true _ (and_parts _ _ frozen).1
 
   inside : i < length file.entries
   inside = elim (cases_lt i (length file.entries)) [
@@ -101,7 +85,7 @@ module _ (file : RegisterFile) (i : ℕ) (frozen : is_frozen file i ≡ true) wh
         | false ↦ refl
       ]
 
-  -- the address below, written or not
+  -- a write to a configuration register leaves every address
   low_configured : (k q value : ℕ) → k < length file.entries
       → (entry_at (written file (Cfg q) value).entries k).address ≡ (entry_at file.entries k).address
   low_configured k q value below = rw (configured_place file q value k below) (configured_address file q value k)
@@ -112,7 +96,7 @@ module _ (file : RegisterFile) (i : ℕ) (frozen : is_frozen file i ≡ true) wh
 
   low_kept_frozen : (k : ℕ) → suc k ≡ i → is_tor (entry_at file.entries i).configuration.matching ≡ true
       → is_address_frozen file k ≡ true
-  low_kept_frozen k above tor = or_true (is_frozen file k) _ (rw above (rw (frozen, tor) refl))
+  low_kept_frozen k above tor = or_right (is_frozen file k) _ (rw above (rw (frozen, tor) refl))
 
   after_address : (j value : ℕ) → Held file (record file { entries = address_written file j value }) i
   after_address j value = record {
@@ -140,7 +124,7 @@ module _ (file : RegisterFile) (i : ℕ) (frozen : is_frozen file i ≡ true) wh
   after_write Mseccfg value = record {
     entry = refl;
     low = λ tor. refl;
-    bypass = and_false (value / 4 % 2 == 1) (file.mseccfg.rlb || not (is_any_locked file.entries))
+    bypass = and_right (value / 4 % 2 == 1) (file.mseccfg.rlb || not (is_any_locked file.entries))
         (rw (
           no_bypass,
           list_any_at (λ (entry : Entry). entry.configuration.locked) file.entries i reset_entry inside

@@ -1,11 +1,11 @@
 -- Where machine mode executes under lockdown.
-use Rattle.std.proofs.Common.{◌≡◌, ℕ, ◌≤◌, ◌^◌, ◌%◌, ◌-◌, ◌*◌, Bool, true, false, cond, ◌&&◌, List, [], ◌∷◌}
+use Rattle.std.proofs.Common.{◌≡◌, ℕ, ◌≤◌, ◌%◌, ◌-◌, ◌*◌, Bool, true, false, cond, ◌&&◌, List, [], ◌∷◌}
 use Rattle.std.proofs.Common.{fold, length, slice_index, refl, sym, ap, ◌∙◌, inl, inr, arith, get_or-set_same}
 use Rattle.std.proofs.Common.{length-set}
 use Rattle.std.specs.List.{list_all}
 use Rattle.std.specs.Int.{w64, to_le_bytes}
 use Rattle.std.proofs.Math.ListN.{set}
-use Rattle.std.proofs.lemmas.Bool.{cases_lt, cases_eq, false≢true, not-true}
+use Rattle.std.proofs.lemmas.Bool.{and_parts, cases_lt, cases_eq, false≢true, not-true}
 use Rattle.std.proofs.lemmas.List.{get_or_past}
 use Rattle.pmp_core.specs.declared.access.Access.{Access}
 use Rattle.pmp_core.specs.declared.access.Kind.TheVariants.{Fetch}
@@ -25,11 +25,12 @@ use Rattle.pmp_core.specs.RegisterFile.{RegisterFile, reset_entry, entry_at, is_
 use Rattle.pmp_core.specs.RegisterWrite.{admitted, configured, holds_byte_of, is_address_frozen, step, stored_over}
 use Rattle.pmp_core.specs.RegisterWrite.{written}
 use Rattle.pmp_core.specs.Rights.{allows, default_rights_by, is_barred, lockdown_rights, rule_rights}
-use Rattle.pmp_core.specs.LockLaw.{is_write, StaysFrozen}
+use Rattle.pmp_core.specs.LockLaw.{StaysFrozen}
+use Rattle.pmp_core.specs.Histories.{is_write}
 use Rattle.pmp_core.specs.ProtectionLaw.{MachineCodeLaw}
 use Rattle.pmp_core.proofs.Legal.{configured_place, length-written}
-use Rattle.pmp_core.proofs.Locks.{both, other_address, Held, held_on, lock_law, still_frozen}
-use Rattle.pmp_core.proofs.Sticky.{mml_written, mml_stays}
+use Rattle.pmp_core.proofs.Locks.{other_address, Held, held_on, lock_law, still_frozen}
+use Rattle.pmp_core.proofs.Sticky.{mml_stays}
 
 abbrev is_barred_rule : Configuration → Bool
 is_barred_rule c = is_barred c.locked c.read c.write c.execute
@@ -57,14 +58,14 @@ barred_locked : (l r w x : Bool) → is_barred l r w x ≡ true → l ≡ true
 barred_locked true r w x h = refl
 barred_locked false r w x h = absurd (false≢true h)
 
--- by default it doesn't
+-- and not where no entry matches
 none_by_default : (mmwp : Bool) → (default_rights_by true mmwp M).execute ≡ true → ⊥
 none_by_default true h = false≢true h
 none_by_default false h = false≢true h
 
--- ---- one write adds no such rule
+-- ---- one write adds no barred rule
 
--- what a byte leaves is barred only where that was there
+-- what a byte leaves is a barred rule only where one was there
 kept_barred : (old new : Configuration) (barred : Bool) → is_barred_rule new ≡ barred
     → is_barred_rule (cond barred old new) ≡ true → is_barred_rule old ≡ true
 kept_barred old new true e h = h
@@ -129,7 +130,7 @@ module _ (file : RegisterFile) (mml : file.mseccfg.mml ≡ true) (rlb : file.mse
   was_barred (Addr j) value h = rw (addressed_configuration j value) at h
   was_barred Mseccfg value h = h
 
--- ---- nor do several
+-- ---- nor do several writes
 
 ever_barred : (file : RegisterFile) (k i : ℕ) (events : List Event) → file.mseccfg.mml ≡ true
     → is_frozen file k ≡ true → list_all is_write events ≡ true
@@ -140,8 +141,9 @@ ever_barred file k i (Reset ∷ events) mml frozen writes h = absurd (false≢tr
 ever_barred file k i (Write csr value ∷ events) mml frozen writes h =
     let next = written file csr value in
     let held : Held file next k = held_on file k (Write csr value ∷ []) frozen refl in
-    was_barred file mml (not-true _ (both _ _ frozen).1) i csr value
-    (ever_barred next k i events (mml_written file csr value mml) (still_frozen file next k frozen held) writes h)
+    was_barred file mml (not-true _ (and_parts _ _ frozen).1) i csr value
+    (ever_barred next k i events (mml_stays file (Write csr value ∷ []) refl mml)
+    (still_frozen file next k frozen held) writes h)
 
 module _ (file : RegisterFile) (k : ℕ) (events : List Event) (mml : file.mseccfg.mml ≡ true)
     (frozen : is_frozen file k ≡ true) (writes : list_all is_write events ≡ true) (access : Access)
@@ -158,7 +160,7 @@ module _ (file : RegisterFile) (k : ℕ) (events : List Event) (mml : file.msecc
       rw (mml_stays file events writes mml, machine, fetch) at allowed in
       let barred = ever_barred file k i events mml frozen writes (executes c.locked c.read c.write c.execute by_rule) in
       let locked : own.locked ≡ true = barred_locked own.locked own.read own.write own.execute barred in
-      let bypass : file.mseccfg.rlb ≡ false = not-true _ (both _ _ frozen).1 in
+      let bypass : file.mseccfg.rlb ≡ false = not-true _ (and_parts _ _ frozen).1 in
       rw (locked, bypass) refl
 
   by_frozen : (allowed : Bool) (cause : Cause) → IsDecisionBy later access allowed cause → allowed ≡ true

@@ -1,14 +1,15 @@
 -- mseccfg is stored as written exactly where there is no reason.
 use Rattle.std.proofs.Common.{◌≡◌, ℕ, zero, suc, ◌+◌, ◌*◌, ◌/◌, ◌%◌, ◌<◌, Bool, true, false, not}
-use Rattle.std.proofs.Common.{◌&&◌, ◌||◌, ◌==◌, length, refl, sym, ap, ◌∙◌, arith}
+use Rattle.std.proofs.Common.{◌&&◌, ◌||◌, ◌==◌, refl, sym, ap, ◌∙◌, arith}
 use Rattle.std.proofs.lemmas.Bool.{not-false, and_right, or_parts, or_from}
 use Rattle.std.proofs.lemmas.Bool.{eqb-true}
 use Rattle.pmp_core.specs.declared.csr.Csr.TheVariants.{Mseccfg}
+use Rattle.pmp_core.specs.declared.write_reasons.WriteReason.TheVariants.{Frozen, Tor, Reserved, Lockdown}
 use Rattle.pmp_core.specs.Configuration.{bit_of}
 use Rattle.pmp_core.specs.RegisterFile.{RegisterFile, is_frozen}
 use Rattle.pmp_core.specs.RegisterValue.{register_value}
 use Rattle.pmp_core.specs.RegisterWrite.{is_any_locked, written}
-use Rattle.pmp_core.proofs.Reasons.{none_between, HasNone}
+use Rattle.pmp_core.proofs.Reasons.{none_at_entries, HasNone}
 use Rattle.pmp_core.proofs.StoredBytes.{not_same}
 
 bit_is : (r : ℕ) → r < 2 → bit_of (r == 1) ≡ r
@@ -16,7 +17,7 @@ bit_is zero low = refl
 bit_is (suc zero) low = refl
 bit_is (suc (suc r)) low = absurd (omega arith)
 
--- a bit that stays, and one that doesn't rise
+-- MML and MMWP stay where they are set, and RLB doesn't rise over a lock: without a reason each is as written
 stays : (before new : Bool) → (before && not new) ≡ false → (before || new) ≡ new
 stays true true h = refl
 stays false new h = refl
@@ -28,6 +29,7 @@ rises true any true h = refl
 rises false false true h = refl
 rises false true true h = absurd cc
 
+-- and a bit that is as written has no reason
 was_kept : (before new : Bool) → (before || new) ≡ new → (before && not new) ≡ false
 was_kept true true h = refl
 was_kept false new h = refl
@@ -47,7 +49,7 @@ three_bits value few = rw (
   bit_is (value / 4 % 2) (omega arith),
 ) (omega arith)
 
--- three bits are of the number that they make
+-- the bits of a number that is made of three
 one_of_three : (a b c : ℕ) → a < 2 → b < 2 → c < 2 → ((a + 2 * b + 4 * c) % 2 ≡ a)
     × ((a + 2 * b + 4 * c) / 2 % 2 ≡ b) × ((a + 2 * b + 4 * c) / 4 % 2 ≡ c) × ((a + 2 * b + 4 * c) / 8 ≡ 0)
 one_of_three a b c ha hb hc = (omega arith, omega arith, omega arith, omega arith)
@@ -87,11 +89,10 @@ module _ (file : RegisterFile) (value : ℕ) where
       record {
         absent = refl;
         bits = not_same (value / 8) 0 each.3;
-        locked = none_between (λ k. is_frozen file k && false) 0 (length file.entries)
-            (λ k _ inside. and_right _ false refl);
-        tor = none_between (λ k. false) 0 (length file.entries) (λ k _ inside. refl);
-        reserved = none_between (λ k. false) 0 (length file.entries) (λ k _ inside. refl);
-        lockdown = none_between (λ k. false) 0 (length file.entries) (λ k _ inside. refl);
+        frozen = none_at_entries Frozen file Mseccfg value (λ k inside. and_right (is_frozen file k) false refl);
+        tor = none_at_entries Tor file Mseccfg value (λ k inside. refl);
+        reserved = none_at_entries Reserved file Mseccfg value (λ k inside. refl);
+        lockdown = none_at_entries Lockdown file Mseccfg value (λ k inside. refl);
         sticky = or_from _ _ (was_kept _ _ each.0) (was_kept _ _ each.1);
         bypass = has_risen _ _ _ each.2;
       }

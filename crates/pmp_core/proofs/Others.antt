@@ -1,8 +1,7 @@
 -- What a write leaves alone.
-use Rattle.std.proofs.Common.{◌≡◌, ◌≢◌, ◌↔◌, ℕ, suc, ◌≤◌, ◌==◌, ◌⊎◌, Bool, true, false, cond, ◌&&◌, ◌||◌, length}
+use Rattle.std.proofs.Common.{◌≡◌, ◌≢◌, ◌↔◌, ℕ, suc, ◌≤◌, ◌==◌, ◌⊎◌, Bool, true, false, ◌&&◌, length}
 use Rattle.std.proofs.Common.{Option, Some, None, refl, sym, ap, ◌∙◌, inl, inr, arith}
-use Rattle.std.proofs.lemmas.Bool.{cases_lt, false≢true}
-use Rattle.std.proofs.lemmas.Bool.Decides.{nat_tests}
+use Rattle.std.proofs.lemmas.Bool.{cases_lt, cases_Bool, cond-false, eqb-false, false≢true, or_parts}
 use Rattle.std.proofs.lemmas.List.{get_or_past}
 use Rattle.pmp_core.specs.declared.access.Access.{Access}
 use Rattle.pmp_core.specs.declared.csr.Csr.{Csr}
@@ -21,24 +20,9 @@ use Rattle.pmp_core.proofs.Sizes.{least_alike}
 
 -- ---- entries
 
-not_held : {A : Type 0} (held : Bool) (new old : A) → held ≡ false → cond held new old ≡ old
-not_held true new old none = absurd (false≢true (sym none))
-not_held false new old none = refl
-
-differ : (i j : ℕ) → (i == j) ≡ false → i ≢ j
-differ i j none same = let test : (i == j) ≡ true = grind (arith, nat_tests) in false≢true (sym none ∙ test)
-
-neither : (a b : Bool) → (a || b) ≡ false → (a ≡ false) × (b ≡ false)
-neither true b none = absurd (false≢true (sym none))
-neither false b none = (refl, none)
-
 not_both : (a b : Bool) → (a && b) ≡ false → b ≡ true → a ≡ false
 not_both true b none whole = absurd (false≢true (sym none ∙ whole))
 not_both false b none whole = refl
-
-either : (b : Bool) → (b ≡ true) ⊎ (b ≡ false)
-either true = inl refl
-either false = inr refl
 
 module _ (file : RegisterFile) (value : ℕ) where
   past_same : (csr : Csr) (i : ℕ) → length file.entries ≤ i
@@ -50,10 +34,10 @@ module _ (file : RegisterFile) (value : ℕ) where
   pub entry_kept : (csr : Csr) (i : ℕ) → holds csr i ≡ false
       → entry_at (written file csr value).entries i ≡ entry_at file.entries i
   entry_kept (Cfg q) i none = elim (cases_lt i (length file.entries)) [
-    | inl inside ↦ configured_place file q value i inside ∙ not_held (holds_byte_of q i) _ _ none
+    | inl inside ↦ configured_place file q value i inside ∙ cond-false (holds_byte_of q i) _ _ none
     | inr past ↦ past_same (Cfg q) i past
   ]
-  entry_kept (Addr j) i none = other_address file j value i (differ i j none)
+  entry_kept (Addr j) i none = other_address file j value i (eqb-false i j none)
   entry_kept Mseccfg i none = refl
 
   -- ---- bytes
@@ -72,15 +56,15 @@ module _ (file : RegisterFile) (value : ℕ) where
   low_same (Cfg q) i none tor =
       low_kept file.entries (written file (Cfg q) value).entries i (λ k below. address_kept q k)
   low_same (Addr j) i none tor =
-      let apart : (i == suc j) ≡ false = not_both (i == suc j) _ (neither (i == j) _ none).1 tor in
+      let apart : (i == suc j) ≡ false = not_both (i == suc j) _ (or_parts (i == j) _ none).1 tor in
       low_kept file.entries (written file (Addr j) value).entries i (λ k below.
       ap (λ (entry : Entry). entry.address) (other_address file j value k
-      (λ same. differ i (suc j) apart (sym below ∙ ap suc same))))
+      (λ same. eqb-false i (suc j) apart (sym below ∙ ap suc same))))
   low_same Mseccfg i none tor = refl
 
   holds_none : (csr : Csr) (i : ℕ) → may_move file csr i ≡ false → holds csr i ≡ false
   holds_none (Cfg q) i none = none
-  holds_none (Addr j) i none = (neither (i == j) _ none).0
+  holds_none (Addr j) i none = (or_parts (i == j) _ none).0
   holds_none Mseccfg i none = refl
 
   bytes_kept : (csr : Csr) (i byte : ℕ) → may_move file csr i ≡ false
@@ -117,7 +101,7 @@ module _ (one other : RegisterFile) (mseccfg : other.mseccfg ≡ one.mseccfg) (a
   decider : (found : Option ℕ) → IsDecider one.entries access found → IsDecider other.entries access found
   decider = least_alike (Touches one.entries access) (Touches other.entries access) touches touched_before
 
-  -- the decider is the same in both
+  -- the entry that decides is the same in both files
   alike : (i : ℕ) → IsDecider one.entries access (Some i)
       → (entry_at other.entries i ≡ entry_at one.entries i)
       × ((byte : ℕ) → Matches other.entries i byte ↔ Matches one.entries i byte)
@@ -149,7 +133,7 @@ others_law file csr value = record {
   bytes = bytes_kept file value csr;
   decisions = λ other access clear decision decided.
       let after = written file csr value in
-      let same : (i : ℕ) → IsSame file after access i = λ i. elim (either (may_move file csr i)) [
+      let same : (i : ℕ) → IsSame file after access i = λ i. elim (cases_Bool (may_move file csr i)) [
         | inl moves ↦ inl (clear i moves)
         | inr stays ↦ inr (
           entry_kept file value csr i (holds_none file value csr i stays),

@@ -1,5 +1,5 @@
 -- Lists of entries and of ranges, place by place.
-use Rattle.std.proofs.Common.{◌≡◌, ℕ, zero, suc, ◌^◌, ◌<◌}
+use Rattle.std.proofs.Common.{◌≡◌, ℕ, zero, suc, ◌<◌}
 use Rattle.std.proofs.Common.{List, length, map, slice_index_or, refl, arith}
 use Rattle.std.specs.List.{range_with_len}
 use Rattle.std.proofs.lemmas.List.FromFn.{fill_by_all, length-map-range_with_len, get_or-map-range_with_len}
@@ -28,7 +28,7 @@ low_address_below entries (suc i) h = h i
 pub length-ranges_of : (entries : List Entry) → length (ranges_of entries) ≡ length entries
 length-ranges_of entries = length-map-range_with_len (range_of entries) 0 (length entries)
 
--- entries that are f of their place
+-- entries of which f gives each by its place
 pub entries_by : (entries : List Entry) (f : ℕ → Entry) → ((k : ℕ) → k < length entries → entry_at entries k ≡ f k)
     → entries ≡ map f (range_with_len 0 (length entries))
 entries_by entries f h = fill_by_all f entries (length entries) reset_entry refl h

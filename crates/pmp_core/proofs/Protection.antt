@@ -1,9 +1,9 @@
 -- Frozen entries decide as they did.
-use Rattle.std.proofs.Common.{◌≡◌, ◌↔◌, ℕ, ◌≤◌, Bool, true, false, List, Some, fold, inl, inr}
+use Rattle.std.proofs.Common.{◌≡◌, ◌↔◌, ℕ, ◌≤◌, Bool, true, false, List, Some, fold}
 use Rattle.std.proofs.Common.{refl, sym, ap, subst, ◌∙◌, arith}
 use Rattle.std.specs.List.{list_all}
 use Rattle.std.specs.Prelude.{IsTrue}
-use Rattle.std.proofs.lemmas.Bool.{cases_lt, false≢true}
+use Rattle.std.proofs.lemmas.Bool.{false≢true}
 use Rattle.pmp_core.specs.declared.access.Access.{Access}
 use Rattle.pmp_core.specs.declared.access.Kind.{Kind}
 use Rattle.pmp_core.specs.declared.access.Mode.{Mode}
@@ -18,8 +18,9 @@ use Rattle.pmp_core.specs.Configuration.{is_reserved}
 use Rattle.pmp_core.specs.RegisterFile.{RegisterFile, entry_at, is_held, IsLegal}
 use Rattle.pmp_core.specs.RegisterWrite.{step}
 use Rattle.pmp_core.specs.Rights.{allows, rights, rule_rights}
-use Rattle.pmp_core.specs.LockLaw.{is_write}
+use Rattle.pmp_core.specs.Histories.{is_write}
 use Rattle.pmp_core.specs.ProtectionLaw.{IsDecidedWithin, FewerRightsLaw, ProtectedLaw}
+use Rattle.pmp_core.proofs.Decisions.{one_decider}
 use Rattle.pmp_core.proofs.Held.{held_at, held_still}
 use Rattle.pmp_core.proofs.Locks.{lock_law}
 use Rattle.pmp_core.proofs.Sticky.{mml_stays}
@@ -53,17 +54,6 @@ module _ (one other : RegisterFile) (i : ℕ) (same : Agree one other i) (access
 
   covered : (j : ℕ) → j ≤ i → Covers other.entries access j → Covers one.entries access j
   covered j within all byte inside = (same.bytes j within byte).0 (all byte inside)
-
--- one access has one decider
-one_decider : (file : RegisterFile) (access : Access) (j k : ℕ) → IsDecider file.entries access (Some j)
-    → IsDecider file.entries access (Some k) → j ≡ k
-one_decider file access j k one other = elim (cases_lt j k) [
-  | inl less ↦ absurd (other.1 j less one.0)
-  | inr most ↦ elim (cases_lt k j) [
-    | inl less ↦ absurd (one.1 k less other.0)
-    | inr least ↦ omega arith
-  ]
-]
 
 module _ (one other : RegisterFile) (i : ℕ) (same : Agree one other i) (mml : other.mseccfg.mml ≡ one.mseccfg.mml)
     (access : Access) (decided : IsDecidedWithin one access i) where

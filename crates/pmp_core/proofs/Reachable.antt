@@ -1,5 +1,5 @@
 -- Writes that give a legal register file from reset: bypass on, addresses, configurations, and then its mseccfg.
-use Rattle.std.proofs.Common.{◌≡◌, ℕ, zero, suc, ◌+◌, ◌-◌, ◌*◌, ◌/◌, ◌%◌, ◌^◌, ◌<◌, ◌≤◌, Bool, true, false}
+use Rattle.std.proofs.Common.{◌≡◌, ℕ, zero, suc, ◌+◌, ◌-◌, ◌*◌, ◌/◌, ◌%◌, ◌<◌, ◌≤◌, Bool, true, false}
 use Rattle.std.proofs.Common.{not, ◌&&◌, ◌||◌}
 use Rattle.std.proofs.Common.{List, [], ◌∷◌, ◌++◌, length, map, fold, slice_index, refl, sym, ap, ◌∙◌, inl, inr, arith}
 use Rattle.std.specs.List.{range_with_len}
@@ -32,7 +32,7 @@ use Rattle.pmp_core.proofs.Places.{entries_by}
 use Rattle.pmp_core.proofs.Saved.{configuration_back, stored_as_is}
 use Rattle.pmp_core.proofs.Sizes.{own_address_written}
 use Rattle.pmp_core.proofs.StoredBytes.{byte_plain}
-use Rattle.pmp_core.proofs.WordReasons.{word_gives}
+use Rattle.pmp_core.proofs.WordBytes.{word_gives}
 
 -- with bypass on no address is frozen
 thawed_by : (here next top : Bool) → ((here && not true) || ((next && not true) && top)) ≡ false
@@ -48,7 +48,7 @@ unlocked : (size : Size) → is_any_locked (reset_file (count_of size)).entries 
 unlocked Sixteen = refl
 unlocked SixtyFour = refl
 
--- the fields that bypass lets a last write give, and those that a first one gives
+-- with bypass on a last write of mseccfg gives any fields; and a first one, after reset, any with bypass on
 settled : (mml mmwp rlb is_any : Bool)
     → mseccfg_written (record { mml = mml; mmwp = mmwp; rlb = true }) is_any
     (mseccfg_value (record { mml = mml; mmwp = mmwp; rlb = rlb }))
@@ -76,7 +76,7 @@ eights Sixteen = refl
 eights SixtyFour = refl
 
 module _ (file : RegisterFile) (n : ℕ) (legal : IsLegal file) (count : length file.entries ≡ n) where
-  -- its mseccfg with bypass on
+  -- the file's mseccfg, with bypass on
   abbrev open_fields : MseccfgFields
   open_fields = record { mml = file.mseccfg.mml; mmwp = file.mseccfg.mmwp; rlb = true }
 

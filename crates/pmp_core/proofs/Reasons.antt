@@ -10,7 +10,8 @@ use Rattle.pmp_core.specs.declared.write_reasons.WriteReason.{WriteReason}
 use Rattle.pmp_core.specs.declared.write_reasons.WriteReason.TheVariants.{Absent, Bits, Frozen, Tor, Reserved, Lockdown}
 use Rattle.pmp_core.specs.declared.write_reasons.WriteReason.TheVariants.{Sticky, Bypass}
 use Rattle.pmp_core.specs.RegisterFile.{RegisterFile}
-use Rattle.pmp_core.specs.WriteReasons.{turns_away, all_reasons, write_reasons}
+use Rattle.pmp_core.specs.WriteReasons.{turns_away, turns_entry_away_by, turns_some_entry_away, all_reasons}
+use Rattle.pmp_core.specs.WriteReasons.{write_reasons}
 
 -- ---- lists
 
@@ -51,12 +52,25 @@ pub none_of : (p : ℕ → Bool) (xs : List ℕ) (i : ℕ) → list_any p xs ≡
 none_of p xs i none near =
     false_from_ne_true (p (get_or xs i 0)) (λ t. false≢true (sym none ∙ list_any_at p xs i 0 near t))
 
+-- ---- a reason for some entry
+
+module _ (reason : WriteReason) (file : RegisterFile) (csr : Csr) (value : ℕ) where
+  pub none_at_entry : turns_some_entry_away reason file csr value ≡ false → (i : ℕ) → i < length file.entries
+      → turns_entry_away_by reason file csr value i ≡ false
+  none_at_entry none i inside =
+      none_at (turns_entry_away_by reason file csr value) 0 (length file.entries) i none (omega arith) (omega arith)
+
+  pub none_at_entries : ((i : ℕ) → i < length file.entries → turns_entry_away_by reason file csr value i ≡ false)
+      → turns_some_entry_away reason file csr value ≡ false
+  none_at_entries each = none_between (turns_entry_away_by reason file csr value) 0 (length file.entries)
+      (λ i _ inside. each i (omega arith))
+
 -- ---- the reasons one by one
 
 pub record HasNone (file : RegisterFile) (csr : Csr) (value : ℕ) : Type 0 where
   pub absent : turns_away Absent file csr value ≡ false
   pub bits : turns_away Bits file csr value ≡ false
-  pub locked : turns_away Frozen file csr value ≡ false
+  pub frozen : turns_away Frozen file csr value ≡ false
   pub tor : turns_away Tor file csr value ≡ false
   pub reserved : turns_away Reserved file csr value ≡ false
   pub lockdown : turns_away Lockdown file csr value ≡ false
@@ -75,7 +89,7 @@ has_none file csr value none =
     record {
       absent = each 0 (omega arith);
       bits = each 1 (omega arith);
-      locked = each 2 (omega arith);
+      frozen = each 2 (omega arith);
       tor = each 3 (omega arith);
       reserved = each 4 (omega arith);
       lockdown = each 5 (omega arith);
@@ -86,5 +100,5 @@ has_none file csr value none =
 pub no_reasons : (file : RegisterFile) (csr : Csr) (value : ℕ) → HasNone file csr value
     → write_reasons file csr value ≡ []
 no_reasons file csr value h =
-    none_all (λ reason. turns_away reason file csr value) h.absent h.bits h.locked h.tor h.reserved h.lockdown h.sticky
+    none_all (λ reason. turns_away reason file csr value) h.absent h.bits h.frozen h.tor h.reserved h.lockdown h.sticky
     h.bypass

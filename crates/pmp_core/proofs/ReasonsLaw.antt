@@ -5,7 +5,7 @@ use Rattle.pmp_core.specs.declared.csr.Csr.TheVariants.{Cfg, Addr, Mseccfg}
 use Rattle.pmp_core.specs.RegisterFile.{RegisterFile, IsLegal}
 use Rattle.pmp_core.specs.RegisterValue.{register_value}
 use Rattle.pmp_core.specs.RegisterWrite.{written}
-use Rattle.pmp_core.specs.WriteReasons.{WriteReasonsLaw}
+use Rattle.pmp_core.specs.WriteReasonsLaw.{WriteReasonsLaw}
 use Rattle.pmp_core.proofs.Reasons.{HasNone, has_none, no_reasons}
 use Rattle.pmp_core.proofs.AddressReasons.{address_stored, address_reasonless}
 use Rattle.pmp_core.proofs.MseccfgReasons.{mseccfg_stored, mseccfg_reasonless}

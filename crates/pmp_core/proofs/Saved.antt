@@ -1,5 +1,5 @@
 -- Registers saved and restored.
-use Rattle.std.proofs.Common.{◌≡◌, ℕ, ◌+◌, ◌*◌, ◌/◌, ◌%◌, ◌^◌, ◌<◌, ◌≤◌, Bool, true, false}
+use Rattle.std.proofs.Common.{◌≡◌, ℕ, ◌+◌, ◌*◌, ◌/◌, ◌%◌, ◌<◌, ◌≤◌, Bool, true, false}
 use Rattle.std.proofs.Common.{List, length, map, replicate, slice_index, ◌++◌, drop, refl, sym, ap, ◌∙◌, inl, inr}
 use Rattle.std.proofs.Common.{arith}
 use Rattle.std.specs.List.{range_with_len}
@@ -22,7 +22,8 @@ use Rattle.pmp_core.specs.RegisterFile.{RegisterFile, file_of, reset_entry, rese
 use Rattle.pmp_core.specs.RegisterWrite.{admitted}
 use Rattle.pmp_core.specs.Ranges.{ranges_of}
 use Rattle.pmp_core.specs.SavedRegisters.{saved_registers, saved_size, restored_entry, restored_entries, restored_file}
-use Rattle.pmp_core.specs.SavedRegisters.{zero_registers, SavedLaw}
+use Rattle.pmp_core.specs.SavedRegisters.{zero_registers}
+use Rattle.pmp_core.specs.SavedLaw.{SavedLaw}
 use Rattle.pmp_core.specs.Size.{count_of, used, empty_range, IsStored}
 use Rattle.pmp_core.proofs.Legal.{stored_unreserved}
 use Rattle.pmp_core.proofs.Places.{entries_by}
@@ -38,7 +39,7 @@ pub record IsFilledTo (f : ℕ → ℕ) (xs : List ℕ) (place : ℕ) : Type 0 w
   pub done : (k : ℕ) → k < place → slice_index xs k ≡ f k
   pub rest : (k : ℕ) → place ≤ k → k < 64 → slice_index xs k ≡ 0
 
--- where f is zero from there on
+-- a table so filled is all of f, where f is zero from there on
 pub filled : (f : ℕ → ℕ) (xs : List ℕ) (place : ℕ) → IsFilledTo f xs place
     → ((k : ℕ) → place ≤ k → f k ≡ 0) → xs ≡ map f (range_with_len 0 64)
 filled f xs place so_far none = fill_by_all f xs 64 0 so_far.len (λ k inside. elim (cases_lt k place) [
@@ -80,7 +81,6 @@ module _ (saved : SavedRegisters) where
   unfolding restored_file
   restored_legal = entries_legal (count_of (saved_size saved.entries))
 
--- zeros
 pub restored_zero : restored_file zero_registers ≡ reset_file 16
 unfolding restored_file
 restored_zero = refl

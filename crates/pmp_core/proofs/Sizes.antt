@@ -1,10 +1,10 @@
 -- Writes that name sixteen entries leave files of sixteen and of sixty-four that are alike, event by event.
-use Rattle.std.proofs.Common.{◌≡◌, ℕ, suc, ◌^◌, ◌%◌, ◌<◌, ◌≤◌, Bool, true, false, cond, ◌||◌}
+use Rattle.std.proofs.Common.{◌≡◌, ℕ, suc, ◌%◌, ◌<◌, ◌≤◌, Bool, true, false, cond, ◌||◌}
 use Rattle.std.proofs.Common.{List, [], ◌∷◌, fold, length, Option, Some, None, get_or, refl, sym, ap, ◌∙◌, inl, inr}
 use Rattle.std.proofs.Common.{arith, get_or-set_same}
 use Rattle.std.specs.List.{list_all, list_any}
 use Rattle.std.proofs.Math.ListN.{set}
-use Rattle.std.proofs.lemmas.Bool.{cases_lt, cases_eq, ltb-true}
+use Rattle.std.proofs.lemmas.Bool.{and_parts, cases_lt, cases_eq, ltb-true}
 use Rattle.std.proofs.lemmas.Bool.Decides.{nat_tests}
 use Rattle.std.proofs.lemmas.List.{get_or_past, length-replicate}
 use Rattle.pmp_core.specs.declared.access.Access.{Access}
@@ -27,7 +27,7 @@ use Rattle.pmp_core.specs.Ranges.{decision_of}
 use Rattle.pmp_core.proofs.Configuring.{kept_above}
 use Rattle.pmp_core.proofs.Decisions.{decided_by_ranges, one_decision}
 use Rattle.pmp_core.proofs.Legal.{reset_at, configured_place, length-step, legal_law}
-use Rattle.pmp_core.proofs.Locks.{both, other_address, low_kept}
+use Rattle.pmp_core.proofs.Locks.{other_address, low_kept}
 
 -- the same mseccfg, and the same entry at every place, of which past the end there are reset ones
 record Alike (one other : RegisterFile) : Type 0 where
@@ -42,7 +42,7 @@ turned one other alike = record { mseccfg = sym alike.mseccfg; entries = λ i. s
 
 -- ---- one write
 
--- the place of an entry that the configuration register doesn't hold may be past the end
+-- also past the end, where pmpcfg0 to pmpcfg2 hold no byte
 configured_anywhere : (file : RegisterFile) (q value i : ℕ) → 16 ≤ length file.entries → q ≤ 2
     → entry_at (written file (Cfg q) value).entries i ≡ configured file q value i
 configured_anywhere file q value i room low = elim (cases_lt i (length file.entries)) [
@@ -137,7 +137,7 @@ replays_alike : (events : List Event) (one other : RegisterFile) → 16 ≤ leng
     → Alike (fold step one events) (fold step other events)
 replays_alike [] one other room more alike named = alike
 replays_alike (event ∷ events) one other room more alike named =
-    let each = both _ _ named in
+    let each = and_parts _ _ named in
     replays_alike events (step one event) (step other event) (rw (length-step one event) room)
     (rw (length-step other event) more) (step_alike one other room more alike event each.0) each.1
 

@@ -1,5 +1,5 @@
 -- The bytes that an entry matches are those of its span, and of no other.
-use Rattle.std.proofs.Common.{◌≡◌, ◌↔◌, ℕ, ◌^◌, ◌≤◌, List, min, ltb, true, false, Some, None}
+use Rattle.std.proofs.Common.{◌≡◌, ◌↔◌, ℕ, ◌≤◌, List, min, ltb, true, false, Some, None}
 use Rattle.std.proofs.Common.{refl, ap, ◌∙◌, inl, inr, arith}
 use Rattle.std.proofs.lemmas.Bool.{cases_lt}
 use Rattle.std.proofs.lemmas.Bool.Decides.{nat_tests}
@@ -10,7 +10,8 @@ use Rattle.pmp_core.specs.declared.access.TheConstants.{ADDRESS_LIMIT}
 use Rattle.pmp_core.specs.RegisterFile.{HasAddresses}
 use Rattle.pmp_core.specs.Matching.{Matches}
 use Rattle.pmp_core.specs.Ranges.{IsInRange, range_of}
-use Rattle.pmp_core.specs.Span.{IsSpan, OneSpanLaw, span_in, span_of}
+use Rattle.pmp_core.specs.Span.{IsSpan, span_in, span_of}
+use Rattle.pmp_core.specs.SpanLaw.{OneSpanLaw}
 use Rattle.pmp_core.proofs.Matches.{matches_range}
 
 -- ---- one span
@@ -41,7 +42,7 @@ one_span entries i (Some one) (Some other) p q =
     let there = inside entries i other one q p in
     ap (λ (span : Span). Some span) (same_span one other (omega arith) (omega arith))
 
--- ---- the entry's
+-- ---- the span of an entry's range
 
 span_by : (entries : List Entry) (i : ℕ) (range : ByteRange)
     → ((byte : ℕ) → Matches entries i byte ↔ IsInRange range byte) → IsSpan entries i (span_in range)

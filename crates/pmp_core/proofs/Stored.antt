@@ -33,7 +33,7 @@ used_padded : {X : Type 0} (size : Size) (rest : X) (xs : List X) → length xs 
 unfolding padded
 used_padded size rest xs h = take_at xs (replicate (64 - length xs) rest) (count_of size) h
 
--- other items in use, before the same rest
+-- the items in use replaced by as many others, before what stands after them
 padded_again : {X : Type 0} (rest : X) (xs ys : List X) → length ys ≡ length xs
     → ys ++ drop (length xs) (padded rest xs) ≡ padded rest ys
 unfolding padded
@@ -69,7 +69,7 @@ module _ (file : RegisterFile) (size : Size) (entries : List Entry) (ranges : Li
   pub whole_ranges : size ≡ SixtyFour → ranges ≡ ranges_of file.entries
   whole_ranges full = sym (take_all 64 ranges (omega (arith, all_ranges))) ∙ (rw full at used_ranges)
 
-  -- other entries in use, with their ranges
+  -- the entries in use replaced by as many others, and their ranges by those of the others
   pub stored_again : (mseccfg : MseccfgFields) (new : List Entry) → length new ≡ count_of size
       → IsLegal (file_of mseccfg new)
       → IsStored (file_of mseccfg (used size (new ++ drop (count_of size) entries))) size

@@ -32,7 +32,7 @@ parts_plain : (l f x w r : ℕ) → l ≤ 1 → f ≤ 3 → x ≤ 1 → w ≤ 1 
     → ((128 * l + 8 * f + 4 * x + 2 * w + r) / 32 % 4 ≡ 0) × (128 * l + 8 * f + 4 * x + 2 * w + r < 256)
 parts_plain l f x w r hl hf hx hw hr = (omega arith, omega arith)
 
--- what an entry reads
+-- what a configuration reads is a byte with bits 6 and 5 clear
 pub byte_plain : (c : Configuration) → (byte_of c / 32 % 4 ≡ 0) × (byte_of c < 256)
 byte_plain c = parts_plain (bit_of c.locked) (field_of c.matching) (bit_of c.execute) (bit_of c.write) (bit_of c.read)
     (bit_le c.locked) (field_le c.matching) (bit_le c.execute) (bit_le c.write) (bit_le c.read)
@@ -51,11 +51,11 @@ read_unreserved byte small =
 -- nothing keeps the byte from being stored over an entry's configuration
 pub record IsTaken (frozen mml rlb : Bool) (old : Configuration) (byte : ℕ) : Type 0 where
   pub plain : is_plain byte ≡ true
-  pub unlocked : (frozen && not (byte == byte_of old)) ≡ false
+  pub unfrozen : (frozen && not (byte == byte_of old)) ≡ false
   pub unreserved : (not frozen && not mml && is_reserved (configuration_of byte)) ≡ false
   pub unbarred : (not frozen && mml && not rlb && is_barred_byte byte) ≡ false
 
--- what the entry has then
+-- the configuration that the byte leaves
 abbrev pub left_of : (frozen mml rlb : Bool) (old : Configuration) (byte : ℕ) → Configuration
 left_of frozen mml rlb old byte = cond frozen old (admitted mml rlb old (configuration_of byte))
 
@@ -71,7 +71,7 @@ not_same a b h = rw (eq-eqb a b h) refl
 
 pub taken : (frozen mml rlb : Bool) (old : Configuration) (byte : ℕ) → byte < 256
     → IsTaken frozen mml rlb old byte → byte_of (left_of frozen mml rlb old byte) ≡ byte
-taken true mml rlb old byte small h = sym (same_from_not byte (byte_of old) h.unlocked)
+taken true mml rlb old byte small h = sym (same_from_not byte (byte_of old) h.unfrozen)
 taken false false rlb old byte small h =
     eqb-true _ byte (read_unreserved byte small ∙ rw (h.plain, h.unreserved) refl)
 taken false true true old byte small h = eqb-true _ byte (read_back byte small ∙ h.plain)
@@ -101,7 +101,7 @@ pub stored_as_taken : (frozen mml rlb : Bool) (old : Configuration) (byte : ℕ)
     → IsTaken frozen mml rlb old byte
 stored_as_taken true mml rlb old byte small is h = record {
   plain = rw (← h) (eq-eqb _ 0 (byte_plain old).0);
-  unlocked = not_same byte (byte_of old) (sym h);
+  unfrozen = not_same byte (byte_of old) (sym h);
   unreserved = refl;
   unbarred = refl;
 }
@@ -110,13 +110,13 @@ stored_as_taken false false rlb old byte small is h =
     (sym (read_unreserved byte small) ∙ eq-eqb _ byte h) in
     record {
       plain = both.0;
-      unlocked = refl;
+      unfrozen = refl;
       unreserved = not-true _ both.1;
       unbarred = refl;
     }
 stored_as_taken false true true old byte small is h = record {
   plain = sym (read_back byte small) ∙ eq-eqb _ byte h;
-  unlocked = refl;
+  unfrozen = refl;
   unreserved = refl;
   unbarred = refl;
 }
@@ -130,7 +130,7 @@ stored_as_taken false true false old byte small is h = by_test (is_barred_byte b
     by_test true e h = absurd (false≢true (sym (not_barred old byte small free h) ∙ e))
     by_test false e h = record {
       plain = sym (read_back byte small) ∙ eq-eqb _ byte h;
-      unlocked = refl;
+      unfrozen = refl;
       unreserved = refl;
       unbarred = rw e refl;
     }

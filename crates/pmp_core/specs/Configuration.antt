@@ -28,7 +28,7 @@ configuration_of byte = record {
   read = byte % 2 == 1;
 }
 
--- and read as zero (3.7.1)
+-- the byte of a configuration, whose bits 6 and 5 are zero (3.7.1)
 abbrev pub byte_of : Configuration → ℕ
 byte_of c = 128 * bit_of c.locked + 8 * field_of c.matching + 4 * bit_of c.execute + 2 * bit_of c.write + bit_of c.read
 

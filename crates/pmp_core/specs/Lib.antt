@@ -15,14 +15,19 @@ pub mod RegisterValue
 pub mod WriteReasons
 pub mod Histories
 pub mod Lock
+pub mod Size
+pub mod SavedRegisters
+-- How decisions are computed: a law says that they are the same.
+pub mod Ranges
+-- Laws: statements that are proved, with the words that they alone need.
+pub mod SpanLaw
+pub mod RightsLaw
 pub mod LockLaw
 pub mod ProtectionLaw
 pub mod StickyLaw
 pub mod PartsLaw
 pub mod OthersLaw
-pub mod Size
+pub mod WriteReasonsLaw
 pub mod SizeLaw
-pub mod SavedRegisters
+pub mod SavedLaw
 pub mod ReachableLaw
--- How decisions are computed: a law says that they are the same.
-pub mod Ranges

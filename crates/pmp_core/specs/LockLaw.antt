@@ -1,15 +1,11 @@
 -- What a lock keeps (Volume II, 3.7.1.2 and Smepmp).
-use Rattle.std.specs.Prelude.{◌≡◌, ◌↔◌, ℕ, Bool, true, false, List, fold}
+use Rattle.std.specs.Prelude.{◌≡◌, ◌↔◌, ℕ, true, List, fold}
 use Rattle.std.specs.List.{list_all}
 use Rattle.pmp_core.specs.declared.event.Event.{Event}
-use Rattle.pmp_core.specs.declared.event.Event.TheVariants.{Write, Reset}
 use Rattle.pmp_core.specs.RegisterFile.{RegisterFile, entry_at, is_frozen}
 use Rattle.pmp_core.specs.Matching.{Matches}
 use Rattle.pmp_core.specs.RegisterWrite.{step}
-
-abbrev pub is_write : Event → Bool
-is_write (Write csr value) = true
-is_write Reset = false
+use Rattle.pmp_core.specs.Histories.{is_write}
 
 -- entry i has the same configuration in both, matches the same bytes, and is frozen still
 pub record StaysFrozen (before after : RegisterFile) (i : ℕ) : Type 0 where

@@ -7,7 +7,7 @@ use Rattle.pmp_core.specs.Configuration.{bit_of}
 abbrev pub mseccfg_value : MseccfgFields → ℕ
 mseccfg_value mseccfg = bit_of mseccfg.mml + 2 * bit_of mseccfg.mmwp + 4 * bit_of mseccfg.rlb
 
--- and read so
+-- the fields of a value, of which the other bits are ignored
 abbrev pub mseccfg_fields : ℕ → MseccfgFields
 mseccfg_fields value = record {
   mml = value % 2 == 1;

@@ -31,6 +31,6 @@ pub record LeavesOthers (file after : RegisterFile) (csr : Csr) : Type 0 where
       → ((i : ℕ) → may_move file csr i ≡ true → ¬ (Touches file.entries access i) × ¬ (Touches after.entries access i))
       → (decision : Decision) → IsDecision file access decision → IsDecision after access decision
 
--- so does every write
+-- every write leaves the others alone
 abbrev pub OthersLaw : Type 0
 OthersLaw = (file : RegisterFile) (csr : Csr) (value : ℕ) → LeavesOthers file (written file csr value) csr

@@ -15,7 +15,8 @@ use Rattle.pmp_core.specs.Decision.{IsDecider, IsDecision}
 use Rattle.pmp_core.specs.RegisterFile.{RegisterFile, is_frozen, is_held, IsLegal}
 use Rattle.pmp_core.specs.RegisterWrite.{step}
 use Rattle.pmp_core.specs.Rights.{allows, rule_rights}
-use Rattle.pmp_core.specs.LockLaw.{is_write, StaysFrozen}
+use Rattle.pmp_core.specs.Histories.{is_write}
+use Rattle.pmp_core.specs.LockLaw.{StaysFrozen}
 
 -- one of the entries 0 to i decides the access, wholly or in part
 abbrev pub IsDecidedWithin : RegisterFile → Access → ℕ → Type 0

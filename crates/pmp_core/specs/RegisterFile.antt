@@ -1,5 +1,5 @@
 -- The register file (Volume II, 3.7.1 and Smepmp), for any number of entries: as many as the list has.
-use Rattle.std.specs.Prelude.{◌≡◌, ℕ, ◌+◌, ◌^◌, ◌<◌, Bool, false, not, ◌&&◌, List, replicate}
+use Rattle.std.specs.Prelude.{◌≡◌, ℕ, ◌+◌, ◌<◌, Bool, false, not, ◌&&◌, List, replicate}
 use Rattle.std.specs.List.{list_all, range_with_len, slice_index_or}
 use Rattle.pmp_core.specs.declared.configuration.AddressMatching.TheVariants.{Off}
 use Rattle.pmp_core.specs.declared.entry.Entry.{Entry}
@@ -12,7 +12,7 @@ pub record RegisterFile : Type 0 where
   pub entries : List Entry
   pub mseccfg : MseccfgFields
 
--- as code keeps them
+-- the file of these fields and entries, which code keeps apart
 abbrev pub file_of : MseccfgFields → List Entry → RegisterFile
 file_of mseccfg entries = record { entries = entries; mseccfg = mseccfg }
 

@@ -1,5 +1,5 @@
 -- What a write to a register leaves (Volume II, 3.7.1, 3.7.1.2 and Smepmp).
-use Rattle.std.specs.Prelude.{ℕ, suc, ◌+◌, ◌-◌, ◌*◌, ◌%◌, ◌^◌, ◌==◌, nat_le, nat_lt, Bool, true, false, not, ◌&&◌, ◌||◌}
+use Rattle.std.specs.Prelude.{ℕ, suc, ◌+◌, ◌-◌, ◌*◌, ◌%◌, ◌==◌, nat_le, nat_lt, Bool, true, false, not, ◌&&◌, ◌||◌}
 use Rattle.std.specs.Prelude.{if◌then◌else◌, List, length, map, slice_index, slice_set}
 use Rattle.std.specs.List.{range_with_len, list_any}
 use Rattle.std.specs.Int.{w64, to_le_bytes}

@@ -1,5 +1,5 @@
 -- What a rule allows, and what is allowed where no rule decides (Volume II, 3.7.1.2, 3.7.1.3 and Smepmp).
-use Rattle.std.specs.Prelude.{◌≡◌, ℕ, ◌+◌, ◌*◌, Bool, true, false, ◌&&◌, IsTrue}
+use Rattle.std.specs.Prelude.{ℕ, ◌+◌, ◌*◌, Bool, true, false}
 use Rattle.pmp_core.specs.declared.access.Mode.{Mode}
 use Rattle.pmp_core.specs.declared.access.Mode.TheVariants.{M, S, U}
 use Rattle.pmp_core.specs.declared.access.Kind.{Kind}
@@ -7,7 +7,7 @@ use Rattle.pmp_core.specs.declared.access.Kind.TheVariants.{Fetch, Load, Store}
 use Rattle.pmp_core.specs.declared.configuration.Configuration.{Configuration}
 use Rattle.pmp_core.specs.declared.perms.Perms.{Perms}
 use Rattle.pmp_core.specs.Configuration.{bit_of}
-use Rattle.pmp_core.specs.RegisterFile.{RegisterFile, entry_at, IsLegal}
+use Rattle.pmp_core.specs.RegisterFile.{RegisterFile, entry_at}
 
 pub record Rights : Type 0 where
   pub read : Bool
@@ -102,16 +102,3 @@ is_barred true false true false = true
 is_barred true false true true = true
 is_barred true true false true = true
 is_barred _ _ _ _ = false
-
--- they are the locked rules by which machine mode executes
-abbrev pub BarredRulesLaw : Type 0
-BarredRulesLaw = (l r w x : Bool) → is_barred l r w x ≡ (l && (lockdown_rights l r w x M).execute)
-
--- a right to store comes with the right to load
-abbrev pub LoadsWhatItStores : Rights → Type 0
-LoadsWhatItStores rights = IsTrue (allows rights Store) → IsTrue (allows rights Load)
-
--- by every rule of a legal file, and where no entry matches
-abbrev pub StoreLaw : Type 0
-StoreLaw = (file : RegisterFile) → IsLegal file → (i : ℕ) (mode : Mode)
-    → LoadsWhatItStores (rights file i mode) × LoadsWhatItStores (default_rights file mode)

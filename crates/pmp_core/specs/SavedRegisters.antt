@@ -1,5 +1,5 @@
 -- The registers of a unit as plain numbers, and the file that numbers stand for (Volume II, 3.7.1 and Smepmp).
-use Rattle.std.specs.Prelude.{◌≡◌, ℕ, ◌%◌, ◌^◌, ◌==◌, true, if◌then◌else◌, List, length, map, replicate, slice_index}
+use Rattle.std.specs.Prelude.{ℕ, ◌%◌, ◌==◌, true, if◌then◌else◌, List, length, map, replicate, slice_index}
 use Rattle.std.specs.List.{range_with_len}
 use Rattle.pmp_core.specs.declared.csr.Csr.TheVariants.{Addr, Mseccfg}
 use Rattle.pmp_core.specs.declared.entry.Entry.{Entry}
@@ -10,7 +10,7 @@ use Rattle.pmp_core.specs.declared.size.TheConstants.{MAX_ENTRIES}
 use Rattle.pmp_core.specs.declared.register_write.TheConstants.{WORD_ADDRESSES}
 use Rattle.pmp_core.specs.Configuration.{byte_of}
 use Rattle.pmp_core.specs.Mseccfg.{mseccfg_fields}
-use Rattle.pmp_core.specs.RegisterFile.{RegisterFile, file_of, reset_entry, entry_at, IsLegal}
+use Rattle.pmp_core.specs.RegisterFile.{RegisterFile, file_of, reset_entry, entry_at}
 use Rattle.pmp_core.specs.RegisterValue.{register_value}
 use Rattle.pmp_core.specs.RegisterWrite.{stored_over}
 use Rattle.pmp_core.specs.Size.{count_of}
@@ -40,7 +40,7 @@ restored_entry saved i = record {
 abbrev pub restored_entries : SavedRegisters → (n : ℕ) → List Entry
 restored_entries saved n = map (restored_entry saved) (range_with_len 0 n)
 
--- the file, whatever the numbers are
+-- the file that the numbers stand for, whatever they are
 unfoldable pub restored_file : SavedRegisters → RegisterFile
 restored_file saved = file_of (mseccfg_fields saved.mseccfg)
     (restored_entries saved (count_of (saved_size saved.entries)))
@@ -52,8 +52,3 @@ zero_registers = record {
   mseccfg = 0;
   entries = 0;
 }
-
--- a legal file of either size is the file of its registers
-abbrev pub SavedLaw : Type 0
-SavedLaw = (file : RegisterFile) (size : Size) → IsLegal file → length file.entries ≡ count_of size
-    → restored_file (saved_registers file) ≡ file

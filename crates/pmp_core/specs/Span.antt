@@ -1,5 +1,5 @@
 -- The first and the last byte that an entry matches (Volume II, 3.7.1.1).
-use Rattle.std.specs.Prelude.{◌≡◌, ◌↔◌, ℕ, ◌-◌, ◌^◌, ◌<◌, ◌≤◌, List, min, nat_lt, Option, Some, None, if◌then◌else◌}
+use Rattle.std.specs.Prelude.{◌↔◌, ℕ, ◌-◌, ◌<◌, ◌≤◌, List, min, nat_lt, Option, Some, None, if◌then◌else◌}
 use Rattle.pmp_core.specs.declared.entry.Entry.{Entry}
 use Rattle.pmp_core.specs.declared.range.ByteRange.{ByteRange}
 use Rattle.pmp_core.specs.declared.span.Span.{Span}
@@ -17,11 +17,6 @@ IsSpan entries i (Some span) =
     (span.first ≤ span.last) × (span.last < ADDRESS_LIMIT)
     × ((byte : ℕ) → byte < ADDRESS_LIMIT → Matches entries i byte ↔ IsInSpan span byte)
 
--- an entry has one span
-abbrev pub OneSpanLaw : Type 0
-OneSpanLaw = (entries : List Entry) (i : ℕ) (one other : Option Span)
-    → IsSpan entries i one → IsSpan entries i other → one ≡ other
-
 -- ---- computed
 
 -- the bytes of the range that are below 2^56
@@ -30,6 +25,6 @@ span_in range =
     let end = min range.end ADDRESS_LIMIT in
     if nat_lt range.start end then Some (record { first = range.start; last = end - 1 }) else None
 
--- entry i's
+-- the span of entry i
 unfoldable pub span_of : List Entry → ℕ → Option Span
 span_of entries i = span_in (range_of entries i)

@@ -7,7 +7,7 @@ use Rattle.pmp_core.specs.declared.event.Event.{Event}
 use Rattle.pmp_core.specs.RegisterFile.{RegisterFile, entry_at}
 use Rattle.pmp_core.specs.RegisterWrite.{is_address_frozen, step}
 use Rattle.pmp_core.specs.Rights.{allows, default_rights}
-use Rattle.pmp_core.specs.LockLaw.{is_write}
+use Rattle.pmp_core.specs.Histories.{is_write}
 
 -- MML and MMWP stay where they are set, and with MMWP nothing is open where no entry matches (Smepmp)
 pub record StaysSet (before after : RegisterFile) : Type 0 where
@@ -16,7 +16,7 @@ pub record StaysSet (before after : RegisterFile) : Type 0 where
   pub closed : before.mseccfg.mmwp ≡ true → (mode : Mode) (kind : Kind)
       → allows (default_rights after mode) kind ≡ false
 
--- through every list of writes, if no reset is among them
+-- so they do through every list of writes, if no reset is among them
 abbrev pub StickyLaw : Type 0
 StickyLaw = (file : RegisterFile) (events : List Event) → list_all is_write events ≡ true
     → StaysSet file (fold step file events)

@@ -1,5 +1,5 @@
 -- Why a register doesn't read what was written to it (Volume II, 3.7.1, 3.7.1.2 and Smepmp).
-use Rattle.std.specs.Prelude.{◌≡◌, ◌<◌, ◌↔◌, ℕ, ◌-◌, ◌*◌, ◌/◌, ◌%◌, ◌^◌, ◌==◌, nat_lt, Bool, false, not, ◌&&◌, ◌||◌}
+use Rattle.std.specs.Prelude.{ℕ, ◌-◌, ◌*◌, ◌/◌, ◌%◌, ◌==◌, nat_lt, Bool, false, not, ◌&&◌, ◌||◌}
 use Rattle.std.specs.Prelude.{List, [], ◌∷◌, length, slice_index}
 use Rattle.std.specs.List.{range_with_len, list_any, filter}
 use Rattle.std.specs.Int.{w64, to_le_bytes}
@@ -13,9 +13,8 @@ use Rattle.pmp_core.specs.declared.write_reasons.WriteReason.TheVariants.{Sticky
 use Rattle.pmp_core.specs.declared.register_write.TheConstants.{ENTRIES_PER_CFG, WORD_ADDRESSES}
 use Rattle.pmp_core.specs.Configuration.{configuration_of, byte_of, is_reserved}
 use Rattle.pmp_core.specs.Mseccfg.{mseccfg_fields}
-use Rattle.pmp_core.specs.RegisterFile.{RegisterFile, entry_at, is_frozen, IsLegal}
-use Rattle.pmp_core.specs.RegisterValue.{register_value}
-use Rattle.pmp_core.specs.RegisterWrite.{holds_byte_of, is_address_frozen, is_any_locked, written}
+use Rattle.pmp_core.specs.RegisterFile.{RegisterFile, entry_at, is_frozen}
+use Rattle.pmp_core.specs.RegisterWrite.{holds_byte_of, is_address_frozen, is_any_locked}
 use Rattle.pmp_core.specs.Rights.{is_barred}
 
 abbrev pub all_reasons : List WriteReason
@@ -62,7 +61,7 @@ adds_barred file (Cfg q) value i =
 adds_barred file (Addr k) value i = false
 adds_barred file Mseccfg value i = false
 
--- the reasons that are reasons for one entry
+-- whether this is a reason for entry i, which only four of the reasons can be
 abbrev pub turns_entry_away_by : WriteReason → RegisterFile → Csr → (value i : ℕ) → Bool
 turns_entry_away_by Absent file csr value i = false
 turns_entry_away_by Bits file csr value i = false
@@ -73,11 +72,11 @@ turns_entry_away_by Lockdown file csr value i = adds_barred file csr value i
 turns_entry_away_by Sticky file csr value i = false
 turns_entry_away_by Bypass file csr value i = false
 
--- entry i is turned away by one of these
+-- entry i is turned away by some reason
 abbrev pub turns_entry_away : RegisterFile → Csr → (value i : ℕ) → Bool
 turns_entry_away file csr value i = list_any (λ reason. turns_entry_away_by reason file csr value i) all_reasons
 
--- the entries that are
+-- the numbers of the entries that are turned away
 abbrev pub entries_turned_away : RegisterFile → Csr → (value : ℕ) → List ℕ
 entries_turned_away file csr value =
     filter (turns_entry_away file csr value) (range_with_len 0 (length file.entries))
@@ -122,7 +121,7 @@ abbrev pub turns_some_entry_away : WriteReason → RegisterFile → Csr → (val
 turns_some_entry_away reason file csr value =
     list_any (turns_entry_away_by reason file csr value) (range_with_len 0 (length file.entries))
 
--- whether it is a reason why the register doesn't read the value
+-- whether this is a reason why the register doesn't read the value
 abbrev pub turns_away : WriteReason → RegisterFile → Csr → (value : ℕ) → Bool
 turns_away Absent file csr value = is_absent (length file.entries) csr value
 turns_away Bits file csr value = has_other_bits csr value
@@ -136,8 +135,3 @@ turns_away Bypass file csr value = sets_bypass file csr value
 -- the reasons why the register doesn't read the value, in this order
 abbrev pub write_reasons : RegisterFile → Csr → (value : ℕ) → List WriteReason
 write_reasons file csr value = filter (λ reason. turns_away reason file csr value) all_reasons
-
--- a write has no reason exactly where the register then reads what was written
-abbrev pub WriteReasonsLaw : Type 0
-WriteReasonsLaw = (file : RegisterFile) → IsLegal file → (csr : Csr) (value : ℕ) → value < 2 ^ 64
-    → (write_reasons file csr value ≡ []) ↔ (register_value (written file csr value) csr ≡ value)

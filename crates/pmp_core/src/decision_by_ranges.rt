@@ -1,7 +1,7 @@
 //! Decisions, by the entries' ranges.
 
 ghost use Rattle.std.specs.Prelude.{◌≡◌, ◌<◌, ◌≤◌, length};
-ghost use Rattle.pmp_core.specs.RegisterFile.{file_of, entry_at};
+ghost use Rattle.pmp_core.specs.RegisterFile.{file_of};
 ghost use Rattle.pmp_core.specs.Ranges.{ranges_of, decision_in, decision_of};
 
 use crate::access::Access;

@@ -8,18 +8,18 @@ ghost use Rattle.pmp_core.specs.declared.saved_registers.SavedRegisters.{SavedRe
 ghost use Rattle.pmp_core.specs.RegisterFile.{RegisterFile, HasAddresses, IsLegal, reset_file};
 ghost use Rattle.pmp_core.specs.Matching.{Matches};
 ghost use Rattle.pmp_core.specs.Decision.{IsOwner, IsDecider, IsDecision};
-ghost use Rattle.pmp_core.specs.Rights.{BarredRulesLaw, StoreLaw};
-ghost use Rattle.pmp_core.specs.Histories.{LegalLaw};
+ghost use Rattle.pmp_core.specs.RightsLaw.{BarredRulesLaw, StoreLaw};
 ghost use Rattle.pmp_core.specs.PartsLaw.{PartsLaw};
 ghost use Rattle.pmp_core.specs.OthersLaw.{OthersLaw};
 ghost use Rattle.pmp_core.specs.ProtectionLaw.{FewerRightsLaw, MachineCodeLaw, ProtectedLaw};
-ghost use Rattle.pmp_core.specs.ReachableLaw.{ReachableLaw};
+ghost use Rattle.pmp_core.specs.ReachableLaw.{LegalLaw, ReachableLaw};
 ghost use Rattle.pmp_core.specs.StickyLaw.{FrozenAddressLaw, StickyLaw};
 ghost use Rattle.pmp_core.specs.LockLaw.{LockLaw};
 ghost use Rattle.pmp_core.specs.SizeLaw.{SizeLaw};
-ghost use Rattle.pmp_core.specs.SavedRegisters.{restored_file, zero_registers, SavedLaw};
-ghost use Rattle.pmp_core.specs.Span.{OneSpanLaw};
-ghost use Rattle.pmp_core.specs.WriteReasons.{WriteReasonsLaw};
+ghost use Rattle.pmp_core.specs.SavedRegisters.{restored_file, zero_registers};
+ghost use Rattle.pmp_core.specs.SavedLaw.{SavedLaw};
+ghost use Rattle.pmp_core.specs.SpanLaw.{OneSpanLaw};
+ghost use Rattle.pmp_core.specs.WriteReasonsLaw.{WriteReasonsLaw};
 ghost use Rattle.pmp_core.specs.Ranges.{decision_of};
 
 use crate::register_file::ENTRIES;

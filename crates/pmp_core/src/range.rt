@@ -1,6 +1,6 @@
 //! Where an entry matches, as a range of byte addresses.
 
-ghost use Rattle.std.specs.Prelude.{◌≡◌, ◌<◌, ◌^◌, ◌↔◌, IsTrue};
+ghost use Rattle.std.specs.Prelude.{◌≡◌, ◌<◌, ◌↔◌, IsTrue};
 ghost use Rattle.pmp_core.specs.Ranges.{IsInRange, napot_range, range_by, is_touched, is_covered};
 ghost use Rattle.pmp_core.specs.declared.register_write.TheConstants.{WORD_ADDRESSES};
 

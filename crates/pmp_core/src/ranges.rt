@@ -1,6 +1,6 @@
 //! The ranges of all entries.
 
-ghost use Rattle.std.specs.Prelude.{◌≡◌, ◌<◌, ◌≤◌, ◌^◌, ℕ, length};
+ghost use Rattle.std.specs.Prelude.{◌≡◌, ◌<◌, ◌≤◌, ℕ, length};
 ghost use Rattle.pmp_core.specs.RegisterFile.{RegisterFile, HasAddresses};
 ghost use Rattle.pmp_core.specs.Matching.{low_address};
 ghost use Rattle.pmp_core.specs.Ranges.{range_in, range_of, ranges_of};

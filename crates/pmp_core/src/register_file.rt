@@ -1,6 +1,6 @@
 //! The register file.
 
-ghost use Rattle.std.specs.Prelude.{◌≡◌, ◌<◌, ◌≤◌, ◌^◌, ◌↔◌, IsTrue, length, fold};
+ghost use Rattle.std.specs.Prelude.{◌≡◌, ◌<◌, ◌≤◌, ◌↔◌, IsTrue, length, fold};
 ghost use Rattle.std.specs.List.{list_all};
 ghost use Rattle.pmp_core.specs.RegisterFile.{IsLegal, reset_file, entry_at, is_frozen, is_held};
 ghost use Rattle.pmp_core.specs.Lock.{lock_of};
@@ -159,7 +159,6 @@ impl RegFile {
         self.size.entries()
     }
 
-    /// The entries in use.
     fn in_use(&self) -> &[Entry]
         ensures { result.now ≡ self.now.entries }
     {

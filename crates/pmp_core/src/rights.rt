@@ -1,9 +1,8 @@
 //! What a rule allows.
 
 ghost use Rattle.std.specs.Prelude.{◌≡◌};
-ghost use Rattle.pmp_core.specs.Rights.{allows, bits_of, perms_of, is_barred, lockdown_rights, rule_rights};
+ghost use Rattle.pmp_core.specs.Rights.{bits_of, perms_of, is_barred, lockdown_rights, rule_rights};
 ghost use Rattle.pmp_core.specs.Rights.{default_rights_by};
-ghost use Rattle.pmp_core.specs.Perms.{right_of};
 
 use crate::access::{Access, Mode};
 use crate::configuration::Configuration;

@@ -127,7 +127,7 @@ fn turns_entry_away_by(
     }
 }
 
-/// Whether it is one for some entry of the unit.
+/// Whether this reason holds for some entry of the unit.
 fn turns_some_entry_away(
     reason: WriteReason,
     entries: &[Entry],

@@ -1,5 +1,5 @@
 -- Decisions by the owners of an access's bytes.
-use Rattle.std.proofs.Common.{◌≡◌, ◌≢◌, ℕ, ◌+◌, ◌-◌, ◌<◌, ◌≤◌, ◌^◌, List, length, Option, Some, None, refl, sym, ap}
+use Rattle.std.proofs.Common.{◌≡◌, ◌≢◌, ℕ, ◌+◌, ◌-◌, ◌<◌, ◌≤◌, List, length, Option, Some, None, refl, sym, ap}
 use Rattle.std.proofs.Common.{◌∙◌, arith, inl, inr}
 use Rattle.std.proofs.lemmas.Bool.{cases_lt}
 use Rattle.pmp_core.specs.declared.access.Access.{Access}
@@ -33,7 +33,7 @@ decided_whole file access (Some i) owned =
 
 -- ---- several owners
 
--- whose byte entry j matches is owned by an entry up to j
+-- a byte that entry j matches is owned by j or by a lower entry
 owner_up_to : (entries : List Entry) (byte j : ℕ) (owner : Option ℕ) → IsOwner entries byte owner
     → Matches entries j byte → (i : ℕ) × (owner ≡ Some i) × (i ≤ j)
 owner_up_to entries byte j None unowned matched = absurd (unowned j matched)

@@ -1,5 +1,5 @@
 -- Decisions on accesses inside a run, and across runs.
-use Rattle.std.proofs.Common.{◌≡◌, ℕ, ◌+◌, ◌-◌, ◌^◌, ◌∙◌, ap, sym, arith, false, length, drop, List}
+use Rattle.std.proofs.Common.{◌≡◌, ℕ, ◌+◌, ◌-◌, ◌∙◌, ap, sym, arith, false, length, drop, List}
 use Rattle.std.proofs.Common.{length-take, length-drop, Option, Some, None}
 use Rattle.std.specs.List.{slice_range}
 use Rattle.std.proofs.lemmas.List.{get_or-take, get_or-drop}

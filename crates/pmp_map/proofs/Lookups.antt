@@ -1,5 +1,5 @@
 -- What is decided at the places that the search finds in the tables of a map.
-use Rattle.std.proofs.Common.{◌≡◌, ℕ, ◌+◌, ◌-◌, ◌<◌, ◌≤◌, ◌^◌, length, slice_index, drop, length-take}
+use Rattle.std.proofs.Common.{◌≡◌, ℕ, ◌+◌, ◌-◌, ◌<◌, ◌≤◌, length, slice_index, drop, length-take}
 use Rattle.std.proofs.Common.{length-drop, ◌∙◌, arith, inl, inr}
 use Rattle.std.specs.List.{slice_range}
 use Rattle.std.proofs.lemmas.Bool.{cases_lt}
@@ -24,7 +24,7 @@ use Rattle.pmp_map.proofs.LeastOwner.{least_owner_is}
 use Rattle.pmp_map.proofs.Decided.{decided_whole, decided_split}
 
 module _ (m : Inside) (map : IsMapOf m.file.value m.runs.items m.starts m.answers) where
-  -- what the search says, in this map
+  -- what the contract of `place_of` says finds the byte's run in this map
   pub placed : (count byte place : ℕ) → count ≡ length m.runs.items → byte < ADDRESS_LIMIT → place + 1 < PLACES
       → (IsWithin m.starts count byte → IsBetween m.starts byte place 1) → IsPlaceOf m.runs.items byte place
   placed = place_found m.file.value.entries m.runs.items m.starts map.runs_are map.few map.starts_are

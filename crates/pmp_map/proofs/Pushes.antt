@@ -1,4 +1,4 @@
--- One run more.
+-- A list of runs with one run more.
 use Rattle.std.proofs.Common.{◌≡◌, ◌≢◌, ℕ, ◌+◌, ◌-◌, ◌<◌, ◌≤◌, List, [], ◌∷◌, ◌++◌, length, Option, refl, sym, ap, ◌∙◌}
 use Rattle.std.proofs.Common.{arith, length-append, inl, inr}
 use Rattle.std.proofs.lemmas.Bool.{cases_lt}

@@ -1,5 +1,5 @@
 -- What the search finds in the table of where the runs of a register file begin.
-use Rattle.std.proofs.Common.{◌≡◌, ℕ, ◌+◌, ◌-◌, ◌^◌, ◌<◌, ◌≤◌, List, length, slice_index, arith, inl, inr}
+use Rattle.std.proofs.Common.{◌≡◌, ℕ, ◌+◌, ◌-◌, ◌<◌, ◌≤◌, List, length, slice_index, arith, inl, inr}
 use Rattle.std.proofs.lemmas.Bool.{cases_lt}
 use Rattle.pmp_core.specs.declared.entry.Entry.{Entry}
 use Rattle.pmp_core.specs.declared.access.TheConstants.{ADDRESS_LIMIT}
@@ -63,7 +63,7 @@ module _ (entries : List Entry) (runs : List Run) (starts : List ℕ) (are : Are
             (omega (arith, between.1, starts_are (place + 1) places));
       }
 
-  -- as `place_of` says it
+  -- what the contract of `place_of` says finds the byte's run
   pub place_found : (count byte place : ℕ) → count ≡ length runs → byte < ADDRESS_LIMIT → place + 1 < PLACES
       → (IsWithin starts count byte → IsBetween starts byte place 1) → IsPlaceOf runs byte place
   place_found count byte place all small places between =

@@ -11,17 +11,17 @@ use Rattle.pmp_core.specs.RegisterFile.{RegisterFile}
 use Rattle.pmp_core.specs.Rights.{Rights, perms_of, allows, rights, default_rights}
 use Rattle.pmp_map.specs.declared.answers.Answers.{Answers}
 
--- the owner's rule, and the default where there is no owner (3.7.1.3)
+-- what the owner's rule allows the mode, or the default where there is no owner (3.7.1.3)
 abbrev pub owned_rights : RegisterFile → Option ℕ → Mode → Rights
 owned_rights file None = default_rights file
 owned_rights file (Some i) = rights file i
 
--- the owner matches all bytes
+-- the cause where the owner matches all bytes of the access
 abbrev pub whole_cause : Option ℕ → Cause
 whole_cause None = NoMatch
 whole_cause (Some i) = Rule i
 
--- the owner matches a byte, but not all of them
+-- the cause where it matches some of them, and not all
 abbrev pub split_cause : Option ℕ → Cause
 split_cause None = NoMatch
 split_cause (Some i) = Split i
@@ -33,7 +33,7 @@ decision_by file owner access = record {
   cause = whole_cause owner;
 }
 
--- the decision where they have several, of which this is the least
+-- the decision where the bytes have several owners, of which this is the least
 abbrev pub refusal_by : Option ℕ → Decision
 refusal_by owner = record { allowed = false; cause = split_cause owner }
 

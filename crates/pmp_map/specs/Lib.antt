@@ -1,8 +1,9 @@
 -- What a reader has to believe.
 pub mod Runs
 pub mod Answers
-pub mod RunsLaw
 pub mod Search
 -- What private contracts cite: owners by ranges, and a map's tables.
 pub mod Owners
 pub mod Tables
+-- Laws: statements that are proved, with the words that they alone need.
+pub mod RunsLaw

@@ -1,12 +1,11 @@
 -- The runs of a register file: bytes side by side that have one owner (Volume II, 3.7.1.3).
-use Rattle.std.specs.Prelude.{◌≡◌, ◌≢◌, ℕ, ◌+◌, ◌^◌, ◌<◌, ◌≤◌, Option, None, IfSome, List, length, All}
+use Rattle.std.specs.Prelude.{◌≡◌, ◌≢◌, ℕ, ◌+◌, ◌<◌, ◌≤◌, Option, None, IfSome, List, length, All}
 use Rattle.std.specs.List.{slice_index_or}
 use Rattle.pmp_core.specs.declared.entry.Entry.{Entry}
 use Rattle.pmp_core.specs.declared.access.TheConstants.{ADDRESS_LIMIT}
 use Rattle.pmp_core.specs.Decision.{IsOwner}
 use Rattle.pmp_map.specs.declared.run.Run.{Run}
 
--- the byte is one of the run's
 abbrev pub IsInRun : Run → ℕ → Type 0
 IsInRun run byte = (run.first ≤ byte) × (byte ≤ run.last)
 

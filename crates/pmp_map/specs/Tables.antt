@@ -13,7 +13,7 @@ abbrev pub AreAnswers : RegisterFile → List Run → List Answers → Type 0
 AreAnswers file runs answers = (k : ℕ) → k < length runs
     → slice_get answers k ≡ Some (answers_of file (map_run runs k).owner)
 
--- the tables of a register file
+-- a map's three tables, as they are for the register file
 pub record IsMapOf (file : RegisterFile) (runs : List Run) (starts : List ℕ) (answers : List Answers) : Type 0 where
   pub addresses : HasAddresses file.entries
   pub runs_are : AreRuns file.entries runs

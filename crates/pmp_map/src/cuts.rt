@@ -1,6 +1,6 @@
 //! Where owners change: at the ends of ranges.
 
-ghost use Rattle.std.specs.Prelude.{◌≢◌, ℕ, ◌<◌, ◌≤◌, ◌^◌, Option, length};
+ghost use Rattle.std.specs.Prelude.{◌≢◌, ℕ, ◌<◌, ◌≤◌, Option, length};
 ghost use Rattle.pmp_core.specs.Ranges.{IsInRange};
 ghost use Rattle.pmp_map.specs.Owners.{IsOwnerIn, OwnsBytes};
 

@@ -1,6 +1,6 @@
 //! The map of a register file: its runs of bytes, and decisions by them.
 
-ghost use Rattle.std.specs.Prelude.{◌≡◌, ◌+◌, ◌*◌, ◌<◌, ◌≤◌, ◌^◌, List, length};
+ghost use Rattle.std.specs.Prelude.{◌≡◌, ◌+◌, ◌*◌, ◌<◌, ◌≤◌, List, length};
 ghost use Rattle.pmp_core.specs.Decision.{IsOwner, IsDecision};
 ghost use Rattle.pmp_core.specs.Ranges.{decision_of};
 ghost use Rattle.pmp_map.specs.declared.run.Run.{Run};

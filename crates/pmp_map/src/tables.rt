@@ -1,6 +1,6 @@
 //! A map's tables.
 
-ghost use Rattle.std.specs.Prelude.{◌≤◌, ◌^◌, length};
+ghost use Rattle.std.specs.Prelude.{◌≤◌, length};
 ghost use Rattle.pmp_map.specs.Owners.{IsOwnerIn};
 ghost use Rattle.pmp_map.specs.Runs.{AreRunsTo, HasOwnersBelow};
 ghost use Rattle.pmp_map.specs.Search.{AreStarts};

@@ -4,7 +4,8 @@ use Rattle.std.specs.List.{AllZip}
 use Rattle.pmp_core.specs.declared.access.Access.{Access}
 use Rattle.pmp_core.specs.declared.decision.Decision.{Decision}
 use Rattle.pmp_core.specs.Decision.{IsDecision}
-use Rattle.pmp_core.specs.Histories.{LegalLaw, joined, file_after}
+use Rattle.pmp_core.specs.Histories.{joined, file_after}
+use Rattle.pmp_core.specs.ReachableLaw.{LegalLaw}
 use Rattle.pmp_core.specs.Ranges.{decision_of}
 use Rattle.pmp_core.specs.RegisterFile.{RegisterFile, HasAddresses}
 use Rattle.pmp_share.specs.Batches.{Batches}

@@ -5,7 +5,8 @@ use Rattle.pmp_core.specs.declared.event.Event.{Event}
 use Rattle.pmp_core.specs.RegisterFile.{is_frozen}
 use Rattle.pmp_core.specs.RegisterWrite.{step}
 use Rattle.pmp_core.specs.Histories.{joined, file_after}
-use Rattle.pmp_core.specs.LockLaw.{is_write, StaysFrozen}
+use Rattle.pmp_core.specs.LockLaw.{StaysFrozen}
+use Rattle.pmp_core.specs.Histories.{is_write}
 use Rattle.pmp_share.specs.declared.opening.TheConstants.{CHECKERS}
 use Rattle.pmp_share.specs.declared.writer_state.TheConstants.{PLACES}
 use Rattle.pmp_share.specs.Batches.{Batches, StartsWith, event_count}

@@ -1,7 +1,7 @@
 use Rattle.std.proofs.Common.{◌≡◌, ◌+◌, ◌<◌, length, take, slice_index_or, ap, ◌∙◌, arith}
 use Rattle.std.specs.List.{list_all}
 use Rattle.pmp_core.specs.Histories.{file_after}
-use Rattle.pmp_core.specs.LockLaw.{is_write}
+use Rattle.pmp_core.specs.Histories.{is_write}
 use Rattle.pmp_core.specs.RegisterFile.{is_frozen, is_held}
 use Rattle.pmp_core.specs.Size.{count_of}
 use Rattle.pmp_text.specs.EntryRows.{no_since}

@@ -1,4 +1,3 @@
--- A row of nine answers.
 use Rattle.std.proofs.Common.{◌≡◌, ℕ, [], ◌∷◌, Option, slice_index}
 use Rattle.pmp_core.specs.declared.access.Mode.{Mode}
 use Rattle.pmp_core.specs.declared.access.Mode.TheVariants.{M, S, U}

@@ -1,7 +1,7 @@
 use Rattle.std.proofs.Common.{sym, ◌∙◌, arith}
 use Rattle.std.proofs.lemmas.Bool.{and_left}
+use Rattle.pmp_core.proofs.AbsentBytes.{absent_word}
 use Rattle.pmp_core.proofs.StoredBytes.{not_same}
-use Rattle.pmp_core.proofs.WordReasons.{absent_word}
 use Rattle.pmp_core.proofs.write_reasons.is_absent.Goals as goal
 
 pub returns-else-value-ne0 : goal.returns-else-value-ne0

@@ -1,4 +1,4 @@
-use Rattle.std.proofs.Common.{◌≡◌, ◌-◌, ◌<◌, ◌^◌, [], ◌∷◌, ◌++◌, length, length-append, sym, ap, ◌∙◌, arith}
+use Rattle.std.proofs.Common.{◌≡◌, ◌-◌, ◌<◌, [], ◌∷◌, ◌++◌, length, length-append, sym, ap, ◌∙◌, arith}
 use Rattle.pmp_core.specs.declared.access.TheConstants.{ADDRESS_LIMIT}
 use Rattle.pmp_map.specs.declared.run.Run.{Run}
 use Rattle.pmp_map.specs.declared.run.TheConstants.{RUNS}
@@ -9,7 +9,6 @@ use Rattle.pmp_map.proofs.Pushes.{IsNextRun, next_run, pushed, last_pushed}
 use Rattle.pmp_map.proofs.tables.runs_of.Goals as goal
 use Rattle.pmp_map.proofs.tables.runs_of.Goals.{After-stretch_from-stretch}
 
--- the run that is pushed
 abbrev run_found : After-stretch_from-stretch → Run
 run_found c = record {
   first = c.loop-first.first;

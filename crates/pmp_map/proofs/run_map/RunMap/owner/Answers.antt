@@ -1,4 +1,4 @@
-use Rattle.std.proofs.Common.{◌^◌, None}
+use Rattle.std.proofs.Common.{None}
 use Rattle.std.proofs.lemmas.List.{get_or_default}
 use Rattle.pmp_core.specs.declared.access.TheConstants.{ADDRESS_LIMIT}
 use Rattle.pmp_map.specs.declared.run.Run.{Run}
