@@ -14,7 +14,6 @@ pub record IsEntryList (script : ScriptContents) (done : ℕ) (text : List ℕ) 
   pub since_are : AreSince (count_of script.size) (take done script.batches) since
   pub rows : IsEntryText (file_of_script script done) since text
 
--- a script has one entry list
 abbrev pub OneEntryListLaw : Type 0
 OneEntryListLaw = (script : List ℕ) (after : Option ℕ) (text other : List ℕ)
     → SaysOfScript IsEntryList script after text → SaysOfScript IsEntryList script after other → text ≡ other

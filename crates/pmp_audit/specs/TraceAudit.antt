@@ -38,7 +38,6 @@ AuditRefuses script trace (Script fault) = script_meaning script ≡ Err fault
 AuditRefuses script trace (Trace fault) = IsFaultyTrace script trace fault
 AuditRefuses script trace _ = ⊥
 
--- rows have one list of decisions
 abbrev pub OneListOfDecisionsLaw : Type 0
 OneListOfDecisionsLaw = (script : ScriptContents) (rows : List Row) (one other : List Decision)
     → AreDecided script rows one → AreDecided script rows other → one ≡ other

@@ -46,7 +46,6 @@ pub fn writes<W: Write>(
     write_answer(writer, &text, summary)
 }
 
-/// Appends the rows of all events.
 fn write_events(out: &mut Vec<u8>, script: &Script) -> Result<WriteSummary, NoMemory>
     requires { script_size script.now.batches ≤ MAX_SCRIPT }
     ensures rows { IfOk result (λ _. out.new.items ≡ out.old.items

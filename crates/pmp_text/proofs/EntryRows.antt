@@ -15,13 +15,13 @@ use Rattle.pmp_text.specs.EntryRows.{address_text, entry_row, lock_text, matchin
 use Rattle.pmp_text.specs.Reports.{fields_after}
 use Rattle.pmp_text.specs.RunLines.{rights_text}
 
--- two fields that are written as one, twice
+-- the two rights are written by one call, and so are the two locks
 seven_fields : (matching ends machine others lock address number : List ℕ)
     → fields_after (matching ∷ ends ∷ (machine ++ (codes "," ++ others)) ∷ (lock ++ (codes "," ++ address))
     ∷ number ∷ []) ≡ fields_after (matching ∷ ends ∷ machine ∷ others ∷ lock ∷ address ∷ number ∷ [])
 seven_fields matching ends machine others lock address number = simp append_assoc
 
--- a row is made of these pieces
+-- the row by the pieces that are written
 pub row_of_pieces : (file : RegisterFile) (i : ℕ) (span : Option Span) (since : Since)
     (matching rule locks : List ℕ)
     → matching ≡ matching_text (entry_at file.entries i).configuration.matching
@@ -43,7 +43,6 @@ range_with_len_more from count next same =
     ∙ map-range_with_len_more (λ (n : ℕ). n) from count next same
     ∙ ap (λ numbers. numbers ++ next ∷ []) (map-id (range_with_len from count))
 
--- a row more
 pub rows_grow : (row : ℕ → List ℕ) (before text longer : List ℕ) (count : ℕ)
     → longer ≡ text ++ row count → text ≡ before ++ flat_map row (range_with_len 0 count)
     → longer ≡ before ++ flat_map row (range_with_len 0 (count + 1))

@@ -72,7 +72,7 @@ band file place run =
 
 -- ---- the document
 
--- for so many bands
+-- the first tag, with room for so many bands
 abbrev pub opening : (bands : ℕ) → List ℕ
 opening bands =
     let height = decimal (BAND * bands + 176) in
@@ -82,7 +82,7 @@ opening bands =
 abbrev pub title : (publications : ℕ) → List ℕ
 title publications = codes "PMP memory map, publications done: " ++ decimal publications
 
--- the title for who hears the picture, and for who sees it
+-- the title twice: for screen readers, and as it is drawn
 abbrev pub spoken_title : (publications : ℕ) → List ℕ
 spoken_title publications = codes "<title>" ++ (title publications ++ (codes "</title>" ++ 10 ∷ []))
 
@@ -93,7 +93,7 @@ large_title publications =
 abbrev pub switch_text : Bool → List ℕ
 switch_text is_on = if is_on then codes "on" else codes "off"
 
--- of these words
+-- the line of the settings, with `on` or `off` for each
 abbrev pub settings_line : (lockdown policy bypass : List ℕ) → List ℕ
 settings_line lockdown policy bypass =
     codes "<text x='16' y='62'>Lockdown (MML) " ++ (lockdown ++ (codes ", allow-list policy (MMWP) " ++ (policy

@@ -85,7 +85,6 @@ fn matching_word(matching: AddressMatching) -> &'static str
     }
 }
 
-/// Appends the row of an entry.
 fn write_entry(out: &mut Vec<u8>, file: &RegFile, entry: u8, since: Since) -> Result<(), NoMemory>
     requires { entry < length file.now.entries }
     ensures span { IsSpan file.now.entries entry (span_of file.now.entries entry) }

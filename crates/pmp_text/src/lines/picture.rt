@@ -1,6 +1,6 @@
 //! The runs of a register file as a picture, an SVG document.
 
-ghost use Rattle.std.specs.Prelude.{◌≡◌, ◌+◌, ◌-◌, ◌^◌, ◌<◌, ◌≤◌, ◌++◌, List, ℕ, length, decimal};
+ghost use Rattle.std.specs.Prelude.{◌≡◌, ◌+◌, ◌-◌, ◌<◌, ◌≤◌, ◌++◌, List, ℕ, length, decimal};
 ghost use Rattle.std.specs.Prelude.{IfSome, OnOk, OnErr, Some};
 ghost use Rattle.pmp_map.specs.declared.run.TheConstants.{RUNS};
 ghost use Rattle.pmp_map.specs.Runs.{AreRuns, HasOwnersBelow};
@@ -16,7 +16,8 @@ use pmp_core::{Csr, Mode, RegFile};
 use pmp_map::{RUNS, Run, RunMap};
 use std::fmt;
 
-/// What the picture shows, for who hears it; the colour for each set of rights of supervisor and user mode; the ground.
+/// What the picture shows, in words for screen readers; the colour for each set of rights of supervisor and user mode;
+/// the background.
 const STYLE: &str = "\
 <desc>One band for each run of bytes that have one owner, from byte 0 down to byte 2^56 - 1, not to scale. A band has
 the first and the last byte of its run, its size, its owner, what machine mode may do there, what supervisor and user

@@ -9,7 +9,6 @@ use crate::lines::{NoMemory, append_line};
 use crate::names::RegisterName;
 use pmp_core::{Csr, RegFile};
 
-/// Appends the line of a register.
 #[tactic(auto, unfolding(crate::specs::Dumps::register_line))]
 fn write_register(out: &mut Vec<u8>, file: &RegFile, csr: Csr) -> Result<(), NoMemory>
     ensures ok { OnOk result (out.new.items ≡ out.old.items ++ register_line file.now csr) }

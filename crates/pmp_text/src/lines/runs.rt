@@ -39,7 +39,6 @@ pub fn run_rights(file: &RegFile, run: &Run, mode: Mode) -> Perms
     }
 }
 
-/// Appends the line of a run.
 #[tactic(auto, unfolding(crate::specs::RunLines::run_line), using(crate::proofs::RunLines::text_of_perms))]
 fn write_run(out: &mut Vec<u8>, file: &RegFile, run: &Run) -> Result<(), NoMemory>
     requires { IfSome run.now.owner (λ entry. entry < length file.now.entries) }
