@@ -11,8 +11,8 @@ use crate::answer::write_answer;
 use crate::fault::AuditFault;
 use crate::replay::Replay;
 use pmp_core::Decision;
-use pmp_text::{NoMemory, Row, Script, read_script, read_trace, write_row};
-use std::alloc::Global;
+use pmp_text::{Row, Script, read_script, read_trace, write_row};
+use std::alloc::{AllocError, Global};
 use std::io::Write;
 
 /// How many accesses an audit decided, and how many of them it refused.
@@ -48,7 +48,7 @@ pub fn audit<W: Write>(
 }
 
 /// Appends the report of the rows, which ask for the script's publications in order.
-fn write_report(report: &mut Vec<u8>, script: &Script, rows: &[Row]) -> Result<Summary, NoMemory>
+fn write_report(report: &mut Vec<u8>, script: &Script, rows: &[Row]) -> Result<Summary, AllocError>
     requires { IsInOrder (length script.now.batches) 0 (afters (map row_fields rows.now)) }
     ensures { IfOk result (IsReported script.now rows.now report.old.items report.new.items) }
 {

@@ -13,8 +13,8 @@ use crate::answer::write_answer;
 use crate::fault::AuditFault;
 use pmp_core::{Event, RegFile};
 use pmp_text::laws::law_script_size;
-use pmp_text::{EventPlace, NoMemory, Script, read_script, write_effect};
-use std::alloc::Global;
+use pmp_text::{EventPlace, Script, read_script, write_effect};
+use std::alloc::{AllocError, Global};
 use std::io::Write;
 
 /// How many events a script has, and how many of them are writes that the register doesn't read as they were written.
@@ -46,7 +46,7 @@ pub fn writes<W: Write>(
     write_answer(writer, &text, summary)
 }
 
-fn write_events(out: &mut Vec<u8>, script: &Script) -> Result<WriteSummary, NoMemory>
+fn write_events(out: &mut Vec<u8>, script: &Script) -> Result<WriteSummary, AllocError>
     requires { script_size script.now.batches ≤ MAX_SCRIPT }
     ensures rows { IfOk result (λ _. out.new.items ≡ out.old.items
         ++ rows_text (count_of script.now.size) (placed_events script.now)) }
@@ -71,7 +71,7 @@ fn write_publication(
     publication: u64,
     lines: &[u64],
     events: &[Event],
-) -> Result<WriteSummary, NoMemory>
+) -> Result<WriteSummary, AllocError>
     requires room { before.events + length events.now < 2 ^ 64 }
     requires within { before.turned_away ≤ before.events }
     ensures written { IfOk result (λ after. AreWritten

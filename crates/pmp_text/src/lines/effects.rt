@@ -9,10 +9,11 @@ ghost use Rattle.pmp_text.specs.Effects.{event_fields, place_text, effect_row};
 ghost use Rattle.pmp_text.specs.Names.{register_name};
 ghost use Rattle.pmp_text.specs.Reports.{fields_after};
 
+use crate::lines::append_line;
 use crate::lines::hexadecimal::{Hex, VALUE_DIGITS};
-use crate::lines::{NoMemory, append_line};
 use crate::names::RegisterName;
 use pmp_core::{Csr, Event, RegFile, WriteReason};
+use std::alloc::AllocError;
 
 /// Where an event stands in a script.
 #[derive(Clone, Copy)]
@@ -60,7 +61,7 @@ fn space_unless(is_first: bool) -> &'static str
 }
 
 /// Appends a comma, the register's name, a comma and the value.
-fn write_value(out: &mut Vec<u8>, csr: Csr, value: u64) -> Result<(), NoMemory>
+fn write_value(out: &mut Vec<u8>, csr: Csr, value: u64) -> Result<(), AllocError>
     ensures ok { OnOk result (out.new.items ≡ out.old.items
         ++ (codes "," ++ (register_name csr ++ (codes "," ++ value_text value)))) }
     ensures err { OnErr result (out.new.items ≡ out.old.items) }
@@ -71,7 +72,7 @@ fn write_value(out: &mut Vec<u8>, csr: Csr, value: u64) -> Result<(), NoMemory>
 }
 
 /// Appends what the register reads before the write and after it, and the effect, each after a comma.
-fn write_reading(out: &mut Vec<u8>, file: &RegFile, csr: Csr, value: u64) -> Result<(), NoMemory>
+fn write_reading(out: &mut Vec<u8>, file: &RegFile, csr: Csr, value: u64) -> Result<(), AllocError>
     ensures ok { let before = register_value file.now csr in
         let after = register_value (written file.now csr value) csr in
         OnOk result (out.new.items ≡ out.old.items ++ (codes "," ++ (value_text before ++ (codes ","
@@ -94,7 +95,7 @@ fn write_reason_words(
     file: &RegFile,
     csr: Csr,
     value: u64,
-) -> Result<(), NoMemory>
+) -> Result<(), AllocError>
     ensures ok { OnOk result (out.new.items ≡ out.old.items ++ reasons_text file.now csr value) }
     ensures err { OnErr result (StartsWith out.new.items out.old.items) }
 {
@@ -116,7 +117,7 @@ fn write_entry_numbers(
     file: &RegFile,
     csr: Csr,
     value: u64,
-) -> Result<(), NoMemory>
+) -> Result<(), AllocError>
     ensures ok { OnOk result (out.new.items ≡ out.old.items ++ entries_text file.now csr value) }
     ensures err { OnErr result (StartsWith out.new.items out.old.items) }
 {
@@ -132,7 +133,7 @@ fn write_entry_numbers(
 }
 
 /// Appends the reasons and then the entries, each after a comma, and LF.
-fn write_lists(out: &mut Vec<u8>, file: &RegFile, csr: Csr, value: u64) -> Result<(), NoMemory>
+fn write_lists(out: &mut Vec<u8>, file: &RegFile, csr: Csr, value: u64) -> Result<(), AllocError>
     ensures ok { OnOk result (out.new.items ≡ out.old.items
         ++ fields_after (reasons_text file.now csr value ∷ entries_text file.now csr value ∷ [])) }
     ensures err { OnErr result (StartsWith out.new.items out.old.items) }
@@ -145,7 +146,7 @@ fn write_lists(out: &mut Vec<u8>, file: &RegFile, csr: Csr, value: u64) -> Resul
 }
 
 /// Appends the fields of a write, each after a comma, and LF.
-fn write_fields(out: &mut Vec<u8>, file: &RegFile, csr: Csr, value: u64) -> Result<(), NoMemory>
+fn write_fields(out: &mut Vec<u8>, file: &RegFile, csr: Csr, value: u64) -> Result<(), AllocError>
     ensures ok { OnOk result (out.new.items ≡ out.old.items
         ++ fields_after (event_fields file.now (Event.Write csr value))) }
     ensures err { OnErr result (StartsWith out.new.items out.old.items) }
@@ -156,7 +157,7 @@ fn write_fields(out: &mut Vec<u8>, file: &RegFile, csr: Csr, value: u64) -> Resu
 }
 
 /// Appends the number of the event, a comma, that of its publication, a comma and that of its line.
-fn write_place(out: &mut Vec<u8>, place: &EventPlace) -> Result<(), NoMemory>
+fn write_place(out: &mut Vec<u8>, place: &EventPlace) -> Result<(), AllocError>
     ensures ok { OnOk result (out.new.items ≡ out.old.items ++ place_text place.now) }
     ensures err { OnErr result (out.new.items ≡ out.old.items) }
 {
@@ -169,7 +170,7 @@ fn write_place(out: &mut Vec<u8>, place: &EventPlace) -> Result<(), NoMemory>
 }
 
 /// Appends the fields of an event, each after a comma, and LF.
-fn write_event(out: &mut Vec<u8>, file: &RegFile, event: Event) -> Result<(), NoMemory>
+fn write_event(out: &mut Vec<u8>, file: &RegFile, event: Event) -> Result<(), AllocError>
     ensures ok { OnOk result (out.new.items ≡ out.old.items ++ fields_after (event_fields file.now event)) }
     ensures err { OnErr result (StartsWith out.new.items out.old.items) }
 {
@@ -185,7 +186,7 @@ fn write_all(
     place: &EventPlace,
     file: &RegFile,
     event: Event,
-) -> Result<(), NoMemory>
+) -> Result<(), AllocError>
     ensures ok { OnOk result (out.new.items ≡ out.old.items ++ effect_row place.now file.now event) }
     ensures err { OnErr result (StartsWith out.new.items out.old.items) }
 {
@@ -202,7 +203,7 @@ pub fn write_effect(
     place: &EventPlace,
     file: &RegFile,
     event: Event,
-) -> Result<(), NoMemory>
+) -> Result<(), AllocError>
     ensures ok { OnOk result (out.new.items ≡ out.old.items ++ effect_row place.now file.now event) }
     ensures err { OnErr result (out.new.items ≡ out.old.items) }
 {
