@@ -16,7 +16,8 @@ loop-line-preserved c =
     record {
       written = rw (length-more, more) (written_then _ _ _ _ _ c.loop-line.invariant.written
           (one_written _ _ _ (rw c.count.ensures.events at c.in_ok-write_effect.ensures.ok) c.step.ensures.step
-          c.count.ensures.events c.count.ensures.turned_away));
+          c.count.ensures.events (rw (c.is_turned_away.ensures _ c.step.ensures.step) at
+          c.count.ensures.turned_away)));
       within = c.count.ensures.within;
     }
 
