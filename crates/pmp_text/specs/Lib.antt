@@ -12,6 +12,7 @@ pub mod Names
 pub mod Numbers
 pub mod Outcomes
 pub mod Picture
+pub mod PictureTexts
 pub mod Reports
 pub mod RunLines
 pub mod Scripts
