@@ -18,9 +18,10 @@ pub mod RunLines
 pub mod Scripts
 pub mod Statements
 pub mod Traces
--- The rest: laws of these definitions, and the readers' steps, which only private contracts cite.
+-- Laws of these definitions, which are proved.
 pub mod Faults
 pub mod Sizes
-pub mod Steps
 pub mod TraceFaults
 pub mod Versions
+-- The rest: the readers' steps, which only private contracts cite.
+pub mod Steps
