@@ -1,6 +1,7 @@
 //! The accesses of a trace, each decided after the publications that it asks for.
 
-ghost use Rattle.std.specs.Prelude.{◌≡◌, ◌+◌, ◌^◌, ◌<◌, ◌≤◌, IfOk, IfErr, length, map, if◌then◌else◌};
+ghost use Rattle.std.specs.Prelude.{◌≡◌, ◌+◌, ◌^◌, ◌<◌, ◌≤◌, ◌++◌, IfOk, IfErr, OnOk, length, map, if◌then◌else◌};
+ghost use Rattle.pmp_text.specs.Reports.{report_row};
 ghost use Rattle.pmp_text.specs.TraceFaults.{IsInOrder, afters};
 ghost use Rattle.pmp_text.specs.Traces.{row_fields};
 ghost use Rattle.pmp_audit.specs.Answers.{IsWritten, IsRefused};
@@ -57,15 +58,14 @@ fn write_report(report: &mut Vec<u8>, script: &Script, rows: &[Row]) -> Result<S
     for row in rows {
         replay.advance(row.after);
         let decision = replay.decide(&row.access);
-        summary.count(decision);
-        write_row(report, summary.rows, &row.access, &decision)?;
+        summary.add_row(report, row, decision)?;
     }
     Ok(summary)
 }
 
 impl Summary {
     /// One more row, which was decided so.
-    pub(crate) fn count(&mut self, decision: Decision)
+    fn count(&mut self, decision: Decision)
         requires rows { self.old.rows + 1 < 2 ^ 64 }
         requires faults { self.old.faults ≤ self.old.rows }
         ensures rows { self.new.rows ≡ self.old.rows + 1 }
@@ -75,5 +75,23 @@ impl Summary {
         if !decision.allowed {
             self.faults += 1;
         }
+    }
+
+    /// One more row, which was decided so, appended to a report.
+    pub(crate) fn add_row(
+        &mut self,
+        report: &mut Vec<u8>,
+        row: &Row,
+        decision: Decision,
+    ) -> Result<(), AllocError>
+        requires rows { self.old.rows + 1 < 2 ^ 64 }
+        requires faults { self.old.faults ≤ self.old.rows }
+        ensures rows { self.new.rows ≡ self.old.rows + 1 }
+        ensures faults { self.new.faults ≡ self.old.faults + (if decision.allowed then 0 else 1) }
+        ensures report { OnOk result
+            (report.new.items ≡ report.old.items ++ report_row self.new.rows row.now.access decision) }
+    {
+        self.count(decision);
+        write_row(report, self.rows, &row.access, &decision)
     }
 }
