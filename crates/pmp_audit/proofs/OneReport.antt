@@ -11,7 +11,8 @@ use Rattle.pmp_core.specs.RegisterFile.{RegisterFile}
 use Rattle.pmp_text.specs.declared.trace.Row.{Row}
 use Rattle.pmp_text.specs.Traces.{row_fields}
 use Rattle.pmp_text.specs.Reports.{file_of_script, report_text}
-use Rattle.pmp_audit.specs.TraceAudit.{OneListOfDecisionsLaw, OneReportLaw, summary_of}
+use Rattle.pmp_audit.specs.Laws.{OneListOfDecisionsLaw, OneReportLaw}
+use Rattle.pmp_audit.specs.TraceAudit.{summary_of}
 use Rattle.pmp_audit.proofs.Lists.{one_list}
 
 pub one_list_of_decisions : ((file : RegisterFile) (access : Access) (one other : Decision)
