@@ -34,10 +34,6 @@ slice_get-enumerate_from {A = A} n (a ∷ xs) (suc i) x at =
     let number : n + 1 + i ≡ n + suc i = omega arith in
     slice_get-enumerate_from (n + 1) xs i x at ∙ ap (λ (m : ℕ). Some (m, x)) number
 
-pub length-enumerate_from : {A : Type 0} (n : ℕ) (xs : List A) → length (enumerate_from n xs) ≡ length xs
-length-enumerate_from n [] = refl
-length-enumerate_from n (a ∷ xs) = ap suc (length-enumerate_from (n + 1) xs)
-
 -- ---- a worker's share
 
 module _ {A : Type 0} (worker workers : ℕ) (all : List A) where

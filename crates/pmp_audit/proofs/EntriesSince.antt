@@ -27,7 +27,8 @@ use Rattle.pmp_core.proofs.Locks.{lock_law}
 use Rattle.pmp_core.proofs.Legal.{legal_law, length-file_after, reset_at}
 use Rattle.pmp_text.specs.declared.lines.since.Since.{Since}
 use Rattle.pmp_text.specs.EntryRows.{no_since}
-use Rattle.pmp_audit.specs.Since.{IsFrom, IsKept, IsSince, Protects, SinceLaw}
+use Rattle.pmp_audit.specs.Laws.{IsKept, Protects, SinceLaw}
+use Rattle.pmp_audit.specs.Since.{IsFrom, IsSince}
 use Rattle.pmp_audit.specs.SinceStep.{since_after}
 
 -- ---- batches

@@ -3,19 +3,6 @@ use Rattle.std.proofs.Common.{◌≡◌, List, [], ◌∷◌, ◌++◌, length, 
 use Rattle.std.specs.List.{AllZip, zip}
 
 module _ {A B : Type 0} (R : A → B → Type 0) where
-  pub AllZip-push : (xs : List A) (ys : List B) (x : A) (y : B)
-      → AllZip R xs ys → R x y → AllZip R (xs ++ x ∷ []) (ys ++ y ∷ [])
-  AllZip-push [] [] x y all one = (one, tt)
-  AllZip-push [] (b ∷ ys) x y all one = absurd all
-  AllZip-push (a ∷ xs) [] x y all one = absurd all
-  AllZip-push (a ∷ xs) (b ∷ ys) x y all one = (all.0, AllZip-push xs ys x y all.1 one)
-
-  pub length-all_zip : (xs : List A) (ys : List B) → AllZip R xs ys → length ys ≡ length xs
-  length-all_zip [] [] all = refl
-  length-all_zip [] (b ∷ ys) all = absurd all
-  length-all_zip (a ∷ xs) [] all = absurd all
-  length-all_zip (a ∷ xs) (b ∷ ys) all = let rest = length-all_zip xs ys all.1 in omega arith
-
   -- where R has one answer, there is one list of answers
   pub one_list : ((x : A) (y z : B) → R x y → R x z → y ≡ z) → (xs : List A) (ys zs : List B)
       → AllZip R xs ys → AllZip R xs zs → ys ≡ zs

@@ -6,6 +6,7 @@ use Rattle.std.specs.Prelude.{slice_get}
 use Rattle.std.specs.List.{enumerate_from}
 use Rattle.std.specs.Option.{option_map}
 use Rattle.std.proofs.lemmas.List.{map_more, length-append, length_push, get_or_at, length-map, get_or-map}
+use Rattle.std.proofs.lemmas.List.FromFn.{length-enumerate_from}
 use Rattle.std.proofs.lemmas.Bool.{cases_lt}
 use Rattle.std.proofs.lemmas.Option.{slice_get-map, slice_get_within, slice_get_cases, get_or_from_slice_get}
 use Rattle.std.proofs.lemmas.Option.{same_Some, some_pair_parts, slice_get_past, slice_get-get_or}
@@ -13,8 +14,7 @@ use Rattle.pmp_core.specs.declared.decision.Decision.{Decision}
 use Rattle.pmp_core.specs.Histories.{file_after}
 use Rattle.pmp_core.specs.Ranges.{decision_of}
 use Rattle.pmp_core.specs.RegisterFile.{RegisterFile}
-use Rattle.pmp_share.specs.Batches.{Batches}
-use Rattle.pmp_share.specs.Tokens.{PublisherToken, CheckerToken, NoticeToken, UnitId}
+use Rattle.pmp_share.specs.Tokens.{PublisherToken, CheckerToken, NoticeToken}
 use Rattle.pmp_text.specs.declared.trace.Row.{Row}
 use Rattle.pmp_audit.specs.declared.shared_audit.work_fault.WorkFault.{WorkFault}
 use Rattle.pmp_audit.specs.declared.shared_audit.job.Done.{Done}
@@ -23,7 +23,6 @@ use Rattle.pmp_audit.specs.declared.shared_audit.row_decision.RowDecision.{RowDe
 use Rattle.pmp_audit.specs.Rounds.{AreCheckersOf, AreDealt, AreInFile, AreJobs, IsJob, decided_in}
 use Rattle.pmp_audit.specs.Working.{IsDealt, IsDone, row_of}
 use Rattle.pmp_audit.proofs.Dealing.{slice_get-push_old, slice_get-push_new, slice_get-enumerate_from}
-use Rattle.pmp_audit.proofs.Dealing.{length-enumerate_from}
 
 abbrev pub row_at : RowDecision → Row
 row_at decision = decision.row.value
@@ -77,26 +76,36 @@ module _ (first : ℕ) (rows : List Row) (all : List Done) (place : ℕ) (done :
     own_row : slice_get rows place ≡ Some (row_at decision)
     own_row = sym same_row ∙ slice_get-map row_at done.decisions.items (place / length all) ∙ ap (option_map row_at) at
 
+    own_file : (file : RegisterFile) → AreInFile file all → decision.file.value ≡ file
+    own_file file in_file =
+        let turn = place / length all in
+        let items = done.decisions.items in
+        subst (λ (d : RowDecision). d.file.value ≡ file) (get_or_from_slice_get items turn decision decision at)
+        (in_file (place % length all) done at_done turn decision (slice_get_within items turn decision at))
+
+    own_decision : (file : RegisterFile) → AreInFile file all
+        → decision.decision ≡ decision_of file (row_at decision).access
+    own_decision file in_file =
+        decision.decided ∙ ap (λ (f : RegisterFile). decision_of f (row_at decision).access) (own_file file in_file)
+
+    -- the decision is that of the next row
+    decided_more : (file : RegisterFile) → AreInFile file all → place < length rows
+        → decided_in file (take (place + 1) rows) ≡ decided_in file (take place rows) ++ decision.decision ∷ []
+    decided_more file in_file inside =
+        let before = decided_in file (take place rows) in
+        let row_is : get_or rows place (row_at decision) ≡ row_at decision =
+        get_or_from_slice_get rows place (row_at decision) (row_at decision) own_row in
+        map_more (λ (row : Row). decision_of file row.access) rows place (row_at decision) inside
+        ∙ ap (λ (row : Row). before ++ decision_of file row.access ∷ []) row_is
+        ∙ ap (λ (d : Decision). before ++ d ∷ []) (sym (own_decision file in_file))
+
     pub merged : (file : RegisterFile) (old held new : List Decision) → AreInFile file all → place < length rows
         → held ≡ old ++ decided_in file (take place rows) → new ≡ held ++ decision.decision ∷ []
         → new ≡ old ++ decided_in file (take (place + 1) rows)
     merged file old held new in_file inside so_far pushed =
-        let turn = place / length all in
-        let items = done.decisions.items in
-        let file_is : decision.file.value ≡ file =
-        subst (λ (d : RowDecision). d.file.value ≡ file) (get_or_from_slice_get items turn decision decision at)
-        (in_file (place % length all) done at_done turn decision (slice_get_within items turn decision at)) in
-        let row_is : get_or rows place (row_at decision) ≡ row_at decision =
-        get_or_from_slice_get rows place (row_at decision) (row_at decision) own_row in
-        let decided : decision.decision ≡ decision_of file (row_at decision).access =
-        decision.decided ∙ ap (λ (f : RegisterFile). decision_of f (row_at decision).access) file_is in
-        let before = decided_in file (take place rows) in
-        let step : decided_in file (take (place + 1) rows) ≡ before ++ decision.decision ∷ [] =
-        map_more (λ (row : Row). decision_of file row.access) rows place (row_at decision) inside
-        ∙ ap (λ (row : Row). before ++ decision_of file row.access ∷ []) row_is
-        ∙ ap (λ (d : Decision). before ++ d ∷ []) (sym decided) in
         pushed ∙ ap (λ (l : List Decision). l ++ decision.decision ∷ []) so_far
-        ∙ append_assoc old before (decision.decision ∷ []) ∙ ap (λ (l : List Decision). old ++ l) (sym step)
+        ∙ append_assoc old (decided_in file (take place rows)) (decision.decision ∷ [])
+        ∙ ap (λ (l : List Decision). old ++ l) (sym (decided_more file in_file inside))
 
 -- ---- one job more
 
@@ -111,6 +120,22 @@ all_at P xs x ys all whole each =
 pub no_jobs : (publisher : PublisherToken) → AreJobs publisher 0 []
 no_jobs publisher = record { many = refl; each = λ worker job none. absurd cc }
 
+module _ (publisher : PublisherToken) (count : ℕ) (jobs : List Job) (job : Job)
+    (so_far : AreJobs publisher count jobs) where
+  earlier_job : (worker : ℕ) (other : Job) → worker < length jobs
+      → slice_get (jobs ++ job ∷ []) worker ≡ Some other → IsJob publisher worker other
+  earlier_job worker other before at =
+      so_far.each worker other (sym (slice_get-push_old jobs job worker before) ∙ at)
+
+  last_job : (worker : ℕ) (other : Job) → IsJob publisher count job → length jobs ≡ worker
+      → slice_get (jobs ++ job ∷ []) worker ≡ Some other → IsJob publisher worker other
+  last_job worker other is last at =
+      let here : slice_get (jobs ++ job ∷ []) worker ≡ Some job =
+      subst (λ (n : ℕ). slice_get (jobs ++ job ∷ []) n ≡ Some job) last (slice_get-push_new jobs job) in
+      let same : job ≡ other = same_Some job other (sym here ∙ at) in
+      let number : count ≡ worker = omega (arith, so_far.many, last) in
+      subst (IsJob publisher worker) same (subst (λ (n : ℕ). IsJob publisher n job) number is)
+
 pub one_job : (publisher : PublisherToken) (count : ℕ) (jobs new : List Job) (job : Job)
     → AreJobs publisher count jobs → IsJob publisher count job → new ≡ jobs ++ job ∷ []
     → AreJobs publisher (count + 1) new
@@ -124,15 +149,10 @@ one_job publisher count jobs new job so_far is pushed =
           ap (λ (l : List Job). slice_get l worker) (sym pushed) ∙ at in
           let within = slice_get_within new worker other at in
           elim (cases_lt worker count) [
-            | inl before ↦ so_far.each worker other
-                (sym (slice_get-push_old jobs job worker (omega (arith, so_far.many))) ∙ own)
+            | inl before ↦
+                earlier_job publisher count jobs job so_far worker other (omega (arith, so_far.many)) own
             | inr after ↦
-                let last : length jobs ≡ worker = omega (arith, so_far.many, many) in
-                let here : slice_get (jobs ++ job ∷ []) worker ≡ Some job =
-                subst (λ (n : ℕ). slice_get (jobs ++ job ∷ []) n ≡ Some job) last (slice_get-push_new jobs job) in
-                let same : job ≡ other = same_Some job other (sym here ∙ own) in
-                let number : count ≡ worker = omega (arith, so_far.many) in
-                subst (IsJob publisher worker) same (subst (λ (n : ℕ). IsJob publisher n job) number is)
+                last_job publisher count jobs job so_far worker other is (omega (arith, so_far.many, many)) own
           ];
     }
 
@@ -151,6 +171,7 @@ IsDoneAs workers first rows job result =
     IfOk result (IsDone job.checker.unit (file_after job.checker.unit.entries job.notice.told) job.worker workers first
     rows)
 
+-- each of so many workers was given a job, and all brought back what `work` says of it
 module _ (publisher : PublisherToken) (count workers first : ℕ) (rows : List Row) (jobs : List Job)
     (results : List (Result Done WorkFault)) (all : List Done)
     (are : AreJobs publisher count jobs) (as_many : workers ≡ count) (same : results ≡ map Ok all)
@@ -163,6 +184,7 @@ module _ (publisher : PublisherToken) (count workers first : ℕ) (rows : List R
   all_many : length all ≡ count
   all_many = sym (length-map all Ok) ∙ sym (ap (λ (l : List (Result Done WorkFault)). length l) same) ∙ length_is
 
+  -- so each is done with the rows of its number, in the file of what is published
   pub all_met : (worker : ℕ) (done : Done) → slice_get all worker ≡ Some done
       → IsDone publisher.unit file worker (length all) first rows done
   all_met worker done at =
@@ -175,15 +197,7 @@ module _ (publisher : PublisherToken) (count workers first : ℕ) (rows : List R
       let j : IsJob publisher worker job = are.each worker job at_job in
       let told : job.notice.told ≡ publisher.published = ap (λ (n : NoticeToken). n.told) j.notice in
       let number : workers ≡ length all = as_many ∙ sym all_many in
-      let Own : UnitId → Batches → ℕ → ℕ → Type 0 = λ unit told worker workers.
-      IsDone unit (file_after unit.entries told) worker workers first rows done in
-      let by_unit : Own publisher.unit job.notice.told job.worker workers =
-      subst (λ (u : UnitId). Own u job.notice.told job.worker workers) j.same_unit own in
-      let by_told : Own publisher.unit publisher.published job.worker workers =
-      subst (λ (t : Batches). Own publisher.unit t job.worker workers) told by_unit in
-      let by_worker : Own publisher.unit publisher.published worker workers =
-      subst (λ (n : ℕ). Own publisher.unit publisher.published n workers) j.numbered by_told in
-      subst (λ (n : ℕ). Own publisher.unit publisher.published worker n) number by_worker
+      rw (j.same_unit, told, j.numbered, number) at own
 
   pub all_dealt_out : AreDealt first rows all
   all_dealt_out worker done at = (all_met worker done at).dealt

@@ -12,7 +12,8 @@ use Rattle.pmp_text.specs.declared.lines.since.Since.{Since}
 use Rattle.pmp_text.specs.Contents.{ScriptContents}
 use Rattle.pmp_text.specs.EntryRows.{entry_row, no_since}
 use Rattle.pmp_text.specs.Reports.{file_of_script}
-use Rattle.pmp_audit.specs.EntryList.{IsEntryList, OneEntryListLaw}
+use Rattle.pmp_audit.specs.EntryList.{IsEntryList}
+use Rattle.pmp_audit.specs.Laws.{OneEntryListLaw}
 use Rattle.pmp_audit.specs.AskedFile.{asked_count}
 use Rattle.pmp_audit.specs.Since.{IsFrom, IsSince}
 use Rattle.pmp_core.proofs.Legal.{length-file_after}

@@ -1,5 +1,5 @@
 -- A script and a trace have one report.
-use Rattle.std.proofs.Common.{◌≡◌, ℕ, ◌+◌, ◌<◌, ◌≤◌, ◌^◌, List, [], ◌∷◌, length, map, refl, sym, ap, subst, ◌∙◌}
+use Rattle.std.proofs.Common.{◌≡◌, ℕ, ◌+◌, ◌<◌, ◌≤◌, List, [], ◌∷◌, length, map, refl, sym, ap, subst, ◌∙◌}
 use Rattle.std.proofs.Math.Bridge.{le_prop}
 use Rattle.pmp_core.specs.declared.access.Access.{Access}
 use Rattle.pmp_core.specs.declared.access.Mode.{Mode}
@@ -11,7 +11,8 @@ use Rattle.pmp_core.specs.RegisterFile.{RegisterFile}
 use Rattle.pmp_text.specs.declared.trace.Row.{Row}
 use Rattle.pmp_text.specs.Traces.{row_fields}
 use Rattle.pmp_text.specs.Reports.{file_of_script, report_text}
-use Rattle.pmp_audit.specs.TraceAudit.{OneListOfDecisionsLaw, OneReportLaw, summary_of}
+use Rattle.pmp_audit.specs.Laws.{OneListOfDecisionsLaw, OneReportLaw}
+use Rattle.pmp_audit.specs.TraceAudit.{summary_of}
 use Rattle.pmp_audit.proofs.Lists.{one_list}
 
 pub one_list_of_decisions : ((file : RegisterFile) (access : Access) (one other : Decision)
@@ -34,7 +35,7 @@ access_of mode kind start length not_empty not_long inside = record {
   inside = inside;
 }
 
--- two accesses of the same words and numbers
+-- an access is determined by its mode, kind, start and length
 module _ (one other : Access) where
   same_access : one.mode ≡ other.mode → one.kind ≡ other.kind → one.start ≡ other.start → one.length ≡ other.length
       → one ≡ other
@@ -70,7 +71,7 @@ same_rows (row ∷ one) (another ∷ other) same =
     let rest = same_rows one other cc in
     cc
 
--- ----
+-- ---- the law
 
 pub one_report : OneListOfDecisionsLaw → OneReportLaw
 one_report one_list script trace one other text another said too =

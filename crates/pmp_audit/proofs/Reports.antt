@@ -5,6 +5,7 @@ use Rattle.std.specs.Prelude.{count_by}
 use Rattle.std.specs.List.{enumerate_from, flat_map, zip}
 use Rattle.std.proofs.lemmas.List.{append-nil, drop_more, flat_map_more, length-append, length-take, take_more}
 use Rattle.std.proofs.lemmas.List.Sums.{count_by-le-length, sum_by-append}
+use Rattle.std.proofs.lemmas.Slice.Zip.{AllZip-long, all_zipped_more}
 use Rattle.pmp_core.specs.declared.decision.Decision.{Decision}
 use Rattle.pmp_core.specs.Decision.{IsDecision}
 use Rattle.pmp_text.specs.declared.trace.Row.{Row}
@@ -18,7 +19,7 @@ use Rattle.pmp_text.proofs.Numbered.{enumerate_from-push}
 use Rattle.pmp_audit.specs.declared.trace_audit.Summary.{Summary}
 use Rattle.pmp_audit.specs.Report.{IsReported}
 use Rattle.pmp_audit.specs.TraceAudit.{AuditSays, summary_of}
-use Rattle.pmp_audit.proofs.Lists.{AllZip-push, length-all_zip, length-zip, zip-push}
+use Rattle.pmp_audit.proofs.Lists.{length-zip, zip-push}
 
 -- ---- one row more
 
@@ -71,7 +72,7 @@ module _ (script : ScriptContents) where
   module _ (rows : List Row) (before held : List ℕ) (summary : Summary)
       (so_far : IsReported script rows before held summary) where
     one_each : length so_far.decisions ≡ length rows
-    one_each = length-all_zip Decides rows so_far.decisions so_far.decided
+    one_each = AllZip-long Decides rows so_far.decisions so_far.decided
 
     pub rows_so_far : summary.rows ≡ length rows
     rows_so_far = ap (λ (s : Summary). s.rows) so_far.counted ∙ one_each
@@ -110,7 +111,7 @@ module _ (script : ScriptContents) where
       unfolding decisions
       one_row_more by_bytes written one_more refused = record {
         decisions = so_far.decisions ++ decision ∷ [];
-        decided = AllZip-push Decides rows so_far.decisions row decision so_far.decided by_bytes;
+        decided = all_zipped_more Decides rows so_far.decisions row decision so_far.decided by_bytes;
         report = reported one_more written;
         counted = counted one_more refused;
       }

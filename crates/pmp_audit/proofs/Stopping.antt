@@ -22,7 +22,7 @@ more_than_asked batches told seen rows (k, row, inside, at, asks) less =
     let at_row = get_or-map row_fields rows k row (row_fields row) inside ∙ ap row_fields at in
     (k, row_fields row, rw (length-map rows row_fields) inside, at_row, rw asks less)
 
--- a round after some of the publications is stopped
+-- what stops a round after the publications that a row asks for may stop the audit
 pub stops_after : (batches published : Batches) (rows : List Row) (told : ℕ) → published ≡ take told batches
     → (fault : AuditFault) → StopsRound published fault → Any (λ row. row.after ≡ told) rows
     → MayStop batches (map row_fields rows) fault
@@ -37,12 +37,11 @@ stops_after batches published rows told is BadAfter stops asks = absurd stops
 stops_after batches published rows told is Memory stops asks = tt
 stops_after batches published rows told is Output stops asks = absurd stops
 
--- what isn't written is kept
 kept : (bytes : Option (List ℕ)) → Keeps bytes bytes
 kept None = tt
 kept (Some bytes) = refl
 
--- so the audit is
+-- what may stop the audit, while nothing was written, is a refusal of it
 pub refused_so : {A : Type 0} (Says : A → List ℕ → Type 0) (before : Option (List ℕ)) (script trace : List ℕ)
     (inputs : AreFaultless script trace) (fault : AuditFault) → MayStop inputs.contents.batches inputs.rows fault
     → IsRefused Says before before (SharedAuditRefuses script trace) fault

@@ -3,7 +3,7 @@ use Rattle.std.proofs.Common.{◌≡◌, ℕ, suc, cond, ◌+◌, ◌<◌, min, 
 use Rattle.std.proofs.Common.{take, get_or}
 use Rattle.std.proofs.Common.{refl, sym, ap, ◌∙◌, append_assoc, append-nil, arith}
 use Rattle.std.specs.List.{count_by, enumerate_from, flat_map, range_with_len, slice_index_or, zip}
-use Rattle.std.proofs.lemmas.List.{take_all, take_more, take-append-le, length-append, length-map, get_or-map}
+use Rattle.std.proofs.lemmas.List.{take_all, take_more, take-append-le, length_push, length-map, get_or-map}
 use Rattle.std.proofs.lemmas.List.Concat.{flat_map-append}
 use Rattle.std.proofs.lemmas.List.Sums.{sum_by-cons}
 use Rattle.std.proofs.lemmas.Slice.Zip.{length-zip, get_or-zip}
@@ -17,9 +17,6 @@ use Rattle.pmp_audit.specs.declared.write_list.WriteSummary.{WriteSummary}
 use Rattle.pmp_audit.specs.WriteList.{PlacedEvent, placed, events_of, file_before, rows_text, is_turned_away}
 use Rattle.pmp_audit.specs.WriteList.{write_summary}
 use Rattle.pmp_audit.specs.EventRows.{file_left, rows_from, turned_from, Written, AreWritten}
-
-pub length-more : {X : Type 0} (xs : List X) (x : X) → length (xs ++ x ∷ []) ≡ length xs + 1
-length-more xs x = omega (arith, length-append xs (x ∷ []))
 
 -- ---- more events
 
@@ -136,7 +133,7 @@ module _ (n : ℕ) where
       }) f it.event in
       let tail : flat_map (λ (k, x). row_at all k x) (enumerate_from (length before + 1) rest)
       ≡ rows_from (length before + 1 + 1) (step file it.event) rest =
-      rw (moved it before rest, length-more before it, next_file it before rest) at
+      rw (moved it before rest, length_push before it, next_file it before rest) at
       (rows_by_place (before ++ it ∷ []) rest) in
       ap (λ (f : RegisterFile). row f
       ++ flat_map (λ (k, x). row_at all k x) (enumerate_from (length before + 1) rest)) (there before rest it)
@@ -153,7 +150,7 @@ module _ (n : ℕ) where
       let more = count_by (λ (k, x). is_turned_away (file_before n all k) x.event)
       (enumerate_from (length before + 1) rest) in
       let tail : more ≡ turned_from (step file it.event) rest =
-      rw (moved it before rest, length-more before it, next_file it before rest) at
+      rw (moved it before rest, length_push before it, next_file it before rest) at
       (turned_by_place (before ++ it ∷ []) rest) in
       sum_by-cons (λ (k, x). cond (is_turned_away (file_before n all k) x.event) 1 0)
       (length before, it) (enumerate_from (length before + 1) rest)

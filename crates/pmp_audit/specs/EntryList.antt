@@ -1,11 +1,10 @@
 -- What a list of entries says.
-use Rattle.std.specs.Prelude.{◌≡◌, ℕ, List, take, Option}
+use Rattle.std.specs.Prelude.{ℕ, List, take}
 use Rattle.pmp_core.specs.Size.{count_of}
 use Rattle.pmp_text.specs.declared.lines.since.Since.{Since}
 use Rattle.pmp_text.specs.Contents.{ScriptContents}
 use Rattle.pmp_text.specs.EntryRows.{IsEntryText}
 use Rattle.pmp_text.specs.Reports.{file_of_script}
-use Rattle.pmp_audit.specs.AskedFile.{SaysOfScript}
 use Rattle.pmp_audit.specs.Since.{AreSince}
 
 -- a row for each entry of the file that so many publications give, with since when the entry is frozen and held
@@ -13,8 +12,3 @@ pub record IsEntryList (script : ScriptContents) (done : ℕ) (text : List ℕ) 
   pub since : List Since
   pub since_are : AreSince (count_of script.size) (take done script.batches) since
   pub rows : IsEntryText (file_of_script script done) since text
-
--- a script has one entry list
-abbrev pub OneEntryListLaw : Type 0
-OneEntryListLaw = (script : List ℕ) (after : Option ℕ) (text other : List ℕ)
-    → SaysOfScript IsEntryList script after text → SaysOfScript IsEntryList script after other → text ≡ other

@@ -6,7 +6,6 @@ use Rattle.pmp_text.specs.Effects.{effect_row}
 use Rattle.pmp_audit.specs.declared.write_list.WriteSummary.{WriteSummary}
 use Rattle.pmp_audit.specs.WriteList.{PlacedEvent, is_turned_away}
 
--- the file that events leave
 abbrev pub file_left : RegisterFile → List PlacedEvent → RegisterFile
 file_left file events = fold step file (map (λ it. it.event) events)
 

@@ -9,6 +9,8 @@ pub mod WriteList
 pub mod Since
 pub mod EntryList
 pub mod Fault
+-- Laws of these definitions, which are proved.
+pub mod Laws
 -- The rest, which only private contracts cite.
 pub mod Replay
 pub mod Report

@@ -31,7 +31,6 @@ abbrev pub asking : (after : ℕ) → List Row → List Row
 asking after [] = []
 asking after (row ∷ rows) = if row.after == after then row ∷ asking after rows else []
 
--- the decisions of rows in one file
 abbrev pub decided_in : RegisterFile → List Row → List Decision
 decided_in file rows = map (λ row. decision_of file row.access) rows
 
@@ -67,7 +66,7 @@ abbrev pub AreDealt : (first : ℕ) → List Row → List Done → Type 0
 AreDealt first rows all = (worker : ℕ) (done : Done) → slice_get all worker ≡ Some done
     → IsDealt worker (length all) (enumerate_from first rows) (map row_of done.decisions.items)
 
--- all were decided in this file
+-- all workers' decisions were made in this file
 abbrev pub AreInFile : RegisterFile → List Done → Type 0
 AreInFile file all = (worker : ℕ) (done : Done) → slice_get all worker ≡ Some done
     → All (λ decision. decision.file.value ≡ file) done.decisions.items

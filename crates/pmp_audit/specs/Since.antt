@@ -1,13 +1,11 @@
 -- Since when an entry is frozen, and since when it is held.
-use Rattle.std.specs.Prelude.{◌≡◌, ℕ, ◌<◌, ◌≤◌, Bool, true, false, List, take, drop, Option, Some, None}
+use Rattle.std.specs.Prelude.{◌≡◌, ℕ, ◌<◌, Bool, true, List, take, drop}
 use Rattle.std.specs.List.{list_all, slice_index_or}
 use Rattle.pmp_core.specs.declared.event.Event.{Event}
 use Rattle.pmp_core.specs.RegisterFile.{RegisterFile, is_frozen, is_held}
 use Rattle.pmp_core.specs.Decision.{IsLeast}
 use Rattle.pmp_core.specs.Histories.{joined, file_after}
-use Rattle.pmp_core.specs.LockLaw.{StaysFrozen}
 use Rattle.pmp_core.specs.Histories.{is_write}
-use Rattle.pmp_core.specs.ProtectionLaw.{StaysProtected}
 use Rattle.pmp_text.specs.declared.lines.since.Since.{Since}
 use Rattle.pmp_text.specs.EntryRows.{no_since}
 
@@ -24,21 +22,3 @@ pub record IsSince (n : ℕ) (batches : List (List Event)) (i : ℕ) (since : Si
 -- the list has it for each of the entries
 abbrev pub AreSince : (n : ℕ) → List (List Event) → List Since → Type 0
 AreSince n batches since = (i : ℕ) → i < n → IsSince n batches i (slice_index_or since i no_since)
-
--- with no number the entry isn't frozen in the end; with one, it is frozen after the first k batches and after any
--- number from there on, with the same configuration and the same bytes
-abbrev pub IsKept : (n : ℕ) → List (List Event) → (i : ℕ) → Option ℕ → Type 0
-IsKept n batches i None = is_frozen (file_after n batches) i ≡ false
-IsKept n batches i (Some k) =
-    (done : ℕ) → k ≤ done → StaysFrozen (file_after n (take k batches)) (file_after n (take done batches)) i
-
--- with no number the entry isn't held in the end; with one, what it and the entries before it decide after the first k
--- batches is protected from there on
-abbrev pub Protects : (n : ℕ) → List (List Event) → (i : ℕ) → Option ℕ → Type 0
-Protects n batches i None = is_held (file_after n batches) i ≡ false
-Protects n batches i (Some k) =
-    (done : ℕ) → k ≤ done → StaysProtected (file_after n (take k batches)) (file_after n (take done batches)) i
-
-abbrev pub SinceLaw : Type 0
-SinceLaw = (n : ℕ) (batches : List (List Event)) (i : ℕ) (since : Since)
-    → IsSince n batches i since → IsKept n batches i since.frozen × Protects n batches i since.held

@@ -1,11 +1,10 @@
 -- What an audit says of a trace, and when it refuses.
 use Rattle.std.specs.Prelude.{◌≡◌, ◌⊎◌, ℕ, List, length, count_by, not, Ok, Err}
 use Rattle.pmp_core.specs.declared.decision.Decision.{Decision}
-use Rattle.pmp_text.specs.declared.trace.Row.{Row}
 use Rattle.pmp_text.specs.declared.trace.TraceFault.{TraceFault}
 use Rattle.pmp_text.specs.Contents.{ScriptContents}
 use Rattle.pmp_text.specs.Outcomes.{no_input_for_rows}
-use Rattle.pmp_text.specs.Reports.{AreDecided, IsReport}
+use Rattle.pmp_text.specs.Reports.{IsReport}
 use Rattle.pmp_text.specs.Scripts.{script_meaning}
 use Rattle.pmp_text.specs.Traces.{trace_meaning}
 use Rattle.pmp_audit.specs.declared.fault.AuditFault.{AuditFault}
@@ -37,13 +36,3 @@ abbrev pub AuditRefuses : (script trace : List ℕ) → AuditFault → Type 0
 AuditRefuses script trace (Script fault) = script_meaning script ≡ Err fault
 AuditRefuses script trace (Trace fault) = IsFaultyTrace script trace fault
 AuditRefuses script trace _ = ⊥
-
--- rows have one list of decisions
-abbrev pub OneListOfDecisionsLaw : Type 0
-OneListOfDecisionsLaw = (script : ScriptContents) (rows : List Row) (one other : List Decision)
-    → AreDecided script rows one → AreDecided script rows other → one ≡ other
-
--- a script and a trace have one report and one summary
-abbrev pub OneReportLaw : Type 0
-OneReportLaw = (script trace : List ℕ) (one other : Summary) (text another : List ℕ)
-    → AuditSays script trace one text → AuditSays script trace other another → (one ≡ other) × (text ≡ another)

@@ -33,7 +33,6 @@ events_of script count =
     placed (index + 1) (slice_index_or script.lines index []) (slice_index_or script.batches index []))
     (range_with_len 0 count)
 
--- the events of all publications
 abbrev pub placed_events : ScriptContents → List PlacedEvent
 placed_events script = events_of script (length script.batches)
 

@@ -5,7 +5,7 @@ ghost use Rattle.pmp_audit.specs.Fault.{fault_of_script, fault_of_trace, fault_o
 ghost use Rattle.pmp_audit.specs.declared.fault.AuditFault.TheVariants.{Memory, Output};
 
 use pmp_share::{Moved, ShareFault};
-use pmp_text::{NoMemory, OutputFault, ScriptFault, ScriptKind, TraceFault, TraceKind};
+use pmp_text::{OutputFault, ScriptFault, ScriptKind, TraceFault, TraceKind};
 use std::alloc::AllocError;
 use thiserror::Error;
 
@@ -72,14 +72,6 @@ impl From<AllocError> for AuditFault {
     ghost from_gives = { λ _ answer. answer ≡ Memory };
 
     fn from(_error: AllocError) -> AuditFault {
-        AuditFault::Memory
-    }
-}
-
-impl From<NoMemory> for AuditFault {
-    ghost from_gives = { λ _ answer. answer ≡ Memory };
-
-    fn from(_: NoMemory) -> AuditFault {
         AuditFault::Memory
     }
 }

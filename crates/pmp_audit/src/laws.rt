@@ -1,8 +1,6 @@
 //! The laws of reports and entry lists, each the contract of a function that does nothing.
 
-ghost use Rattle.pmp_audit.specs.EntryList.{OneEntryListLaw};
-ghost use Rattle.pmp_audit.specs.Since.{SinceLaw};
-ghost use Rattle.pmp_audit.specs.TraceAudit.{OneListOfDecisionsLaw, OneReportLaw};
+ghost use Rattle.pmp_audit.specs.Laws.{OneEntryListLaw, OneListOfDecisionsLaw, OneReportLaw, SinceLaw};
 
 use pmp_core::laws::{law_one_decision, law_one_span, law_protected};
 

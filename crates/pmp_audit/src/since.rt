@@ -50,7 +50,8 @@ fn count_in(since: &mut [Since], file: &RegFile, are_writes: bool, done: u64)
 }
 
 /// The script after its first `count` publications, and for each entry that is frozen there the number of the
-/// publication that frozen it: it has been frozen ever since. And so for each that is held, with all entries before it.
+/// publication that froze it: it has been frozen ever since. The same for each entry that is held, that is, frozen with
+/// all entries before it.
 pub fn since_of(script: &Script, count: u64) -> (Replay<'_>, [Since; MAX_ENTRIES])
     requires { count ≤ length script.now.batches }
     ensures position { result.0 ≡ record { script = script.now; done = count } }

@@ -1,6 +1,7 @@
 //! The accesses of a trace, each decided after the publications that it asks for.
 
-ghost use Rattle.std.specs.Prelude.{◌≡◌, ◌+◌, ◌^◌, ◌<◌, ◌≤◌, IfOk, IfErr, length, map, if◌then◌else◌};
+ghost use Rattle.std.specs.Prelude.{◌≡◌, ◌+◌, ◌^◌, ◌<◌, ◌≤◌, ◌++◌, IfOk, IfErr, OnOk, length, map, if◌then◌else◌};
+ghost use Rattle.pmp_text.specs.Reports.{report_row};
 ghost use Rattle.pmp_text.specs.TraceFaults.{IsInOrder, afters};
 ghost use Rattle.pmp_text.specs.Traces.{row_fields};
 ghost use Rattle.pmp_audit.specs.Answers.{IsWritten, IsRefused};
@@ -11,8 +12,8 @@ use crate::answer::write_answer;
 use crate::fault::AuditFault;
 use crate::replay::Replay;
 use pmp_core::Decision;
-use pmp_text::{NoMemory, Row, Script, read_script, read_trace, write_row};
-use std::alloc::Global;
+use pmp_text::{Row, Script, read_script, read_trace, write_row};
+use std::alloc::{AllocError, Global};
 use std::io::Write;
 
 /// How many accesses an audit decided, and how many of them it refused.
@@ -48,7 +49,7 @@ pub fn audit<W: Write>(
 }
 
 /// Appends the report of the rows, which ask for the script's publications in order.
-fn write_report(report: &mut Vec<u8>, script: &Script, rows: &[Row]) -> Result<Summary, NoMemory>
+fn write_report(report: &mut Vec<u8>, script: &Script, rows: &[Row]) -> Result<Summary, AllocError>
     requires { IsInOrder (length script.now.batches) 0 (afters (map row_fields rows.now)) }
     ensures { IfOk result (IsReported script.now rows.now report.old.items report.new.items) }
 {
@@ -57,15 +58,14 @@ fn write_report(report: &mut Vec<u8>, script: &Script, rows: &[Row]) -> Result<S
     for row in rows {
         replay.advance(row.after);
         let decision = replay.decide(&row.access);
-        summary.count(decision);
-        write_row(report, summary.rows, &row.access, &decision)?;
+        summary.add_row(report, row, decision)?;
     }
     Ok(summary)
 }
 
 impl Summary {
     /// One more row, which was decided so.
-    pub(crate) fn count(&mut self, decision: Decision)
+    fn count(&mut self, decision: Decision)
         requires rows { self.old.rows + 1 < 2 ^ 64 }
         requires faults { self.old.faults ≤ self.old.rows }
         ensures rows { self.new.rows ≡ self.old.rows + 1 }
@@ -75,5 +75,23 @@ impl Summary {
         if !decision.allowed {
             self.faults += 1;
         }
+    }
+
+    /// One more row, which was decided so, appended to a report.
+    pub(crate) fn add_row(
+        &mut self,
+        report: &mut Vec<u8>,
+        row: &Row,
+        decision: Decision,
+    ) -> Result<(), AllocError>
+        requires rows { self.old.rows + 1 < 2 ^ 64 }
+        requires faults { self.old.faults ≤ self.old.rows }
+        ensures rows { self.new.rows ≡ self.old.rows + 1 }
+        ensures faults { self.new.faults ≡ self.old.faults + (if decision.allowed then 0 else 1) }
+        ensures report { OnOk result
+            (report.new.items ≡ report.old.items ++ report_row self.new.rows row.now.access decision) }
+    {
+        self.count(decision);
+        write_row(report, self.rows, &row.access, &decision)
     }
 }

@@ -12,10 +12,8 @@ use crate::fault::AuditFault;
 use crate::replay::Replay;
 use crate::since::since_of;
 use pmp_map::RunMap;
-use pmp_text::{
-    NoMemory, Script, read_script, write_entries, write_picture, write_registers, write_runs,
-};
-use std::alloc::Global;
+use pmp_text::{Script, read_script, write_entries, write_picture, write_registers, write_runs};
+use std::alloc::{AllocError, Global};
 use std::io::Write;
 
 /// What is shown of a register file.
@@ -119,7 +117,7 @@ pub fn show<W: Write>(
 }
 
 /// Appends the text that shows this after so many publications.
-fn write_view(out: &mut Vec<u8>, view: View, script: &Script, done: u64) -> Result<(), NoMemory>
+fn write_view(out: &mut Vec<u8>, view: View, script: &Script, done: u64) -> Result<(), AllocError>
     requires { done ≤ length script.now.batches }
     ensures { OnOk result ((text : List ℕ) × IsViewText view script.now done text
         × (out.new.items ≡ out.old.items ++ text)) }

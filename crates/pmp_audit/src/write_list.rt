@@ -1,6 +1,8 @@
 //! What each event of a script does to a register.
 
 ghost use Rattle.std.specs.Prelude.{◌≡◌, ◌+◌, ◌^◌, ◌<◌, ◌≤◌, IfOk, IfErr, ◌++◌, length, if◌then◌else◌};
+ghost use Rattle.pmp_core.specs.RegisterFile.{RegisterFile};
+ghost use Rattle.pmp_core.specs.RegisterWrite.{step};
 ghost use Rattle.pmp_core.specs.Size.{count_of};
 ghost use Rattle.pmp_text.specs.declared.script.reader.TheConstants.{MAX_SCRIPT};
 ghost use Rattle.pmp_text.specs.Sizes.{script_size};
@@ -13,8 +15,8 @@ use crate::answer::write_answer;
 use crate::fault::AuditFault;
 use pmp_core::{Event, RegFile};
 use pmp_text::laws::law_script_size;
-use pmp_text::{EventPlace, NoMemory, Script, read_script, write_effect};
-use std::alloc::Global;
+use pmp_text::{EventPlace, Script, read_script, write_effect};
+use std::alloc::{AllocError, Global};
 use std::io::Write;
 
 /// How many events a script has, and how many of them are writes that the register doesn't read as they were written.
@@ -46,8 +48,7 @@ pub fn writes<W: Write>(
     write_answer(writer, &text, summary)
 }
 
-/// Appends the rows of all events.
-fn write_events(out: &mut Vec<u8>, script: &Script) -> Result<WriteSummary, NoMemory>
+fn write_events(out: &mut Vec<u8>, script: &Script) -> Result<WriteSummary, AllocError>
     requires { script_size script.now.batches ≤ MAX_SCRIPT }
     ensures rows { IfOk result (λ _. out.new.items ≡ out.old.items
         ++ rows_text (count_of script.now.size) (placed_events script.now)) }
@@ -72,7 +73,7 @@ fn write_publication(
     publication: u64,
     lines: &[u64],
     events: &[Event],
-) -> Result<WriteSummary, NoMemory>
+) -> Result<WriteSummary, AllocError>
     requires room { before.events + length events.now < 2 ^ 64 }
     requires within { before.turned_away ≤ before.events }
     ensures written { IfOk result (λ after. AreWritten
@@ -83,44 +84,40 @@ fn write_publication(
 {
     let mut summary = before;
     for (line, event) in lines.iter().zip(events) {
-        summary.count(file, *event);
+        let old = *file;
+        file.step(*event);
+        summary.count(is_turned_away(file, *event));
         let place = EventPlace {
             number: summary.events,
             publication,
             line: *line,
         };
-        write_effect(out, &place, file, *event)?;
-        file.step(*event);
+        write_effect(out, &place, &old, file, *event)?;
     }
     Ok(summary)
 }
 
-/// Whether the event is a write that the register doesn't read then.
-fn is_turned_away(file: &RegFile, event: Event) -> bool
-    ensures { result ≡ is_turned_away file.now event }
+/// Whether the event, which left this file, is a write that the register doesn't read then.
+fn is_turned_away(after: &RegFile, event: Event) -> bool
+    ensures { (file : RegisterFile) → after.now ≡ step file event → result ≡ is_turned_away file event }
 {
     match event {
-        Event::Write(csr, value) => {
-            let mut after = *file;
-            after.step(event);
-            after.read(csr) != value
-        }
+        Event::Write(csr, value) => after.read(csr) != value,
         Event::Reset => false,
     }
 }
 
 impl WriteSummary {
-    /// One more event, which comes to this file.
-    fn count(&mut self, file: &RegFile, event: Event)
+    /// One more event.
+    fn count(&mut self, is_turned_away: bool)
         requires room { self.old.events + 1 < 2 ^ 64 }
         requires within { self.old.turned_away ≤ self.old.events }
         ensures events { self.new.events ≡ self.old.events + 1 }
-        ensures turned_away { self.new.turned_away
-            ≡ self.old.turned_away + (if is_turned_away file.now event then 1 else 0) }
+        ensures turned_away { self.new.turned_away ≡ self.old.turned_away + (if is_turned_away then 1 else 0) }
         ensures within { self.new.turned_away ≤ self.new.events }
     {
         self.events += 1;
-        if is_turned_away(file, event) {
+        if is_turned_away {
             self.turned_away += 1;
         }
     }

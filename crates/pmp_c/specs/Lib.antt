@@ -9,5 +9,5 @@ pub mod Columns
 pub mod Rows
 pub mod Causes
 pub mod Tables
--- Laws: statements that are proved, with the words that they alone need.
+-- Laws of these definitions, which are proved, with the words that they alone need.
 pub mod AnswerLaw

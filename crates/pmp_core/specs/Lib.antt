@@ -19,7 +19,7 @@ pub mod Size
 pub mod SavedRegisters
 -- How decisions are computed: a law says that they are the same.
 pub mod Ranges
--- Laws: statements that are proved, with the words that they alone need.
+-- Laws of these definitions, which are proved, with the words that they alone need.
 pub mod SpanLaw
 pub mod RightsLaw
 pub mod LockLaw

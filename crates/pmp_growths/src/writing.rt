@@ -6,8 +6,8 @@ use crate::texts::{ENTRIES, LAST_ROW, REGISTERS, RUNS};
 use crate::worked::{decision_after, file_after};
 use pmp_core::{Access, MAX_ENTRIES};
 use pmp_map::RunMap;
-use pmp_text::{NoMemory, Since, write_entries, write_registers, write_row, write_runs};
-use std::alloc::Global;
+use pmp_text::{Since, write_entries, write_registers, write_row, write_runs};
+use std::alloc::{AllocError, Global};
 
 /// Which call is tried.
 #[derive(Clone, Copy)]
@@ -38,7 +38,12 @@ const OPEN: Since = Since {
 const OLD_BYTES: &[u8] = b"old bytes\n";
 
 /// Makes the call on the file after the first batch, of which it has the map.
-fn append(alloc: Global, case: Writing, page: &Access, out: &mut Vec<u8>) -> Result<(), NoMemory> {
+fn append(
+    alloc: Global,
+    case: Writing,
+    page: &Access,
+    out: &mut Vec<u8>,
+) -> Result<(), AllocError> {
     let file = file_after(1);
     let map = RunMap::build(&file);
     begin(alloc);

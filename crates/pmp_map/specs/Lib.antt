@@ -5,5 +5,5 @@ pub mod Search
 -- What private contracts cite: owners by ranges, and a map's tables.
 pub mod Owners
 pub mod Tables
--- Laws: statements that are proved, with the words that they alone need.
+-- Laws of these definitions, which are proved, with the words that they alone need.
 pub mod RunsLaw

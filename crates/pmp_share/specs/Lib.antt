@@ -1,12 +1,13 @@
--- What a reader has to believe: these, beside the definitions of pmp_core
+-- What a reader has to believe: these, beside the definitions of pmp_core.
 pub mod Batches
 pub mod Object
 pub mod Tokens
 pub mod Looks
 pub mod Room
 pub mod Journals
+-- Laws of these definitions, which are proved.
 pub mod Laws
--- How the crate keeps them
+-- How the crate keeps them.
 pub mod History
 pub mod Versions
 pub mod Rule

@@ -7,7 +7,6 @@ use Rattle.std.proofs.lemmas.List.{flat_map_more}
 use Rattle.std.proofs.lemmas.List.FromFn.{map-range_with_len_more}
 use Rattle.pmp_core.specs.declared.csr.Csr.{Csr}
 
--- a line for one register more
 pub lines_grow : (line : Csr → List ℕ) (register : ℕ → Csr) (before text longer : List ℕ) (count : ℕ)
     → longer ≡ text ++ line (register count) → text ≡ before ++ flat_map line (map register (range_with_len 0 count))
     → longer ≡ before ++ flat_map line (map register (range_with_len 0 (count + 1)))

@@ -19,7 +19,7 @@ use Rattle.pmp_text.proofs.Meanings.{by_lines}
 abbrev own_fault : (before : List Line) → Line → Option ScriptFault
 own_fault before line = option_map (at_line line.number) (line_fault before line)
 
--- the fault of a line behind lines that stand behind others
+-- the fault of the line with this index, where other lines stand before these, the nearest first
 abbrev fault_behind : (before lines : List Line) → ℕ → Option ScriptFault
 fault_behind before lines index = option_and_then {T = Line} {U = ScriptFault}
     (own_fault (reverse (take index lines) ++ before)) (slice_get lines index)
@@ -40,7 +40,6 @@ judged_behind (line ∷ more) = λ before. judged_here (fault_behind before (lin
     (fault_behind (line ∷ before) more) (one_behind before line more) (own_fault before line)
     (first_fault (line ∷ before) more) refl (judged_behind more (line ∷ before))
 
--- with no lines before
 nothing_before : (lines : List Line) (index : ℕ) → fault_at lines index ≡ fault_behind [] lines index
 nothing_before lines index =
     ap (λ (front : List Line). option_and_then {T = Line} {U = ScriptFault} (own_fault front) (slice_get lines index))

@@ -12,6 +12,7 @@ pub mod Lefts
 pub mod Meanings
 pub mod Numbered
 pub mod Picture
+pub mod PictureTexts
 pub mod Prefixes
 pub mod RecordsLeft
 pub mod Rows

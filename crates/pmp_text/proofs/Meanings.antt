@@ -28,7 +28,10 @@ use Rattle.pmp_text.specs.Steps.Progress.{Progress, longer, nothing_read, publis
 use Rattle.pmp_text.specs.Steps.Progress.{resumed}
 use Rattle.pmp_text.specs.declared.script.reader.TheConstants.{MAX_SCRIPT}
 
--- what pieces publish, of what a line may add
+-- ---- what pieces publish
+
+-- the lists that are published where these pieces follow what is held: each piece but the last one ends in a `publish`,
+-- and its lines add what `pick` gives
 module _ {X : Type 0} (pick : Line → Option X) where
   abbrev published_from : List X → List (List Line) → List (List X)
   published_from held [] = []
@@ -42,7 +45,7 @@ module _ {X : Type 0} (pick : Line → Option X) where
   published_from-nothing (piece ∷ next ∷ more) = ap (λ (all : List (List X)). filter_map pick piece ∷ all)
       (published_from-nothing (next ∷ more))
 
-  -- behind a `publish`
+  -- a `publish` comes first
   published_from-published : (all : List (List X)) (held : List X) (pieces : List (List Line)) → 0 < length pieces
       → all ++ published_from held ([] ∷ pieces) ≡ (all ++ held ∷ []) ++ published_from [] pieces
   published_from-published all held [] some = absurd (omega arith)
@@ -50,7 +53,7 @@ module _ {X : Type 0} (pick : Line → Option X) where
       ap (λ (front : List X). all ++ front ∷ published_from [] (next ∷ more)) (append-nil held)
       ∙ sym (append_assoc all (held ∷ []) (published_from [] (next ∷ more)))
 
-  -- behind a line that adds something
+  -- a line comes first that adds something
   module _ (line : Line) (x : X) (adds : pick line ≡ Some x) where
     picked : (piece : List Line) → filter_map pick (line ∷ piece) ≡ x ∷ filter_map pick piece
     picked piece = rw adds refl
@@ -63,9 +66,12 @@ module _ {X : Type 0} (pick : Line → Option X) where
         ap (λ (front : List X). front ∷ published_from [] (next ∷ more))
         (ap (λ (more : List X). held ++ more) (picked piece) ∙ sym (append_assoc held (x ∷ []) (filter_map pick piece)))
 
+-- ---- the first event line that no `publish` follows
+
 abbrev first_event : List Line → Option ℕ
 first_event piece = option_map (λ line. line.number) (find (λ line. is_some (event_of line)) piece)
 
+-- its number, where these pieces follow an open batch whose first line is `since`, or an empty one
 abbrev since_from : Option ℕ → List (List Line) → Option ℕ
 since_from since [] = since
 since_from since (piece ∷ []) = option_or since (first_event piece)
@@ -81,7 +87,7 @@ since_from-published : (since : Option ℕ) (pieces : List (List Line)) → 0 < 
 since_from-published since [] some = absurd (omega arith)
 since_from-published since (next ∷ more) some = refl
 
--- behind an event
+-- a line comes first that adds an event
 module _ (line : Line) (event : Event) (says : statement_of line.words ≡ Ok (statement.Event event)) where
   adds_event : event_of line ≡ Some event
   adds_event = ap event_in says
@@ -101,6 +107,8 @@ module _ (line : Line) (event : Event) (says : statement_of line.words ≡ Ok (s
   since_from-event since [] some = absurd (omega arith)
   since_from-event since (piece ∷ []) some = ap (option_or since) (first_event-event piece) ∙ or_here since
   since_from-event since (piece ∷ next ∷ more) some = refl
+
+-- ---- what is meant behind what was read
 
 abbrev pieces_of : List Line → List (List Line)
 pieces_of lines = slice_split is_publish lines
@@ -144,28 +152,59 @@ all_from-event so_far line event says pieces = same_publications _ _ _ _
     (ap (λ (all : List (List ℕ)). so_far.published.lines ++ all)
     (published_from-added event_line_of line line.number (adds_line line event says) so_far.lines pieces))
 
--- what is meant by lines behind others, with what was read so far
-abbrev meant_from : Progress → (before lines : List Line) → Result Publications ScriptFault
-meant_from so_far before lines =
-    fault_or_publications (first_fault before lines) (since_from so_far.since (pieces_of lines))
-    (all_from so_far (pieces_of lines))
+-- what is meant by pieces whose lines have this first fault, or none
+abbrev meant_by : Progress → Option ScriptFault → List (List Line) → Result Publications ScriptFault
+meant_by so_far fault pieces = fault_or_publications fault (since_from so_far.since pieces) (all_from so_far pieces)
 
--- one line more, by what it says
+-- what is meant by lines behind others
+abbrev meant_from : Progress → (before lines : List Line) → Result Publications ScriptFault
+meant_from so_far before lines = meant_by so_far (first_fault before lines) (pieces_of lines)
+
+meant_from-nothing : (before lines : List Line) → meant_from nothing_read before lines
+    ≡ fault_or_publications (first_fault before lines) (first_unpublished lines) (publications lines)
+meant_from-nothing before lines =
+    let fault = first_fault before lines in
+    let pieces = pieces_of lines in
+    ap (λ (since : Option ℕ). fault_or_publications fault since (all_from nothing_read pieces))
+    (since_from-nothing pieces)
+    ∙ ap (fault_or_publications fault (first_unpublished lines)) (all_from-nothing pieces)
+
+meant_by-published : (so_far : Progress) (fault : Option ScriptFault) (pieces : List (List Line)) → 0 < length pieces
+    → meant_by so_far fault ([] ∷ pieces) ≡ meant_by (published so_far) fault pieces
+meant_by-published so_far fault pieces some =
+    ap (λ (since : Option ℕ). fault_or_publications fault since (all_from so_far ([] ∷ pieces)))
+    (since_from-published so_far.since pieces some)
+    ∙ ap (fault_or_publications fault (since_from None pieces)) (all_from-published so_far pieces some)
+
+meant_by-event : (so_far : Progress) (fault : Option ScriptFault) (line : Line) (event : Event)
+    → statement_of line.words ≡ Ok (statement.Event event) → (pieces : List (List Line)) → 0 < length pieces
+    → meant_by so_far fault (onto_first line pieces) ≡ meant_by (longer so_far line.number event) fault pieces
+meant_by-event so_far fault line event says pieces some =
+    let since = Some (unwrap_or so_far.since line.number) in
+    ap (λ (since : Option ℕ). fault_or_publications fault since (all_from so_far (onto_first line pieces)))
+    (since_from-event line event says so_far.since pieces some)
+    ∙ ap (fault_or_publications fault (since_from since pieces)) (all_from-event so_far line event says pieces)
+
+-- ---- one line more
+
+-- reading this line and then the rest, against what is meant by them
 module _ (so_far : Progress) (last : Line) (front : List Line)
     (count : length so_far.batch ≡ open_events (last ∷ front)) (line : Line) (more : List Line) where
   abbrev reads : Result Progress ScriptFault → Result Publications ScriptFault
   reads step = elim step [ Ok next ↦ resumed next more | Err fault ↦ Err fault ]
 
+  -- the first fault behind the line
   abbrev later : Option ScriptFault
   later = first_fault (line ∷ last ∷ front) more
 
+  -- the pieces with the line, which is a `publish` or not
   abbrev cut : Bool → List (List Line)
   cut publish = cond publish ([] ∷ pieces_of more) (onto_first line (pieces_of more))
 
   abbrev means : Result Statement ScriptKind → Result Publications ScriptFault
-  means says = fault_or_publications
+  means says = meant_by so_far
       (option_or (option_map (at_line line.number) (statement_fault (open_events (last ∷ front)) says)) later)
-      (since_from so_far.since (cut (publishes says))) (all_from so_far (cut (publishes says)))
+      (cut (publishes says))
 
   agree : (says : Result Statement ScriptKind) → statement_of line.words ≡ says
       → reads (after_statement so_far line.number says) ≡ means says
@@ -175,39 +214,31 @@ module _ (so_far : Progress) (last : Line) (front : List Line)
 
   publish_agrees : resumed (published so_far) more ≡ meant_from (published so_far) (line ∷ last ∷ front) more
       → resumed (published so_far) more ≡ means (Ok statement.Publish)
-  publish_agrees same =
-      let since = since_from-published so_far.since (pieces_of more) (some_piece more) in
-      let all = all_from-published so_far (pieces_of more) (some_piece more) in
-      same ∙ ap (λ (all : Publications). fault_or_publications later (since_from None (pieces_of more)) all) (sym all)
-      ∙ ap (λ (since : Option ℕ). fault_or_publications later since (all_from so_far ([] ∷ pieces_of more))) (sym since)
+  publish_agrees same = same ∙ sym (meant_by-published so_far later (pieces_of more) (some_piece more))
 
   module _ (event : Event) where
     abbrev next_one : Progress
     next_one = longer so_far line.number event
 
-    fits : (room : Bool) → (room ≡ true → resumed next_one more
-        ≡ fault_or_publications later (since_from so_far.since (cut false)) (all_from so_far (cut false)))
+    -- the fault of the event itself, by whether the open batch has room for it
+    abbrev own_fault : (room : Bool) → Option ScriptFault
+    own_fault room = option_map (at_line line.number) (cond room None (Some BatchFull))
+
+    by_room : (room : Bool) → (room ≡ true → resumed next_one more ≡ meant_by so_far later (cut false))
         → reads (cond room (Ok next_one) (Err (at_line line.number BatchFull)))
-        ≡ fault_or_publications (option_or (option_map (at_line line.number) (cond room None (Some BatchFull))) later)
-        (since_from so_far.since (cut false)) (all_from so_far (cut false))
-    fits true same = same refl
-    fits false same = refl
+        ≡ meant_by so_far (option_or (own_fault room) later) (cut false)
+    by_room true same = same refl
+    by_room false same = refl
 
     event_agrees : statement_of line.words ≡ Ok (statement.Event event)
         → (ltb (length so_far.batch) BATCH_EVENTS ≡ true
         → resumed next_one more ≡ meant_from next_one (line ∷ last ∷ front) more)
         → reads (after_statement so_far line.number (Ok (statement.Event event))) ≡ means (Ok (statement.Event event))
     event_agrees says same =
-        let since = since_from-event line event says so_far.since (pieces_of more) (some_piece more) in
-        let all = all_from-event so_far line event says (pieces_of more) in
-        let ends = ap (λ (since : Option ℕ). fault_or_publications later since (all_from next_one (pieces_of more)))
-        (sym since)
-        ∙ ap (λ (all : Publications). fault_or_publications later (since_from so_far.since (cut false)) all)
-        (sym all) in
-        fits (ltb (length so_far.batch) BATCH_EVENTS) (λ room. same room ∙ ends)
-        ∙ ap (λ (n : ℕ). fault_or_publications
-        (option_or (option_map (at_line line.number) (cond (ltb n BATCH_EVENTS) None (Some BatchFull))) later)
-        (since_from so_far.since (cut false)) (all_from so_far (cut false))) count
+        let with_event : meant_by so_far later (cut false) ≡ meant_by next_one later (pieces_of more) =
+        meant_by-event so_far later line event says (pieces_of more) (some_piece more) in
+        by_room (ltb (length so_far.batch) BATCH_EVENTS) (λ room. same room ∙ sym with_event)
+        ∙ ap (λ (n : ℕ). meant_by so_far (option_or (own_fault (ltb n BATCH_EVENTS)) later) (cut false)) count
 
 -- the open batch has as many events as were counted
 counted_event : (so_far : Progress) (front : List Line) (line : Line) (event : Event)
@@ -220,6 +251,9 @@ counted_publish : (front : List Line) (line : Line) → statement_of line.words 
     → 0 ≡ open_events (line ∷ front)
 counted_publish front line says = sym (ap (λ (r : Result Statement ScriptKind). counted r (open_events front)) says)
 
+-- ---- all lines
+
+-- reading these lines gives what is meant by them, whatever was read before
 abbrev HoldsOf : List Line → Type 0
 HoldsOf lines = (so_far : Progress) (last : Line) (front : List Line) → length so_far.batch ≡ open_events (last ∷ front)
     → resumed so_far lines ≡ meant_from so_far (last ∷ front) lines
@@ -290,13 +324,9 @@ module _ (text : List ℕ) where
             fault_or_publications (first_fault (version ∷ []) more) (first_unpublished more) (publications more)
             ≡ resumed nothing_read more
         read_from_nothing =
-            let count =
+            let none_open : 0 ≡ open_events (version ∷ []) =
             sym (ap (λ (r : Result Statement ScriptKind). counted r 0) (no_statement version.words size named)) in
-            ap (λ (since : Option ℕ). fault_or_publications (first_fault (version ∷ []) more) since (publications more))
-            (sym (since_from-nothing (pieces_of more)))
-            ∙ ap (fault_or_publications (first_fault (version ∷ []) more) (since_from None (pieces_of more)))
-            (sym (all_from-nothing (pieces_of more)))
-            ∙ sym (reading_means more nothing_read version [] count)
+            sym (meant_from-nothing (version ∷ []) more) ∙ sym (reading_means more nothing_read version [] none_open)
 
         pub with_size : script_meaning text ≡ for_unit size (resumed nothing_read more)
         with_size = by_lines ∙ ap lines_meaning lines ∙ ap (meaning_behind version more) named

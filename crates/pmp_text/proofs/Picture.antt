@@ -1,5 +1,5 @@
 -- The bands of a picture, one after another, and what stands above them.
-use Rattle.std.proofs.Common.{◌≡◌, ℕ, ◌+◌, ◌^◌, ◌<◌, ◌≤◌, Bool, true, false, List, [], ◌∷◌, ◌++◌}
+use Rattle.std.proofs.Common.{◌≡◌, ℕ, ◌+◌, ◌<◌, ◌≤◌, Bool, true, false, List, [], ◌∷◌, ◌++◌}
 use Rattle.std.proofs.Common.{length, get_or, take, refl, sym, ap, ◌∙◌, append_assoc, arith}
 use Rattle.std.specs.List.{enumerate_from, flat_map}
 use Rattle.std.proofs.lemmas.List.{flat_map_more, get_or_default, length-take-le, take_more}
@@ -67,7 +67,6 @@ module _ (entries : List Entry) (runs : List Run) (are : AreRuns entries runs) (
       omega (arith, are.gapless k inside, start_most ADDRESS_LIMIT (IsOwner entries) runs are (k + 1)) in
       rw same_run at last
 
--- a band more
 pub bands_grow : (file : RegisterFile) (runs : List Run) (place : ℕ) (none : Run) → place < length runs
     → (before text longer : List ℕ) → longer ≡ text ++ band file place (get_or runs place none)
     → text ≡ before ++ bands file (take place runs) → longer ≡ before ++ bands file (take (place + 1) runs)

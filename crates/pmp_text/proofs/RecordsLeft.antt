@@ -47,7 +47,7 @@ module _ (cfg : Config) where
   none_at_end zero = refl
   none_at_end (suc n) = refl
 
-  -- what is behind a record is the same with as many turns as there are bytes
+  -- the records behind one are the same for any two numbers of turns that are enough for the bytes
   behind : (n m : ℕ) (bytes : List ℕ) (read : Read) → TakesSome bytes read → length bytes ≤ n → length bytes ≤ m
       → ((s : State) (rest : List ℕ) → length rest < n → length rest < m
       → records_from cfg n s rest ≡ records_from cfg m s rest)
@@ -72,7 +72,7 @@ module _ (cfg : Config) where
   enough (suc n) (suc m) s bytes below other = one_turn n m s bytes (next_record cfg s [] [] bytes) refl (omega arith)
       (omega arith) (λ s rest less more. enough n m s rest less more)
 
--- a turn for each byte and one for the end
+-- records are read in one turn for each byte and one for the end
 one_turn_more : (s : State) (bytes : List ℕ) → records_behind s bytes
     ≡ records_next (records_from default_config (length bytes)) (next_record default_config s [] [] bytes)
 unfolding records_from
@@ -92,7 +92,6 @@ one_more s bytes read e =
 no_more : (s : State) (bytes : List ℕ) → next_record default_config s [] [] bytes ≡ None → records_behind s bytes ≡ []
 no_more s bytes e = one_turn_more s bytes ∙ ap (records_next (records_from default_config (length bytes))) e
 
--- one record was read
 taken_from : (s : State) (bytes : List ℕ) (fields : List (List ℕ)) (after : State) (known : Option (List ℕ))
     (rest : List ℕ) → Reached default_config s bytes (fields ∷ []) after rest → known ≡ Some rest
     → records_behind s bytes ≡ fields ∷ records_known after known

@@ -13,7 +13,7 @@ no_words (word ∷ words) = false
 abbrev pub space_unless : Bool → List ℕ
 space_unless is_first = cond is_first [] (32 ∷ [])
 
--- the words joined an output, and the next one is the first
+-- the words were appended to what stood before, parted by spaces; `is_first` says that there are none yet
 pub record HasWords (before after : List ℕ) (is_first : Bool) (words : List (List ℕ)) : Type 0 where
   pub joined : after ≡ before ++ join_with_byte 32 words
   pub first : is_first ≡ no_words words
@@ -33,7 +33,6 @@ some_words (first ∷ words) word = refl
 pub no_words_yet : (before : List ℕ) → HasWords before before true []
 no_words_yet before = record { joined = sym (append-nil before); first = refl }
 
--- one word more
 pub word_more : (before after longer word : List ℕ) (is_first : Bool) (words : List (List ℕ))
     → HasWords before after is_first words → longer ≡ after ++ (space_unless is_first ++ word)
     → HasWords before longer false (words ++ word ∷ [])
@@ -48,7 +47,7 @@ word_more before after longer word is_first words h grown = record {
 -- ---- the words of what passes a test
 
 module _ {X : Type 0} (p : X → Bool) (text : X → List ℕ) (before : List ℕ) where
-  -- the words of the items that pass, of those that were looked at
+  -- of the items that were looked at, the words of those that pass the test were appended
   abbrev pub HasPassed : (after : List ℕ) (is_first : Bool) → List X → Type 0
   HasPassed after is_first items = HasWords before after is_first (map text (filter p items))
 

@@ -12,14 +12,16 @@ pub mod Names
 pub mod Numbers
 pub mod Outcomes
 pub mod Picture
+pub mod PictureTexts
 pub mod Reports
 pub mod RunLines
 pub mod Scripts
 pub mod Statements
 pub mod Traces
--- The rest: laws of these definitions, and the readers' steps, which only private contracts cite.
+-- Laws of these definitions, which are proved.
 pub mod Faults
 pub mod Sizes
-pub mod Steps
 pub mod TraceFaults
 pub mod Versions
+-- The rest: the readers' steps, which only private contracts cite.
+pub mod Steps

@@ -11,7 +11,6 @@ is_line_feed byte = byte == 10
 abbrev pub is_blank : ℕ → Bool
 is_blank byte = byte == 32 || byte == 9
 
--- a piece isn't empty
 abbrev pub has_bytes : List ℕ → Bool
 has_bytes piece = nat_lt 0 (length piece)
 

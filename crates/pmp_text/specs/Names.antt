@@ -49,12 +49,10 @@ named (Ok csr) = Ok csr
 named (Err csr_fault.OddCfg) = Err OddCfg
 named (Err csr_fault.NotPmp) = Err BadName
 
--- the register with a number
 abbrev pub register_numbered : Option ℕ → Result Csr ScriptKind
 register_numbered None = Err BadName
 register_numbered (Some number) = named (numbered number)
 
--- the register that a word names
 abbrev pub register_named : List ℕ → Result Csr ScriptKind
 register_named word = register_numbered (register_number word)
 

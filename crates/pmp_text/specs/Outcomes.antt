@@ -16,7 +16,7 @@ abbrev pub Gives : {X Y : Type 0} → (X → Y) → Result X ScriptFault → Res
 Gives view (Ok x) meant = meant ≡ Ok (view x)
 Gives view (Err fault) meant = (meant ≡ Err fault) ⊎ (fault ≡ out_of_memory)
 
--- the same of a trace's rows
+-- memory ran out, which is the fault of no row
 abbrev pub no_memory_for_rows : TraceFault
 no_memory_for_rows = record { kind = trace.Memory; row = 0 }
 

@@ -9,8 +9,9 @@ use Rattle.pmp_map.specs.declared.run.Run.{Run}
 use Rattle.pmp_map.specs.Answers.{owned_rights}
 use Rattle.pmp_map.specs.Runs.{AreRuns}
 use Rattle.pmp_text.specs.declared.lines.hexadecimal.TheConstants.{ADDRESS_DIGITS}
-use Rattle.pmp_text.specs.declared.lines.picture.TheConstants.{BAND, FOOT, HELD, LEGEND, FROZEN, STYLE}
+use Rattle.pmp_text.specs.declared.lines.picture.TheConstants.{BAND}
 use Rattle.pmp_text.specs.Hexadecimal.{hex_text}
+use Rattle.pmp_text.specs.PictureTexts.{foot, frozen_sign, held_sign, legend, style}
 use Rattle.pmp_text.specs.RunLines.{rights_text}
 
 -- ---- a run
@@ -56,7 +57,7 @@ permissions machine others =
 abbrev pub lock_sign : RegisterFile → Option ℕ → List ℕ
 lock_sign file None = []
 lock_sign file (Some entry) =
-    if is_held file entry then HELD.now else (if is_frozen file entry then FROZEN.now else [])
+    if is_held file entry then held_sign else (if is_frozen file entry then frozen_sign else [])
 
 -- a band of these rights and with this sign
 abbrev pub drawn_band : (place : ℕ) → Run → (machine others sign : List ℕ) → List ℕ
@@ -72,7 +73,7 @@ band file place run =
 
 -- ---- the document
 
--- for so many bands
+-- the first tag, with room for so many bands
 abbrev pub opening : (bands : ℕ) → List ℕ
 opening bands =
     let height = decimal (BAND * bands + 176) in
@@ -82,7 +83,7 @@ opening bands =
 abbrev pub title : (publications : ℕ) → List ℕ
 title publications = codes "PMP memory map, publications done: " ++ decimal publications
 
--- the title for who hears the picture, and for who sees it
+-- the title twice: for screen readers, and as it is drawn
 abbrev pub spoken_title : (publications : ℕ) → List ℕ
 spoken_title publications = codes "<title>" ++ (title publications ++ (codes "</title>" ++ 10 ∷ []))
 
@@ -93,7 +94,7 @@ large_title publications =
 abbrev pub switch_text : Bool → List ℕ
 switch_text is_on = if is_on then codes "on" else codes "off"
 
--- of these words
+-- the line of the settings, with `on` or `off` for each
 abbrev pub settings_line : (lockdown policy bypass : List ℕ) → List ℕ
 settings_line lockdown policy bypass =
     codes "<text x='16' y='62'>Lockdown (MML) " ++ (lockdown ++ (codes ", allow-list policy (MMWP) " ++ (policy
@@ -106,8 +107,8 @@ settings mseccfg = settings_line (switch_text mseccfg.mml) (switch_text mseccfg.
 -- what stands above the bands
 unfoldable pub head : RegisterFile → (publications bands : ℕ) → List ℕ
 head file publications bands =
-    opening bands ++ (spoken_title publications ++ (STYLE.now ++ (large_title publications
-    ++ (settings file.mseccfg ++ LEGEND.now))))
+    opening bands ++ (spoken_title publications ++ (style ++ (large_title publications
+    ++ (settings file.mseccfg ++ legend))))
 
 -- a band for each run, from the top down
 unfoldable pub bands : RegisterFile → List Run → List ℕ
@@ -117,4 +118,4 @@ bands file runs = flat_map (λ (place, run). band file place run) (enumerate_fro
 pub record IsPicture (file : RegisterFile) (publications : ℕ) (text : List ℕ) : Type 0 where
   pub runs : List Run
   pub runs_are : AreRuns file.entries runs
-  pub drawn : text ≡ head file publications (length runs) ++ (bands file runs ++ FOOT.now)
+  pub drawn : text ≡ head file publications (length runs) ++ (bands file runs ++ foot)

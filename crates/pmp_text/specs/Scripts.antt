@@ -101,7 +101,6 @@ event_of line = event_in (statement_of line.words)
 abbrev pub event_line_of : Line → Option ℕ
 event_line_of line = option_map (λ _. line.number) (event_of line)
 
--- whether a line is `publish`
 abbrev pub publishes : Result Statement ScriptKind → Bool
 publishes (Ok (statement.Event event)) = false
 publishes (Ok statement.Publish) = true
@@ -110,13 +109,11 @@ publishes (Err kind) = false
 abbrev pub is_publish : Line → Bool
 is_publish line = publishes (statement_of line.words)
 
--- all but the last
 abbrev pub but_last : {X : Type 0} → List X → List X
 but_last [] = []
 but_last (x ∷ []) = []
 but_last (x ∷ next ∷ more) = x ∷ but_last (next ∷ more)
 
--- the last
 abbrev pub last_piece : List (List Line) → List Line
 last_piece [] = []
 last_piece (piece ∷ []) = piece

@@ -8,7 +8,7 @@ use Rattle.pmp_text.specs.Traces.{after_of, at_row, first_row_fault, is_header, 
 use Rattle.pmp_text.specs.Traces.{trace_records}
 use Rattle.pmp_text.specs.declared.trace.reader.TheConstants.{MAX_TRACE}
 
--- what the row before this one asks for; `last` stands before the first row
+-- how many publications the row before this one asks for; before the first row that is `last`
 abbrev pub after_before : (last : Option ℕ) → List (List (List ℕ)) → (index : ℕ) → Option ℕ
 after_before last rows zero = last
 after_before last rows (suc index) = option_and_then (λ row. after_of (row_of_record row)) (slice_get rows index)
@@ -39,7 +39,7 @@ IsInOrder publications least [] = ⊤
 IsInOrder publications least (after ∷ more) =
     (least ≤ after) × (after ≤ publications) × IsInOrder publications after more
 
--- what the rows ask for
+-- how many publications each row asks for
 abbrev pub afters : List RowFields → List ℕ
 afters rows = map (λ row. row.after) rows
 

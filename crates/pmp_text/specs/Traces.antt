@@ -47,7 +47,6 @@ is_header fields = elim (five_fields fields) [ Some words ↦ names_fields words
 
 -- ---- one row
 
--- the fields of a row
 abbrev pub row_fields : Row → RowFields
 row_fields row = record {
   after = row.after;

@@ -26,18 +26,8 @@ use std::fmt::Display;
 /// more; a longer one would ask for memory again.
 const LINE: usize = 128;
 
-/// No memory for a text.
-#[derive(Clone, Copy, Debug, PartialEq, Eq)]
-pub struct NoMemory;
-
-impl From<AllocError> for NoMemory {
-    fn from(_: AllocError) -> NoMemory {
-        NoMemory
-    }
-}
-
 /// Appends a line, or nothing.
-pub fn append_line<L: Display + Drop>(out: &mut Vec<u8>, line: L) -> Result<(), NoMemory>
+pub fn append_line<L: Display + Drop>(out: &mut Vec<u8>, line: L) -> Result<(), AllocError>
     ensures ok { OnOk result (IfSome (L.output line) (λ text. out.new.items ≡ out.old.items ++ text)) }
     ensures err { OnErr result (out.new.items ≡ out.old.items) }
 {

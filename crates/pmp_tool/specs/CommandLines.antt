@@ -25,15 +25,12 @@ checkers_rule = record (new_rule (codes "checkers")) {
   parser = Some (parser.Signed (pos 1) (pos CHECKERS));
 }
 
--- a command with a word more
 unfoldable pub with_word : App → (id : Text) → App
 with_word app id = with_rule app (word_rule id)
 
--- a command with `--after N`
 unfoldable pub with_after : App → App
 with_after app = with_rule app after_rule
 
--- a command with `--checkers K`
 unfoldable pub with_checkers : App → App
 with_checkers app = with_rule app checkers_rule
 
@@ -69,7 +66,6 @@ as_top app = record app {
 abbrev pub top_app : App
 top_app = as_top (new_app (codes "pmp"))
 
--- a program with a command more
 unfoldable pub with_command : (program command : App) → App
 with_command program command = with_subcommand program command.top
 
@@ -96,7 +92,7 @@ WordsAreRefused words refusal = (fault_of pmp_app words ≡ []) × (asked_of (su
 abbrev pub MayAskForText : List Text → Type 0
 MayAskForText words = IsAmong DisplayHelp (fault_of pmp_app words) ⊎ IsAmong DisplayVersion (fault_of pmp_app words)
 
--- clap refuses the words so, which is no text that they ask for
+-- clap refuses the words with this error, which is neither help nor the version
 pub record IsRefusedCommandLine (words : List Text) (error : Error) : Type 0 where
   pub kind : IsAmong (kind_of error) (fault_of pmp_app words)
   pub no_help : kind_of error ≢ DisplayHelp

@@ -116,7 +116,6 @@ task_in name.Audit rows = audit_in rows
 task_in (name.Show view) rows = result_map (Show view) (after_of (first_of (codes "after") rows))
 task_in name.Writes rows = Ok Writes
 
--- the command that a word names
 abbrev pub command_named : Text → Option CommandName
 command_named word =
     if bytes_eq word (codes "check") then Some name.Check

@@ -5,8 +5,9 @@ pub mod Commands
 pub mod Failures
 pub mod Inputs
 pub mod Refusals
-pub mod LineLengths
 pub mod Requests
 pub mod Runs
+-- A law of these definitions, which is proved.
+pub mod LineLengths
 -- The rest, which only private contracts cite.
 pub mod Building

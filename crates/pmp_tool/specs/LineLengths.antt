@@ -12,7 +12,7 @@ IsNumbered None = ⊤
 IsNumbered (Some (ScriptLine line)) = line < 2 ^ 64
 IsNumbered (Some (TraceRow row)) = row < 2 ^ 64
 
--- every line fits its room
+-- the line of a refusal, with its LF, fits the room that the program has for it
 abbrev pub LineFitsLaw : Type 0
 LineFitsLaw = (refusal : Refusal) (place : Option Place) → IsNumbered place
     → length (line_text refusal place) ≤ LONGEST_LINE

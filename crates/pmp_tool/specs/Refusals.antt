@@ -131,7 +131,6 @@ refusal_of_trace trace.TooLong = TooLong
 refusal_of_trace trace.Memory = Memory
 refusal_of_trace trace.Input = Input
 
--- a result with its value seen so
 abbrev pub result_map : {X Y : Type 0} → (X → Y) → Result X Refusal → Result Y Refusal
 result_map view (Ok x) = Ok (view x)
 result_map view (Err refusal) = Err refusal

@@ -35,7 +35,6 @@ pub struct Command<'a> {
     pub request: Request<'a>,
 }
 
-/// The names of the program's commands.
 #[derive(Clone, Copy)]
 enum CommandName {
     Check,
@@ -44,7 +43,6 @@ enum CommandName {
     Writes,
 }
 
-/// The command that a word names.
 fn read_name(word: &str) -> Option<CommandName>
     ensures { result ≡ command_named word.now }
 {

@@ -102,7 +102,6 @@ fn named<'a>(alloc: Global, name: &'a str, about: &'a str, more: &'a str) -> Com
     Command::new(alloc, name).about(about).after_help(more)
 }
 
-/// The program with a command more.
 fn with_command<'a>(program: Built<'a>, command: Built<'a>) -> Built<'a>
     ensures { (app : App) → IsBuilt command.entry app
         → Builds (λ program. with_command program app) program.entry result }
@@ -110,7 +109,6 @@ fn with_command<'a>(program: Built<'a>, command: Built<'a>) -> Built<'a>
     program?.subcommand(command?)
 }
 
-/// The command with a word more.
 fn with_word<'a>(
     alloc: Global,
     command: Built<'a>,
@@ -134,7 +132,6 @@ fn word<'a>(alloc: Global, id: &'a str, name: &'a str, help: &'a str) -> Arg<'a>
         .required(true)
 }
 
-/// The command with `--after N`.
 fn with_after<'a>(alloc: Global, command: Built<'a>) -> Built<'a>
     ensures { Builds with_after command.entry result }
 {
@@ -152,7 +149,6 @@ fn after<'a>(alloc: Global) -> Arg<'a>
         .help(help::AFTER)
 }
 
-/// The command with `--checkers K`.
 fn with_checkers<'a>(alloc: Global, command: Built<'a>) -> Built<'a>
     ensures { Builds with_checkers command.entry result }
 {

@@ -41,7 +41,6 @@ impl Place {
 /// The bytes of the longest line: its number has 20 digits, and the refusal's name 11 letters.
 const LONGEST_LINE: usize = 62;
 
-/// Every line fits its room.
 fn law_line_fits()
     ensures { LineFitsLaw }
 {}

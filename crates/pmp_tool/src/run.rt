@@ -34,8 +34,8 @@ const DONE: u8 = 0;
 const REFUSED: u8 = 1;
 
 /// Runs the program on its words, those after its own name, and answers its exit status: 0 where each access is
-/// allowed, or what is shown or a text of help was written, 1 where an access is refused, 2 or 3 where
-/// there is no answer, with a text on `err` that says why.
+/// allowed and each write stored, or what is shown or a text of help was written, 1 where an access is refused or a
+/// write is turned away, 2 or 3 where there is no answer, with a text on `err` that says why.
 ///
 /// `rt` makes the threads of an audit by several checkers, for which the call may wait.
 ///

@@ -6,14 +6,15 @@ ghost use Rattle.pmp_audit.specs.TraceAudit.{summary_of};
 
 use crate::trace_audit::Summary;
 use pmp_core::Decision;
-use pmp_text::{NoMemory, Row, write_row};
+use pmp_text::Row;
+use std::alloc::AllocError;
 
 /// Appends a report row for each row and its decision, numbered from 1.
 pub(crate) fn list_decisions(
     report: &mut Vec<u8>,
     rows: &[Row],
     decisions: &[Decision],
-) -> Result<Summary, NoMemory>
+) -> Result<Summary, AllocError>
     requires { length decisions.now ≡ length rows.now }
     ensures report { OnOk result (report.new.items ≡ report.old.items ++ report_text rows.now decisions.now) }
     ensures summary { IfOk result (λ summary. summary ≡ summary_of decisions.now) }
@@ -21,8 +22,7 @@ pub(crate) fn list_decisions(
     let mut summary = Summary::default();
     for place in 0..rows.len() {
         let decision = decisions[place];
-        summary.count(decision);
-        write_row(report, summary.rows, &rows[place].access, &decision)?;
+        summary.add_row(report, &rows[place], decision)?;
     }
     Ok(summary)
 }

@@ -27,7 +27,6 @@ pub(crate) fn all_done(
     Ok(all)
 }
 
-/// The workers' checkers.
 pub(crate) fn checkers_of(alloc: Global, all: Vec<Done>) -> Result<Vec<Checker>, AllocError>
     ensures { IfOk result (λ checkers. checkers.items ≡ map (λ done. done.checker) all.items) }
 {

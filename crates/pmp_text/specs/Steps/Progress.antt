@@ -19,7 +19,6 @@ pub record Progress : Type 0 where
   pub lines : List ℕ
   pub since : Option ℕ
 
--- nothing read
 abbrev pub nothing_read : Progress
 nothing_read = record { published = record { batches = []; lines = [] }; batch = []; lines = []; since = None }
 
@@ -50,17 +49,16 @@ with_event so_far number event =
     if nat_lt (length so_far.batch) BATCH_EVENTS then Ok (longer so_far number event)
     else Err (at_line number BatchFull)
 
--- a line with this number was read, which says this
+-- what reading a line with this number makes of it, by what the line says
 abbrev pub after_statement : Progress → ℕ → Result Statement ScriptKind → Result Progress ScriptFault
 after_statement so_far number (Err kind) = Err (at_line number kind)
 after_statement so_far number (Ok statement.Publish) = Ok (published so_far)
 after_statement so_far number (Ok (statement.Event event)) = with_event so_far number event
 
--- a significant line was read
 abbrev pub after_line : Progress → Line → Result Progress ScriptFault
 after_line so_far line = after_statement so_far line.number (statement_of line.words)
 
--- the text ends here
+-- what was published, where the text ends; an event line that no `publish` follows is at fault, the first of them
 abbrev pub all_published : Option ℕ → Publications → Result Publications ScriptFault
 all_published None published = Ok published
 all_published (Some number) published = Err (at_line number Unpublished)
@@ -68,7 +66,7 @@ all_published (Some number) published = Err (at_line number Unpublished)
 abbrev pub finished : Progress → Result Publications ScriptFault
 finished so_far = all_published so_far.since so_far.published
 
--- what reading gives that goes on from here with these lines
+-- what comes of reading these lines next, to the end
 abbrev pub resumed : Progress → List Line → Result Publications ScriptFault
 resumed so_far [] = finished so_far
 resumed so_far (line ∷ more) = elim (after_line so_far line) [ Ok next ↦ resumed next more | Err fault ↦ Err fault ]

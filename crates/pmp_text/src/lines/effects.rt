@@ -3,16 +3,17 @@
 ghost use Rattle.std.specs.Prelude.{◌≡◌, ◌++◌, [], ◌∷◌, if◌then◌else◌, codes, OnOk, OnErr};
 ghost use Rattle.std.specs.Io.{StartsWith};
 ghost use Rattle.pmp_core.specs.RegisterValue.{register_value};
-ghost use Rattle.pmp_core.specs.RegisterWrite.{written};
+ghost use Rattle.pmp_core.specs.RegisterWrite.{step, written};
 ghost use Rattle.pmp_text.specs.Effects.{effect_text, reason_text, value_text, reasons_text, entries_text};
 ghost use Rattle.pmp_text.specs.Effects.{event_fields, place_text, effect_row};
 ghost use Rattle.pmp_text.specs.Names.{register_name};
 ghost use Rattle.pmp_text.specs.Reports.{fields_after};
 
+use crate::lines::append_line;
 use crate::lines::hexadecimal::{Hex, VALUE_DIGITS};
-use crate::lines::{NoMemory, append_line};
 use crate::names::RegisterName;
 use pmp_core::{Csr, Event, RegFile, WriteReason};
+use std::alloc::AllocError;
 
 /// Where an event stands in a script.
 #[derive(Clone, Copy)]
@@ -60,7 +61,7 @@ fn space_unless(is_first: bool) -> &'static str
 }
 
 /// Appends a comma, the register's name, a comma and the value.
-fn write_value(out: &mut Vec<u8>, csr: Csr, value: u64) -> Result<(), NoMemory>
+fn write_value(out: &mut Vec<u8>, csr: Csr, value: u64) -> Result<(), AllocError>
     ensures ok { OnOk result (out.new.items ≡ out.old.items
         ++ (codes "," ++ (register_name csr ++ (codes "," ++ value_text value)))) }
     ensures err { OnErr result (out.new.items ≡ out.old.items) }
@@ -71,7 +72,14 @@ fn write_value(out: &mut Vec<u8>, csr: Csr, value: u64) -> Result<(), NoMemory>
 }
 
 /// Appends what the register reads before the write and after it, and the effect, each after a comma.
-fn write_reading(out: &mut Vec<u8>, file: &RegFile, csr: Csr, value: u64) -> Result<(), NoMemory>
+fn write_reading(
+    out: &mut Vec<u8>,
+    file: &RegFile,
+    next: &RegFile,
+    csr: Csr,
+    value: u64,
+) -> Result<(), AllocError>
+    requires { next.now ≡ written file.now csr value }
     ensures ok { let before = register_value file.now csr in
         let after = register_value (written file.now csr value) csr in
         OnOk result (out.new.items ≡ out.old.items ++ (codes "," ++ (value_text before ++ (codes ","
@@ -79,8 +87,6 @@ fn write_reading(out: &mut Vec<u8>, file: &RegFile, csr: Csr, value: u64) -> Res
     ensures err { OnErr result (out.new.items ≡ out.old.items) }
 {
     let before = file.read(csr);
-    let mut next = *file;
-    next.step(Event::Write(csr, value));
     let after = next.read(csr);
     let effect = effect_word(value, before, after);
     let before = Hex::<VALUE_DIGITS>::new(before);
@@ -94,7 +100,7 @@ fn write_reason_words(
     file: &RegFile,
     csr: Csr,
     value: u64,
-) -> Result<(), NoMemory>
+) -> Result<(), AllocError>
     ensures ok { OnOk result (out.new.items ≡ out.old.items ++ reasons_text file.now csr value) }
     ensures err { OnErr result (StartsWith out.new.items out.old.items) }
 {
@@ -116,7 +122,7 @@ fn write_entry_numbers(
     file: &RegFile,
     csr: Csr,
     value: u64,
-) -> Result<(), NoMemory>
+) -> Result<(), AllocError>
     ensures ok { OnOk result (out.new.items ≡ out.old.items ++ entries_text file.now csr value) }
     ensures err { OnErr result (StartsWith out.new.items out.old.items) }
 {
@@ -132,7 +138,7 @@ fn write_entry_numbers(
 }
 
 /// Appends the reasons and then the entries, each after a comma, and LF.
-fn write_lists(out: &mut Vec<u8>, file: &RegFile, csr: Csr, value: u64) -> Result<(), NoMemory>
+fn write_lists(out: &mut Vec<u8>, file: &RegFile, csr: Csr, value: u64) -> Result<(), AllocError>
     ensures ok { OnOk result (out.new.items ≡ out.old.items
         ++ fields_after (reasons_text file.now csr value ∷ entries_text file.now csr value ∷ [])) }
     ensures err { OnErr result (StartsWith out.new.items out.old.items) }
@@ -145,18 +151,25 @@ fn write_lists(out: &mut Vec<u8>, file: &RegFile, csr: Csr, value: u64) -> Resul
 }
 
 /// Appends the fields of a write, each after a comma, and LF.
-fn write_fields(out: &mut Vec<u8>, file: &RegFile, csr: Csr, value: u64) -> Result<(), NoMemory>
+fn write_fields(
+    out: &mut Vec<u8>,
+    file: &RegFile,
+    next: &RegFile,
+    csr: Csr,
+    value: u64,
+) -> Result<(), AllocError>
+    requires { next.now ≡ written file.now csr value }
     ensures ok { OnOk result (out.new.items ≡ out.old.items
         ++ fields_after (event_fields file.now (Event.Write csr value))) }
     ensures err { OnErr result (StartsWith out.new.items out.old.items) }
 {
     write_value(out, csr, value)?;
-    write_reading(out, file, csr, value)?;
+    write_reading(out, file, next, csr, value)?;
     write_lists(out, file, csr, value)
 }
 
 /// Appends the number of the event, a comma, that of its publication, a comma and that of its line.
-fn write_place(out: &mut Vec<u8>, place: &EventPlace) -> Result<(), NoMemory>
+fn write_place(out: &mut Vec<u8>, place: &EventPlace) -> Result<(), AllocError>
     ensures ok { OnOk result (out.new.items ≡ out.old.items ++ place_text place.now) }
     ensures err { OnErr result (out.new.items ≡ out.old.items) }
 {
@@ -169,12 +182,18 @@ fn write_place(out: &mut Vec<u8>, place: &EventPlace) -> Result<(), NoMemory>
 }
 
 /// Appends the fields of an event, each after a comma, and LF.
-fn write_event(out: &mut Vec<u8>, file: &RegFile, event: Event) -> Result<(), NoMemory>
+fn write_event(
+    out: &mut Vec<u8>,
+    file: &RegFile,
+    next: &RegFile,
+    event: Event,
+) -> Result<(), AllocError>
+    requires { next.now ≡ step file.now event }
     ensures ok { OnOk result (out.new.items ≡ out.old.items ++ fields_after (event_fields file.now event)) }
     ensures err { OnErr result (StartsWith out.new.items out.old.items) }
 {
     match event {
-        Event::Write(csr, value) => write_fields(out, file, csr, value),
+        Event::Write(csr, value) => write_fields(out, file, next, csr, value),
         Event::Reset => append_line(out, ",reset,,,,reset,,\n"),
     }
 }
@@ -184,30 +203,34 @@ fn write_all(
     out: &mut Vec<u8>,
     place: &EventPlace,
     file: &RegFile,
+    next: &RegFile,
     event: Event,
-) -> Result<(), NoMemory>
+) -> Result<(), AllocError>
+    requires { next.now ≡ step file.now event }
     ensures ok { OnOk result (out.new.items ≡ out.old.items ++ effect_row place.now file.now event) }
     ensures err { OnErr result (StartsWith out.new.items out.old.items) }
 {
     write_place(out, place)?;
-    write_event(out, file, event)
+    write_event(out, file, next, event)
 }
 
 /// Appends the row of an event that comes to this register file: `N,PUBLICATION,LINE,REGISTER,WRITTEN,BEFORE,AFTER,`
 /// `EFFECT,REASONS,ENTRIES` and LF. EFFECT is `stored` where the register then reads what was written, `ignored` where
 /// it reads what it read before, and else `altered`. A reset has `reset` for REGISTER and EFFECT, and nothing for what
-/// a write has besides.
+/// a write has besides. `next` is the file that the event leaves.
 pub fn write_effect(
     out: &mut Vec<u8>,
     place: &EventPlace,
     file: &RegFile,
+    next: &RegFile,
     event: Event,
-) -> Result<(), NoMemory>
+) -> Result<(), AllocError>
+    requires { next.now ≡ step file.now event }
     ensures ok { OnOk result (out.new.items ≡ out.old.items ++ effect_row place.now file.now event) }
     ensures err { OnErr result (out.new.items ≡ out.old.items) }
 {
     let before = out.len();
-    let written = write_all(out, place, file, event);
+    let written = write_all(out, place, file, next, event);
     if written.is_err() {
         out.truncate(before);
     }

@@ -6,11 +6,12 @@ ghost use Rattle.pmp_core.specs.Span.{IsSpan, span_of};
 ghost use Rattle.pmp_text.specs.EntryRows.{IsEntryText, address_text, entry_row, lock_text, matching_text, span_text};
 ghost use Rattle.pmp_text.specs.Steps.Marks.{perms_text};
 
+use crate::lines::append_line;
 use crate::lines::hexadecimal::{ADDRESS_DIGITS, Hex};
 use crate::lines::marks::Marks;
 use crate::lines::since::Since;
-use crate::lines::{NoMemory, append_line};
 use pmp_core::{AddressMatching, Lock, Mode, Perms, RegFile, Span};
+use std::alloc::AllocError;
 use std::fmt;
 
 /// The first and the last byte that an entry matches, or two dashes.
@@ -85,8 +86,7 @@ fn matching_word(matching: AddressMatching) -> &'static str
     }
 }
 
-/// Appends the row of an entry.
-fn write_entry(out: &mut Vec<u8>, file: &RegFile, entry: u8, since: Since) -> Result<(), NoMemory>
+fn write_entry(out: &mut Vec<u8>, file: &RegFile, entry: u8, since: Since) -> Result<(), AllocError>
     requires { entry < length file.now.entries }
     ensures span { IsSpan file.now.entries entry (span_of file.now.entries entry) }
     ensures ok { OnOk result (out.new.items
@@ -109,7 +109,7 @@ fn write_entry(out: &mut Vec<u8>, file: &RegFile, entry: u8, since: Since) -> Re
     )
 }
 
-fn write_all(out: &mut Vec<u8>, file: &RegFile, since: &[Since]) -> Result<(), NoMemory>
+fn write_all(out: &mut Vec<u8>, file: &RegFile, since: &[Since]) -> Result<(), AllocError>
     requires { length file.now.entries ≤ length since.now }
     ensures ok { OnOk result
         ((text : List ℕ) × IsEntryText file.now since.now text × (out.new.items ≡ out.old.items ++ text)) }
@@ -128,7 +128,7 @@ fn write_all(out: &mut Vec<u8>, file: &RegFile, since: &[Since]) -> Result<(), N
 /// LOCK is `frozen` where writes leave the entry as it is, and `bypassed` where they would but for rule-locking bypass;
 /// ADDRESS is `frozen` where they leave its address register as it is. SINCE and HOLDS are the numbers in `since`, if
 /// any.
-pub fn write_entries(out: &mut Vec<u8>, file: &RegFile, since: &[Since]) -> Result<(), NoMemory>
+pub fn write_entries(out: &mut Vec<u8>, file: &RegFile, since: &[Since]) -> Result<(), AllocError>
     requires { length file.now.entries ≤ length since.now }
     ensures ok { OnOk result
         ((text : List ℕ) × IsEntryText file.now since.now text × (out.new.items ≡ out.old.items ++ text)) }

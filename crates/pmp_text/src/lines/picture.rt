@@ -1,6 +1,6 @@
 //! The runs of a register file as a picture, an SVG document.
 
-ghost use Rattle.std.specs.Prelude.{◌≡◌, ◌+◌, ◌-◌, ◌^◌, ◌<◌, ◌≤◌, ◌++◌, List, ℕ, length, decimal};
+ghost use Rattle.std.specs.Prelude.{◌≡◌, ◌+◌, ◌-◌, ◌<◌, ◌≤◌, ◌++◌, List, ℕ, length, decimal};
 ghost use Rattle.std.specs.Prelude.{IfSome, OnOk, OnErr, Some};
 ghost use Rattle.pmp_map.specs.declared.run.TheConstants.{RUNS};
 ghost use Rattle.pmp_map.specs.Runs.{AreRuns, HasOwnersBelow};
@@ -8,15 +8,17 @@ ghost use Rattle.pmp_text.specs.Picture.{IsPicture, band, bands, ends, extent, h
 ghost use Rattle.pmp_text.specs.Picture.{settings, size_text, switch_text, title};
 ghost use Rattle.pmp_core.specs.declared.access.TheConstants.{ADDRESS_LIMIT};
 
+use crate::lines::append_line;
 use crate::lines::hexadecimal::{ADDRESS_DIGITS, Hex};
 use crate::lines::marks::Marks;
 use crate::lines::runs::run_rights;
-use crate::lines::{NoMemory, append_line};
 use pmp_core::{Csr, Mode, RegFile};
 use pmp_map::{RUNS, Run, RunMap};
+use std::alloc::AllocError;
 use std::fmt;
 
-/// What the picture shows, for who hears it; the colour for each set of rights of supervisor and user mode; the ground.
+/// What the picture shows, in words for screen readers; the colour for each set of rights of supervisor and user mode;
+/// the background.
 const STYLE: &str = "\
 <desc>One band for each run of bytes that have one owner, from byte 0 down to byte 2^56 - 1, not to scale. A band has
 the first and the last byte of its run, its size, its owner, what machine mode may do there, what supervisor and user
@@ -161,7 +163,7 @@ fn lock_sign(file: &RegFile, owner: Option<u8>) -> &'static str
     }
 }
 
-fn append_text(out: &mut Vec<u8>, text: &str) -> Result<(), NoMemory>
+fn append_text(out: &mut Vec<u8>, text: &str) -> Result<(), AllocError>
     ensures ok { OnOk result (out.new.items ≡ out.old.items ++ text.now) }
     ensures err { OnErr result (out.new.items ≡ out.old.items) }
 {
@@ -191,7 +193,7 @@ fn read_switches(file: &RegFile) -> Switches
 }
 
 /// Appends the line of the bits of `mseccfg`.
-fn write_settings(out: &mut Vec<u8>, file: &RegFile) -> Result<(), NoMemory>
+fn write_settings(out: &mut Vec<u8>, file: &RegFile) -> Result<(), AllocError>
     ensures { OnOk result (out.new.items ≡ out.old.items ++ settings file.now.mseccfg) }
 {
     let switches = read_switches(file);
@@ -213,7 +215,7 @@ fn write_head(
     file: &RegFile,
     publications: u64,
     bands: usize,
-) -> Result<(), NoMemory>
+) -> Result<(), AllocError>
     requires { bands ≤ RUNS }
     ensures { OnOk result (out.new.items ≡ out.old.items ++ head file.now publications bands) }
 {
@@ -236,7 +238,7 @@ fn write_head(
 }
 
 /// Appends what a band says of its run: the first and the last byte, the size and the owner.
-fn write_extent(out: &mut Vec<u8>, run: &Run) -> Result<(), NoMemory>
+fn write_extent(out: &mut Vec<u8>, run: &Run) -> Result<(), AllocError>
     requires proper { run.now.first ≤ run.now.last }
     requires inside { run.now.last < ADDRESS_LIMIT }
     ensures { OnOk result (out.new.items ≡ out.old.items ++ (ends run.now.first run.now.last
@@ -257,7 +259,7 @@ fn write_extent(out: &mut Vec<u8>, run: &Run) -> Result<(), NoMemory>
 }
 
 /// Appends the band of the run in this place.
-fn write_band(out: &mut Vec<u8>, file: &RegFile, place: usize, run: &Run) -> Result<(), NoMemory>
+fn write_band(out: &mut Vec<u8>, file: &RegFile, place: usize, run: &Run) -> Result<(), AllocError>
     requires place { place < RUNS }
     requires proper { run.now.first ≤ run.now.last }
     requires inside { run.now.last < ADDRESS_LIMIT }
@@ -283,7 +285,7 @@ fn write_band(out: &mut Vec<u8>, file: &RegFile, place: usize, run: &Run) -> Res
 }
 
 /// Appends a band for each run, from the top down.
-fn write_bands(out: &mut Vec<u8>, file: &RegFile, runs: &[Run]) -> Result<(), NoMemory>
+fn write_bands(out: &mut Vec<u8>, file: &RegFile, runs: &[Run]) -> Result<(), AllocError>
     requires few { length runs.now ≤ RUNS }
     requires runs { AreRuns file.now.entries runs.now }
     requires owners { HasOwnersBelow (length file.now.entries) runs.now }
@@ -304,7 +306,7 @@ pub fn write_picture(
     file: &RegFile,
     map: &RunMap,
     publications: u64,
-) -> Result<(), NoMemory>
+) -> Result<(), AllocError>
     requires { map.now ≡ file.now }
     ensures ok { OnOk result
         ((text : List ℕ) × IsPicture file.now publications text × (out.new.items ≡ out.old.items ++ text)) }

@@ -4,14 +4,14 @@ ghost use Rattle.std.specs.Prelude.{◌≡◌, ◌++◌, OnOk, OnErr, flat_map, 
 ghost use Rattle.std.specs.Io.{StartsWith};
 ghost use Rattle.pmp_text.specs.Dumps.{register_line, cfg_registers, addr_registers, dump_text};
 
+use crate::lines::append_line;
 use crate::lines::hexadecimal::{Hex, VALUE_DIGITS};
-use crate::lines::{NoMemory, append_line};
 use crate::names::RegisterName;
 use pmp_core::{Csr, RegFile};
+use std::alloc::AllocError;
 
-/// Appends the line of a register.
 #[tactic(auto, unfolding(crate::specs::Dumps::register_line))]
-fn write_register(out: &mut Vec<u8>, file: &RegFile, csr: Csr) -> Result<(), NoMemory>
+fn write_register(out: &mut Vec<u8>, file: &RegFile, csr: Csr) -> Result<(), AllocError>
     ensures ok { OnOk result (out.new.items ≡ out.old.items ++ register_line file.now csr) }
     ensures err { OnErr result (out.new.items ≡ out.old.items) }
 {
@@ -21,7 +21,7 @@ fn write_register(out: &mut Vec<u8>, file: &RegFile, csr: Csr) -> Result<(), NoM
 }
 
 /// Appends the lines of the configuration registers that hold an entry's byte. A register holds eight.
-fn write_cfg_registers(out: &mut Vec<u8>, file: &RegFile) -> Result<(), NoMemory>
+fn write_cfg_registers(out: &mut Vec<u8>, file: &RegFile) -> Result<(), AllocError>
     ensures ok { OnOk result (out.new.items ≡ out.old.items
         ++ flat_map (register_line file.now) (cfg_registers (length file.now.entries))) }
     ensures err { OnErr result (StartsWith out.new.items out.old.items) }
@@ -33,7 +33,7 @@ fn write_cfg_registers(out: &mut Vec<u8>, file: &RegFile) -> Result<(), NoMemory
 }
 
 /// Appends the lines of the entries' address registers.
-fn write_addr_registers(out: &mut Vec<u8>, file: &RegFile) -> Result<(), NoMemory>
+fn write_addr_registers(out: &mut Vec<u8>, file: &RegFile) -> Result<(), AllocError>
     ensures ok { OnOk result (out.new.items ≡ out.old.items
         ++ flat_map (register_line file.now) (addr_registers (length file.now.entries))) }
     ensures err { OnErr result (StartsWith out.new.items out.old.items) }
@@ -45,7 +45,7 @@ fn write_addr_registers(out: &mut Vec<u8>, file: &RegFile) -> Result<(), NoMemor
 }
 
 #[tactic(auto, unfolding(crate::specs::Dumps::dump_text))]
-fn write_all(out: &mut Vec<u8>, file: &RegFile) -> Result<(), NoMemory>
+fn write_all(out: &mut Vec<u8>, file: &RegFile) -> Result<(), AllocError>
     ensures ok { OnOk result (out.new.items ≡ out.old.items ++ dump_text file.now) }
     ensures err { OnErr result (StartsWith out.new.items out.old.items) }
 {
@@ -55,7 +55,7 @@ fn write_all(out: &mut Vec<u8>, file: &RegFile) -> Result<(), NoMemory>
 }
 
 /// Appends a line for each register: its name, a blank, `0x` and sixteen hexadecimal digits.
-pub fn write_registers(out: &mut Vec<u8>, file: &RegFile) -> Result<(), NoMemory>
+pub fn write_registers(out: &mut Vec<u8>, file: &RegFile) -> Result<(), AllocError>
     ensures ok { OnOk result (out.new.items ≡ out.old.items ++ dump_text file.now) }
     ensures err { OnErr result (out.new.items ≡ out.old.items) }
 {

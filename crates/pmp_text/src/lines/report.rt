@@ -3,8 +3,9 @@
 ghost use Rattle.std.specs.Prelude.{◌≡◌, ◌++◌, OnOk, OnErr, Some};
 ghost use Rattle.pmp_text.specs.Reports.{answer_text, cause_text, entry_of, optional_text, report_row};
 
-use crate::lines::{NoMemory, append_line};
+use crate::lines::append_line;
 use pmp_core::{Access, Cause, Decision, fault_code};
+use std::alloc::AllocError;
 use std::fmt;
 
 /// A field that is empty where there is no number.
@@ -30,7 +31,7 @@ pub fn write_row(
     n: u64,
     access: &Access,
     decision: &Decision,
-) -> Result<(), NoMemory>
+) -> Result<(), AllocError>
     ensures ok { OnOk result (out.new.items ≡ out.old.items ++ report_row n access.now decision.now) }
     ensures err { OnErr result (out.new.items ≡ out.old.items) }
 {

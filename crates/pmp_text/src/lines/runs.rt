@@ -6,11 +6,12 @@ ghost use Rattle.pmp_core.specs.Rights.{perms_of};
 ghost use Rattle.pmp_map.specs.Answers.{owned_rights};
 ghost use Rattle.pmp_text.specs.RunLines.{IsMapText, owner_text, run_line};
 
+use crate::lines::append_line;
 use crate::lines::hexadecimal::{ADDRESS_DIGITS, Hex};
 use crate::lines::marks::Marks;
-use crate::lines::{NoMemory, append_line};
 use pmp_core::{Mode, Perms, RegFile};
 use pmp_map::{Run, RunMap};
+use std::alloc::AllocError;
 use std::fmt;
 
 /// The number of a run's owner, or a dash where it has none.
@@ -39,9 +40,8 @@ pub fn run_rights(file: &RegFile, run: &Run, mode: Mode) -> Perms
     }
 }
 
-/// Appends the line of a run.
 #[tactic(auto, unfolding(crate::specs::RunLines::run_line), using(crate::proofs::RunLines::text_of_perms))]
-fn write_run(out: &mut Vec<u8>, file: &RegFile, run: &Run) -> Result<(), NoMemory>
+fn write_run(out: &mut Vec<u8>, file: &RegFile, run: &Run) -> Result<(), AllocError>
     requires { IfSome run.now.owner (λ entry. entry < length file.now.entries) }
     ensures ok { OnOk result (out.new.items ≡ out.old.items ++ run_line file.now run.now) }
     ensures err { OnErr result (out.new.items ≡ out.old.items) }
@@ -57,7 +57,7 @@ fn write_run(out: &mut Vec<u8>, file: &RegFile, run: &Run) -> Result<(), NoMemor
     )
 }
 
-fn write_all(out: &mut Vec<u8>, file: &RegFile, map: &RunMap) -> Result<(), NoMemory>
+fn write_all(out: &mut Vec<u8>, file: &RegFile, map: &RunMap) -> Result<(), AllocError>
     requires { map.now ≡ file.now }
     ensures ok { OnOk result ((text : List ℕ) × IsMapText file.now text × (out.new.items ≡ out.old.items ++ text)) }
     ensures err { OnErr result (StartsWith out.new.items out.old.items) }
@@ -71,7 +71,7 @@ fn write_all(out: &mut Vec<u8>, file: &RegFile, map: &RunMap) -> Result<(), NoMe
 /// Appends a line for each run of the register file, `FIRST,LAST,OWNER,MRIGHTS,SURIGHTS` and LF: the first and the last
 /// byte in fourteen hexadecimal digits, the lowest-numbered entry that matches them or a dash, and what that gives
 /// machine mode and the other two. The map is the one that was built from this file.
-pub fn write_runs(out: &mut Vec<u8>, file: &RegFile, map: &RunMap) -> Result<(), NoMemory>
+pub fn write_runs(out: &mut Vec<u8>, file: &RegFile, map: &RunMap) -> Result<(), AllocError>
     requires { map.now ≡ file.now }
     ensures ok { OnOk result ((text : List ℕ) × IsMapText file.now text × (out.new.items ≡ out.old.items ++ text)) }
     ensures err { OnErr result (out.new.items ≡ out.old.items) }

@@ -6,7 +6,7 @@ ghost use Rattle.pmp_text.specs.Reports.{optional_text};
 
 use std::fmt;
 
-/// The number of a publication, or nothing.
+/// A field that is empty where there is no number.
 #[derive(Clone, Copy)]
 struct Number(Option<u64>);
 

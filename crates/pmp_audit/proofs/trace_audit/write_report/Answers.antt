@@ -24,8 +24,8 @@ advance-requires-clause-within c =
     (order_here c.args.script.now c.args.rows.now c.loop-row.row-index c.row-item.result c.loop-row-test.true
     c.row-item.is c.loop-row.replay.done c.loop-row.invariant.1).1
 
-pub count-requires-clause-rows : goal.count-requires-clause-rows
-count-requires-clause-rows c =
+pub add_row-requires-clause-rows : goal.add_row-requires-clause-rows
+add_row-requires-clause-rows c =
     let script = c.args.script.now in
     let rows = c.args.rows.now in
     let i = c.loop-row.row-index in
@@ -34,8 +34,8 @@ count-requires-clause-rows c =
     let count = so_many script rows i c.row-item.result c.loop-row-test.true c.row-item.is in
     omega arith
 
-pub count-requires-clause-faults : goal.count-requires-clause-faults
-count-requires-clause-faults c =
+pub add_row-requires-clause-faults : goal.add_row-requires-clause-faults
+add_row-requires-clause-faults c =
     faults_so_far c.args.script.now (take c.loop-row.row-index c.args.rows.now) c.args.report.now.items
     c.loop-row.report.items c.loop-row.summary c.loop-row.invariant.2
 
@@ -55,8 +55,8 @@ loop-row-preserved c =
       refl,
       order_of_rest script rows i row c.loop-row-test.true c.row-item.is c.loop-row.replay.done order,
       one_row_more script (take i rows) c.args.report.now.items c.loop-row.report.items c.loop-row.summary so_far
-          row decision c.write_row.new.out.items c.count.new.self by_bytes
-          c.in_ok-write_row.ensures.ok c.count.ensures.rows c.count.ensures.faults,
+          row decision c.add_row.new.report.items c.add_row.new.self by_bytes
+          c.in_ok-add_row.ensures.report c.add_row.ensures.rows c.add_row.ensures.faults,
     )
 
 pub returns : goal.returns

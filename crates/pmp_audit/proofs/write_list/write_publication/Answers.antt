@@ -1,6 +1,7 @@
 use Rattle.std.proofs.Common.{length}
+use Rattle.std.proofs.lemmas.List.{length_push}
 use Rattle.std.proofs.lemmas.Slice.Zip.{zip_turn, zip_end}
-use Rattle.pmp_audit.proofs.WrittenEvents.{length-more, placed_more, all_placed, one_written, written_then}
+use Rattle.pmp_audit.proofs.WrittenEvents.{placed_more, all_placed, one_written, written_then}
 use Rattle.pmp_audit.proofs.write_list.write_publication.Goals as goal
 
 pub loop-line-preserved : goal.loop-line-preserved
@@ -14,9 +15,10 @@ loop-line-preserved c =
     let more = placed_more c.args.publication c.args.lines.now c.args.events.now (length done) c.in-Some.line.now
     c.in-Some.event.now turn.0 turn.1 turn.2 turn.3 in
     record {
-      written = rw (length-more, more) (written_then _ _ _ _ _ c.loop-line.invariant.written
+      written = rw (length_push, more) (written_then _ _ _ _ _ c.loop-line.invariant.written
           (one_written _ _ _ (rw c.count.ensures.events at c.in_ok-write_effect.ensures.ok) c.step.ensures.step
-          c.count.ensures.events c.count.ensures.turned_away));
+          c.count.ensures.events (rw (c.is_turned_away.ensures _ c.step.ensures.step) at
+          c.count.ensures.turned_away)));
       within = c.count.ensures.within;
     }
 

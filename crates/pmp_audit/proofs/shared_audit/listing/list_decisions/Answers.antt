@@ -1,8 +1,7 @@
-use Rattle.std.proofs.Common.{◌≡◌, ◌+◌, ◌++◌, ◌<◌, false, get_or, length, ap, ◌∙◌, arith, sym}
+use Rattle.std.proofs.Common.{◌≡◌, ◌+◌, ◌++◌, ◌<◌, false, get_or, length, ap, ◌∙◌, arith}
 use Rattle.std.proofs.lemmas.List.{get_or_default, length-take-le}
 use Rattle.pmp_core.specs.declared.decision.Cause.TheVariants.{Rule}
 use Rattle.pmp_core.specs.declared.decision.Decision.{Decision}
-use Rattle.pmp_text.specs.declared.trace.Row.{Row}
 use Rattle.pmp_text.specs.Reports.{report_row}
 use Rattle.pmp_audit.specs.declared.trace_audit.Summary.{Summary}
 use Rattle.pmp_audit.proofs.Reports.{none_listed, none_counted, one_listed, one_counted}
@@ -22,19 +21,20 @@ loop-place-preserved c =
     let row = c.index-rows-place.result in
     let default : Decision = record { allowed = false; cause = Rule 0 } in
     let decision = get_or decisions place default in
-    let written : c.write_row.new.out.items
-    ≡ c.loop-place.report.items ++ report_row c.count.new.self.rows row.access decision =
-    c.in_ok-write_row.ensures.ok ∙ ap (λ (r : Row). c.loop-place.report.items
-    ++ report_row c.count.new.self.rows r.access decision) (sym c.index-rows-place.is) in
+    let report = c.add_row.new.report.items in
+    let number = c.add_row.new.self.rows in
+    let written : report ≡ c.loop-place.report.items ++ report_row number row.access decision =
+    c.in_ok-add_row.ensures.report in
     let inside : place < length decisions = omega arith in
+    let decision_is = get_or_default decisions place default decision inside in
     let so_many : c.loop-place.summary.rows ≡ place =
     ap (λ (s : Summary). s.rows) c.loop-place.invariant.counted ∙ length-take-le place decisions (omega arith) in
-    let number : c.count.new.self.rows ≡ place + 1 = c.count.ensures.rows ∙ ap (λ n. n + 1) so_many in
+    let number_is : number ≡ place + 1 = c.add_row.ensures.rows ∙ ap (λ n. n + 1) so_many in
     record {
       report = one_listed rows decisions place row decision c.requires c.loop-place-test.true c.index-rows-place.is
-          (get_or_default decisions place default decision inside) c.args.report.now.items c.loop-place.report.items
-          c.write_row.new.out.items c.count.new.self.rows c.loop-place.invariant.report written number;
+          decision_is c.args.report.now.items c.loop-place.report.items report number c.loop-place.invariant.report
+          written number_is;
       counted = one_counted rows decisions place row decision c.requires c.loop-place-test.true c.index-rows-place.is
-          (get_or_default decisions place default decision inside) c.loop-place.summary c.count.new.self
-          c.loop-place.invariant.counted c.count.ensures.rows c.count.ensures.faults;
+          decision_is c.loop-place.summary c.add_row.new.self c.loop-place.invariant.counted c.add_row.ensures.rows
+          c.add_row.ensures.faults;
     }

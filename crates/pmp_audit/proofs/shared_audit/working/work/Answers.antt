@@ -3,11 +3,12 @@ use Rattle.std.specs.Prelude.{slice_get}
 use Rattle.std.specs.List.{enumerate_from}
 use Rattle.std.proofs.lemmas.List.{map_push}
 use Rattle.std.proofs.lemmas.List.Elements.{All-push}
+use Rattle.std.proofs.lemmas.List.FromFn.{length-enumerate_from}
 use Rattle.std.proofs.lemmas.Option.{slice_get_read}
 use Rattle.pmp_text.specs.declared.trace.Row.{Row}
 use Rattle.pmp_audit.specs.Working.{row_of, IsDealt}
 use Rattle.pmp_audit.specs.declared.shared_audit.row_decision.RowDecision.{RowDecision}
-use Rattle.pmp_audit.proofs.Dealing.{one_dealt, all_dealt, length-enumerate_from}
+use Rattle.pmp_audit.proofs.Dealing.{one_dealt, all_dealt}
 use Rattle.pmp_audit.proofs.Dealing.{slice_get-enumerate_from}
 use Rattle.pmp_audit.proofs.shared_audit.working.work.Goals as goal
 

@@ -4,7 +4,7 @@ use Rattle.pmp_core.specs.WriteReasons.{turns_entry_away}
 use Rattle.pmp_text.proofs.Words.{HasPassed}
 use Rattle.pmp_text.proofs.lines.effects.write_entry_numbers.Given as goal
 
--- the entries so far
+-- the numbers of those entries so far that turn the value away are appended
 abbrev pub invariant-loop-entry : goal.invariant-loop-entry
 invariant-loop-entry l = HasPassed (turns_entry_away l.file l.csr l.value) decimal l.initial.out.items
     l.out.items l.is_first (range_with_len 0 l.entry-counter)

@@ -1,7 +1,8 @@
 use Rattle.std.proofs.Common.{◌++◌, List, ℕ, length, refl, ap, ◌∙◌}
-use Rattle.pmp_text.specs.declared.lines.picture.TheConstants.{FOOT}
 use Rattle.pmp_text.specs.Picture.{bands, head}
+use Rattle.pmp_text.specs.PictureTexts.{foot}
 use Rattle.pmp_text.proofs.Picture.{three_texts}
+use Rattle.pmp_text.proofs.PictureTexts.{foot_is}
 use Rattle.pmp_text.proofs.lines.picture.write_picture.Goals as goal
 
 pub returns-clause-ok : goal.returns-clause-ok
@@ -12,9 +13,9 @@ returns-clause-ok c =
     let whole =
     three_texts c.new-text.result.items c.write_head.new.out.items c.write_bands.new.out.items
     c.append_text.new.out.items
-    above (bands file runs) FOOT.now c.new-text.ensures.items c.in_ok-write_head.ensures c.in_ok-write_bands.ensures
-    c.in_ok-append_text.ensures.ok in (
-      above ++ (bands file runs ++ FOOT.now),
+    above (bands file runs) foot c.new-text.ensures.items c.in_ok-write_head.ensures c.in_ok-write_bands.ensures
+    (c.in_ok-append_text.ensures.ok ∙ ap (λ (l : List ℕ). c.write_bands.new.out.items ++ l) foot_is) in (
+      above ++ (bands file runs ++ foot),
       record { runs = runs; runs_are = rw c.requires at c.runs-runs.ensures.runs; drawn = refl },
       c.in_ok-extend_from_slice.ensures.items
           ∙ ap (λ (l : List ℕ). c.args.out.now.items ++ l) (c.deref.ensures.value ∙ whole),

@@ -4,7 +4,6 @@ use Rattle.pmp_core.specs.declared.csr.Csr.TheVariants.{Addr}
 use Rattle.pmp_text.specs.Dumps.{register_line}
 use Rattle.pmp_text.proofs.lines.registers.write_addr_registers.Given as goal
 
--- the lines so far
 abbrev pub invariant-loop-entry : goal.invariant-loop-entry
 invariant-loop-entry l = l.out.items ≡ l.initial.out.items
     ++ flat_map (register_line l.file) (map Addr (range_with_len 0 l.entry))

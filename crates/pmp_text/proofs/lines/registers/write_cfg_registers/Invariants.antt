@@ -4,7 +4,6 @@ use Rattle.pmp_core.specs.declared.csr.Csr.TheVariants.{Cfg}
 use Rattle.pmp_text.specs.Dumps.{register_line}
 use Rattle.pmp_text.proofs.lines.registers.write_cfg_registers.Given as goal
 
--- the lines so far
 abbrev pub invariant-loop-place : goal.invariant-loop-place
 invariant-loop-place l = l.out.items ≡ l.initial.out.items
     ++ flat_map (register_line l.file) (map (λ place. Cfg (2 * place)) (range_with_len 0 l.place))

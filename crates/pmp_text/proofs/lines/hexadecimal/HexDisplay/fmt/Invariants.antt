@@ -4,7 +4,6 @@ use Rattle.std.specs.List.{range_with_len}
 use Rattle.pmp_text.specs.Hexadecimal.{hex_digit}
 use Rattle.pmp_text.proofs.lines.hexadecimal.HexDisplay.fmt.Given as goal
 
--- the digits so far
 abbrev pub invariant-loop-place : goal.invariant-loop-place
 invariant-loop-place g l =
     IsPlainFormatter l.initial.f

@@ -1,0 +1,48 @@
+-- The laws of reports and entry lists.
+use Rattle.std.specs.Prelude.{◌≡◌, ℕ, ◌≤◌, false, List, take, Option, Some, None}
+use Rattle.pmp_core.specs.declared.decision.Decision.{Decision}
+use Rattle.pmp_core.specs.declared.event.Event.{Event}
+use Rattle.pmp_core.specs.RegisterFile.{is_frozen, is_held}
+use Rattle.pmp_core.specs.Histories.{file_after}
+use Rattle.pmp_core.specs.LockLaw.{StaysFrozen}
+use Rattle.pmp_core.specs.ProtectionLaw.{StaysProtected}
+use Rattle.pmp_text.specs.declared.lines.since.Since.{Since}
+use Rattle.pmp_text.specs.declared.trace.Row.{Row}
+use Rattle.pmp_text.specs.Contents.{ScriptContents}
+use Rattle.pmp_text.specs.Reports.{AreDecided}
+use Rattle.pmp_audit.specs.declared.trace_audit.Summary.{Summary}
+use Rattle.pmp_audit.specs.AskedFile.{SaysOfScript}
+use Rattle.pmp_audit.specs.EntryList.{IsEntryList}
+use Rattle.pmp_audit.specs.Since.{IsSince}
+use Rattle.pmp_audit.specs.TraceAudit.{AuditSays}
+
+abbrev pub OneListOfDecisionsLaw : Type 0
+OneListOfDecisionsLaw = (script : ScriptContents) (rows : List Row) (one other : List Decision)
+    → AreDecided script rows one → AreDecided script rows other → one ≡ other
+
+-- a script and a trace have one report and one summary
+abbrev pub OneReportLaw : Type 0
+OneReportLaw = (script trace : List ℕ) (one other : Summary) (text another : List ℕ)
+    → AuditSays script trace one text → AuditSays script trace other another → (one ≡ other) × (text ≡ another)
+
+abbrev pub OneEntryListLaw : Type 0
+OneEntryListLaw = (script : List ℕ) (after : Option ℕ) (text other : List ℕ)
+    → SaysOfScript IsEntryList script after text → SaysOfScript IsEntryList script after other → text ≡ other
+
+-- with no number the entry isn't frozen in the end; with one, it is frozen after the first k batches and after any
+-- number from there on, with the same configuration and the same bytes
+abbrev pub IsKept : (n : ℕ) → List (List Event) → (i : ℕ) → Option ℕ → Type 0
+IsKept n batches i None = is_frozen (file_after n batches) i ≡ false
+IsKept n batches i (Some k) =
+    (done : ℕ) → k ≤ done → StaysFrozen (file_after n (take k batches)) (file_after n (take done batches)) i
+
+-- with no number the entry isn't held in the end; with one, what it and the entries before it decide after the first k
+-- batches is protected from there on
+abbrev pub Protects : (n : ℕ) → List (List Event) → (i : ℕ) → Option ℕ → Type 0
+Protects n batches i None = is_held (file_after n batches) i ≡ false
+Protects n batches i (Some k) =
+    (done : ℕ) → k ≤ done → StaysProtected (file_after n (take k batches)) (file_after n (take done batches)) i
+
+abbrev pub SinceLaw : Type 0
+SinceLaw = (n : ℕ) (batches : List (List Event)) (i : ℕ) (since : Since)
+    → IsSince n batches i since → IsKept n batches i since.frozen × Protects n batches i since.held
