@@ -84,15 +84,14 @@ fn write_publication(
 {
     let mut summary = before;
     for (line, event) in lines.iter().zip(events) {
-        let old = *file;
-        file.step(*event);
-        summary.count(is_turned_away(file, *event));
         let place = EventPlace {
-            number: summary.events,
+            number: summary.events + 1,
             publication,
             line: *line,
         };
-        write_effect(out, &place, &old, file, *event)?;
+        let after = write_effect(out, &place, file, *event)?;
+        summary.count(is_turned_away(&after, *event));
+        *file = after;
     }
     Ok(summary)
 }

@@ -15,8 +15,8 @@ mod trace;
 pub use access_words::{read_kind, read_mode};
 pub use input::{InputFault, MAX_LIMIT, read_bytes, read_script_bytes, read_trace_bytes};
 pub use lines::{
-    EventPlace, Since, write_effect, write_entries, write_picture, write_registers, write_row,
-    write_runs,
+    EventPlace, NoMemory, Since, write_effect, write_entries, write_picture, write_registers,
+    write_row, write_runs,
 };
 pub use numbers::read_word_number;
 pub use output::{OutputFault, write_out};

@@ -12,6 +12,9 @@ mod report;
 mod runs;
 mod since;
 
+/// An allocation was refused, as the calls say that append texts.
+pub use std::alloc::AllocError as NoMemory;
+
 pub use effects::{EventPlace, write_effect};
 pub use entries::write_entries;
 pub use picture::write_picture;

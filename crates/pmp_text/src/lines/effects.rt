@@ -9,8 +9,8 @@ ghost use Rattle.pmp_text.specs.Effects.{event_fields, place_text, effect_row};
 ghost use Rattle.pmp_text.specs.Names.{register_name};
 ghost use Rattle.pmp_text.specs.Reports.{fields_after};
 
-use crate::lines::append_line;
 use crate::lines::hexadecimal::{Hex, VALUE_DIGITS};
+use crate::lines::{NoMemory, append_line};
 use crate::names::RegisterName;
 use pmp_core::{Csr, Event, RegFile, WriteReason};
 use std::alloc::AllocError;
@@ -217,22 +217,25 @@ fn write_all(
 /// Appends the row of an event that comes to this register file: `N,PUBLICATION,LINE,REGISTER,WRITTEN,BEFORE,AFTER,`
 /// `EFFECT,REASONS,ENTRIES` and LF. EFFECT is `stored` where the register then reads what was written, `ignored` where
 /// it reads what it read before, and else `altered`. A reset has `reset` for REGISTER and EFFECT, and nothing for what
-/// a write has besides. `next` is the file that the event leaves.
+/// a write has besides. Answers the file that the event leaves.
 pub fn write_effect(
     out: &mut Vec<u8>,
     place: &EventPlace,
     file: &RegFile,
-    next: &RegFile,
     event: Event,
-) -> Result<(), AllocError>
-    requires { next.now ≡ step file.now event }
+) -> Result<RegFile, NoMemory>
     ensures ok { OnOk result (out.new.items ≡ out.old.items ++ effect_row place.now file.now event) }
+    ensures next { IfOk result (λ next. next ≡ step file.now event) }
     ensures err { OnErr result (out.new.items ≡ out.old.items) }
 {
     let before = out.len();
-    let written = write_all(out, place, file, next, event);
-    if written.is_err() {
-        out.truncate(before);
+    let mut next = *file;
+    next.step(event);
+    match write_all(out, place, file, &next, event) {
+        Ok(()) => Ok(next),
+        Err(refused) => {
+            out.truncate(before);
+            Err(refused)
+        }
     }
-    written
 }

@@ -6,10 +6,10 @@ ghost use Rattle.pmp_core.specs.Span.{IsSpan, span_of};
 ghost use Rattle.pmp_text.specs.EntryRows.{IsEntryText, address_text, entry_row, lock_text, matching_text, span_text};
 ghost use Rattle.pmp_text.specs.Steps.Marks.{perms_text};
 
-use crate::lines::append_line;
 use crate::lines::hexadecimal::{ADDRESS_DIGITS, Hex};
 use crate::lines::marks::Marks;
 use crate::lines::since::Since;
+use crate::lines::{NoMemory, append_line};
 use pmp_core::{AddressMatching, Lock, Mode, Perms, RegFile, Span};
 use std::alloc::AllocError;
 use std::fmt;
@@ -128,7 +128,7 @@ fn write_all(out: &mut Vec<u8>, file: &RegFile, since: &[Since]) -> Result<(), A
 /// LOCK is `frozen` where writes leave the entry as it is, and `bypassed` where they would but for rule-locking bypass;
 /// ADDRESS is `frozen` where they leave its address register as it is. SINCE and HOLDS are the numbers in `since`, if
 /// any.
-pub fn write_entries(out: &mut Vec<u8>, file: &RegFile, since: &[Since]) -> Result<(), AllocError>
+pub fn write_entries(out: &mut Vec<u8>, file: &RegFile, since: &[Since]) -> Result<(), NoMemory>
     requires { length file.now.entries ≤ length since.now }
     ensures ok { OnOk result
         ((text : List ℕ) × IsEntryText file.now since.now text × (out.new.items ≡ out.old.items ++ text)) }

@@ -8,10 +8,10 @@ ghost use Rattle.pmp_text.specs.Picture.{IsPicture, band, bands, ends, extent, h
 ghost use Rattle.pmp_text.specs.Picture.{settings, size_text, switch_text, title};
 ghost use Rattle.pmp_core.specs.declared.access.TheConstants.{ADDRESS_LIMIT};
 
-use crate::lines::append_line;
 use crate::lines::hexadecimal::{ADDRESS_DIGITS, Hex};
 use crate::lines::marks::Marks;
 use crate::lines::runs::run_rights;
+use crate::lines::{NoMemory, append_line};
 use pmp_core::{Csr, Mode, RegFile};
 use pmp_map::{RUNS, Run, RunMap};
 use std::alloc::AllocError;
@@ -306,7 +306,7 @@ pub fn write_picture(
     file: &RegFile,
     map: &RunMap,
     publications: u64,
-) -> Result<(), AllocError>
+) -> Result<(), NoMemory>
     requires { map.now ≡ file.now }
     ensures ok { OnOk result
         ((text : List ℕ) × IsPicture file.now publications text × (out.new.items ≡ out.old.items ++ text)) }

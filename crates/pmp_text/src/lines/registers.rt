@@ -4,8 +4,8 @@ ghost use Rattle.std.specs.Prelude.{◌≡◌, ◌++◌, OnOk, OnErr, flat_map, 
 ghost use Rattle.std.specs.Io.{StartsWith};
 ghost use Rattle.pmp_text.specs.Dumps.{register_line, cfg_registers, addr_registers, dump_text};
 
-use crate::lines::append_line;
 use crate::lines::hexadecimal::{Hex, VALUE_DIGITS};
+use crate::lines::{NoMemory, append_line};
 use crate::names::RegisterName;
 use pmp_core::{Csr, RegFile};
 use std::alloc::AllocError;
@@ -55,7 +55,7 @@ fn write_all(out: &mut Vec<u8>, file: &RegFile) -> Result<(), AllocError>
 }
 
 /// Appends a line for each register: its name, a blank, `0x` and sixteen hexadecimal digits.
-pub fn write_registers(out: &mut Vec<u8>, file: &RegFile) -> Result<(), AllocError>
+pub fn write_registers(out: &mut Vec<u8>, file: &RegFile) -> Result<(), NoMemory>
     ensures ok { OnOk result (out.new.items ≡ out.old.items ++ dump_text file.now) }
     ensures err { OnErr result (out.new.items ≡ out.old.items) }
 {

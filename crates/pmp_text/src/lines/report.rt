@@ -3,9 +3,8 @@
 ghost use Rattle.std.specs.Prelude.{◌≡◌, ◌++◌, OnOk, OnErr, Some};
 ghost use Rattle.pmp_text.specs.Reports.{answer_text, cause_text, entry_of, optional_text, report_row};
 
-use crate::lines::append_line;
+use crate::lines::{NoMemory, append_line};
 use pmp_core::{Access, Cause, Decision, fault_code};
-use std::alloc::AllocError;
 use std::fmt;
 
 /// A field that is empty where there is no number.
@@ -31,7 +30,7 @@ pub fn write_row(
     n: u64,
     access: &Access,
     decision: &Decision,
-) -> Result<(), AllocError>
+) -> Result<(), NoMemory>
     ensures ok { OnOk result (out.new.items ≡ out.old.items ++ report_row n access.now decision.now) }
     ensures err { OnErr result (out.new.items ≡ out.old.items) }
 {

@@ -6,9 +6,9 @@ ghost use Rattle.pmp_core.specs.Rights.{perms_of};
 ghost use Rattle.pmp_map.specs.Answers.{owned_rights};
 ghost use Rattle.pmp_text.specs.RunLines.{IsMapText, owner_text, run_line};
 
-use crate::lines::append_line;
 use crate::lines::hexadecimal::{ADDRESS_DIGITS, Hex};
 use crate::lines::marks::Marks;
+use crate::lines::{NoMemory, append_line};
 use pmp_core::{Mode, Perms, RegFile};
 use pmp_map::{Run, RunMap};
 use std::alloc::AllocError;
@@ -71,7 +71,7 @@ fn write_all(out: &mut Vec<u8>, file: &RegFile, map: &RunMap) -> Result<(), Allo
 /// Appends a line for each run of the register file, `FIRST,LAST,OWNER,MRIGHTS,SURIGHTS` and LF: the first and the last
 /// byte in fourteen hexadecimal digits, the lowest-numbered entry that matches them or a dash, and what that gives
 /// machine mode and the other two. The map is the one that was built from this file.
-pub fn write_runs(out: &mut Vec<u8>, file: &RegFile, map: &RunMap) -> Result<(), AllocError>
+pub fn write_runs(out: &mut Vec<u8>, file: &RegFile, map: &RunMap) -> Result<(), NoMemory>
     requires { map.now ≡ file.now }
     ensures ok { OnOk result ((text : List ℕ) × IsMapText file.now text × (out.new.items ≡ out.old.items ++ text)) }
     ensures err { OnErr result (out.new.items ≡ out.old.items) }
