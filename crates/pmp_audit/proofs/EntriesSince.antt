@@ -23,7 +23,7 @@ use Rattle.pmp_core.specs.LockLaw.{is_write, StaysFrozen}
 use Rattle.pmp_core.specs.ProtectionLaw.{ProtectedLaw, StaysProtected}
 use Rattle.pmp_core.proofs.Held.{held_at, held_still}
 use Rattle.pmp_core.proofs.Locks.{lock_law}
-use Rattle.pmp_core.proofs.Legal.{legal_law, length-step, reset_at}
+use Rattle.pmp_core.proofs.Legal.{legal_law, length-file_after, reset_at}
 use Rattle.pmp_text.specs.declared.lines.since.Since.{Since}
 use Rattle.pmp_text.specs.EntryRows.{no_since}
 use Rattle.pmp_audit.specs.Since.{IsFrom, IsKept, IsSince, Protects, SinceLaw}
@@ -234,14 +234,6 @@ since_law protects n batches i since is =
     (is_kept protects n batches i since.frozen is.frozen, does_protect protects n batches i since.held is.held)
 
 -- ---- how many entries there are
-
-length-fold : (file : RegisterFile) (events : List Event)
-    → length (fold step file events).entries ≡ length file.entries
-length-fold file [] = refl
-length-fold file (event ∷ events) = length-fold (step file event) events ∙ length-step file event
-
-pub length-file_after : (n : ℕ) (batches : List (List Event)) → length (file_after n batches).entries ≡ n
-length-file_after n batches = length-fold (reset_file n) (joined batches) ∙ length-replicate n reset_entry
 
 -- the file has no more entries than there are places
 pub few_entries : (size : Size) (batches : List (List Event)) (file : RegisterFile)

@@ -15,7 +15,7 @@ use Rattle.pmp_text.specs.Reports.{file_of_script}
 use Rattle.pmp_audit.specs.EntryList.{IsEntryList, OneEntryListLaw}
 use Rattle.pmp_audit.specs.AskedFile.{asked_count}
 use Rattle.pmp_audit.specs.Since.{IsFrom, IsSince}
-use Rattle.pmp_audit.proofs.EntriesSince.{length-file_after}
+use Rattle.pmp_core.proofs.Legal.{length-file_after}
 
 -- pieces that are alike, place by place
 same_pieces : (one other : ℕ → List ℕ) (from count : ℕ) → ((i : ℕ) → i < from + count → one i ≡ other i)

@@ -1,6 +1,6 @@
 -- Every step keeps a register file legal, and as long as it is.
 use Rattle.std.proofs.Common.{◌≡◌, ℕ, ◌-◌, ◌*◌, ◌^◌, ◌%◌, ◌<◌, ◌≤◌, Bool, true, false, cond, not, ◌&&◌, ◌||◌, ◌==◌}
-use Rattle.std.proofs.Common.{List, [], ◌∷◌, fold, length, replicate, slice_index, refl, inl, inr, arith, length-set}
+use Rattle.std.proofs.Common.{List, [], ◌∷◌, fold, length, replicate, slice_index, refl, inl, inr, arith, length-set, ◌∙◌}
 use Rattle.std.proofs.Common.{get_or-set_other, get_or-set_same}
 use Rattle.std.specs.Int.{w64, to_le_bytes}
 use Rattle.std.proofs.Math.ListN.{set}
@@ -16,7 +16,7 @@ use Rattle.pmp_core.specs.declared.event.Event.TheVariants.{Write, Reset}
 use Rattle.pmp_core.specs.declared.register_write.TheConstants.{WORD_ADDRESSES}
 use Rattle.pmp_core.specs.Configuration.{configuration_of, is_reserved}
 use Rattle.pmp_core.specs.RegisterFile.{RegisterFile, reset_entry, reset_file, entry_at, IsLegal}
-use Rattle.pmp_core.specs.Histories.{LegalLaw}
+use Rattle.pmp_core.specs.Histories.{LegalLaw, joined, file_after}
 use Rattle.pmp_core.specs.RegisterWrite.{without_reserved, stored_over, stored, holds_byte_of, configured}
 use Rattle.pmp_core.specs.RegisterWrite.{is_address_frozen}
 use Rattle.pmp_core.specs.RegisterWrite.{written, step}
@@ -150,6 +150,14 @@ module _ (file : RegisterFile) (legal : IsLegal file) where
 pub length-step : (file : RegisterFile) (event : Event) → length (step file event).entries ≡ length file.entries
 length-step file Reset = length-replicate (length file.entries) reset_entry
 length-step file (Write csr value) = length-written file csr value
+
+length-fold : (file : RegisterFile) (events : List Event)
+    → length (fold step file events).entries ≡ length file.entries
+length-fold file [] = refl
+length-fold file (event ∷ events) = length-fold (step file event) events ∙ length-step file event
+
+pub length-file_after : (n : ℕ) (batches : List (List Event)) → length (file_after n batches).entries ≡ n
+length-file_after n batches = length-fold (reset_file n) (joined batches) ∙ length-replicate n reset_entry
 
 replay_legal_from : (file : RegisterFile) → IsLegal file → (events : List Event) → IsLegal (fold step file events)
 replay_legal_from file legal [] = legal

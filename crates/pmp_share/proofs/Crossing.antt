@@ -17,21 +17,21 @@ use Rattle.pmp_share.specs.contracts.journal.Journal as journal
 use Rattle.pmp_share.specs.contracts.version.Version as version
 use Rattle.pmp_share.specs.contracts.digest.Digest as digest
 use Rattle.pmp_share.specs.contracts.digest.Digest.TheInside as digest_inside
-use Rattle.pmp_share.specs.contracts.stand.Stand as stand
-use Rattle.pmp_share.specs.contracts.stand.Stand.TheInside as stand_inside
-use Rattle.pmp_share.specs.contracts.held.Held as held
+use Rattle.pmp_share.specs.contracts.reader_state.ReaderState as reader_state
+use Rattle.pmp_share.specs.contracts.reader_state.ReaderState.TheInside as reader_state_inside
+use Rattle.pmp_share.specs.contracts.held_lists.HeldLists as held
 use Rattle.pmp_share.specs.contracts.checker.Checker as checker
 use Rattle.pmp_share.specs.contracts.checker.Checker.TheInside as checker_inside
 use Rattle.pmp_share.specs.contracts.notice.Notice as notice
 use Rattle.pmp_share.specs.contracts.notice.Notice.TheInside as notice_inside
-use Rattle.pmp_share.specs.contracts.past.LawRuleLinkedListEventU64.TheImpl as law
-use Rattle.pmp_share.specs.contracts.rule.OneHistoryProtocolVersionView.TheImpl as rule
+use Rattle.pmp_share.specs.contracts.history.LawRuleLinkedListEventU64.TheImpl as law
+use Rattle.pmp_share.specs.contracts.rule.OneHistoryProtocolVersionKnowledge.TheImpl as rule
 use Rattle.logbook.proofs.tokens.Seen.TheSendSync as seen
 use Rattle.left_right.specs.contracts.reader.Reader as reader_of
 use Rattle.core.specs.contracts.option.Option as option
 use Rattle.std.specs.contracts.alloc.Global as global
-use Rattle.pmp_share.specs.contracts.view.Known as known
-use Rattle.pmp_share.specs.contracts.rule.OneHistory as history
+use Rattle.pmp_share.specs.contracts.knowledge.Known as known
+use Rattle.pmp_share.specs.contracts.rule.OneHistory as one_history
 use Rattle.left_right.proofs.reader.Reader.TheSendSync as reader
 
 entry_send : IsSend (entry.the_field).row
@@ -89,11 +89,8 @@ version_sync : IsSync version.the_row
 version_sync = declared_sync version.the_type (
   as_row_sync journal.the_field journal_sync,
   (
-    search (as_row_sync, sendable) depth 6,
-    (
-      as_row_sync file.the_field file_sync,
-      (as_row_sync run_map.the_field map_sync, (seen.the_sync _ _ _ law.ghosts, tt)),
-    ),
+    as_row_sync file.the_field file_sync,
+    (as_row_sync run_map.the_field map_sync, (seen.the_sync _ _ _ law.ghosts, tt)),
   ),
 )
 
@@ -102,13 +99,7 @@ digest_inside_send = declared_send digest_inside.the_type (
   as_row_send file.the_field file_send,
   (
     search (as_row_send, sendable) depth 6,
-    (
-      search (as_row_send, sendable) depth 6,
-      (
-        search (as_row_send, sendable) depth 6,
-        (search (core.crosses, sendable) depth 12, tt),
-      ),
-    ),
+    (search (as_row_send, sendable) depth 6, (search (core.crosses, sendable) depth 12, tt)),
   ),
 )
 
@@ -118,29 +109,29 @@ digest_send = search (digest_inside_send, sendable) depth 6
 held_send : IsSend held.the_row
 held_send = search (seen.the_send, sendable) depth 10
 
-reader_send : IsSend (reader_of.the_field version.the_row (option.the_row known.the_row) history.the_row global.the_row
-    rule.ghosts heap.ghosts).row
-reader_send = reader.the_field_send version.the_row (option.the_row known.the_row) history.the_row global.the_row
+reader_send : IsSend (reader_of.the_field version.the_row (option.the_row known.the_row) one_history.the_row
+    global.the_row rule.ghosts heap.ghosts).row
+reader_send = reader.the_field_send version.the_row (option.the_row known.the_row) one_history.the_row global.the_row
     rule.ghosts heap.ghosts send version_sync sync frees
 
-stand_inside_send : IsSend stand_inside.the_row
-stand_inside_send = declared_send stand_inside.the_type (
-  as_row_send (reader_of.the_field version.the_row (option.the_row known.the_row) history.the_row global.the_row
+reader_state_inside_send : IsSend reader_state_inside.the_row
+reader_state_inside_send = declared_send reader_state_inside.the_type (
+  as_row_send (reader_of.the_field version.the_row (option.the_row known.the_row) one_history.the_row global.the_row
       rule.ghosts heap.ghosts) reader_send,
   (search (digest_send, crosses, sendable) depth 12, (seen.the_send _ _ _ law.ghosts, tt)),
 )
 
-stand_send : IsSend stand.the_row
-stand_send = search (stand_inside_send, sendable) depth 6
+reader_state_send : IsSend reader_state.the_row
+reader_state_send = search (reader_state_inside_send, sendable) depth 6
 
 checker_inside_send : IsSend checker_inside.the_row
-checker_inside_send = declared_send checker_inside.the_type (stand_send, (held_send, tt))
+checker_inside_send = declared_send checker_inside.the_type (reader_state_send, (held_send, tt))
 
 pub checker_send : IsSend checker.the_row
 checker_send = search (checker_inside_send, sendable) depth 6
 
 notice_inside_send : IsSend notice_inside.the_row
-notice_inside_send = declared_send notice_inside.the_type (stand_send, tt)
+notice_inside_send = declared_send notice_inside.the_type (reader_state_send, tt)
 
 pub notice_send : IsSend notice.the_row
 notice_send = search (notice_inside_send, sendable) depth 6

@@ -1,13 +1,11 @@
 -- What a later look tells of an earlier one.
-use Rattle.std.proofs.Common.{◌≡◌, ℕ, ◌++◌, List, [], true, drop, fold, length, refl, sym, ap, subst, ◌∙◌, arith}
-use Rattle.std.specs.List.{list_all}
+use Rattle.std.proofs.Common.{◌≡◌, ◌++◌, drop, fold, sym, ap, ◌∙◌}
 use Rattle.std.proofs.lemmas.Grind.{fold-append}
 use Rattle.std.proofs.Math.Seq.{drop-append_seam}
-use Rattle.pmp_core.specs.declared.event.Event.{Event}
-use Rattle.pmp_core.specs.RegisterFile.{reset_file, is_frozen}
+use Rattle.pmp_core.specs.RegisterFile.{reset_file}
 use Rattle.pmp_core.specs.RegisterWrite.{step}
 use Rattle.pmp_core.specs.Histories.{joined, file_after}
-use Rattle.pmp_core.specs.LockLaw.{LockLaw, StaysFrozen}
+use Rattle.pmp_core.specs.LockLaw.{LockLaw}
 use Rattle.pmp_share.specs.Batches.{Batches, StartsWith, event_count}
 use Rattle.pmp_share.specs.Looks.{latest}
 use Rattle.pmp_share.specs.Laws.{further_events, FurtherEventsLaw, LaterLookLaw}

@@ -4,7 +4,7 @@ pub mod Fronts
 pub mod LookFacts
 pub mod Adding
 pub mod RuleFacts
-pub mod StageFacts
+pub mod WriterFacts
 pub mod CheckFacts
 pub mod GroupFacts
 pub mod Crossing

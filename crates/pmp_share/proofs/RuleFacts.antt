@@ -5,13 +5,13 @@ use mathlib.Core.Option.{some}
 use lib.ListN.{get_elem?}
 use Rattle.atomic_table.proofs.Lists.{at_set, at_snoc, set_again, set_else}
 use Rattle.left_right.specs.Register.{Admits, Turns, TurnsAt, Forks, Merges}
-use Rattle.pmp_share.specs.declared.entry.Entry.{Entry}
-use Rattle.pmp_share.specs.declared.view.Known.{Known}
-use Rattle.pmp_share.specs.declared.told.Told.{Told}
+use Rattle.pmp_share.specs.declared.logged_batch.LoggedBatch.{LoggedBatch}
+use Rattle.pmp_share.specs.declared.knowledge.Known.{Known}
+use Rattle.pmp_share.specs.declared.version_state.VersionState.{VersionState}
 use Rattle.pmp_share.specs.declared.version.Version.{Version}
 use Rattle.pmp_share.specs.Batches.{Batches, StartsWith}
 use Rattle.pmp_share.specs.Rule.{known_of, unit_of, Fits, Kept, Enters, Shown}
-use Rattle.pmp_share.specs.Stages.{told_of, after}
+use Rattle.pmp_share.specs.WriterStates.{state_of, after}
 use Rattle.pmp_share.proofs.LookFacts.{starts_alike, starts_on}
 
 -- what is all of a version fits it
@@ -61,7 +61,7 @@ fits_later now next unit begins (Some view) fits =
     (fits.0 ∙ sym unit, starts_on next.journal now.journal view.list begins fits.1)
 
 pub shows : (seat : ℕ) (view : Option Known) (now next : Version) → unit_of next ≡ unit_of now
-    → next.past.log ≡ next.journal → StartsWith next.journal now.journal → TurnsAt Kept seat view now next Shown
+    → next.history.log ≡ next.journal → StartsWith next.journal now.journal → TurnsAt Kept seat view now next Shown
 shows seat view now next unit noted begins views kept at = (
   Some (known_of next),
   record {
@@ -73,18 +73,18 @@ shows seat view now next unit noted begins views kept at = (
 )
 
 -- the next version is one with this told of it
-pub shows_told : (seat : ℕ) (view : Option Known) (now : Version) (told : Told) → told.unit ≡ unit_of now
+pub shows_told : (seat : ℕ) (view : Option Known) (now : Version) (told : VersionState) → told.unit ≡ unit_of now
     → told.log ≡ told.batches → StartsWith told.batches now.journal
-    → (next : Version) → told_of next ≡ told → TurnsAt Kept seat view now next Shown
+    → (next : Version) → state_of next ≡ told → TurnsAt Kept seat view now next Shown
 shows_told seat view now told unit noted begins next is = shows seat view now next (ap (λ t. t.unit) is ∙ unit)
     (ap (λ t. t.log) is ∙ noted ∙ sym (ap (λ t. t.batches) is))
     (subst (λ (b : Batches). StartsWith b now.journal) (sym (ap (λ t. t.batches) is)) begins)
 
 -- nothing was handed over
-pub shows_none : (seat : ℕ) (view : Option Known) (now : Version) (entries : List Entry) → entries ≡ []
-    → now.past.log ≡ now.journal → (next : Version) → told_of next ≡ after now entries
+pub shows_none : (seat : ℕ) (view : Option Known) (now : Version) (entries : List LoggedBatch) → entries ≡ []
+    → now.history.log ≡ now.journal → (next : Version) → state_of next ≡ after now entries
     → TurnsAt Kept seat view now next Shown
-shows_none seat view now entries none noted next is = shows_told seat view now (told_of now) refl noted
+shows_none seat view now entries none noted next is = shows_told seat view now (state_of now) refl noted
     (starts_alike now.journal) next (is ∙ ap (after now) none)
 
 pub tells : (seat : ℕ) (view : Option Known) → Forks Kept seat view view view

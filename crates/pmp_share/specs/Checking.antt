@@ -2,7 +2,7 @@
 use Rattle.std.specs.Prelude.{◌≡◌, ℕ, List}
 use Rattle.pmp_core.specs.declared.access.Access.{Access}
 use Rattle.pmp_core.specs.declared.decision.Decision.{Decision}
-use Rattle.pmp_share.specs.declared.view.Known.{Known}
+use Rattle.pmp_share.specs.declared.knowledge.Known.{Known}
 use Rattle.pmp_share.specs.Batches.{Batches, AllBegin}
 use Rattle.pmp_share.specs.Looks.{latest}
 use Rattle.pmp_share.specs.Object.{Decides}
@@ -11,7 +11,7 @@ use Rattle.pmp_share.specs.Object.{Decides}
 unfoldable pub DecidesIn : (entries : ℕ) → Batches → Access → Decision → Type 0
 DecidesIn entries list access decision = Decides entries list access decision
 
--- it stands at the latest list that it holds, which begins with all of them
-pub record IsChecker (stand : Known) (held : List Batches) : Type 0 where
-  pub latest_is : latest held ≡ stand.list
-  pub begins : AllBegin stand.list held
+-- what it knows is the latest list that it holds, which begins with all of them
+pub record IsChecker (state : Known) (held : List Batches) : Type 0 where
+  pub latest_is : latest held ≡ state.list
+  pub begins : AllBegin state.list held

@@ -9,8 +9,8 @@ pub record Digested : Type 0 where
   pub entries : ℕ
   pub list : Batches
 
--- the file of so many entries that they give, how many events they hold, and how many they are
-pub record IsDigest (file : RegisterFile) (entries events count : ℕ) (batches : Batches) : Type 0 where
-  pub replayed : file ≡ file_after entries batches
+-- the file that they give, how many events they hold, and how many they are
+pub record IsDigest (file : RegisterFile) (events count : ℕ) (batches : Batches) : Type 0 where
+  pub replayed : file ≡ file_after (length file.entries) batches
   pub events_is : events ≡ event_count batches
   pub count_is : count ≡ length batches

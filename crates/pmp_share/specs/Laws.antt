@@ -7,7 +7,7 @@ use Rattle.pmp_core.specs.RegisterWrite.{step}
 use Rattle.pmp_core.specs.Histories.{joined, file_after}
 use Rattle.pmp_core.specs.LockLaw.{is_write, StaysFrozen}
 use Rattle.pmp_share.specs.declared.opening.TheConstants.{CHECKERS}
-use Rattle.pmp_share.specs.declared.stage.TheConstants.{PLACES}
+use Rattle.pmp_share.specs.declared.writer_state.TheConstants.{PLACES}
 use Rattle.pmp_share.specs.Batches.{Batches, StartsWith, event_count}
 use Rattle.pmp_share.specs.Journals.{ends_of, batches_of}
 use Rattle.pmp_share.specs.Looks.{Bound, Looked, latest}

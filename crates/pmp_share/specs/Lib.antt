@@ -11,6 +11,7 @@ pub mod History
 pub mod Versions
 pub mod Rule
 pub mod Digests
-pub mod Stages
+pub mod Entrances
+pub mod WriterStates
 pub mod Publishing
 pub mod Checking

@@ -1,8 +1,8 @@
 -- The running rule over the published version.
-use Rattle.std.specs.Prelude.{◌≡◌, ℕ, List, Option, Some, None}
+use Rattle.std.specs.Prelude.{◌≡◌, ℕ, List, length, Option, Some, None}
 use mathlib.Core.Option.{some}
 use lib.ListN.{get_elem?}
-use Rattle.pmp_share.specs.declared.view.Known.{Known}
+use Rattle.pmp_share.specs.declared.knowledge.Known.{Known}
 use Rattle.pmp_share.specs.declared.version.Version.{Version}
 use Rattle.pmp_share.specs.Batches.{Batches, StartsWith}
 use Rattle.pmp_share.specs.Tokens.{UnitId, unit_with}
@@ -11,9 +11,13 @@ use Rattle.pmp_share.specs.Tokens.{UnitId, unit_with}
 abbrev pub known : UnitId → Batches → Known
 known unit list = record { list = list; unit = unit }
 
+-- how many entries the version's unit has
+abbrev pub entries_of : Version → ℕ
+entries_of version = length version.file.entries
+
 -- whose version it is
 abbrev pub unit_of : Version → UnitId
-unit_of version = unit_with version.past.book version.entries
+unit_of version = unit_with version.history.book (entries_of version)
 
 -- all that a version has
 abbrev pub known_of : Version → Known
@@ -26,13 +30,13 @@ Fits version (Some view) = (view.unit ≡ unit_of version) × StartsWith version
 
 -- the version's history is its batches, which all that is known begins
 pub record Kept (version : Version) (views : List (Option Known)) : Type 0 where
-  pub noted : version.past.log ≡ version.journal
+  pub noted : version.history.log ≡ version.journal
   pub fits : (seat : ℕ) (view : Option Known) → get_elem? views seat ≡ some view → Fits version view
 
 -- entrance: what was known begins the batches of the version, all of which are known now
 abbrev pub Enters : Option Known → Version → Version → Option Known → Type 0
 Enters before version _ after =
-    Fits version before × (version.past.log ≡ version.journal) × (after ≡ Some (known_of version))
+    Fits version before × (version.history.log ≡ version.journal) × (after ≡ Some (known_of version))
 
 -- publication: all batches of the next version are known
 abbrev pub Shown : Option Known → Version → Version → Option Known → Type 0

@@ -12,10 +12,10 @@ ghost use Rattle.pmp_share.specs.Object.{Decides};
 
 use crate::fault::ShareFault;
 use crate::group::GROUP_ACCESSES;
-use crate::held::Held;
+use crate::held_lists::HeldLists;
 use crate::journal::Journal;
 use crate::notice::Notice;
-use crate::stand::Stand;
+use crate::reader_state::ReaderState;
 use arrayvec::ArrayVec;
 use pmp_core::laws::{law_decided_by_ranges, law_legal};
 use pmp_core::{Access, Decision};
@@ -32,8 +32,8 @@ pub struct Moved {
 /// entered between its calls, and can go to any thread.
 #[derive(Drop)]
 pub struct Checker {
-    stand: Stand,
-    held: Held,
+    state: ReaderState,
+    held: HeldLists,
 }
 
 impl Model for Checker {
@@ -42,18 +42,18 @@ impl Model for Checker {
 
     ghost Value = { CheckerToken };
 
-    ghost view = { λ checker. record { unit = checker.stand.unit; held = checker.held } };
+    ghost view = { λ checker. record { unit = checker.state.unit; held = checker.held } };
 
-    ghost invariant = { λ checker. IsChecker checker.stand checker.held };
+    ghost invariant = { λ checker. IsChecker checker.state checker.held };
 }
 
 impl Checker {
     /// A checker that holds what is known there.
-    pub(crate) fn new(stand: Stand) -> Checker
-        ensures { result ≡ record { unit = stand.unit; held = stand.list ∷ [] } }
+    pub(crate) fn new(state: ReaderState) -> Checker
+        ensures { result ≡ record { unit = state.unit; held = state.list ∷ [] } }
     {
-        let held = Held::alone(stand.digest());
-        Checker { stand, held }
+        let held = HeldLists::alone(state.digest());
+        Checker { state, held }
     }
 
     /// Takes in a notice of its own unit. From now on it decides in nothing less.
@@ -65,10 +65,10 @@ impl Checker {
             × (event_count notice.told ≤ event_count (latest self.new.held)) }
         ensures bound { LearnsBound self.old.held notice.told self.new.held }
     {
-        let stand = notice.into_stand();
-        self.held = self.held.with(stand.digest());
-        if self.stand.is_before(&stand) {
-            self.stand = stand;
+        let state = notice.into_state();
+        self.held = self.held.with(state.digest());
+        if self.state.is_before(&state) {
+            self.state = state;
         }
     }
 
@@ -81,8 +81,8 @@ impl Checker {
         ensures count { result.1 ≡ event_count (latest self.new.held) }
         ensures bound { KeepsBound self.old.held self.new.held }
     {
-        let answer = self.stand.look(access);
-        self.held = Held::alone(self.stand.digest());
+        let answer = self.state.look(access);
+        self.held = HeldLists::alone(self.state.digest());
         answer
     }
 
@@ -122,8 +122,8 @@ impl Checker {
     {
         law_legal();
         law_decided_by_ranges();
-        let decided = self.stand.look_at_group(accesses);
-        self.held = Held::alone(self.stand.digest());
+        let decided = self.state.look_at_group(accesses);
+        self.held = HeldLists::alone(self.state.digest());
         decided
     }
 
@@ -136,8 +136,8 @@ impl Checker {
         ensures refused { IfErr result (λ fault. ¬ (fault ≡ Full)) }
         ensures bound { KeepsBound self.old.held self.new.held }
     {
-        let copied = self.stand.copy_journal();
-        self.held = Held::alone(self.stand.digest());
+        let copied = self.state.copy_journal();
+        self.held = HeldLists::alone(self.state.digest());
         copied
     }
 }

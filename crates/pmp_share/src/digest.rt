@@ -1,17 +1,14 @@
 //! What a list of batches comes to.
 
-ghost use Rattle.std.specs.Prelude.{◌≡◌, ◌≤◌, length, map};
-ghost use Rattle.pmp_core.specs.Decision.{IsDecision};
+ghost use Rattle.std.specs.Prelude.{◌≡◌, length};
 ghost use Rattle.pmp_core.specs.Histories.{file_after};
-ghost use Rattle.pmp_core.specs.Ranges.{decision_of};
-ghost use Rattle.pmp_share.specs.declared.group.TheConstants.{GROUP_ACCESSES};
 ghost use Rattle.pmp_share.specs.Batches.{event_count};
 ghost use Rattle.pmp_share.specs.Looks.{is_as_late};
+ghost use Rattle.pmp_share.specs.Rule.{entries_of};
 
-use crate::group::{Decisions, GROUP_ACCESSES};
+use crate::decider::Decider;
 use crate::journal::Journal;
 use crate::version::Version;
-use arrayvec::ArrayVec;
 use pmp_core::{Access, Decision, RegFile};
 use std::marker::Model;
 use std::snapshot::Snapshot;
@@ -21,21 +18,21 @@ use std::snapshot::Snapshot;
 #[derive(Drop)]
 pub struct Digest {
     file: RegFile,
-    entries: u8,
     events: u64,
     batches: usize,
     of: Snapshot<Journal>,
 }
 
 impl Model for Digest {
+    ghost use Rattle.std.specs.Prelude.{length};
     ghost use Rattle.pmp_share.specs.Digests.{Digested, IsDigest};
 
     ghost Value = { Digested };
 
-    ghost view = { λ digest. record { entries = digest.entries; list = digest.of.value } };
+    ghost view = { λ digest. record { entries = length digest.file.entries; list = digest.of.value } };
 
     ghost invariant = { λ digest.
-        IsDigest digest.file digest.entries digest.events digest.batches digest.of.value };
+        IsDigest digest.file digest.events digest.batches digest.of.value };
 }
 
 impl Digest {
@@ -43,12 +40,11 @@ impl Digest {
 
     /// The digest of a version's batches.
     pub fn of(version: &Version) -> Digest
-        ensures { result ≡ record { entries = version.now.entries; list = version.now.journal } }
+        ensures { result ≡ record { entries = entries_of version.now; list = version.now.journal } }
     {
         let journal = version.journal();
         Digest {
             file: *version.file(),
-            entries: version.entries(),
             events: journal.event_count(),
             batches: journal.batches(),
             of: Snapshot::of(journal),
@@ -59,7 +55,7 @@ impl Digest {
     #[cold]
     #[inline(never)]
     pub fn refresh(&mut self, version: &Version)
-        ensures { self.new ≡ record { entries = version.now.entries; list = version.now.journal } }
+        ensures { self.new ≡ record { entries = entries_of version.now; list = version.now.journal } }
     {
         *self = Digest::of(version);
     }
@@ -91,24 +87,15 @@ impl Digest {
     {
         self.events < other.events || (self.events == other.events && self.batches <= other.batches)
     }
+}
 
-    /// Decides an access in the register file.
-    pub fn decide(&self, access: &Access) -> Decision
-        ensures by_bytes { IsDecision (file_after self.now.entries self.now.list) access.now result }
-        ensures computed { result ≡ decision_of (file_after self.now.entries self.now.list) access.now }
-    {
+/// It decides without a map.
+impl Decider for Digest {
+    ghost use Rattle.pmp_core.specs.Histories.{file_after};
+
+    ghost file = { λ digest. file_after digest.entries digest.list };
+
+    fn decide(&self, access: &Access) -> Decision {
         self.file.decide(access)
-    }
-
-    /// Decides a group of accesses, in order, in the register file.
-    pub fn decide_group(&self, accesses: &[Access]) -> Decisions
-        requires { length accesses.now ≤ GROUP_ACCESSES }
-        ensures { result.items ≡ map (decision_of (file_after self.now.entries self.now.list)) accesses.now }
-    {
-        let mut decisions = ArrayVec::new();
-        for access in accesses {
-            decisions.push(self.decide(access));
-        }
-        decisions
     }
 }

@@ -7,27 +7,29 @@
 
 mod batch;
 mod checker;
+mod decider;
 mod digest;
-mod entry;
+mod entrance;
 mod fault;
 mod group;
 mod growth;
 mod handing;
-mod held;
+mod held_lists;
+mod history;
 mod journal;
-mod keeper;
+mod knowledge;
 pub mod laws;
+mod logged_batch;
 mod notice;
 mod opening;
-mod past;
 mod publisher;
+mod reader_state;
+mod recorder;
 mod room;
 mod rule;
-mod stage;
-mod stand;
-mod told;
 mod version;
-mod view;
+mod version_state;
+mod writer_state;
 
 pub use batch::{Batch, BatchFull};
 pub use checker::{Checker, Moved};

@@ -4,14 +4,14 @@ ghost use Rattle.std.specs.Prelude.{◌≡◌};
 ghost use Rattle.pmp_core.specs.Histories.{file_after};
 ghost use Rattle.pmp_share.specs.Batches.{event_count};
 
-use crate::stand::Stand;
+use crate::reader_state::ReaderState;
 use pmp_core::RegFile;
 use std::marker::Model;
 
 /// What was published when it was told. A contract sees the batches; it can go to any thread.
 #[derive(Drop)]
 pub struct Notice {
-    stand: Stand,
+    state: ReaderState,
 }
 
 impl Model for Notice {
@@ -19,35 +19,35 @@ impl Model for Notice {
 
     ghost Value = { NoticeToken };
 
-    ghost view = { λ notice. record { unit = notice.stand.unit; told = notice.stand.list } };
+    ghost view = { λ notice. record { unit = notice.state.unit; told = notice.state.list } };
 }
 
 impl Notice {
     /// The notice of what is known there.
-    pub(crate) fn new(stand: Stand) -> Notice
-        ensures { result ≡ record { unit = stand.unit; told = stand.list } }
+    pub(crate) fn new(state: ReaderState) -> Notice
+        ensures { result ≡ record { unit = state.unit; told = state.list } }
     {
-        Notice { stand }
+        Notice { state }
     }
 
     /// Where it stands.
-    pub(crate) fn into_stand(self) -> Stand
+    pub(crate) fn into_state(self) -> ReaderState
         ensures { result ≡ record { unit = self.unit; list = self.told } }
     {
-        self.stand
+        self.state
     }
 
     /// How many events it tells of.
     pub fn len(&self) -> u64
         ensures { result ≡ event_count self.now.told }
     {
-        self.stand.digest().events()
+        self.state.digest().events()
     }
 
     /// The register file that these events give.
     pub fn file(&self) -> RegFile
         ensures { result ≡ file_after self.now.unit.entries self.now.told }
     {
-        self.stand.digest().file()
+        self.state.digest().file()
     }
 }

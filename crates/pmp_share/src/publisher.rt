@@ -14,7 +14,7 @@ use crate::handing::hand_over;
 use crate::journal::Journal;
 use crate::notice::Notice;
 use crate::room::has_room;
-use crate::stage::Stage;
+use crate::writer_state::WriterState;
 use pmp_core::Size;
 use std::alloc::Global;
 use std::marker::Model;
@@ -23,7 +23,7 @@ use std::sync::Wait;
 /// Adds batches to the history of its unit: `submit` puts them into the pending list, and `publish` publishes all of
 /// that in one step. It isn't dropped but ended.
 pub struct Publisher {
-    stage: Stage,
+    state: WriterState,
     pending: Journal,
     /// How many pending batches are handed over to the next version.
     handed: usize,
@@ -38,13 +38,13 @@ impl Model for Publisher {
     ghost Value = { PublisherToken };
 
     ghost view = { λ publisher. record {
-      unit = publisher.stage.unit;
-      published = publisher.stage.shown;
+      unit = publisher.state.unit;
+      published = publisher.state.shown;
       pending = publisher.pending;
       tried = publisher.tried;
     } };
 
-    ghost invariant = { λ publisher. IsPublisher publisher.stage publisher.pending publisher.handed publisher.tried };
+    ghost invariant = { λ publisher. IsPublisher publisher.state publisher.pending publisher.handed publisher.tried };
 }
 
 impl Publisher {
@@ -56,7 +56,7 @@ impl Publisher {
         ensures refused { IfErr result (λ fault. fault ≡ Memory) }
     {
         Ok(Publisher {
-            stage: Stage::open(rt, alloc, size)?,
+            state: WriterState::open(rt, alloc, size)?,
             pending: Journal::new(alloc),
             handed: 0,
             tried: 0,
@@ -70,7 +70,7 @@ impl Publisher {
             checker ≡ record { unit = self.old.unit; held = self.old.published ∷ [] }) }
         ensures refused { IfErr result (λ fault. ¬ (fault ≡ Full)) }
     {
-        Ok(Checker::new(self.stage.stand()?))
+        Ok(Checker::new(self.state.reader_state()?))
     }
 
     /// Adds a copy of the batch to the pending list. An empty batch is a batch.
@@ -81,7 +81,7 @@ impl Publisher {
             ↔ (has_room self.old.published self.old.pending batch.now ≡ false) }
         ensures memory { IfErr result (λ fault. (fault ≡ Full) ⊎ (fault ≡ Memory)) }
     {
-        if !has_room(self.stage.shown(), &self.pending, batch.events()) {
+        if !has_room(self.state.shown(), &self.pending, batch.events()) {
             return Err(ShareFault::Full);
         }
         self.pending.push(batch.events())?;
@@ -108,12 +108,12 @@ impl Publisher {
         ensures tried { self.new.tried ≡ length self.new.pending }
     {
         self.tried = self.pending.batches();
-        hand_over(&mut self.stage, &self.pending, &mut self.handed)?;
-        self.stage.show(rt)?;
+        hand_over(&mut self.state, &self.pending, &mut self.handed)?;
+        self.state.show(rt)?;
         self.pending.clear();
         self.handed = 0;
         self.tried = 0;
-        Ok(self.stage.shown().event_count())
+        Ok(self.state.shown().event_count())
     }
 
     /// Ends the publisher, and answers what it published. What is pending goes with it, and no checker ever sees that.
@@ -122,12 +122,12 @@ impl Publisher {
         ensures { result ≡ self.published }
     {
         let Publisher {
-            stage,
+            state,
             pending: _pending,
             handed: _,
             tried: _,
         } = self;
-        stage.end(rt)
+        state.end(rt)
     }
 
     /// A notice of all that is published. `NoPlace` where 32 checkers and notices are there; a place is free again once
@@ -138,14 +138,14 @@ impl Publisher {
             notice ≡ record { unit = self.old.unit; told = self.old.published }) }
         ensures refused { IfErr result (λ fault. ¬ (fault ≡ Full)) }
     {
-        Ok(Notice::new(self.stage.stand()?))
+        Ok(Notice::new(self.state.reader_state()?))
     }
 
     /// How many events are published.
     pub fn journal_len(&self) -> u64
         ensures { result ≡ event_count self.now.published }
     {
-        self.stage.shown().event_count()
+        self.state.shown().event_count()
     }
 
     /// How many events are pending.

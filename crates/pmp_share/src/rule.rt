@@ -1,14 +1,14 @@
 //! The running rule: what the published version says, and what each step does.
 
+use crate::knowledge::{Knowledge, Known};
 use crate::version::Version;
-use crate::view::{Known, View};
 use atomic_table::{Join, Split};
 use crossbeam_utils::rule::{Outcome, Protocol};
 
 /// Whatever is known is a beginning of the published batches.
 pub struct OneHistory;
 
-impl Protocol<Version, View> for OneHistory {
+impl Protocol<Version, Knowledge> for OneHistory {
     ghost use Rattle.std.specs.Prelude.{None};
     ghost use Rattle.pmp_share.specs.Rule.{Kept};
 
@@ -20,7 +20,7 @@ impl Protocol<Version, View> for OneHistory {
 /// A checker's entrance.
 pub struct Looks;
 
-impl Outcome<Version, View> for Looks {
+impl Outcome<Version, Knowledge> for Looks {
     ghost use Rattle.pmp_share.specs.Rule.{Enters};
 
     ghost then = { Enters };
@@ -29,7 +29,7 @@ impl Outcome<Version, View> for Looks {
 /// The publisher's step.
 pub struct Shows;
 
-impl Outcome<Version, View> for Shows {
+impl Outcome<Version, Knowledge> for Shows {
     ghost use Rattle.pmp_share.specs.Rule.{Shown};
 
     ghost then = { Shown };
@@ -38,7 +38,7 @@ impl Outcome<Version, View> for Shows {
 /// A new reader is told what the publisher knows.
 pub struct Tells;
 
-impl Split<View> for Tells {
+impl Split<Knowledge> for Tells {
     ghost left = { λ view. view };
 
     ghost right = { λ view. view };
@@ -47,7 +47,7 @@ impl Split<View> for Tells {
 /// It knew nothing before.
 pub struct Hears;
 
-impl Join<View> for Hears {
+impl Join<Knowledge> for Hears {
     ghost use Rattle.std.specs.Prelude.{None};
 
     ghost both = { λ _ told. told };

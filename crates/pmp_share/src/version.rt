@@ -1,77 +1,72 @@
 //! Versions of a unit: what a checker enters.
 
-ghost use Rattle.std.specs.Prelude.{◌≡◌, ◌≤◌, [], length, map};
-ghost use Rattle.pmp_core.specs.Decision.{IsDecision};
+ghost use Rattle.std.specs.Prelude.{◌≡◌, [], length};
 ghost use Rattle.pmp_core.specs.Histories.{file_after};
-ghost use Rattle.pmp_core.specs.Ranges.{decision_of};
 ghost use Rattle.pmp_core.specs.Size.{count_of};
-ghost use Rattle.pmp_share.specs.declared.group.TheConstants.{GROUP_ACCESSES};
 
-use crate::entry::Entry;
-use crate::group::{Decisions, GROUP_ACCESSES};
+use crate::decider::Decider;
 use crate::growth::grow;
+use crate::history::History;
 use crate::journal::Journal;
-use crate::past::Past;
-use crate::told::Told;
-use arrayvec::ArrayVec;
+use crate::logged_batch::LoggedBatch;
+use crate::version_state::VersionState;
 use left_right::Absorb;
 use pmp_core::{Access, Decision, RegFile, Size};
 use pmp_map::RunMap;
 use std::alloc::{AllocError, Global};
 
-/// The published batches, the register file that they give, with how many entries it has, and its map.
+/// The published batches, the register file that they give, and its map.
 #[derive(Drop)]
 pub struct Version {
     journal: Journal,
-    entries: u8,
     file: RegFile,
     map: RunMap,
-    past: Past,
-    ghost replayed: { file ≡ file_after entries journal },
+    history: History,
+    ghost replayed: { file ≡ file_after (length file.entries) journal },
     ghost mapped: { map ≡ file },
 }
 
-impl Absorb<Entry> for Version {
+impl Absorb<LoggedBatch> for Version {
+    ghost use Rattle.std.specs.Prelude.{length};
     ghost use Rattle.pmp_share.specs.Tokens.{unit_with};
     ghost use Rattle.pmp_share.specs.Versions.{applied};
 
-    type State = Told;
+    type State = VersionState;
 
     ghost state = { λ version. record {
       batches = version.journal;
-      log = version.past.log;
-      unit = unit_with version.past.book version.entries;
+      log = version.history.log;
+      unit = unit_with version.history.book (length version.file.entries);
     } };
 
     ghost applied = { applied };
 
-    fn absorb_first(&mut self, entry: &Entry, _other: &Version) -> Result<(), AllocError> {
-        let past = entry.past.again();
+    fn absorb_first(&mut self, logged: &LoggedBatch, _other: &Version) -> Result<(), AllocError> {
+        let history = logged.history.again();
         grow(
             &mut self.journal,
             &mut self.file,
             &mut self.map,
-            entry.events.as_slice(),
+            logged.events.as_slice(),
         )?;
-        self.past = past;
+        self.history = history;
         Ok(())
     }
 }
 
 impl Version {
     /// The version after reset, of a unit of this size.
-    pub fn new(alloc: Global, size: Size, past: Past) -> Version
+    pub fn new(alloc: Global, size: Size, history: History) -> Version
         ensures journal { result.journal ≡ [] }
-        ensures entries { result.entries ≡ count_of size }
-        ensures past { result.past ≡ past }
+        ensures entries { length result.file.entries ≡ count_of size }
+        ensures history { result.history ≡ history }
     {
         let file = RegFile::reset_of(size);
         Version {
             journal: Journal::new(alloc),
-            entries: size.entries(),
             file,
             map: RunMap::build(&file),
-            past,
+            history,
         }
     }
 
@@ -89,44 +84,30 @@ impl Version {
         self.journal
     }
 
-    /// How many entries its unit has.
-    pub fn entries(&self) -> u8
-        ensures { result ≡ self.now.entries }
-    {
-        self.entries
-    }
-
     /// What its events give.
     pub fn file(&self) -> &RegFile
-        ensures { result.now ≡ file_after self.now.entries self.now.journal }
+        ensures same { result.now ≡ self.now.file }
+        ensures replayed { result.now ≡ file_after (length self.now.file.entries) self.now.journal }
     {
         &self.file
     }
 
     /// The history up to it.
-    pub fn past(&self) -> Past
-        ensures { result ≡ self.now.past }
+    pub fn history(&self) -> History
+        ensures { result ≡ self.now.history }
     {
-        self.past.again()
+        self.history.again()
     }
+}
 
-    /// Decides an access by the map.
-    pub fn decide(&self, access: &Access) -> Decision
-        ensures by_bytes { IsDecision (file_after self.now.entries self.now.journal) access.now result }
-        ensures computed { result ≡ decision_of (file_after self.now.entries self.now.journal) access.now }
-    {
+/// It decides by the map.
+impl Decider for Version {
+    ghost use Rattle.std.specs.Prelude.{length};
+    ghost use Rattle.pmp_core.specs.Histories.{file_after};
+
+    ghost file = { λ version. file_after (length version.file.entries) version.journal };
+
+    fn decide(&self, access: &Access) -> Decision {
         self.map.decide(&self.file, access)
-    }
-
-    /// Decides a group of accesses, in order, by the map.
-    pub fn decide_group(&self, accesses: &[Access]) -> Decisions
-        requires { length accesses.now ≤ GROUP_ACCESSES }
-        ensures { result.items ≡ map (decision_of (file_after self.now.entries self.now.journal)) accesses.now }
-    {
-        let mut decisions = ArrayVec::new();
-        for access in accesses {
-            decisions.push(self.decide(access));
-        }
-        decisions
     }
 }

@@ -6,7 +6,8 @@ use Rattle.pmp_core.specs.RegisterFile.{is_frozen, is_held}
 use Rattle.pmp_core.specs.Size.{count_of}
 use Rattle.pmp_text.specs.EntryRows.{no_since}
 use Rattle.pmp_audit.specs.Replay.{Position, file_at}
-use Rattle.pmp_audit.proofs.EntriesSince.{few_entries, frozen_lasts, held_lasts, length-file_after, nothing_at}
+use Rattle.pmp_audit.proofs.EntriesSince.{few_entries, frozen_lasts, held_lasts, nothing_at}
+use Rattle.pmp_core.proofs.Legal.{length-file_after}
 use Rattle.pmp_audit.proofs.EntriesSince.{since-none, since_more}
 use Rattle.pmp_audit.proofs.since.since_of.Goals as goal
 

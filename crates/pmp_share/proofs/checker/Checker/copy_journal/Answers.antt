@@ -6,7 +6,7 @@ use Rattle.pmp_share.proofs.CheckFacts.{Look, latest_new, looked_checks, looked}
 use Rattle.pmp_share.proofs.checker.Checker.copy_journal.Goals as goal
 use Rattle.pmp_share.proofs.checker.Checker.copy_journal.Goals.{After-drop-self-inside}
 
-look : (c : After-drop-self-inside) → Look c.self.inside.stand c.copy_journal-copied.new.self c.args.self.now.held
+look : (c : After-drop-self-inside) → Look c.self.inside.state c.copy_journal-copied.new.self c.args.self.now.held
     c.self.inside.held c.alone.result c.digest.result.now.list
 look c = record {
   seen_is = ap (λ (token : CheckerToken). token.held) c.self.view_is;

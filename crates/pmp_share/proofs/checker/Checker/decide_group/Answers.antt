@@ -10,7 +10,7 @@ use Rattle.pmp_share.proofs.CheckFacts.{Look, latest_new, looked_checks, looked}
 use Rattle.pmp_share.proofs.checker.Checker.decide_group.Goals as goal
 use Rattle.pmp_share.proofs.checker.Checker.decide_group.Goals.{After-drop-self-inside}
 
-look : (c : After-drop-self-inside) → Look c.self.inside.stand c.look_at_group-decided.new.self c.args.self.now.held
+look : (c : After-drop-self-inside) → Look c.self.inside.state c.look_at_group-decided.new.self c.args.self.now.held
     c.self.inside.held c.alone.result c.digest.result.now.list
 look c = record {
   seen_is = ap (λ (token : CheckerToken). token.held) c.self.view_is;

@@ -1,5 +1,5 @@
 use Rattle.std.proofs.Common.{◌≡◌, [], ◌∷◌, ◌++◌, ap, ◌∙◌}
-use Rattle.pmp_share.specs.declared.view.Known.{Known}
+use Rattle.pmp_share.specs.declared.knowledge.Known.{Known}
 use Rattle.pmp_share.specs.Batches.{Batches}
 use Rattle.pmp_share.specs.Tokens.{CheckerToken}
 use Rattle.pmp_share.proofs.LookFacts.{latest_more, learns_bound}
@@ -7,22 +7,22 @@ use Rattle.pmp_share.proofs.CheckFacts.{learnt_later, learnt_earlier}
 use Rattle.pmp_share.proofs.checker.Checker.learn.Goals as goal
 use Rattle.pmp_share.proofs.checker.Checker.learn.Goals.{After-is_before}
 
-held_more : (c : After-is_before) → c.with.result ≡ c.self.inside.held ++ c.into_stand-stand.result.list ∷ []
+held_more : (c : After-is_before) → c.with.result ≡ c.self.inside.held ++ c.into_state-state.result.list ∷ []
 held_more c = c.with.ensures ∙ ap (λ (told : Batches). c.self.inside.held ++ told ∷ []) c.digest.ensures.list
 
 held_told : (c : After-is_before) → c.with.result ≡ c.args.self.now.held ++ c.args.notice.told ∷ []
 held_told c =
     held_more c
     ∙ (λ i. ap (λ (token : CheckerToken). token.held) c.self.view_is i
-    ++ ap (λ (stand : Known). stand.list) c.into_stand-stand.ensures i ∷ [])
+    ++ ap (λ (state : Known). state.list) c.into_state-state.ensures i ∷ [])
 
 pub invariant_of-self : goal.invariant_of-self
-invariant_of-self c = learnt_later c.self.inside.stand c.into_stand-stand.result c.self.inside.held c.with.result
+invariant_of-self c = learnt_later c.self.inside.state c.into_state-state.result c.self.inside.held c.with.result
     c.is_before.result c.self.invariant (held_more (goal.at.invariant_of-self c).After-is_before)
     c.is_before.ensures.late c.is_before.ensures.begins c.if-is_before.true
 
 pub invariant_of-self-else-is_before : goal.invariant_of-self-else-is_before
-invariant_of-self-else-is_before c = learnt_earlier c.self.inside.stand c.into_stand-stand.result c.self.inside.held
+invariant_of-self-else-is_before c = learnt_earlier c.self.inside.state c.into_state-state.result c.self.inside.held
     c.with.result c.is_before.result c.self.invariant
     (held_more (goal.at.invariant_of-self-else-is_before c).After-is_before) c.is_before.ensures.late
     c.is_before.ensures.begins c.if-is_before.false

@@ -5,4 +5,4 @@ use Rattle.pmp_share.proofs.checker.Checker.new.Goals as goal
 
 pub invariant_of-result : goal.invariant_of-result
 invariant_of-result c =
-    alone_checks c.args.stand _ (c.alone-held.ensures ∙ ap (λ (list : Batches). list ∷ []) c.digest.ensures.list)
+    alone_checks c.args.state _ (c.alone-held.ensures ∙ ap (λ (list : Batches). list ∷ []) c.digest.ensures.list)
