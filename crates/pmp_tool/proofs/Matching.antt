@@ -12,8 +12,10 @@ use Rattle.clap.specs.declared.parser.matches.Found.{Found}
 use Rattle.clap.proofs.WalkLemmas.{first_value-rows}
 use Rattle.pmp_text.specs.Numbers.{word_number}
 use Rattle.pmp_tool.specs.Commands.{after_of, asked_in, asked_of, command_named, number_given, required}
+use Rattle.pmp_tool.specs.Expected.{expected_given, expected_named, expected_of}
 use Rattle.pmp_tool.specs.Refusals.{result_map}
 use Rattle.pmp_tool.specs.declared.command.CommandName.{CommandName}
+use Rattle.pmp_tool.specs.declared.expected.Expected.{Expected}
 use Rattle.pmp_tool.specs.declared.refusal.Refusal.{Refusal}
 use Rattle.pmp_tool.specs.declared.refusal.Refusal.TheVariants.{BadWord}
 
@@ -62,6 +64,16 @@ pub after_there : (found : Found) (word : Text) (result : Result ℕ Refusal)
     → result_map Some result ≡ after_of (first_of (codes "after") (rows_of found))
 after_there found word result read is =
     rw (← (read ∙ first_value-rows found (codes "after"))) (number_read (word_number word) result is)
+
+expected_read : (known : Option Expected) → ok_or known BadWord ≡ expected_given known
+expected_read None = refl
+expected_read (Some expected) = refl
+
+-- the answer that the option's word names
+pub expected_there : (found : Found) (word : Text) → Some word ≡ first_value found (codes "expect")
+    → ok_or (expected_named word) BadWord ≡ expected_of (first_of (codes "expect") (rows_of found))
+expected_there found word read =
+    expected_read (expected_named word) ∙ ap expected_of (read ∙ first_value-rows found (codes "expect"))
 
 -- a word that is there is the one that is required
 pub word_is : (wanted : Option Text) (word : Text) → Ok word ≡ required wanted → wanted ≡ Some word

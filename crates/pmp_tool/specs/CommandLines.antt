@@ -17,6 +17,10 @@ word_rule id = record (new_rule id) { value_names = 1; required = true }
 abbrev pub after_rule : Rule
 after_rule = record (new_rule (codes "after")) { long = Some (codes "after"); value_names = 1 }
 
+-- `--expect ANSWER`
+abbrev pub expect_rule : Rule
+expect_rule = record (new_rule (codes "expect")) { long = Some (codes "expect"); value_names = 1 }
+
 -- `--checkers K`, a number from 1 to how many a unit has places for
 abbrev pub checkers_rule : Rule
 checkers_rule = record (new_rule (codes "checkers")) {
@@ -31,6 +35,9 @@ with_word app id = with_rule app (word_rule id)
 unfoldable pub with_after : App → App
 with_after app = with_rule app after_rule
 
+unfoldable pub with_expect : App → App
+with_expect app = with_rule app expect_rule
+
 unfoldable pub with_checkers : App → App
 with_checkers app = with_rule app checkers_rule
 
@@ -38,11 +45,11 @@ with_checkers app = with_rule app checkers_rule
 abbrev pub script_app : (name : Text) → App
 script_app name = with_word (new_app name) (codes "script")
 
--- `check SCRIPT MODE KIND START LENGTH [--after N]`
+-- `check SCRIPT MODE KIND START LENGTH [--after N] [--expect ANSWER]`
 abbrev pub check_app : App
 check_app =
-    with_after (with_word (with_word (with_word (with_word (script_app (codes "check")) (codes "mode")) (codes "kind"))
-    (codes "start")) (codes "length"))
+    with_expect (with_after (with_word (with_word (with_word (with_word (script_app (codes "check")) (codes "mode"))
+    (codes "kind")) (codes "start")) (codes "length")))
 
 -- `audit SCRIPT TRACE [--checkers K]`
 abbrev pub audit_app : App

@@ -17,9 +17,11 @@ use Rattle.pmp_tool.specs.declared.command.CommandName.{CommandName}
 use Rattle.pmp_tool.specs.declared.command.CommandName.TheVariants as name
 use Rattle.pmp_tool.specs.declared.command.Request.{Request}
 use Rattle.pmp_tool.specs.declared.command.Request.TheVariants as request
+use Rattle.pmp_tool.specs.declared.expected.Expected.{Expected}
 use Rattle.pmp_tool.specs.declared.refusal.Refusal.{Refusal}
 use Rattle.pmp_tool.specs.declared.refusal.Refusal.TheVariants.{BadWord}
 use Rattle.pmp_tool.specs.Checkers.{checkers_given}
+use Rattle.pmp_tool.specs.Expected.{expected_of}
 use Rattle.pmp_tool.specs.Refusals.{refusal_of_access, result_map}
 
 -- an access, in plain values
@@ -31,7 +33,7 @@ pub record AccessTask : Type 0 where
 
 -- what is asked for of a script, in plain values
 pub data Task : Type 0 where
-  Check : AccessTask → (after : Option ℕ) → Task
+  Check : AccessTask → (after : Option ℕ) → Expected → Task
   Audit : (trace : Text) (checkers : Option ℕ) → Task
   Show : View → (after : Option ℕ) → Task
   Writes : Task
@@ -40,7 +42,7 @@ abbrev pub access_task : Access → AccessTask
 access_task access = record { mode = access.mode; kind = access.kind; start = access.start; length = access.length }
 
 abbrev pub task_of : Request → Task
-task_of (request.Check access after) = Check (access_task access) after
+task_of (request.Check access after expected) = Check (access_task access) after expected
 task_of (request.Audit trace checkers) = Audit trace.now (option_map (λ checkers. checkers.count) checkers)
 task_of (request.Show view after) = Show view after
 task_of request.Writes = Writes
@@ -90,14 +92,17 @@ abbrev pub checkers_of : Option Text → Result (Option ℕ) Refusal
 checkers_of None = Ok None
 checkers_of (Some word) = result_map Some (checkers_given (word_number word))
 
-abbrev pub check_with : (after : Result (Option ℕ) Refusal) → Result AccessTask Refusal → Result Task Refusal
-check_with (Err refusal) access = Err refusal
-check_with (Ok after) (Err refusal) = Err refusal
-check_with (Ok after) (Ok access) = Ok (Check access after)
+abbrev pub check_with : Result Expected Refusal → (after : Result (Option ℕ) Refusal) → Result AccessTask Refusal
+    → Result Task Refusal
+check_with (Err refusal) after access = Err refusal
+check_with (Ok expected) (Err refusal) access = Err refusal
+check_with (Ok expected) (Ok after) (Err refusal) = Err refusal
+check_with (Ok expected) (Ok after) (Ok access) = Ok (Check access after expected)
 
--- the option is read before the access is made
+-- the options are read before the access is made
 abbrev pub check_in : List Row → Result Task Refusal
-check_in rows = check_with (after_of (first_of (codes "after") rows)) (access_in rows)
+check_in rows =
+    check_with (expected_of (first_of (codes "expect") rows)) (after_of (first_of (codes "after") rows)) (access_in rows)
 
 abbrev pub audit_with : (trace : Result Text Refusal) → (checkers : Result (Option ℕ) Refusal) → Result Task Refusal
 audit_with (Err refusal) checkers = Err refusal

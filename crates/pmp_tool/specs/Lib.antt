@@ -1,6 +1,7 @@
 -- What a reader has to believe: what words ask for, what is answered, and how a failure is told.
 pub mod CommandLines
 pub mod Checkers
+pub mod Expected
 pub mod Commands
 pub mod Failures
 pub mod Inputs

@@ -1,5 +1,5 @@
 -- What is said of a request, and when it is refused.
-use Rattle.std.specs.Prelude.{ℕ, List, Option, Some, None}
+use Rattle.std.specs.Prelude.{◌≡◌, ℕ, List, Option, Some, None}
 use Rattle.pmp_audit.specs.declared.fault.AuditFault.{AuditFault}
 use Rattle.pmp_audit.specs.AccessCheck.{CheckSays}
 use Rattle.pmp_audit.specs.AskedFile.{FileRefuses}
@@ -16,7 +16,8 @@ use Rattle.pmp_tool.specs.Inputs.{AreBytesOf, Inputs}
 
 -- which text goes with which outcome of a request of this script
 abbrev pub RequestSays : (traces : Inputs) (script : List ℕ) → Request → Outcome → (text : List ℕ) → Type 0
-RequestSays traces script (Check access after) (Decided decision) text = CheckSays script access after decision text
+RequestSays traces script (Check access after expected) (Decided decision asked) text =
+    (asked ≡ expected) × CheckSays script access after decision text
 RequestSays traces script (Audit path checkers) (Audited summary) text =
     (trace : List ℕ) × AreBytesOf (traces path.now) trace × AuditSays script trace summary text
 RequestSays traces script (Show view after) Listed text = ViewSays view script after tt text
@@ -30,7 +31,7 @@ AuditByRefuses (Some checkers) script trace fault = SharedAuditRefuses script tr
 
 -- which faults of the script, or of the trace, a request is refused for
 abbrev pub RequestRefuses : (traces : Inputs) (script : List ℕ) → Request → AuditFault → Type 0
-RequestRefuses traces script (Check access after) fault = FileRefuses script after fault
+RequestRefuses traces script (Check access after expected) fault = FileRefuses script after fault
 RequestRefuses traces script (Audit path checkers) fault =
     (trace : List ℕ) × AreBytesOf (traces path.now) trace × AuditByRefuses checkers script trace fault
 RequestRefuses traces script (Show view after) fault = FileRefuses script after fault

@@ -21,6 +21,7 @@ use Rattle.pmp_tool.specs.declared.run.Outcome.{Outcome}
 use Rattle.pmp_tool.specs.declared.run.Outcome.TheVariants.{Decided, Audited, Replayed, Told}
 use Rattle.pmp_tool.specs.CommandLines.{IsRefusedCommandLine, MayAskForText, WordsAskFor, WordsAreRefused}
 use Rattle.pmp_tool.specs.Commands.{asked}
+use Rattle.pmp_tool.specs.Expected.{is_met}
 use Rattle.pmp_tool.specs.Failures.{refused, unaudited}
 use Rattle.pmp_tool.specs.Inputs.{AreBytesOf, CantBeRead, Inputs}
 use Rattle.pmp_tool.specs.Refusals.{refusal_of_input}
@@ -78,9 +79,9 @@ pub data Fails (words : List Text) (scripts traces : Inputs) (before after : Opt
   no_command : (command : Command) (failure : Failure) → WordsAskFor words (asked command)
       → CommandFails scripts traces command before after failure → Fails words scripts traces before after failure
 
--- accesses end well where all are allowed, writes where none is turned away, and all else does
+-- a check ends well where the answer is the expected one, an audit where all accesses are allowed, writes where none is turned away, and all else does
 abbrev pub outcome_status : Outcome → ℕ
-outcome_status (Decided decision) = if decision.allowed then 0 else 1
+outcome_status (Decided decision expected) = if is_met expected decision then 0 else 1
 outcome_status (Audited summary) = if summary.faults == 0 then 0 else 1
 outcome_status (Replayed summary) = if summary.turned_away == 0 then 0 else 1
 outcome_status _ = 0

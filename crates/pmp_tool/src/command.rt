@@ -6,9 +6,11 @@ ghost use Rattle.pmp_text.specs.AccessWords.{kind_named, mode_named};
 ghost use Rattle.pmp_text.specs.Numbers.{word_number};
 ghost use Rattle.pmp_tool.specs.Commands.{access_of, access_task, after_of, asked, asked_of, audit_in, check_in};
 ghost use Rattle.pmp_tool.specs.Commands.{checkers_of, command_named, required, task_in, task_of};
+ghost use Rattle.pmp_tool.specs.Expected.{expected_of};
 ghost use Rattle.pmp_tool.specs.Refusals.{result_map};
 
 use crate::checkers::{Checkers, read_checkers};
+use crate::expected::{Expected, read_expected};
 use crate::refusal::Refusal;
 use clap::ArgMatches;
 use pmp_audit::View;
@@ -18,8 +20,8 @@ use pmp_text::{read_kind, read_mode, read_word_number};
 /// What is asked for of a script.
 #[derive(Clone, Copy)]
 pub enum Request<'a> {
-    /// The access, and how many publications are taken before it, where not all are.
-    Check(Access, Option<u64>),
+    /// The access, how many publications are taken before it, where not all are, and which answer is expected.
+    Check(Access, Option<u64>, Expected),
     /// The path of the trace, and how many checkers decide its rows, where that is said.
     Audit(&'a str, Option<Checkers>),
     /// What is shown, and how many publications are taken before it, where not all are.
@@ -108,17 +110,28 @@ fn asked_checkers(words: &ArgMatches) -> Result<Option<Checkers>, Refusal>
     }
 }
 
-/// The access of a check, and how many publications are taken.
+/// The access of a check, how many publications are taken, and which answer is expected.
 fn read_check<'a>(words: &ArgMatches<'a>) -> Result<Request<'a>, Refusal>
     ensures { result_map task_of result ≡ check_in (rows_of (found_of words.now)) }
 {
+    let expected = asked_answer(words)?;
     let after = read_after(words)?;
     let mode = word_of(words, "mode")?;
     let kind = word_of(words, "kind")?;
     let start = word_of(words, "start")?;
     let length = word_of(words, "length")?;
     let access = read_access(mode, kind, start, length)?;
-    Ok(Request::Check(access, after))
+    Ok(Request::Check(access, after, expected))
+}
+
+/// Which answer is expected, as the words say it, or else that the access is allowed.
+fn asked_answer(words: &ArgMatches) -> Result<Expected, Refusal>
+    ensures { result ≡ expected_of (first_of (codes "expect") (rows_of (found_of words.now))) }
+{
+    match words.get_str("expect") {
+        Some(word) => read_expected(word).ok_or(Refusal::BadWord),
+        None => Ok(Expected::Allow),
+    }
 }
 
 /// The access that four words describe. All words are read before the access is made.

@@ -3,9 +3,9 @@
 ghost use Rattle.std.specs.Prelude.{◌≡◌, map, false, IfOk, IfErr, string_bytes};
 ghost use Rattle.clap.specs.Words.{App, HasKind, fault_of, new_app, rule_of};
 ghost use Rattle.pmp_tool.specs.Building.{Builds, IsBuilt, IsCommand, IsTaken};
-ghost use Rattle.pmp_tool.specs.CommandLines.{after_rule, audit_app, check_app, checkers_rule, file_app};
+ghost use Rattle.pmp_tool.specs.CommandLines.{after_rule, audit_app, check_app, checkers_rule, expect_rule, file_app};
 ghost use Rattle.pmp_tool.specs.CommandLines.{pmp_app, script_app, top_app, with_after, with_checkers, with_command};
-ghost use Rattle.pmp_tool.specs.CommandLines.{with_views, with_word};
+ghost use Rattle.pmp_tool.specs.CommandLines.{with_expect, with_views, with_word};
 ghost use Rattle.pmp_tool.specs.CommandLines.{word_rule};
 
 use crate::help;
@@ -57,7 +57,7 @@ fn check<'a>(alloc: Global) -> Built<'a>
     let command = with_word(alloc, command, "kind", "KIND", help::KIND);
     let command = with_word(alloc, command, "start", "START", help::START);
     let command = with_word(alloc, command, "length", "LENGTH", help::LENGTH);
-    with_after(alloc, command)
+    with_expect(alloc, with_after(alloc, command))
 }
 
 fn audit<'a>(alloc: Global) -> Built<'a>
@@ -147,6 +147,23 @@ fn after<'a>(alloc: Global) -> Arg<'a>
         .long("after")
         .value_name("N")
         .help(help::AFTER)
+}
+
+fn with_expect<'a>(alloc: Global, command: Built<'a>) -> Built<'a>
+    ensures { Builds with_expect command.entry result }
+{
+    command?.arg(expect(alloc))
+}
+
+/// `--expect ANSWER`, taken as text.
+fn expect<'a>(alloc: Global) -> Arg<'a>
+    ensures rule { rule_of result ≡ expect_rule }
+    ensures local { result.global ≡ false }
+{
+    Arg::new(alloc, "expect")
+        .long("expect")
+        .value_name("ANSWER")
+        .help(help::EXPECT)
 }
 
 fn with_checkers<'a>(alloc: Global, command: Built<'a>) -> Built<'a>

@@ -41,14 +41,19 @@ pub const LENGTH: &str = "How many bytes it has, a number from 1 to 4096; it end
 pub const AFTER: &str =
     "Takes the first N publications, a number up to how many there are; all without this option";
 
+pub const EXPECT: &str =
+    "Ends with status 0 where the answer is ANSWER, allow or fault, and with 1 where it is the other; allow without this \
+    option";
+
 pub const CHECKERS: &str =
     "Decides the rows by K checkers on threads, a number from 1 to 8; K changes the time, never what is written";
 
 pub const MORE: &str = "\
 Exit status:
-  0  every access is allowed, every write is stored as written, or what was
-     asked for was written
-  1  the unit refuses an access, or doesn't store a write as written
+  0  every access is allowed or is answered as --expect says, every write is
+     stored as written, or what was asked for was written
+  1  the unit refuses an access or gives the answer that --expect doesn't name,
+     or doesn't store a write as written
   2  no answer: the words, the script or the trace are at fault
   3  no answer: memory, an input, the output or a place for a checker failed
 
@@ -64,13 +69,15 @@ A number is 1 to 20 decimal digits, or 0x and 1 to 16 hexadecimal digits, and is
 below 2^64.
 
 Exit status:
-  0  the access is allowed
-  1  the unit refuses it
+  0  the access is allowed, or with --expect fault the unit refuses it
+  1  it is the other way round
   2  no answer: the words or the script are at fault
   3  no answer: memory, the script's input or the output failed
 
+In a pipeline say which answer you expect: then 2 and 3 don't pass for it.
+
 Example:
-  echo 'pmp 1' | pmp check stdin U load 0x80000ff8 8
+  echo 'pmp 1' | pmp check stdin U load 0x80000ff8 8 --expect fault
   It answers 1,fault,5,none,
 
 docs/FORMATS.md describes scripts, the row, and every refusal with its number.";

@@ -4,6 +4,7 @@
 mod checkers;
 mod command;
 mod command_line;
+mod expected;
 mod failure;
 mod fault_line;
 mod help;

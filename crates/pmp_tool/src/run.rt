@@ -14,6 +14,7 @@ ghost use Rattle.pmp_tool.specs.declared.run.Outcome.TheVariants.{Told};
 use crate::checkers::Checkers;
 use crate::command::{Command, Request, read_command};
 use crate::command_line::parse_words;
+use crate::expected::Expected;
 use crate::failure::Failure;
 use crate::inputs::Inputs;
 use pmp_audit::{
@@ -26,16 +27,17 @@ use std::io::Write;
 use std::sync::Wait;
 use std::thread::Threads;
 
-/// The exit status of texts and lists that were written, of accesses that are all allowed, and of writes that are all
-/// stored.
+/// The exit status of texts and lists that were written, of an answer that is the expected one, of accesses that are all
+/// allowed, and of writes that are all stored.
 const DONE: u8 = 0;
 
-/// The exit status of an access that is refused, and of a write that is turned away.
-const REFUSED: u8 = 1;
+/// The exit status of an answer that isn't the expected one, of an access of a trace that is refused, and of a write that
+/// is turned away.
+const OTHER: u8 = 1;
 
-/// Runs the program on its words, those after its own name, and answers its exit status: 0 where each access is
-/// allowed and each write stored, or what is shown or a text of help was written, 1 where an access is refused or a
-/// write is turned away, 2 or 3 where there is no answer, with a text on `err` that says why.
+/// Runs the program on its words, those after its own name, and answers its exit status: 0 where the answer to a check
+/// is the expected one, each access of a trace is allowed, each write is stored, or what is shown or a text of help was
+/// written, 1 where that isn't so, 2 or 3 where there is no answer, with a text on `err` that says why.
 ///
 /// `rt` makes the threads of an audit by several checkers, for which the call may wait.
 ///
@@ -121,9 +123,9 @@ fn answer<R: Threads + Wait + Sync, I: Inputs, O: Write>(
 {
     let script = inputs.script(command.script)?;
     match command.request {
-        Request::Check(access, after) => {
+        Request::Check(access, after, expected) => {
             let decision = check(alloc, &script, &access, after, out)?;
-            Ok(Outcome::Decided(decision))
+            Ok(Outcome::Decided(decision, expected))
         }
         Request::Audit(trace, checkers) => {
             let trace = inputs.trace(trace)?;
@@ -164,7 +166,8 @@ fn audit_by<R: Threads + Wait + Sync, O: Write>(
 /// What the program did.
 #[derive(Clone, Copy)]
 enum Outcome {
-    Decided(Decision),
+    /// The decision on an access, and which answer to it is expected.
+    Decided(Decision, Expected),
     Audited(Summary),
     /// What is shown of a register file was written.
     Listed,
@@ -179,9 +182,9 @@ impl Outcome {
         ensures { result ≡ outcome_status self }
     {
         match self {
-            Outcome::Decided(decision) if !decision.allowed => REFUSED,
-            Outcome::Audited(summary) if summary.faults > 0 => REFUSED,
-            Outcome::Replayed(summary) if summary.turned_away > 0 => REFUSED,
+            Outcome::Decided(decision, expected) if !expected.is_met(decision) => OTHER,
+            Outcome::Audited(summary) if summary.faults > 0 => OTHER,
+            Outcome::Replayed(summary) if summary.turned_away > 0 => OTHER,
             _ => DONE,
         }
     }

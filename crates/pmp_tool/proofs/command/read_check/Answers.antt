@@ -30,7 +30,7 @@ returns-in_err-mode c =
     let lacks =
     word_lacks (first_of (codes "mode") (rows_of (found_of c.args.words.now))) c.in_err-mode.field-0.0
     c.in_err-mode.ensures in
-    rw (p.1, p.2, lacks.0, lacks.1, sym c.in_ok-after.ensures) refl
+    rw (p.1, p.2, lacks.0, lacks.1, sym c.in_ok-expected.ensures, sym c.in_ok-after.ensures) refl
 
 pub returns-in_err-kind : goal.returns-in_err-kind
 returns-in_err-kind c =
@@ -38,8 +38,8 @@ returns-in_err-kind c =
     let lacks =
     word_lacks (first_of (codes "kind") (rows_of (found_of c.args.words.now))) c.in_err-kind.field-0.0
     c.in_err-kind.ensures in
-    rw (p.1, p.2, lacks.0, lacks.1, sym c.in_ok-after.ensures)
-    (ap (check_with (Ok c.in_ok-after.after)) (no_kind _ _ _))
+    rw (p.1, p.2, lacks.0, lacks.1, sym c.in_ok-expected.ensures, sym c.in_ok-after.ensures)
+    (ap (check_with (Ok c.in_ok-expected.expected) (Ok c.in_ok-after.after)) (no_kind _ _ _))
 
 pub returns-in_err-start : goal.returns-in_err-start
 returns-in_err-start c =
@@ -47,8 +47,8 @@ returns-in_err-start c =
     let lacks =
     word_lacks (first_of (codes "start") (rows_of (found_of c.args.words.now))) c.in_err-start.field-0.0
     c.in_err-start.ensures in
-    rw (p.1, p.2, lacks.0, lacks.1, sym c.in_ok-after.ensures)
-    (ap (check_with (Ok c.in_ok-after.after)) (no_start _ _ _))
+    rw (p.1, p.2, lacks.0, lacks.1, sym c.in_ok-expected.ensures, sym c.in_ok-after.ensures)
+    (ap (check_with (Ok c.in_ok-expected.expected) (Ok c.in_ok-after.after)) (no_start _ _ _))
 
 pub returns-in_err-length : goal.returns-in_err-length
 returns-in_err-length c =
@@ -56,8 +56,8 @@ returns-in_err-length c =
     let lacks =
     word_lacks (first_of (codes "length") (rows_of (found_of c.args.words.now))) c.in_err-length.field-0.0
     c.in_err-length.ensures in
-    rw (p.1, p.2, lacks.0, lacks.1, sym c.in_ok-after.ensures)
-    (ap (check_with (Ok c.in_ok-after.after)) (no_length _ _ _))
+    rw (p.1, p.2, lacks.0, lacks.1, sym c.in_ok-expected.ensures, sym c.in_ok-after.ensures)
+    (ap (check_with (Ok c.in_ok-expected.expected) (Ok c.in_ok-after.after)) (no_length _ _ _))
 
 pub returns : goal.returns
 returns c =
@@ -67,5 +67,6 @@ returns c =
       word_is (first_of (codes "kind") rows) c.in_ok-kind.kind.now c.in_ok-kind.ensures,
       word_is (first_of (codes "start") rows) c.in_ok-start.start.now c.in_ok-start.ensures,
       word_is (first_of (codes "length") rows) c.in_ok-length.length.now c.in_ok-length.ensures,
+      sym c.in_ok-expected.ensures,
       sym c.in_ok-after.ensures,
-    ) (ap (check_with (Ok c.in_ok-after.after)) c.in_ok-access.ensures)
+    ) (ap (check_with (Ok c.in_ok-expected.expected) (Ok c.in_ok-after.after)) c.in_ok-access.ensures)

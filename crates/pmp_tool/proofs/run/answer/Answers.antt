@@ -1,3 +1,4 @@
+use Rattle.std.proofs.Common.{refl}
 use Rattle.std.proofs.lemmas.Result.{err_from_is_err_and}
 use Rattle.std.proofs.KnownBytes.{Keeps-refl}
 use Rattle.pmp_audit.specs.AccessCheck.{CheckSays}
@@ -25,8 +26,9 @@ returns-in_err-decision-in-Check-clause-err g c =
     let refused = rw c.deref.ensures.value at c.in_err-decision-in-Check.ensures.err in
     rw (p.1, p.2)
     (not_answered _ _ c.args.command script c.in_ok-script.ensures.read
-    (Check c.in-Check.access c.in-Check.after) c.in-Check.is _ _
-    Decided (CheckSays script c.in-Check.access c.in-Check.after) (λ decision text says. says)
+    (Check c.in-Check.access c.in-Check.after c.in-Check.expected) c.in-Check.is _ _
+    (λ decision. Decided decision c.in-Check.expected) (CheckSays script c.in-Check.access c.in-Check.after)
+    (λ decision text says. (refl, says))
     (FileRefuses script c.in-Check.after)
     (λ fault refuses. refuses) c.in_err-decision-in-Check.field-0.0 refused)
 
