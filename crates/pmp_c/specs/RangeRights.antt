@@ -34,7 +34,7 @@ pub record AreRangeRights (file : RegisterFile) (mode : Mode) (start length numb
   -- where one owner, or none, has all bytes: R is 1, W is 2, X is 4
   pub owned : (owner : Option ℕ) → IsOwnedBy file.entries start length owner
       → number ≡ (perms_of (owned_rights file owner mode)).0
-  -- where no one owner has
+  -- where no one owner has all bytes
   pub mixed : ((owner : Option ℕ) → ¬ (IsOwnedBy file.entries start length owner)) → number ≡ mixed_number
   -- where it isn't mixed, every access of the mode in the range is allowed where the bit of its kind is set
   pub accesses : number < mixed_number → (access : Access) → access.mode ≡ mode → start ≤ access.start

@@ -3,7 +3,8 @@ use Rattle.std.proofs.Common.{◌≡◌, ℕ, ◌+◌, ◌-◌, ◌*◌, ◌%◌
 use Rattle.std.proofs.Common.{refl, sym, ◌∙◌, inl, inr, arith}
 use Rattle.std.specs.List.{range_with_len, list_any}
 use Rattle.std.proofs.lemmas.Bool.{cases_eq, cases_Bool, not-false, and_left, and_right, and_parts, and_from}
-use Rattle.std.proofs.lemmas.Bool.{not_from_true, not_from_false, true_from_ne_false, eqb-true, ne_eqb, ltb-true, lt-ltb}
+use Rattle.std.proofs.lemmas.Bool.{not_from_true, not_from_false, true_from_ne_false, eqb-true, ne_eqb, ltb-true}
+use Rattle.std.proofs.lemmas.Bool.{lt-ltb}
 use Rattle.std.proofs.lemmas.Bool.Decides.{nat_tests}
 use Rattle.pmp_core.specs.RegisterWrite.{holds_byte_of}
 use Rattle.pmp_core.specs.WriteReasons.{byte_for}

@@ -19,8 +19,7 @@ use Rattle.pmp_core.specs.RegisterFile.{RegisterFile, reset_entry, reset_file, e
 use Rattle.pmp_core.specs.Histories.{joined, file_after}
 use Rattle.pmp_core.specs.ReachableLaw.{LegalLaw}
 use Rattle.pmp_core.specs.RegisterWrite.{without_reserved, stored_over, stored, holds_byte_of, configured}
-use Rattle.pmp_core.specs.RegisterWrite.{is_address_frozen}
-use Rattle.pmp_core.specs.RegisterWrite.{written, step}
+use Rattle.pmp_core.specs.RegisterWrite.{is_address_frozen, written, step}
 
 -- ---- reset
 

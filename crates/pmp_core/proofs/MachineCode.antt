@@ -1,7 +1,6 @@
 -- Where machine mode executes under lockdown.
-use Rattle.std.proofs.Common.{◌≡◌, ℕ, ◌≤◌, ◌%◌, ◌-◌, ◌*◌, Bool, true, false, cond, ◌&&◌, List, [], ◌∷◌}
-use Rattle.std.proofs.Common.{fold, length, slice_index, refl, sym, ap, ◌∙◌, inl, inr, arith, get_or-set_same}
-use Rattle.std.proofs.Common.{length-set}
+use Rattle.std.proofs.Common.{◌≡◌, ℕ, ◌≤◌, ◌%◌, ◌-◌, ◌*◌, Bool, true, false, cond, ◌&&◌, List, [], ◌∷◌, fold, length}
+use Rattle.std.proofs.Common.{slice_index, refl, sym, ap, ◌∙◌, inl, inr, arith, get_or-set_same, length-set}
 use Rattle.std.specs.List.{list_all}
 use Rattle.std.specs.Int.{w64, to_le_bytes}
 use Rattle.std.proofs.Math.ListN.{set}

@@ -1,8 +1,7 @@
 -- mseccfg is stored as written exactly where there is no reason.
 use Rattle.std.proofs.Common.{◌≡◌, ℕ, zero, suc, ◌+◌, ◌*◌, ◌/◌, ◌%◌, ◌<◌, Bool, true, false, not}
 use Rattle.std.proofs.Common.{◌&&◌, ◌||◌, ◌==◌, refl, sym, ap, ◌∙◌, arith}
-use Rattle.std.proofs.lemmas.Bool.{not-false, and_right, or_parts, or_from}
-use Rattle.std.proofs.lemmas.Bool.{eqb-true}
+use Rattle.std.proofs.lemmas.Bool.{not-false, and_right, or_parts, or_from, eqb-true}
 use Rattle.pmp_core.specs.declared.csr.Csr.TheVariants.{Mseccfg}
 use Rattle.pmp_core.specs.declared.write_reasons.WriteReason.TheVariants.{Frozen, Tor, Reserved, Lockdown}
 use Rattle.pmp_core.specs.Configuration.{bit_of}

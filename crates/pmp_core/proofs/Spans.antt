@@ -1,6 +1,5 @@
 -- The bytes that an entry matches are those of its span, and of no other.
-use Rattle.std.proofs.Common.{◌≡◌, ◌↔◌, ℕ, ◌≤◌, List, min, ltb, true, false, Some, None}
-use Rattle.std.proofs.Common.{refl, ap, ◌∙◌, inl, inr, arith}
+use Rattle.std.proofs.Common.{◌≡◌, ◌↔◌, ℕ, ◌≤◌, List, min, ltb, true, false, Some, None, refl, ap, ◌∙◌, inl, inr, arith}
 use Rattle.std.proofs.lemmas.Bool.{cases_lt}
 use Rattle.std.proofs.lemmas.Bool.Decides.{nat_tests}
 use Rattle.pmp_core.specs.declared.entry.Entry.{Entry}

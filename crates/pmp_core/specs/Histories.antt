@@ -18,7 +18,7 @@ joined batches = flat_map (λ batch. batch) batches
 abbrev pub file_after : (n : ℕ) → List (List Event) → RegisterFile
 file_after n batches = replay n (joined batches)
 
--- a write, and no reset
+-- whether the event is a write, and no reset
 abbrev pub is_write : Event → Bool
 is_write (Write csr value) = true
 is_write Reset = false

@@ -14,8 +14,7 @@ use Rattle.pmp_core.specs.Ranges.{IsInRange, range_in, ranges_of, AreRanges}
 use Rattle.pmp_core.proofs.Matches.{are_ranges}
 use Rattle.pmp_map.specs.declared.run.Run.{Run}
 use Rattle.pmp_map.specs.Owners.{IsOwnerIn}
-use Rattle.pmp_map.specs.Runs.{map_run}
-use Rattle.pmp_map.specs.Runs.{AreRunsTo, AreRuns, HasOwnersBelow}
+use Rattle.pmp_map.specs.Runs.{map_run, AreRunsTo, AreRuns, HasOwnersBelow}
 use Rattle.pmp_map.proofs.CutFacts.{least_alike}
 use Rattle.pmp_map.proofs.FewRuns.{few_runs}
 
