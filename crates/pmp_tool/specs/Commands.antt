@@ -102,7 +102,8 @@ check_with (Ok expected) (Ok after) (Ok access) = Ok (Check access after expecte
 -- the options are read before the access is made
 abbrev pub check_in : List Row → Result Task Refusal
 check_in rows =
-    check_with (expected_of (first_of (codes "expect") rows)) (after_of (first_of (codes "after") rows)) (access_in rows)
+    check_with (expected_of (first_of (codes "expect") rows)) (after_of (first_of (codes "after") rows))
+    (access_in rows)
 
 abbrev pub audit_with : (trace : Result Text Refusal) → (checkers : Result (Option ℕ) Refusal) → Result Task Refusal
 audit_with (Err refusal) checkers = Err refusal

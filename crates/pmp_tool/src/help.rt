@@ -42,8 +42,8 @@ pub const AFTER: &str =
     "Takes the first N publications, a number up to how many there are; all without this option";
 
 pub const EXPECT: &str =
-    "Ends with status 0 where the answer is ANSWER, allow or fault, and with 1 where it is the other; allow without this \
-    option";
+    "Ends with status 0 where the answer is ANSWER, allow or fault, and with 1 where it is the other; allow without \
+    this option";
 
 pub const CHECKERS: &str =
     "Decides the rows by K checkers on threads, a number from 1 to 8; K changes the time, never what is written";

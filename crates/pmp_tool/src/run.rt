@@ -27,12 +27,12 @@ use std::io::Write;
 use std::sync::Wait;
 use std::thread::Threads;
 
-/// The exit status of texts and lists that were written, of an answer that is the expected one, of accesses that are all
-/// allowed, and of writes that are all stored.
+/// The exit status of texts and lists that were written, of an answer that is the expected one, of accesses that are
+/// all allowed, and of writes that are all stored.
 const DONE: u8 = 0;
 
-/// The exit status of an answer that isn't the expected one, of an access of a trace that is refused, and of a write that
-/// is turned away.
+/// The exit status of an answer that isn't the expected one, of an access of a trace that is refused, and of a write
+/// that is turned away.
 const OTHER: u8 = 1;
 
 /// Runs the program on its words, those after its own name, and answers its exit status: 0 where the answer to a check

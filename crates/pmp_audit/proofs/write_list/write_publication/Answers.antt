@@ -16,8 +16,8 @@ loop-line-preserved c =
     c.in-Some.event.now turn.0 turn.1 turn.2 turn.3 in
     record {
       written = rw (length_push, more) (written_then _ _ _ _ _ c.loop-line.invariant.written
-          (one_written _ _ _ c.in_ok-write_effect.ensures.ok c.in_ok-write_effect.ensures.next c.count.ensures.events
-          (rw (c.is_turned_away.ensures _ c.in_ok-write_effect.ensures.next) at c.count.ensures.turned_away)));
+          (one_written _ _ _ c.in_ok-after.ensures.ok c.in_ok-after.ensures.next c.count.ensures.events
+          (rw (c.is_turned_away.ensures _ c.in_ok-after.ensures.next) at c.count.ensures.turned_away)));
       within = c.count.ensures.within;
     }
 
