@@ -3,6 +3,7 @@ use Rattle.std.specs.Prelude.{◌≡◌, ℕ, ◌+◌, ◌-◌, ◌*◌, ◌/◌
 use Rattle.std.specs.Prelude.{Some, None, if◌then◌else◌, codes, decimal}
 use Rattle.std.specs.List.{enumerate_from, flat_map}
 use Rattle.pmp_core.specs.declared.access.Mode.TheVariants.{M, U}
+use Rattle.pmp_core.specs.declared.access.TheConstants.{ADDRESS_LIMIT}
 use Rattle.pmp_core.specs.declared.mseccfg.MseccfgFields.{MseccfgFields}
 use Rattle.pmp_core.specs.RegisterFile.{RegisterFile, is_frozen, is_held}
 use Rattle.pmp_map.specs.declared.run.Run.{Run}
@@ -26,6 +27,14 @@ size_text bytes =
     else (if bytes % 2 ^ 10 == 0 then decimal (bytes / 2 ^ 10) ++ codes " KiB"
     else decimal bytes ++ codes " bytes"))))
 
+-- how many bytes the run has, or none where it goes on to the end of all bytes
+abbrev pub size_of : (first last : ℕ) → Option ℕ
+size_of first last = if last + 1 == ADDRESS_LIMIT then None else Some (last + 1 - first)
+
+abbrev pub size_name : Option ℕ → List ℕ
+size_name None = codes "to the end"
+size_name (Some bytes) = size_text bytes
+
 abbrev pub owner_name : Option ℕ → List ℕ
 owner_name None = codes "no entry"
 owner_name (Some entry) = codes "entry " ++ decimal entry
@@ -43,9 +52,9 @@ ends first last =
     ++ (hex_text ADDRESS_DIGITS last ++ codes "</text>")))
 
 -- the size and the owner
-abbrev pub extent : (bytes : ℕ) → Option ℕ → List ℕ
-extent bytes owner =
-    codes "<text x='292'>" ++ (size_text bytes ++ (codes "</text><text x='496'>" ++ (owner_name owner
+abbrev pub extent : (size owner : Option ℕ) → List ℕ
+extent size owner =
+    codes "<text x='292'>" ++ (size_name size ++ (codes "</text><text x='496'>" ++ (owner_name owner
     ++ codes "</text>")))
 
 -- the rights of machine mode and of the others
@@ -62,7 +71,7 @@ lock_sign file (Some entry) =
 -- a band of these rights and with this sign
 abbrev pub drawn_band : (place : ℕ) → Run → (machine others sign : List ℕ) → List ℕ
 drawn_band place run machine others sign =
-    strip place others ++ (ends run.first run.last ++ (extent (run.last + 1 - run.first) run.owner
+    strip place others ++ (ends run.first run.last ++ (extent (size_of run.first run.last) run.owner
     ++ (permissions machine others ++ (sign ++ (codes "</g>" ++ 10 ∷ [])))))
 
 -- the band of the run in this place

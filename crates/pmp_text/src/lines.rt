@@ -12,9 +12,6 @@ mod report;
 mod runs;
 mod since;
 
-/// An allocation was refused, as the calls say that append texts.
-pub use std::alloc::AllocError as NoMemory;
-
 pub use effects::{EventPlace, write_effect};
 pub use entries::write_entries;
 pub use picture::write_picture;
@@ -22,6 +19,8 @@ pub use registers::write_registers;
 pub use report::write_row;
 pub use runs::write_runs;
 pub use since::Since;
+/// An allocation was refused, as the calls say that append texts.
+pub use std::alloc::AllocError as NoMemory;
 use std::alloc::AllocError;
 use std::fmt::Display;
 

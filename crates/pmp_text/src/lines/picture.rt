@@ -1,18 +1,18 @@
 //! The runs of a register file as a picture, an SVG document.
 
-ghost use Rattle.std.specs.Prelude.{◌≡◌, ◌+◌, ◌-◌, ◌<◌, ◌≤◌, ◌++◌, List, ℕ, length, decimal};
+ghost use Rattle.std.specs.Prelude.{◌≡◌, ◌+◌, ◌<◌, ◌≤◌, ◌++◌, List, ℕ, length, decimal};
 ghost use Rattle.std.specs.Prelude.{IfSome, OnOk, OnErr, Some};
 ghost use Rattle.pmp_map.specs.declared.run.TheConstants.{RUNS};
 ghost use Rattle.pmp_map.specs.Runs.{AreRuns, HasOwnersBelow};
 ghost use Rattle.pmp_text.specs.Picture.{IsPicture, band, bands, ends, extent, head, lock_sign, owner_name};
-ghost use Rattle.pmp_text.specs.Picture.{settings, size_text, switch_text, title};
+ghost use Rattle.pmp_text.specs.Picture.{settings, size_name, size_of, size_text, switch_text, title};
 ghost use Rattle.pmp_core.specs.declared.access.TheConstants.{ADDRESS_LIMIT};
 
 use crate::lines::hexadecimal::{ADDRESS_DIGITS, Hex};
 use crate::lines::marks::Marks;
 use crate::lines::runs::run_rights;
 use crate::lines::{NoMemory, append_line};
-use pmp_core::{Csr, Mode, RegFile};
+use pmp_core::{ADDRESS_LIMIT, Csr, Mode, RegFile};
 use pmp_map::{RUNS, Run, RunMap};
 use std::alloc::AllocError;
 use std::fmt;
@@ -103,16 +103,35 @@ fn in_units(bytes: u64) -> (u64, &'static str)
     }
 }
 
-/// So many bytes, in the largest unit of which they are a whole number.
+/// So many bytes, in the largest unit of which they are a whole number, or none for those to the end.
 #[derive(Clone, Copy)]
-struct Size(u64);
+struct Size(Option<u64>);
 
 impl fmt::Display for Size {
-    ghost output = { λ size. Some (size_text size.0) };
+    ghost output = { λ size. Some (size_name size.0) };
 
     fn fmt<W: fmt::Write>(&self, f: &mut fmt::Formatter<W>) -> fmt::Result {
-        let (count, unit) = in_units(self.0);
-        write!(f, "{count}{unit}")
+        match self.0 {
+            Some(bytes) => {
+                let (count, unit) = in_units(bytes);
+                write!(f, "{count}{unit}")
+            }
+            None => write!(f, "to the end"),
+        }
+    }
+}
+
+impl Size {
+    fn of(run: &Run) -> Size
+        requires proper { run.now.first ≤ run.now.last }
+        requires inside { run.now.last < ADDRESS_LIMIT }
+        ensures { result.0 ≡ size_of run.now.first run.now.last }
+    {
+        if run.last + 1 == ADDRESS_LIMIT {
+            Size(None)
+        } else {
+            Size(Some(run.last + 1 - run.first))
+        }
     }
 }
 
@@ -242,11 +261,11 @@ fn write_extent(out: &mut Vec<u8>, run: &Run) -> Result<(), AllocError>
     requires proper { run.now.first ≤ run.now.last }
     requires inside { run.now.last < ADDRESS_LIMIT }
     ensures { OnOk result (out.new.items ≡ out.old.items ++ (ends run.now.first run.now.last
-        ++ extent (run.now.last + 1 - run.now.first) run.now.owner)) }
+        ++ extent (size_of run.now.first run.now.last) run.now.owner)) }
 {
     let first = Hex::<ADDRESS_DIGITS>::new(run.first);
     let last = Hex::<ADDRESS_DIGITS>::new(run.last);
-    let size = Size(run.last + 1 - run.first);
+    let size = Size::of(run);
     let owner = OwnerName(run.owner);
     append_line(
         out,

@@ -1,8 +1,8 @@
-use Rattle.std.proofs.Common.{[], ◌∷◌, ◌+◌, ◌-◌, ◌++◌, List, ℕ, refl, sym, ap, append_assoc, codes, ◌∙◌}
+use Rattle.std.proofs.Common.{[], ◌∷◌, ◌++◌, List, ℕ, refl, sym, ap, append_assoc, codes, ◌∙◌}
 use Rattle.std.proofs.lemmas.Result.{on_ok_weaker}
 use Rattle.pmp_core.specs.declared.access.Mode.TheVariants.{M, U}
 use Rattle.pmp_map.specs.Answers.{owned_rights}
-use Rattle.pmp_text.specs.Picture.{band, drawn_band, ends, extent, permissions, strip}
+use Rattle.pmp_text.specs.Picture.{band, drawn_band, ends, extent, permissions, size_of, strip}
 use Rattle.pmp_text.specs.RunLines.{rights_text}
 use Rattle.pmp_text.specs.Steps.Marks.{perms_text}
 use Rattle.pmp_text.proofs.Picture.{six_texts}
@@ -26,7 +26,7 @@ returns c =
     (rights_text (owned_rights file run.owner U)) s) c.lock_sign.ensures in
     let above = c.append_line.new.out.items in
     let ends_are = ends run.first run.last in
-    let extent_is = extent (run.last + 1 - run.first) run.owner in
+    let extent_is = extent (size_of run.first run.last) run.owner in
     on_ok_weaker c.append_text-2.result
     (λ last. six_texts c.args.out.now.items above (above ++ ends_are) c.write_extent.new.out.items
     c.append_line-2.new.out.items c.append_text.new.out.items c.append_text-2.new.out.items
