@@ -143,7 +143,7 @@ pub length-step : (file : RegisterFile) (event : Event) → length (step file ev
 length-step file Reset = length-replicate (length file.entries) reset_entry
 length-step file (Write csr value) = length-written file csr value
 
-length-fold : (file : RegisterFile) (events : List Event)
+pub length-fold : (file : RegisterFile) (events : List Event)
     → length (fold step file events).entries ≡ length file.entries
 length-fold file [] = refl
 length-fold file (event ∷ events) = length-fold (step file event) events ∙ length-step file event

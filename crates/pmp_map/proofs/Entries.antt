@@ -29,17 +29,25 @@ runs_alike to Owns Has runs alike are = record {
   apart = are.apart;
 }
 
+pub owner_by_entries : (entries : List Entry) (ranges : List ByteRange) → AreRanges entries ranges → (byte : ℕ)
+    (owner : Option ℕ) → IsOwnerIn ranges byte owner → IsOwner entries byte owner
+owner_by_entries entries ranges decoded byte owner =
+    least_alike (λ i. IsInRange (range_in ranges i) byte) (λ i. Matches entries i byte) owner
+    (λ i. ((decoded.by_bytes i byte).1, (decoded.by_bytes i byte).0))
+
+pub owner_by_ranges : (entries : List Entry) (ranges : List ByteRange) → AreRanges entries ranges → (byte : ℕ)
+    (owner : Option ℕ) → IsOwner entries byte owner → IsOwnerIn ranges byte owner
+owner_by_ranges entries ranges decoded byte owner =
+    least_alike (λ i. Matches entries i byte) (λ i. IsInRange (range_in ranges i) byte) owner
+    (λ i. decoded.by_bytes i byte)
+
 module _ (entries : List Entry) (ranges : List ByteRange) (decoded : AreRanges entries ranges) (to : ℕ)
     (runs : List Run) where
   pub runs_by_ranges : AreRunsTo to (IsOwner entries) runs → AreRunsTo to (IsOwnerIn ranges) runs
-  runs_by_ranges = runs_alike to (IsOwner entries) (IsOwnerIn ranges) runs (λ byte owner.
-      least_alike (λ i. Matches entries i byte) (λ i. IsInRange (range_in ranges i) byte) owner
-      (λ i. decoded.by_bytes i byte))
+  runs_by_ranges = runs_alike to (IsOwner entries) (IsOwnerIn ranges) runs (owner_by_ranges entries ranges decoded)
 
   pub runs_by_entries : AreRunsTo to (IsOwnerIn ranges) runs → AreRunsTo to (IsOwner entries) runs
-  runs_by_entries = runs_alike to (IsOwnerIn ranges) (IsOwner entries) runs (λ byte owner.
-      least_alike (λ i. IsInRange (range_in ranges i) byte) (λ i. Matches entries i byte) owner
-      (λ i. ((decoded.by_bytes i byte).1, (decoded.by_bytes i byte).0)))
+  runs_by_entries = runs_alike to (IsOwnerIn ranges) (IsOwner entries) runs (owner_by_entries entries ranges decoded)
 
 pub few_runs_of_entries : (entries : List Entry) (runs : List Run) → HasAddresses entries → AreRuns entries runs
     → length runs ≤ 2 * length entries + 1
@@ -53,7 +61,7 @@ few_runs_of_entries entries runs small are =
     )
 
 -- only a range that there is has a byte
-owner_below : (ranges : List ByteRange) (byte : ℕ) (owner : Option ℕ) → IsOwnerIn ranges byte owner
+pub owner_below : (ranges : List ByteRange) (byte : ℕ) (owner : Option ℕ) → IsOwnerIn ranges byte owner
     → IfSome owner (λ i. i < length ranges)
 owner_below ranges byte None owned = tt
 owner_below ranges byte (Some i) owned = elim (cases_lt i (length ranges)) [

@@ -11,3 +11,4 @@ pub mod Decided
 pub mod DecidedRuns
 pub mod Starts
 pub mod Lookups
+pub mod OpenBytes

@@ -37,3 +37,12 @@ AreRuns entries = AreRunsTo ADDRESS_LIMIT (IsOwner entries)
 -- every owner is below n
 abbrev pub HasOwnersBelow : (n : ℕ) → List Run → Type 0
 HasOwnersBelow n runs = All (λ run. IfSome run.owner (λ i. i < n)) runs
+
+-- the bytes from `first` on that have its owner, as far as they have it
+pub record IsRunFrom (entries : List Entry) (first : ℕ) (run : Run) : Type 0 where
+  pub begins : run.first ≡ first
+  pub proper : run.first ≤ run.last
+  pub inside : run.last < ADDRESS_LIMIT
+  pub owned : (byte : ℕ) → IsInRun run byte → IsOwner entries byte run.owner
+  pub apart : run.last + 1 < ADDRESS_LIMIT → (other : Option ℕ) → IsOwner entries (run.last + 1) other
+      → run.owner ≢ other

@@ -1,10 +1,12 @@
 //! Where owners change: at the ends of ranges.
 
-ghost use Rattle.std.specs.Prelude.{◌≢◌, ℕ, ◌<◌, ◌≤◌, Option, length};
+ghost use Rattle.std.specs.Prelude.{◌≢◌, ℕ, ◌<◌, ◌≤◌, IfSome, Option, length};
 ghost use Rattle.pmp_core.specs.Ranges.{IsInRange};
 ghost use Rattle.pmp_map.specs.Owners.{IsOwnerIn, OwnsBytes};
+ghost use Rattle.pmp_map.specs.Runs.{IsRunFrom};
 
-use pmp_core::{ADDRESS_LIMIT, ByteRange};
+use crate::run::Run;
+use pmp_core::{ADDRESS_LIMIT, ByteRange, RegFile};
 
 /// Bytes from a first one on that have one owner, as far as it has them.
 #[derive(Clone, Copy, Debug, PartialEq, Eq)]
@@ -52,4 +54,19 @@ pub fn stretch_from(ranges: &[ByteRange], first: u64) -> Stretch
         end = cut_by(range, first, end);
     }
     Stretch { owner: None, end }
+}
+
+/// The run of the byte at this byte address, from there on: the bytes that have its owner, up to the next that has
+/// another. For a few bytes of a register file this is less work than its map.
+pub fn run_from(file: &RegFile, first: u64) -> Run
+    requires { first < ADDRESS_LIMIT }
+    ensures run { IsRunFrom file.now.entries first result }
+    ensures owner { IfSome result.owner (λ entry. entry < length file.now.entries) }
+{
+    let stretch = stretch_from(file.ranges(), first);
+    Run {
+        first,
+        last: stretch.end - 1,
+        owner: stretch.owner,
+    }
 }

@@ -6,6 +6,9 @@ ghost use Rattle.pmp_core.specs.RegisterFile.{HasAddresses};
 ghost use Rattle.pmp_map.specs.declared.run.Run.{Run};
 ghost use Rattle.pmp_map.specs.Runs.{AreRuns};
 ghost use Rattle.pmp_map.specs.RunsLaw.{InsideRunLaw, AcrossRunsLaw};
+ghost use Rattle.pmp_map.specs.OpenBytesLaw.{HeldByteLaw, OneAnswerLaw, OpenByteLaw};
+
+use pmp_core::laws::{law_matching_entry, law_protected};
 
 /// Entries have one list of runs.
 pub fn law_one_list_of_runs()
@@ -28,3 +31,18 @@ pub fn law_inside_run()
 pub fn law_across_runs()
     ensures { AcrossRunsLaw }
 {}
+
+/// A byte is open to what its owner's rule allows, or the default where it has no owner, and to nothing else.
+pub fn law_open_byte()
+    ensures answered { OpenByteLaw }
+    ensures once { OneAnswerLaw }
+{}
+
+/// A held byte that is closed to a mode and a kind stays closed to them through every list of writes: one whose owner
+/// is frozen with all entries before it, or that no entry matches, where all are frozen.
+pub fn law_held_byte()
+    ensures { HeldByteLaw }
+{
+    law_matching_entry();
+    law_protected();
+}

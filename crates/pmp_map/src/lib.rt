@@ -13,6 +13,7 @@ mod search;
 mod straddling;
 mod tables;
 
+pub use cuts::run_from;
 pub use run::{RUNS, Run};
 pub use run_map::RunMap;
 pub use search::{PLACES, SHORT, place_of};
