@@ -5,6 +5,7 @@ pub mod OneList
 pub mod FewRuns
 pub mod Entries
 pub mod Pushes
+pub mod RightsRuns
 pub mod KeptRights
 pub mod LeastOwner
 pub mod Decided

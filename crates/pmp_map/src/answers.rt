@@ -2,9 +2,21 @@
 
 ghost use Rattle.std.specs.Prelude.{◌≡◌, ◌<◌, ℕ, Option, IfSome, length};
 ghost use Rattle.pmp_core.specs.RegisterFile.{RegisterFile};
-ghost use Rattle.pmp_map.specs.Answers.{decision_by, answers_of, kept_rights};
+ghost use Rattle.pmp_core.specs.Rights.{perms_of};
+ghost use Rattle.pmp_map.specs.Answers.{answers_of, decision_by, kept_rights, owned_rights};
 
 use pmp_core::{Access, Cause, Decision, Mode, Perms, RegFile};
+
+/// What the owner of a byte gives the mode there, or what the mode may do where there is none.
+pub fn owned_rights(file: &RegFile, owner: Option<u8>, mode: Mode) -> Perms
+    requires { IfSome owner (λ entry. entry < length file.now.entries) }
+    ensures { result ≡ perms_of (owned_rights file.now owner mode) }
+{
+    match owner {
+        Some(entry) => file.rights(entry, mode),
+        None => file.default_rights(mode),
+    }
+}
 
 /// What a run answers to every access inside it, worked out when the map is built.
 #[derive(Clone, Copy, Debug, PartialEq, Eq)]
@@ -22,17 +34,10 @@ impl Answers {
         requires { IfSome owner (λ entry. entry < length file.now.entries) }
         ensures { result ≡ answers_of file.now owner }
     {
-        match owner {
-            Some(entry) => Answers {
-                cause: Cause::Rule(entry),
-                machine: file.rights(entry, Mode::M),
-                others: file.rights(entry, Mode::U),
-            },
-            None => Answers {
-                cause: Cause::NoMatch,
-                machine: file.default_rights(Mode::M),
-                others: file.default_rights(Mode::U),
-            },
+        Answers {
+            cause: owner.map_or(Cause::NoMatch, Cause::Rule),
+            machine: owned_rights(file, owner, Mode::M),
+            others: owned_rights(file, owner, Mode::U),
         }
     }
 

@@ -7,13 +7,16 @@
 mod answers;
 mod cuts;
 pub mod laws;
+mod rights_run;
 mod run;
 mod run_map;
 mod search;
 mod straddling;
 mod tables;
 
+pub use answers::owned_rights;
 pub use cuts::run_from;
+pub use rights_run::{ModeRights, RightsRun, rights_runs};
 pub use run::{RUNS, Run};
 pub use run_map::RunMap;
 pub use search::{PLACES, SHORT, place_of};

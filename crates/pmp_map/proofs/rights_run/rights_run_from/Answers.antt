@@ -1,0 +1,44 @@
+use Rattle.std.proofs.Common.{◌+◌, refl, sym, arith, true≢false}
+use Rattle.pmp_map.proofs.RightsRuns.{grown, same_rights}
+use Rattle.pmp_map.proofs.rights_run.rights_run_from.Goals as goal
+
+pub loop-run-init : goal.loop-run-init
+loop-run-init c =
+    let e = c.owned_from-run.ensures in
+    (e.begins, e.proper, e.below, λ byte from to. e.rights byte (omega (arith, from, e.begins)) to)
+
+pub returns-then-not-has_rights_of-clause-longest : goal.returns-then-not-has_rights_of-clause-longest
+returns-then-not-has_rights_of-clause-longest c =
+    let run = c.loop-run.run in
+    let next = c.owned_from-next.result in
+    let there = c.owned_from-next.ensures.rights (run.last + 1) (omega arith) c.owned_from-next.ensures.proper in
+    record {
+      proper = omega (arith, c.loop-run.invariant.0, c.loop-run.invariant.1);
+      below = c.loop-run.invariant.2;
+      rights = c.loop-run.invariant.3;
+      longest = λ inside here.
+          let same = same_rights c.args.old.now c.args.new.now (run.last + 1) next run there here in
+          absurd (true≢false (sym (c.if-not-has_rights_of.ensures.no same.0 same.1)));
+    }
+
+pub loop-run-preserved : goal.loop-run-preserved
+loop-run-preserved c =
+    let run = c.loop-run.run in
+    let next = c.owned_from-next in
+    let same = c.if-not-has_rights_of.ensures.yes refl in (
+      c.loop-run.invariant.0,
+      omega (arith, next.ensures.proper, c.loop-run.invariant.1),
+      next.ensures.below,
+      grown c.args.old.now c.args.new.now run next.result c.loop-run.invariant.3
+          (λ byte from to. next.ensures.rights byte (omega (arith, from, next.ensures.begins)) to)
+          next.ensures.begins same.0 same.1,
+    )
+
+pub returns-clause-longest : goal.returns-clause-longest
+returns-clause-longest c =
+    record {
+      proper = omega (arith, c.loop-run.invariant.0, c.loop-run.invariant.1);
+      below = c.loop-run.invariant.2;
+      rights = c.loop-run.invariant.3;
+      longest = λ inside here. absurd (omega (arith, inside, c.loop-run-test.false));
+    }

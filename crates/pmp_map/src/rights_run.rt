@@ -1,0 +1,109 @@
+//! The ranges of bytes that each of two register files lets the modes do the same with.
+
+ghost use Rattle.std.specs.Prelude.{◌≡◌, ◌+◌, ◌<◌, ◌≤◌, ℕ, IsTrue, IfOk, IfSome, length};
+ghost use Rattle.pmp_core.specs.declared.access.TheConstants.{ADDRESS_LIMIT};
+ghost use Rattle.pmp_map.specs.RightsRuns.{AreRightsRuns, HasRightsOf, IsRightsRun, rights_by};
+
+use crate::answers::owned_rights;
+use crate::cuts::run_from;
+use pmp_core::{ADDRESS_LIMIT, Mode, Perms, RegFile};
+use std::alloc::{AllocError, Global};
+
+/// What a register file lets the modes do with a byte.
+#[derive(Clone, Copy, Debug, PartialEq, Eq)]
+pub struct ModeRights {
+    /// What machine mode may do.
+    pub machine: Perms,
+    /// What supervisor and user mode may do, which have the same rights.
+    pub others: Perms,
+}
+
+impl ModeRights {
+    /// Where this entry owns, or none.
+    fn of_owner(file: &RegFile, owner: Option<u8>) -> ModeRights
+        requires { IfSome owner (λ entry. entry < length file.now.entries) }
+        ensures { result ≡ rights_by file.now owner }
+    {
+        ModeRights {
+            machine: owned_rights(file, owner, Mode::M),
+            others: owned_rights(file, owner, Mode::U),
+        }
+    }
+}
+
+/// Bytes that lie side by side, and that each of two register files lets the modes do the same with.
+#[derive(Clone, Copy, Debug, PartialEq, Eq)]
+pub struct RightsRun {
+    /// The byte address of its first byte.
+    pub first: u64,
+    /// The byte address of its last byte.
+    pub last: u64,
+    /// What the old file lets the modes do there.
+    pub old: ModeRights,
+    /// What the new file lets them do there.
+    pub new: ModeRights,
+}
+
+impl RightsRun {
+    /// Whether the files let the modes do in both what they let them do in one.
+    fn has_rights_of(&self, other: &RightsRun) -> bool
+        ensures yes { IsTrue result → (self.now.old ≡ other.now.old) × (self.now.new ≡ other.now.new) }
+        ensures no { (self.now.old ≡ other.now.old) → (self.now.new ≡ other.now.new) → IsTrue result }
+    {
+        self.old == other.old && self.new == other.new
+    }
+}
+
+/// The bytes from `first` on that have one owner in the old file, and one in the new.
+fn owned_from(old: &RegFile, new: &RegFile, first: u64) -> RightsRun
+    requires { first < ADDRESS_LIMIT }
+    ensures begins { result.first ≡ first }
+    ensures proper { first ≤ result.last }
+    ensures below { result.last < ADDRESS_LIMIT }
+    ensures rights { (byte : ℕ) → first ≤ byte → byte ≤ result.last → HasRightsOf old.now new.now result byte }
+{
+    let before = run_from(old, first);
+    let after = run_from(new, first);
+    RightsRun {
+        first,
+        last: before.last.min(after.last),
+        old: ModeRights::of_owner(old, before.owner),
+        new: ModeRights::of_owner(new, after.owner),
+    }
+}
+
+/// The longest range of bytes from `first` on that each of the files lets the modes do the same with.
+fn rights_run_from(old: &RegFile, new: &RegFile, first: u64) -> RightsRun
+    requires { first < ADDRESS_LIMIT }
+    ensures begins { result.first ≡ first }
+    ensures longest { IsRightsRun old.now new.now result }
+{
+    let mut run = owned_from(old, new, first);
+    while run.last + 1 < ADDRESS_LIMIT {
+        let next = owned_from(old, new, run.last + 1);
+        if !next.has_rights_of(&run) {
+            return run;
+        }
+        run.last = next.last;
+    }
+    run
+}
+
+/// The longest ranges of bytes that each of the files lets the modes do the same with, from byte address 0 to
+/// `2^56 - 1`. The files may have different sizes.
+pub fn rights_runs(
+    alloc: Global,
+    old: &RegFile,
+    new: &RegFile,
+) -> Result<Vec<RightsRun>, AllocError>
+    ensures { IfOk result (λ runs. AreRightsRuns old.now new.now runs.items) }
+{
+    let mut runs = Vec::new(alloc);
+    let mut first = 0;
+    while first < ADDRESS_LIMIT {
+        let run = rights_run_from(old, new, first);
+        runs.push(run)?;
+        first = run.last + 1;
+    }
+    Ok(runs)
+}
