@@ -11,14 +11,15 @@ use Rattle.pmp_text.specs.declared.trace.TraceKind.TheVariants.{BadAfter, BadHea
 use Rattle.pmp_text.specs.declared.trace.TraceFault.{TraceFault}
 use Rattle.pmp_text.specs.declared.trace.Row.{Row}
 use Rattle.pmp_text.specs.Faults.{IsLeastFault}
-use Rattle.pmp_text.specs.Traces.{row_fields, access_kind, after_of, at_row, falls_behind, fields_fault}
-use Rattle.pmp_text.specs.Traces.{first_row_fault, is_header, records_meaning, row_fault, row_of_record, fault_or_rows}
-use Rattle.pmp_text.specs.Traces.{rows_meaning, trace_meaning, trace_records}
+use Rattle.pmp_text.specs.Tables.{at_row, fault_or_rows, records_of}
+use Rattle.pmp_text.specs.Traces.{row_fields, access_kind, after_of, falls_behind, fields_fault}
+use Rattle.pmp_text.specs.Traces.{first_row_fault, is_header, records_meaning, row_fault, row_of_record}
+use Rattle.pmp_text.specs.Traces.{rows_meaning, trace_meaning}
 use Rattle.pmp_text.specs.Outcomes.{GivesRows}
 use Rattle.pmp_text.specs.TraceFaults.{after_before, row_fault_at, IsInOrder, afters}
 use Rattle.pmp_text.specs.declared.trace.reader.TheConstants.{MAX_TRACE}
 use Rattle.pmp_text.proofs.LeastFaults.{Judges, judged_here, judged_as, the_first}
-use Rattle.pmp_text.proofs.Rows.{by_records, this_header}
+use Rattle.pmp_text.proofs.Rows.{by_records, this_header, trace_is}
 
 abbrev Records : Type 0
 Records = List (List (List ℕ))
@@ -74,10 +75,11 @@ module _ (publications : ℕ) where
       (first_row_fault publications None 1 rows) (counted_from_one rows) (judged_behind rows None 1)
 
   pub least_row_is_answered : (text : List ℕ) (header : List (List ℕ)) (rows : Records) (fault : TraceFault)
-      → length text ≤ MAX_TRACE → trace_records text ≡ header ∷ rows → is_header header ≡ true
+      → length text ≤ MAX_TRACE → records_of text ≡ header ∷ rows → is_header header ≡ true
       → IsLeastFault (row_fault_at publications rows) fault → trace_meaning publications text ≡ Err fault
   least_row_is_answered text header rows fault short records named least =
-      by_records publications text short ∙ this_header publications (trace_records text) header rows records named
+      trace_is publications text ∙ by_records is_header (rows_meaning publications) text short
+      ∙ this_header is_header (rows_meaning publications) (records_of text) header rows records named
       ∙ ap (λ (first : Option TraceFault). fault_or_rows first (filter_map row_of_record rows))
       (the_first (row_fault_at publications rows) (first_row_fault publications None 1 rows) fault
       (first_row_is_least rows) least)
@@ -154,10 +156,10 @@ module _ (publications : ℕ) where
     from_records (header ∷ records) e = from_header (is_header header) records e
 
     from_text : (long : Bool) (text : List ℕ)
-        → cond long (Err (at_row 0 TooLong)) (records_meaning publications (trace_records text)) ≡ Ok rows
+        → cond long (Err (at_row 0 TooLong)) (records_meaning publications (records_of text)) ≡ Ok rows
         → IsInOrder publications 0 (afters rows)
     from_text true text e = absurd cc
-    from_text false text e = from_records (trace_records text) e
+    from_text false text e = from_records (records_of text) e
 
     pub trace_in_order : (text : List ℕ) → trace_meaning publications text ≡ Ok rows
         → IsInOrder publications 0 (afters rows)

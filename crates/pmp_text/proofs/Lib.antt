@@ -6,6 +6,7 @@ pub mod EntryRows
 pub mod EventLines
 pub mod Fields
 pub mod LeastFaults
+pub mod LeastPolicyRows
 pub mod LeastRows
 pub mod Leasts
 pub mod Lefts
@@ -13,6 +14,7 @@ pub mod Meanings
 pub mod Numbered
 pub mod Picture
 pub mod PictureTexts
+pub mod Pieces
 pub mod Prefixes
 pub mod RecordsLeft
 pub mod Rows

@@ -1,6 +1,7 @@
 -- What a reader has to believe: what each text means, and what each call answers.
 pub mod AccessWords
 pub mod Bytes
+pub mod Changes
 pub mod Contents
 pub mod Dumps
 pub mod Effects
@@ -13,13 +14,17 @@ pub mod Numbers
 pub mod Outcomes
 pub mod Picture
 pub mod PictureTexts
+pub mod Policies
 pub mod Reports
 pub mod RunLines
 pub mod Scripts
 pub mod Statements
+pub mod Tables
 pub mod Traces
+pub mod Verdicts
 -- Laws of these definitions, which are proved.
 pub mod Faults
+pub mod PolicyFaults
 pub mod Sizes
 pub mod TraceFaults
 pub mod Versions

@@ -4,8 +4,8 @@ use Rattle.std.specs.Prelude.{MatchOption, option_map, option_and_then, slice_ge
 use Rattle.pmp_text.specs.declared.trace.row_fields.RowFields.{RowFields}
 use Rattle.pmp_text.specs.declared.trace.TraceFault.{TraceFault}
 use Rattle.pmp_text.specs.Faults.{IsLeastFault}
-use Rattle.pmp_text.specs.Traces.{after_of, at_row, first_row_fault, is_header, row_fault, row_of_record, trace_meaning}
-use Rattle.pmp_text.specs.Traces.{trace_records}
+use Rattle.pmp_text.specs.Tables.{at_row, records_of}
+use Rattle.pmp_text.specs.Traces.{after_of, first_row_fault, is_header, row_fault, row_of_record, trace_meaning}
 use Rattle.pmp_text.specs.declared.trace.reader.TheConstants.{MAX_TRACE}
 
 -- how many publications the row before this one asks for; before the first row that is `last`
@@ -30,7 +30,7 @@ FirstRowFaultLaw = (publications : ℕ) (rows : List (List (List ℕ)))
 abbrev pub LeastRowFaultLaw : Type 0
 LeastRowFaultLaw = (publications : ℕ) (text : List ℕ) (header : List (List ℕ)) (rows : List (List (List ℕ)))
     (fault : TraceFault)
-    → length text ≤ MAX_TRACE → trace_records text ≡ header ∷ rows → is_header header ≡ true
+    → length text ≤ MAX_TRACE → records_of text ≡ header ∷ rows → is_header header ≡ true
     → IsLeastFault (row_fault_at publications rows) fault → trace_meaning publications text ≡ Err fault
 
 -- each asks for at least as many publications as the one before, the first for `least`, and for no more than there are

@@ -1,8 +1,7 @@
 -- What a trace means: its rows, or its fault.
-use Rattle.std.specs.Prelude.{ℕ, ◌+◌, List, [], ◌∷◌, length, filter_map, Bool, false, ◌&&◌, Option, Some, None, Result}
-use Rattle.std.specs.Prelude.{Ok, Err, option_map, option_and_then, nat_lt, codes, bytes_eq, if◌then◌else◌}
+use Rattle.std.specs.Prelude.{ℕ, ◌+◌, List, [], ◌∷◌, filter_map, Bool, false, ◌&&◌, Option, Some, None, Result}
+use Rattle.std.specs.Prelude.{option_map, option_and_then, nat_lt, codes, bytes_eq, if◌then◌else◌}
 use Rattle.std.specs.Option.{option_or}
-use Rattle.csv.specs.Reading.{default_config, records, strip_bom}
 use Rattle.pmp_core.specs.declared.access.Mode.{Mode}
 use Rattle.pmp_core.specs.declared.access.Kind.{Kind}
 use Rattle.pmp_core.specs.declared.access.AccessFault.{AccessFault}
@@ -11,17 +10,11 @@ use Rattle.pmp_core.specs.Access.{access_fault}
 use Rattle.pmp_text.specs.declared.trace.row_fields.RowFields.{RowFields}
 use Rattle.pmp_text.specs.declared.trace.Row.{Row}
 use Rattle.pmp_text.specs.declared.trace.TraceKind.{TraceKind}
-use Rattle.pmp_text.specs.declared.trace.TraceKind.TheVariants.{BadHeader, BadRow, BadAfter, Order, BadLength, PastEnd}
-use Rattle.pmp_text.specs.declared.trace.TraceKind.TheVariants.{TooLong}
+use Rattle.pmp_text.specs.declared.trace.TraceKind.TheVariants.{BadRow, BadAfter, Order, BadLength, PastEnd}
 use Rattle.pmp_text.specs.declared.trace.TraceFault.{TraceFault}
 use Rattle.pmp_text.specs.AccessWords.{mode_named, kind_named}
 use Rattle.pmp_text.specs.Numbers.{word_number}
-use Rattle.pmp_text.specs.declared.trace.reader.TheConstants.{MAX_TRACE}
-
--- the records of a text, each a list of fields, as the crate `csv` reads them with its defaults: no byte-order mark
--- is part of the first one
-abbrev pub trace_records : List ℕ → List (List (List ℕ))
-trace_records text = records default_config (strip_bom text)
+use Rattle.pmp_text.specs.Tables.{at_row, behind_header, fault_or_rows, within_limit}
 
 -- the fields of a record that has five
 pub record FiveFields : Type 0 where
@@ -98,10 +91,6 @@ row_fault publications last (Some row) = fields_fault publications last row
 
 -- ---- all rows
 
--- the fault of a row with this number
-abbrev pub at_row : ℕ → TraceKind → TraceFault
-at_row number kind = record { kind = kind; row = number }
-
 -- the fault of the first row that has one; the first row has this number, and the row before asks for `last`
 abbrev pub first_row_fault : (publications : ℕ) → (last : Option ℕ) → (number : ℕ) → List (List (List ℕ))
     → Option TraceFault
@@ -110,11 +99,6 @@ first_row_fault publications last number (row ∷ more) =
     option_or (option_map (at_row number) (row_fault publications last (row_of_record row)))
     (first_row_fault publications (after_of (row_of_record row)) (number + 1) more)
 
--- a fault of a row, else what the rows say
-abbrev pub fault_or_rows : Option TraceFault → List RowFields → Result (List RowFields) TraceFault
-fault_or_rows (Some fault) rows = Err fault
-fault_or_rows None rows = Ok rows
-
 -- the rows are numbered from 1, and no row stands before the first one
 abbrev pub rows_meaning : (publications : ℕ) → List (List (List ℕ)) → Result (List RowFields) TraceFault
 rows_meaning publications rows =
@@ -122,13 +106,8 @@ rows_meaning publications rows =
 
 -- the rows stand behind the header
 abbrev pub records_meaning : (publications : ℕ) → List (List (List ℕ)) → Result (List RowFields) TraceFault
-records_meaning publications [] = Err (at_row 0 BadHeader)
-records_meaning publications (header ∷ rows) =
-    if is_header header then rows_meaning publications rows else Err (at_row 0 BadHeader)
+records_meaning publications = behind_header is_header (rows_meaning publications)
 
--- what a text means beside a script with so many publications; one of more bytes than the limit is too long, whatever
--- it says
+-- what a text means beside a script with so many publications
 unfoldable pub trace_meaning : (publications : ℕ) → List ℕ → Result (List RowFields) TraceFault
-trace_meaning publications text =
-    if nat_lt MAX_TRACE (length text) then Err (at_row 0 TooLong)
-    else records_meaning publications (trace_records text)
+trace_meaning publications text = within_limit (records_meaning publications) text

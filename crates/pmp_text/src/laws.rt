@@ -1,7 +1,8 @@
-//! The laws of scripts and traces, each the contract of a function that does nothing.
+//! The laws of scripts, traces and policies, each the contract of a function that does nothing.
 
 ghost use Rattle.pmp_text.specs.Faults.{FirstFaultLaw, LeastFaultLaw};
 ghost use Rattle.pmp_text.specs.Names.{NamesReadBackLaw};
+ghost use Rattle.pmp_text.specs.PolicyFaults.{FirstPolicyFaultLaw, LeastPolicyFaultLaw};
 ghost use Rattle.pmp_text.specs.Sizes.{EventLinesLaw, ScriptSizeLaw};
 ghost use Rattle.pmp_text.specs.TraceFaults.{FirstRowFaultLaw, LeastRowFaultLaw, RowOrderLaw};
 ghost use Rattle.pmp_text.specs.Versions.{VersionOneLaw, VersionTwoLaw};
@@ -35,6 +36,12 @@ pub fn law_least_row_fault()
 /// before.
 pub fn law_rows_in_order()
     ensures { RowOrderLaw }
+{}
+
+/// The fault of a policy's rows is that of the least faulty row: a row has it, and no row before it has any.
+pub fn law_least_policy_fault()
+    ensures first { FirstPolicyFaultLaw }
+    ensures answered { LeastPolicyFaultLaw }
 {}
 
 /// A register's name as dumps write it is read as that register.

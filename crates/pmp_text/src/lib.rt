@@ -1,5 +1,5 @@
-//! The texts of the unit: scripts and traces are read; reports, registers, runs, entries and events are written, all
-//! byte by byte.
+//! The texts of the unit: scripts, traces and policies are read; reports, verdicts, registers, runs, entries and events
+//! are written, all byte by byte.
 #![tactic(auto)]
 
 mod access_words;
@@ -9,16 +9,18 @@ mod lines;
 mod names;
 mod numbers;
 mod output;
+mod policy;
 mod script;
 mod trace;
 
 pub use access_words::{read_kind, read_mode};
 pub use input::{InputFault, MAX_LIMIT, read_bytes, read_script_bytes, read_trace_bytes};
 pub use lines::{
-    EventPlace, NoMemory, Since, write_effect, write_entries, write_picture, write_registers,
-    write_row, write_runs,
+    Breach, Change, EventPlace, NoMemory, Only, Since, write_changes, write_effect, write_entries,
+    write_picture, write_registers, write_row, write_runs, write_verdict,
 };
 pub use numbers::read_word_number;
 pub use output::{OutputFault, write_out};
+pub use policy::{Demand, Kinds, Modes, PolicyRow, read_policy};
 pub use script::{MAX_SCRIPT, Script, ScriptFault, ScriptKind, read_script};
 pub use trace::{MAX_TRACE, Row, TraceFault, TraceKind, read_trace};

@@ -2,6 +2,7 @@
 
 ghost use Rattle.std.specs.Prelude.{◌≡◌, ◌++◌, IfSome, OnErr, OnOk};
 
+mod changes;
 mod effects;
 mod entries;
 mod hexadecimal;
@@ -11,7 +12,9 @@ mod registers;
 mod report;
 mod runs;
 mod since;
+mod verdict;
 
+pub use changes::{Change, Only, write_changes};
 pub use effects::{EventPlace, write_effect};
 pub use entries::write_entries;
 pub use picture::write_picture;
@@ -19,6 +22,7 @@ pub use registers::write_registers;
 pub use report::write_row;
 pub use runs::write_runs;
 pub use since::Since;
+pub use verdict::{Breach, write_verdict};
 /// An allocation was refused, as the calls say that append texts.
 pub use std::alloc::AllocError as NoMemory;
 use std::alloc::AllocError;

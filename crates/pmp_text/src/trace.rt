@@ -1,9 +1,10 @@
-//! Traces: the accesses that a text lists, and why a text lists none.
+//! Traces: the accesses that a text lists, and why a text, of these or of a policy, lists none.
 
 ghost use Rattle.std.specs.Prelude.{◌≡◌, Some};
 ghost use Rattle.csv.specs.Reading.{error_kind};
 ghost use Rattle.pmp_text.specs.Outcomes.{no_memory_for_rows, csv_fault};
-ghost use Rattle.pmp_text.specs.Traces.{access_kind, at_row};
+ghost use Rattle.pmp_text.specs.Tables.{at_row};
+ghost use Rattle.pmp_text.specs.Traces.{access_kind};
 
 mod reader;
 mod records;
@@ -11,6 +12,7 @@ mod row_fields;
 
 use pmp_core::{Access, AccessFault};
 pub use reader::{MAX_TRACE, read_trace};
+pub(crate) use records::{open_records, read_record};
 use std::alloc::AllocFailed;
 
 /// An access, and how many publications of the script are done before it.
@@ -20,20 +22,20 @@ pub struct Row {
     pub access: Access,
 }
 
-/// What is wrong with a trace.
+/// What is wrong with a trace or a policy.
 #[derive(Clone, Copy, Debug, PartialEq, Eq)]
 pub enum TraceKind {
-    /// The first record doesn't name the five fields, or there is none.
+    /// The first record doesn't name the fields, or there is none.
     BadHeader,
-    /// A row that hasn't five fields, or a field that isn't what its place asks for.
+    /// A row that hasn't as many fields as the header, or a field that isn't what its place asks for.
     BadRow,
     /// A row that asks for more publications than there are.
     BadAfter,
-    /// A row that asks for fewer publications than the row before.
+    /// A row of a trace that asks for fewer publications than the row before.
     Order,
     /// An access of 0 bytes, or of more than 4,096.
     BadLength,
-    /// An access that ends above `2^56`.
+    /// An access that ends above `2^56`, or a last byte of a policy at or above it.
     PastEnd,
     /// The text has more than 16,777,216 bytes.
     TooLong,
@@ -43,7 +45,7 @@ pub enum TraceKind {
     Input,
 }
 
-/// What is wrong with a trace, and where.
+/// What is wrong with a trace or a policy, and where.
 #[derive(Clone, Copy, Debug, PartialEq, Eq)]
 pub struct TraceFault {
     pub kind: TraceKind,

@@ -5,6 +5,8 @@ use Rattle.pmp_text.specs.declared.script.significant.NumberedLine.{NumberedLine
 use Rattle.pmp_text.specs.declared.script.significant.SignificantLines.{SignificantLines}
 use Rattle.pmp_text.specs.Lines.{words}
 use Rattle.pmp_text.specs.Scripts.{Line, significant_from}
+use Rattle.pmp_text.specs.declared.policy.row_fields.Words.{Words}
+use Rattle.pmp_text.specs.Policies.{SevenFields}
 use Rattle.pmp_text.specs.Traces.{FiveFields}
 
 -- a line as the definitions see it
@@ -19,3 +21,15 @@ lines_left left = significant_from left.number left.rest.now
 abbrev pub seen_five : (Bor (List ℕ) × Bor (List ℕ) × Bor (List ℕ) × Bor (List ℕ) × Bor (List ℕ)) → FiveFields
 seen_five (after, mode, kind, start, length) =
     record { after = after.now; mode = mode.now; kind = kind.now; start = start.now; length = length.now }
+
+-- the words of a policy's row
+abbrev pub seen_seven : Words → SevenFields
+seen_seven words = record {
+  from = words.from.now;
+  to = words.to.now;
+  modes = words.modes.now;
+  kind = words.kind.now;
+  first = words.first.now;
+  last = words.last.now;
+  demand = words.demand.now;
+}

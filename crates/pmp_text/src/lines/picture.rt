@@ -10,10 +10,9 @@ ghost use Rattle.pmp_core.specs.declared.access.TheConstants.{ADDRESS_LIMIT};
 
 use crate::lines::hexadecimal::{ADDRESS_DIGITS, Hex};
 use crate::lines::marks::Marks;
-use crate::lines::runs::run_rights;
 use crate::lines::{NoMemory, append_line};
 use pmp_core::{ADDRESS_LIMIT, Csr, Mode, RegFile};
-use pmp_map::{RUNS, Run, RunMap};
+use pmp_map::{RUNS, Run, RunMap, owned_rights};
 use std::alloc::AllocError;
 use std::fmt;
 
@@ -286,8 +285,8 @@ fn write_band(out: &mut Vec<u8>, file: &RegFile, place: usize, run: &Run) -> Res
     ensures { OnOk result (out.new.items ≡ out.old.items ++ band file.now place run.now) }
 {
     let top = BAND * place;
-    let machine = Marks(run_rights(file, run, Mode::M));
-    let others = Marks(run_rights(file, run, Mode::U));
+    let machine = Marks(owned_rights(file, run.owner, Mode::M));
+    let others = Marks(owned_rights(file, run.owner, Mode::U));
     append_line(
         out,
         format_args!(

@@ -2,21 +2,19 @@
 
 ghost use Rattle.std.specs.Prelude.{◌≡◌, ◌<◌, ◌++◌, IfSome, List, ℕ, length, OnOk, OnErr, Some};
 ghost use Rattle.std.specs.Io.{StartsWith};
-ghost use Rattle.pmp_core.specs.Rights.{perms_of};
-ghost use Rattle.pmp_map.specs.Answers.{owned_rights};
 ghost use Rattle.pmp_text.specs.RunLines.{IsMapText, owner_text, run_line};
 
 use crate::lines::hexadecimal::{ADDRESS_DIGITS, Hex};
 use crate::lines::marks::Marks;
 use crate::lines::{NoMemory, append_line};
-use pmp_core::{Mode, Perms, RegFile};
-use pmp_map::{Run, RunMap};
+use pmp_core::{Mode, RegFile};
+use pmp_map::{Run, RunMap, owned_rights};
 use std::alloc::AllocError;
 use std::fmt;
 
 /// The number of a run's owner, or a dash where it has none.
 #[derive(Clone, Copy)]
-struct Owner(Option<u8>);
+pub struct Owner(pub Option<u8>);
 
 impl fmt::Display for Owner {
     ghost output = { λ owner. Some (owner_text owner.0) };
@@ -29,17 +27,6 @@ impl fmt::Display for Owner {
     }
 }
 
-/// What the run's owner gives the mode, or what the mode may do where there is none.
-pub fn run_rights(file: &RegFile, run: &Run, mode: Mode) -> Perms
-    requires { IfSome run.now.owner (λ entry. entry < length file.now.entries) }
-    ensures { result ≡ perms_of (owned_rights file.now run.now.owner mode) }
-{
-    match run.owner {
-        Some(entry) => file.rights(entry, mode),
-        None => file.default_rights(mode),
-    }
-}
-
 #[tactic(auto, unfolding(crate::specs::RunLines::run_line), using(crate::proofs::RunLines::text_of_perms))]
 fn write_run(out: &mut Vec<u8>, file: &RegFile, run: &Run) -> Result<(), AllocError>
     requires { IfSome run.now.owner (λ entry. entry < length file.now.entries) }
@@ -49,8 +36,8 @@ fn write_run(out: &mut Vec<u8>, file: &RegFile, run: &Run) -> Result<(), AllocEr
     let first = Hex::<ADDRESS_DIGITS>::new(run.first);
     let last = Hex::<ADDRESS_DIGITS>::new(run.last);
     let owner = Owner(run.owner);
-    let machine = Marks(run_rights(file, run, Mode::M));
-    let others = Marks(run_rights(file, run, Mode::U));
+    let machine = Marks(owned_rights(file, run.owner, Mode::M));
+    let others = Marks(owned_rights(file, run.owner, Mode::U));
     append_line(
         out,
         format_args!("{first},{last},{owner},{machine},{others}\n"),

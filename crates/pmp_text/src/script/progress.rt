@@ -1,26 +1,26 @@
 //! What was read of a script so far.
 
-ghost use Rattle.std.specs.Prelude.{◌≡◌, ◌≤◌, All, Err, IfErr, IfOk, Ok, length, map};
-ghost use Rattle.pmp_core.specs.declared.event.TheConstants.{BATCH_EVENTS};
+ghost use Rattle.std.specs.Prelude.{◌≡◌, Err, IfErr, IfOk, Ok, drop, length};
 ghost use Rattle.pmp_text.specs.Outcomes.{Gives};
 ghost use Rattle.pmp_text.specs.Scripts.{for_unit};
+ghost use Rattle.pmp_text.specs.Steps.Cuts.{AreOpen, cut_from};
 ghost use Rattle.pmp_text.specs.Steps.Progress.{Progress, nothing_read, published, with_event, after_line, finished};
 ghost use Rattle.pmp_text.specs.Steps.Views.{seen_line};
 
 use crate::script::significant::NumberedLine;
 use crate::script::statement::{Statement, read_statement};
-use crate::script::{Publication, Script, ScriptFault, ScriptKind};
+use crate::script::{Published, Script, ScriptFault, ScriptKind};
 use pmp_core::{BATCH_EVENTS, Event, Size};
 use std::alloc::Global;
 use std::marker::Model;
-use std::mem;
 
 /// The publications so far, and the open batch.
 #[derive(Drop)]
 pub struct ScriptBuilder {
-    alloc: Global,
-    published: Vec<Publication>,
-    batch: Publication,
+    /// Its last events, behind those that are published, are the open batch's.
+    read: Published,
+    /// How many events are published.
+    published: usize,
     /// The line of the open batch's first event.
     since: Option<u64>,
 }
@@ -30,17 +30,16 @@ impl Model for ScriptBuilder {
 
     ghost view = { λ builder. record {
       published = record {
-        batches = map (λ publication. publication.events.items) builder.published.items;
-        lines = map (λ publication. publication.lines.items) builder.published.items;
+        batches = cut_from 0 builder.read.ends.items builder.read.events.items;
+        lines = cut_from 0 builder.read.ends.items builder.read.lines.items;
       };
-      batch = builder.batch.events.items;
-      lines = builder.batch.lines.items;
+      batch = drop builder.published builder.read.events.items;
+      lines = drop builder.published builder.read.lines.items;
       since = builder.since;
     } };
 
-    ghost invariant = { λ builder.
-        All (λ publication. length publication.events.items ≤ BATCH_EVENTS) builder.published.items
-        × (length builder.batch.events.items ≤ BATCH_EVENTS) };
+    ghost invariant = { λ builder. AreOpen builder.read.ends.items builder.published
+        (length builder.read.events.items) (length builder.read.lines.items) builder.since };
 }
 
 impl ScriptBuilder {
@@ -48,9 +47,8 @@ impl ScriptBuilder {
         ensures { result ≡ nothing_read }
     {
         ScriptBuilder {
-            alloc,
-            published: Vec::new(alloc),
-            batch: Publication::new(alloc),
+            read: Published::new(alloc),
+            published: 0,
             since: None,
         }
     }
@@ -58,8 +56,9 @@ impl ScriptBuilder {
     fn publish(&mut self) -> Result<(), ScriptFault>
         ensures { Gives (λ _. self.new) result (Ok (published self.old)) }
     {
-        let batch = mem::replace(&mut self.batch, Publication::new(self.alloc));
-        self.published.push(batch)?;
+        let end = self.read.events.len();
+        self.read.ends.push(end)?;
+        self.published = end;
         self.since = None;
         Ok(())
     }
@@ -67,12 +66,11 @@ impl ScriptBuilder {
     fn add(&mut self, line: u64, event: Event) -> Result<(), ScriptFault>
         ensures { Gives (λ _. self.new) result (with_event self.old line event) }
     {
-        if self.batch.events.len() >= BATCH_EVENTS {
+        if self.read.events.len() - self.published >= BATCH_EVENTS {
             return Err(ScriptKind::BatchFull.at(line));
         }
-        self.batch.events.push(event)?;
-        self.batch.lines.push(line)?;
         self.since = Some(self.since.unwrap_or(line));
+        self.read.push(line, event)?;
         Ok(())
     }
 
@@ -93,7 +91,7 @@ impl ScriptBuilder {
         ensures err { IfErr result (λ fault. finished self ≡ Err fault) }
     {
         match self.since {
-            None => Ok(Script::new(size, self.published)),
+            None => Ok(Script::new(size, self.read)),
             Some(line) => Err(ScriptKind::Unpublished.at(line)),
         }
     }

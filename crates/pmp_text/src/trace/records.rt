@@ -1,10 +1,10 @@
-//! The records of a trace, one after the other.
+//! The records of a trace or a policy, one after the other.
 
 ghost use Rattle.std.specs.Prelude.{◌≡◌, ◌⊎◌, ◌∷◌, [], true, false, Ok, IfErr};
 ghost use Rattle.csv.specs.Records.{fields_of};
 ghost use Rattle.pmp_text.specs.Outcomes.{no_memory_for_rows, no_input_for_rows};
 ghost use Rattle.pmp_text.specs.Steps.Records.{IsReading, records_left};
-ghost use Rattle.pmp_text.specs.Traces.{trace_records};
+ghost use Rattle.pmp_text.specs.Tables.{records_of};
 
 use crate::trace::TraceFault;
 use csv::{ByteRecord, Reader, ReaderBuilder};
@@ -13,7 +13,7 @@ use std::alloc::Global;
 /// Reads a text from its beginning. Records may differ in length, and none is taken away as a header.
 pub fn open_records(alloc: Global, text: &[u8]) -> Reader<&[u8]>
     ensures reads { IsReading result }
-    ensures records { records_left result ≡ trace_records text.now }
+    ensures records { records_left result ≡ records_of text.now }
 {
     ReaderBuilder::new()
         .has_headers(false)

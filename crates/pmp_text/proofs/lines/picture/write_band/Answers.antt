@@ -14,11 +14,11 @@ unfolding band
 returns c =
     let file = c.args.file.now in
     let run = c.args.run.now in
-    let machine = perms_text c.run_rights.result in
-    let others = perms_text c.run_rights-2.result in
+    let machine = perms_text c.owned_rights.result in
+    let others = perms_text c.owned_rights-2.result in
     let sign = c.lock_sign.result.now in
-    let machine_is = ap perms_text c.run_rights.ensures ∙ text_of_perms (owned_rights file run.owner M) in
-    let others_is = ap perms_text c.run_rights-2.ensures ∙ text_of_perms (owned_rights file run.owner U) in
+    let machine_is = ap perms_text c.owned_rights.ensures ∙ text_of_perms (owned_rights file run.owner M) in
+    let others_is = ap perms_text c.owned_rights-2.ensures ∙ text_of_perms (owned_rights file run.owner U) in
     let band_is =
     ap (λ (m : List ℕ). drawn_band c.args.place run m others sign) machine_is
     ∙ ap (λ (o : List ℕ). drawn_band c.args.place run (rights_text (owned_rights file run.owner M)) o sign) others_is

@@ -1,0 +1,17 @@
+use Rattle.std.proofs.Common.{inl, ◌∙◌, arith}
+use Rattle.pmp_text.specs.Policies.{is_policy_header, policy_rows_meaning}
+use Rattle.pmp_text.proofs.Rows.{long_text, by_records, policy_is}
+use Rattle.pmp_text.proofs.policy.reader.read_policy.Goals as goal
+
+pub returns-then-text-gt-MAX_TRACE-clause-given : goal.returns-then-text-gt-MAX_TRACE-clause-given
+returns-then-text-gt-MAX_TRACE-clause-given c =
+    rw c.at.ensures (inl (policy_is c.args.publications c.args.text.now
+    ∙ long_text is_policy_header (policy_rows_meaning c.args.publications) c.args.text.now (omega arith)))
+
+pub returns-clause-given : goal.returns-clause-given
+returns-clause-given c =
+    rw (
+      policy_is c.args.publications c.args.text.now,
+      by_records is_policy_header (policy_rows_meaning c.args.publications) c.args.text.now (omega arith),
+      ← c.open_records-reader.ensures.records,
+    ) c.read_records.ensures.given

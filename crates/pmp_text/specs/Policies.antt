@@ -1,0 +1,188 @@
+-- What a policy means: its rows, or its fault.
+use Rattle.std.specs.Prelude.{ℕ, ◌+◌, List, [], ◌∷◌, length, filter_map, Bool, false, true, ◌&&◌, ◌||◌, ◌==◌, Option}
+use Rattle.std.specs.Prelude.{Some, None, Result, option_map, option_and_then, nat_lt, nat_le, codes, bytes_eq}
+use Rattle.std.specs.Prelude.{if◌then◌else◌}
+use Rattle.std.specs.List.{count_by}
+use Rattle.std.specs.Option.{option_or}
+use Rattle.pmp_core.specs.declared.access.Mode.{Mode}
+use Rattle.pmp_core.specs.declared.access.Mode.TheVariants.{M, S, U}
+use Rattle.pmp_core.specs.declared.access.Kind.{Kind}
+use Rattle.pmp_core.specs.declared.access.Kind.TheVariants.{Fetch, Load, Store}
+use Rattle.pmp_core.specs.declared.access.TheConstants.{ADDRESS_LIMIT}
+use Rattle.pmp_text.specs.declared.policy.Demand.{Demand}
+use Rattle.pmp_text.specs.declared.policy.Demand.TheVariants.{Never, Always, Held}
+use Rattle.pmp_text.specs.declared.policy.Kinds.{Kinds}
+use Rattle.pmp_text.specs.declared.policy.Kinds.TheVariants.{One, Any}
+use Rattle.pmp_text.specs.declared.policy.Modes.{Modes}
+use Rattle.pmp_text.specs.declared.policy.PolicyRow.{PolicyRow}
+use Rattle.pmp_text.specs.declared.policy.row_fields.PolicyFields.{PolicyFields}
+use Rattle.pmp_text.specs.declared.trace.TraceKind.{TraceKind}
+use Rattle.pmp_text.specs.declared.trace.TraceKind.TheVariants.{BadRow, BadAfter, PastEnd}
+use Rattle.pmp_text.specs.declared.trace.TraceFault.{TraceFault}
+use Rattle.pmp_text.specs.AccessWords.{kind_named}
+use Rattle.pmp_text.specs.Numbers.{word_number}
+use Rattle.pmp_text.specs.Tables.{at_row, behind_header, fault_or_rows, within_limit}
+
+-- ---- words
+
+abbrev pub demand_named : List ℕ → Option Demand
+demand_named word =
+    if bytes_eq word (codes "never") then Some Never
+    else (if bytes_eq word (codes "always") then Some Always
+    else (if bytes_eq word (codes "held") then Some Held else None))
+
+-- `any`, or one kind
+abbrev pub kinds_named : List ℕ → Option Kinds
+kinds_named word = if bytes_eq word (codes "any") then Some Any else option_map (λ kind. One kind) (kind_named word)
+
+-- how often a letter stands in a word
+abbrev pub times : (letter : ℕ) → List ℕ → ℕ
+times letter word = count_by (λ byte. byte == letter) word
+
+-- at least one letter, each of them M, S or U, and none twice
+abbrev pub are_modes : List ℕ → Bool
+are_modes word = nat_lt 0 (length word) && (times 77 word + times 83 word + times 85 word == length word
+    && (nat_le (times 77 word) 1 && (nat_le (times 83 word) 1 && nat_le (times 85 word) 1)))
+
+-- the modes whose letters stand in the word
+abbrev pub modes_named : List ℕ → Option Modes
+modes_named word =
+    if are_modes word then Some (record {
+      machine = times 77 word == 1;
+      supervisor = times 83 word == 1;
+      user = times 85 word == 1;
+    }) else None
+
+abbrev pub has_mode : Modes → Mode → Bool
+has_mode modes M = modes.machine
+has_mode modes S = modes.supervisor
+has_mode modes U = modes.user
+
+abbrev pub same_kind : Kind → Kind → Bool
+same_kind Fetch Fetch = true
+same_kind Load Load = true
+same_kind Store Store = true
+same_kind _ _ = false
+
+-- `any` is each of the three
+abbrev pub has_kind : Kinds → Kind → Bool
+has_kind (One one) kind = same_kind one kind
+has_kind Any kind = true
+
+-- a number that is at least so large
+abbrev pub at_least : (least : ℕ) → Option ℕ → Option ℕ
+at_least least None = None
+at_least least (Some number) = if nat_le least number then Some number else None
+
+-- up to how many publications, from so many on: nothing stands for all that there are
+abbrev pub to_named : (publications from : ℕ) → List ℕ → Option ℕ
+to_named publications from [] = Some publications
+to_named publications from (byte ∷ more) = at_least from (word_number (byte ∷ more))
+
+-- ---- one row
+
+-- the fields of a record that has seven
+pub record SevenFields : Type 0 where
+  pub from : List ℕ
+  pub to : List ℕ
+  pub modes : List ℕ
+  pub kind : List ℕ
+  pub first : List ℕ
+  pub last : List ℕ
+  pub demand : List ℕ
+
+unfoldable pub seven_fields : List (List ℕ) → Option SevenFields
+seven_fields (from ∷ to ∷ modes ∷ kind ∷ first ∷ last ∷ demand ∷ []) = Some (record {
+  from = from;
+  to = to;
+  modes = modes;
+  kind = kind;
+  first = first;
+  last = last;
+  demand = demand;
+})
+seven_fields _ = None
+
+-- the first record names the fields
+abbrev pub names_seven : SevenFields → Bool
+names_seven words = bytes_eq words.from (codes "from")
+    && (bytes_eq words.to (codes "to") && (bytes_eq words.modes (codes "modes")
+    && (bytes_eq words.kind (codes "kind") && (bytes_eq words.first (codes "first")
+    && (bytes_eq words.last (codes "last") && bytes_eq words.demand (codes "demand"))))))
+
+abbrev pub is_policy_header : List (List ℕ) → Bool
+is_policy_header fields = elim (seven_fields fields) [ Some words ↦ names_seven words | None ↦ false ]
+
+abbrev pub policy_fields : PolicyRow → PolicyFields
+policy_fields row = record {
+  from = row.from;
+  to = row.to;
+  modes = row.modes;
+  kinds = row.kinds;
+  first = row.first;
+  last = row.last;
+  demand = row.demand;
+}
+
+-- from how many publications to how many
+abbrev pub span_named : (publications : ℕ) → SevenFields → Option (ℕ × ℕ)
+span_named publications words = option_and_then
+    (λ from. option_map (λ to. (from, to)) (to_named publications from words.to)) (word_number words.from)
+
+-- the first byte and the last
+abbrev pub bytes_named : SevenFields → Option (ℕ × ℕ)
+bytes_named words = option_and_then
+    (λ first. option_map (λ last. (first, last)) (at_least first (word_number words.last))) (word_number words.first)
+
+-- what seven words say, where each is what its place asks for
+abbrev pub policy_of_values : Option (ℕ × ℕ) → Option Modes → Option Kinds → Option (ℕ × ℕ) → Option Demand
+    → Option PolicyFields
+policy_of_values (Some (from, to)) (Some modes) (Some kinds) (Some (first, last)) (Some demand) = Some (record {
+  from = from;
+  to = to;
+  modes = modes;
+  kinds = kinds;
+  first = first;
+  last = last;
+  demand = demand;
+})
+policy_of_values _ _ _ _ _ = None
+
+abbrev pub policy_of_fields : (publications : ℕ) → SevenFields → Option PolicyFields
+policy_of_fields publications words = policy_of_values (span_named publications words) (modes_named words.modes)
+    (kinds_named words.kind) (bytes_named words) (demand_named words.demand)
+
+-- what a record says as a row, beside a script with so many publications
+abbrev pub policy_of_record : (publications : ℕ) → List (List ℕ) → Option PolicyFields
+policy_of_record publications fields = option_and_then (λ words. policy_of_fields publications words)
+    (seven_fields fields)
+
+-- the fault of what a row says: more publications than there are, then a last byte that is none
+abbrev pub policy_fields_fault : (publications : ℕ) → PolicyFields → Option TraceKind
+policy_fields_fault publications row =
+    if nat_lt publications row.from || nat_lt publications row.to then Some BadAfter
+    else (if nat_le ADDRESS_LIMIT row.last then Some PastEnd else None)
+
+-- the fault of a row, of which the first is that it says nothing
+abbrev pub policy_row_fault : (publications : ℕ) → Option PolicyFields → Option TraceKind
+policy_row_fault publications None = Some BadRow
+policy_row_fault publications (Some row) = policy_fields_fault publications row
+
+-- ---- all rows
+
+-- the fault of the first row that has one; the first row has this number
+abbrev pub first_policy_fault : (publications number : ℕ) → List (List (List ℕ)) → Option TraceFault
+first_policy_fault publications number [] = None
+first_policy_fault publications number (row ∷ more) =
+    option_or (option_map (at_row number) (policy_row_fault publications (policy_of_record publications row)))
+    (first_policy_fault publications (number + 1) more)
+
+-- the rows are numbered from 1
+abbrev pub policy_rows_meaning : (publications : ℕ) → List (List (List ℕ)) → Result (List PolicyFields) TraceFault
+policy_rows_meaning publications rows =
+    fault_or_rows (first_policy_fault publications 1 rows) (filter_map (policy_of_record publications) rows)
+
+-- what a text means as a policy beside a script with so many publications
+unfoldable pub policy_meaning : (publications : ℕ) → List ℕ → Result (List PolicyFields) TraceFault
+policy_meaning publications text =
+    within_limit (behind_header is_policy_header (policy_rows_meaning publications)) text

@@ -1,0 +1,154 @@
+//! Where two register files differ in what they let the modes do, as rows.
+
+ghost use Rattle.std.specs.Prelude.{◌≡◌, ◌++◌, IfOk, OnOk, OnErr};
+ghost use Rattle.std.specs.Io.{StartsWith};
+ghost use Rattle.pmp_text.specs.Changes.{asked_change, asked_row, change_by, change_count, change_of, change_row};
+ghost use Rattle.pmp_text.specs.Changes.{change_rows, change_text, goes_beyond, has_beyond, has_row, is_asked};
+
+use crate::lines::hexadecimal::{ADDRESS_DIGITS, Hex};
+use crate::lines::marks::Marks;
+use crate::lines::{NoMemory, append_line};
+use pmp_core::{Kind, Perms};
+use pmp_map::{ModeRights, RightsRun};
+use std::alloc::AllocError;
+
+/// How a new register file differs from an old one in what it lets the modes do with bytes.
+#[derive(Clone, Copy, Debug, PartialEq, Eq)]
+pub enum Change {
+    /// Nothing is lost.
+    More,
+    /// Nothing is gained.
+    Less,
+    /// Something is lost, and something gained.
+    Both,
+}
+
+/// Which changes are asked for, where not all are.
+#[derive(Clone, Copy, Debug, PartialEq, Eq)]
+pub enum Only {
+    /// Those by which something is gained.
+    More,
+    /// Those by which something is lost.
+    Less,
+}
+
+/// Whether the first set has a right that the second hasn't.
+fn has_beyond(one: Perms, other: Perms) -> bool
+    ensures { result ≡ has_beyond one other }
+{
+    one.allows(Kind::Load) && !other.allows(Kind::Load)
+        || one.allows(Kind::Store) && !other.allows(Kind::Store)
+        || one.allows(Kind::Fetch) && !other.allows(Kind::Fetch)
+}
+
+/// The same of some mode.
+fn goes_beyond(one: &ModeRights, other: &ModeRights) -> bool
+    ensures { result ≡ goes_beyond one.now other.now }
+{
+    has_beyond(one.machine, other.machine) || has_beyond(one.others, other.others)
+}
+
+/// How the files differ there, if they do.
+fn change_of(run: &RightsRun) -> Option<Change>
+    ensures { result ≡ change_of run.now }
+{
+    match (
+        goes_beyond(&run.old, &run.new),
+        goes_beyond(&run.new, &run.old),
+    ) {
+        (false, false) => None,
+        (false, true) => Some(Change::More),
+        (true, false) => Some(Change::Less),
+        (true, true) => Some(Change::Both),
+    }
+}
+
+fn is_asked(only: Option<Only>, change: Change) -> bool
+    ensures { result ≡ is_asked only change }
+{
+    match (only, change) {
+        (Some(Only::More), Change::Less) => false,
+        (Some(Only::Less), Change::More) => false,
+        _ => true,
+    }
+}
+
+fn change_word(change: Change) -> &'static str
+    ensures { result.now ≡ change_text change }
+{
+    match change {
+        Change::More => "more",
+        Change::Less => "less",
+        Change::Both => "both",
+    }
+}
+
+#[tactic(auto, unfolding(crate::specs::Changes::change_row))]
+fn write_change(out: &mut Vec<u8>, run: &RightsRun, change: Change) -> Result<(), AllocError>
+    ensures ok { OnOk result (out.new.items ≡ out.old.items ++ change_row run.now change) }
+    ensures err { OnErr result (out.new.items ≡ out.old.items) }
+{
+    let first = Hex::<ADDRESS_DIGITS>::new(run.first);
+    let last = Hex::<ADDRESS_DIGITS>::new(run.last);
+    let old_machine = Marks(run.old.machine);
+    let old_others = Marks(run.old.others);
+    let new_machine = Marks(run.new.machine);
+    let new_others = Marks(run.new.others);
+    let change = change_word(change);
+    append_line(
+        out,
+        format_args!(
+            "{first},{last},{old_machine},{old_others},{new_machine},{new_others},{change}\n"
+        ),
+    )
+}
+
+/// Appends the row of the run, if it has one, and answers whether it has.
+#[tactic(auto, unfolding(crate::specs::Changes::asked_row, crate::specs::Changes::has_row))]
+fn write_asked(out: &mut Vec<u8>, run: &RightsRun, only: Option<Only>) -> Result<bool, AllocError>
+    ensures ok { OnOk result (out.new.items ≡ out.old.items ++ asked_row only run.now) }
+    ensures has { IfOk result (λ has. has ≡ has_row only run.now) }
+    ensures err { OnErr result (out.new.items ≡ out.old.items) }
+{
+    match change_of(run) {
+        Some(change) if is_asked(only, change) => {
+            write_change(out, run, change)?;
+            Ok(true)
+        }
+        _ => Ok(false),
+    }
+}
+
+fn write_all(out: &mut Vec<u8>, runs: &[RightsRun], only: Option<Only>) -> Result<u64, AllocError>
+    ensures ok { OnOk result (out.new.items ≡ out.old.items ++ change_rows only runs.now) }
+    ensures counted { IfOk result (λ rows. rows ≡ change_count only runs.now) }
+    ensures err { OnErr result (StartsWith out.new.items out.old.items) }
+{
+    let mut rows = 0;
+    for run in runs {
+        if write_asked(out, run, only)? {
+            rows += 1;
+        }
+    }
+    Ok(rows)
+}
+
+/// Appends a row for each run where the files differ as is asked, `FIRST,LAST,MOLD,SUOLD,MNEW,SUNEW,CHANGE` and LF: the
+/// first and the last byte in fourteen hexadecimal digits, what the old file lets machine mode do there and what the
+/// other two, the same of the new, and how they differ. Answers how many rows these are.
+pub fn write_changes(
+    out: &mut Vec<u8>,
+    runs: &[RightsRun],
+    only: Option<Only>,
+) -> Result<u64, NoMemory>
+    ensures ok { OnOk result (out.new.items ≡ out.old.items ++ change_rows only runs.now) }
+    ensures counted { IfOk result (λ rows. rows ≡ change_count only runs.now) }
+    ensures err { OnErr result (out.new.items ≡ out.old.items) }
+{
+    let before = out.len();
+    let written = write_all(out, runs, only);
+    if written.is_err() {
+        out.truncate(before);
+    }
+    written
+}

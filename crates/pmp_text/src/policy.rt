@@ -1,0 +1,91 @@
+//! Policies: what the rows of a text demand.
+
+ghost use Rattle.std.specs.Prelude.{◌≡◌, ◌<◌, ◌≤◌};
+ghost use Rattle.pmp_core.specs.declared.access.TheConstants.{ADDRESS_LIMIT};
+
+mod reader;
+mod row_fields;
+mod words;
+
+use pmp_core::{Kind, Mode};
+pub use reader::read_policy;
+
+/// What is demanded of the bytes that a row speaks of. A byte is open to a mode and a kind where the access of that one
+/// byte is allowed.
+#[derive(Clone, Copy, Debug, PartialEq, Eq)]
+pub enum Demand {
+    /// None of them is ever open to one of the modes by one of the kinds.
+    Never,
+    /// Each of them is always open to each of the modes by each of the kinds.
+    Always,
+    /// As `Never`, and in the end no list of writes opens one: its owner is frozen with all entries before it, or where
+    /// it has none, all entries are.
+    Held,
+}
+
+/// The kinds of access that a row speaks of.
+#[derive(Clone, Copy, Debug, PartialEq, Eq)]
+pub enum Kinds {
+    /// This one.
+    One(Kind),
+    /// Each of the three.
+    Any,
+}
+
+/// The modes that a row speaks of.
+#[derive(Clone, Copy, Debug, PartialEq, Eq)]
+pub struct Modes {
+    pub machine: bool,
+    pub supervisor: bool,
+    pub user: bool,
+}
+
+impl Modes {
+    ghost use Rattle.pmp_text.specs.Policies.{has_mode};
+
+    /// Whether the mode is one of these.
+    pub fn has(self, mode: Mode) -> bool
+        ensures { result ≡ has_mode self mode }
+    {
+        match mode {
+            Mode::M => self.machine,
+            Mode::S => self.supervisor,
+            Mode::U => self.user,
+        }
+    }
+}
+
+impl Kinds {
+    ghost use Rattle.pmp_text.specs.Policies.{has_kind};
+
+    /// Whether the kind is one of these.
+    pub fn has(self, kind: Kind) -> bool
+        ensures { result ≡ has_kind self kind }
+    {
+        match self {
+            Kinds::One(one) => one == kind,
+            Kinds::Any => true,
+        }
+    }
+}
+
+/// A row of a policy: what is demanded of accesses of these modes and kinds to the bytes from `first` to `last`, after
+/// `from` publications of the script and after each further one up to `to`. Its ghost fields say that neither ends
+/// before it begins, and that each byte is one of physical memory.
+#[derive(Clone, Copy, Debug, PartialEq, Eq)]
+pub struct PolicyRow {
+    /// The least number of publications that are done.
+    pub from: u64,
+    /// The greatest.
+    pub to: u64,
+    pub modes: Modes,
+    pub kinds: Kinds,
+    /// The byte address of the first byte.
+    pub first: u64,
+    /// The byte address of the last byte.
+    pub last: u64,
+    pub demand: Demand,
+    pub ghost forward: { from ≤ to },
+    pub ghost ordered: { first ≤ last },
+    pub ghost inside: { last < ADDRESS_LIMIT },
+}

@@ -1,0 +1,72 @@
+//! The reader of policies.
+
+ghost use Rattle.std.specs.Prelude.{◌≤◌, All, IfOk, map};
+ghost use Rattle.pmp_text.specs.Outcomes.{GivesRows};
+ghost use Rattle.pmp_text.specs.Policies.{is_policy_header, policy_fields, policy_meaning, policy_rows_meaning};
+ghost use Rattle.pmp_text.specs.Steps.Records.{IsReading, records_left};
+ghost use Rattle.pmp_text.specs.Tables.{behind_header};
+
+use crate::policy::PolicyRow;
+use crate::policy::row_fields::{is_policy_header, read_policy_row};
+use crate::trace::{MAX_TRACE, TraceFault, TraceKind, open_records, read_record};
+use csv::{ByteRecord, Reader};
+use std::alloc::Global;
+
+/// Reads the rows behind the header.
+fn read_rows(
+    alloc: Global,
+    reader: &mut Reader<&[u8]>,
+    fields: &mut ByteRecord,
+    publications: u64,
+) -> Result<Vec<PolicyRow>, TraceFault>
+    requires { IsReading reader.old }
+    ensures given { GivesRows (λ rows. map policy_fields rows.items) result
+        (policy_rows_meaning publications (records_left reader.old)) }
+    ensures within { IfOk result (λ rows. All (λ row. row.to ≤ publications) rows.items) }
+{
+    let mut rows = Vec::new(alloc);
+    while read_record(reader, fields)? {
+        match read_policy_row(fields, publications) {
+            Ok(row) => rows.push(row)?,
+            Err(kind) => return Err(kind.at(rows.len() as u64 + 1)),
+        }
+    }
+    Ok(rows)
+}
+
+/// Reads the header, and the rows behind it.
+fn read_records(
+    alloc: Global,
+    reader: &mut Reader<&[u8]>,
+    fields: &mut ByteRecord,
+    publications: u64,
+) -> Result<Vec<PolicyRow>, TraceFault>
+    requires { IsReading reader.old }
+    ensures given { GivesRows (λ rows. map policy_fields rows.items) result
+        (behind_header is_policy_header (policy_rows_meaning publications) (records_left reader.old)) }
+    ensures within { IfOk result (λ rows. All (λ row. row.to ≤ publications) rows.items) }
+{
+    if !read_record(reader, fields)? || !is_policy_header(fields) {
+        return Err(TraceKind::BadHeader.at(0));
+    }
+    read_rows(alloc, reader, fields, publications)
+}
+
+/// The rows of the policy that a text describes, beside a script with so many publications, else its first fault. The
+/// time is linear in the text, and only the rows and one record take memory: where they can't grow, `Memory` is
+/// answered in place of any fault further on.
+pub fn read_policy(
+    alloc: Global,
+    text: &[u8],
+    publications: u64,
+) -> Result<Vec<PolicyRow>, TraceFault>
+    ensures given { GivesRows (λ rows. map policy_fields rows.items) result (policy_meaning publications text.now) }
+    ensures within { IfOk result (λ rows. All (λ row. row.to ≤ publications) rows.items) }
+{
+    if text.len() > MAX_TRACE {
+        return Err(TraceKind::TooLong.at(0));
+    }
+    let mut reader = open_records(alloc, text);
+    let mut fields = ByteRecord::new(alloc);
+    read_records(alloc, &mut reader, &mut fields, publications)
+}

@@ -1,0 +1,80 @@
+//! The words of policies.
+
+ghost use Rattle.std.specs.Prelude.{◌≡◌, ◌≤◌, IfSome};
+ghost use Rattle.pmp_text.specs.Policies.{at_least, demand_named, kinds_named, modes_named, times, to_named};
+ghost use Rattle.pmp_text.specs.Numbers.{word_number};
+
+use crate::access_words::read_kind;
+use crate::numbers::read_word_number;
+use crate::policy::{Demand, Kinds, Modes};
+
+/// The demand that a word names: `never`, `always` or `held`.
+pub fn read_demand(word: &[u8]) -> Option<Demand>
+    ensures { result ≡ demand_named word.now }
+{
+    if word == b"never".as_slice() {
+        Some(Demand::Never)
+    } else if word == b"always".as_slice() {
+        Some(Demand::Always)
+    } else if word == b"held".as_slice() {
+        Some(Demand::Held)
+    } else {
+        None
+    }
+}
+
+/// The kinds that a word names: `any`, or one of the three.
+pub fn read_kinds(word: &[u8]) -> Option<Kinds>
+    ensures { result ≡ kinds_named word.now }
+{
+    if word == b"any".as_slice() {
+        return Some(Kinds::Any);
+    }
+    read_kind(word).map(Kinds::One)
+}
+
+/// How often a letter stands in a word.
+fn times(letter: u8, word: &[u8]) -> usize
+    ensures { result ≡ times letter word.now }
+{
+    word.iter().filter(|byte| **byte == letter).count()
+}
+
+/// The modes that a word names: one to three of the letters `M`, `S` and `U`, none of them twice.
+pub fn read_modes(word: &[u8]) -> Option<Modes>
+    ensures { result ≡ modes_named word.now }
+{
+    let machine = times(b'M', word);
+    let supervisor = times(b'S', word);
+    let user = times(b'U', word);
+    if machine > 1 || supervisor > 1 || user > 1 {
+        return None;
+    }
+    if word.is_empty() || machine + supervisor + user != word.len() {
+        return None;
+    }
+    Some(Modes {
+        machine: machine == 1,
+        supervisor: supervisor == 1,
+        user: user == 1,
+    })
+}
+
+/// The number that a word writes, if it is at least so large.
+pub fn read_at_least(least: u64, word: &[u8]) -> Option<u64>
+    ensures { result ≡ at_least least (word_number word.now) }
+{
+    read_word_number(word).filter(|number| *number >= least)
+}
+
+/// The greatest number of publications that a row speaks of, from the least one on: the word's, or all that there are
+/// where it is empty.
+pub fn read_to(publications: u64, from: u64, word: &[u8]) -> Option<u64>
+    ensures named { result ≡ to_named publications from word.now }
+    ensures forward { IfSome result (λ to. from ≤ publications → from ≤ to) }
+{
+    if word.is_empty() {
+        return Some(publications);
+    }
+    read_at_least(from, word)
+}
