@@ -16,7 +16,7 @@ use Rattle.pmp_core.specs.declared.size.Size.TheVariants.{Sixteen, SixtyFour}
 use Rattle.pmp_core.specs.declared.size.TheConstants.{MAX_ENTRIES}
 use Rattle.pmp_core.specs.Decision.{IsLeast}
 use Rattle.pmp_core.specs.Size.{count_of}
-use Rattle.pmp_core.specs.RegisterFile.{RegisterFile, reset_entry, reset_file, is_frozen, is_held}
+use Rattle.pmp_core.specs.RegisterFile.{RegisterFile, reset_file, is_frozen, is_held}
 use Rattle.pmp_core.specs.RegisterWrite.{step}
 use Rattle.pmp_core.specs.Histories.{joined, file_after}
 use Rattle.pmp_core.specs.LockLaw.{StaysFrozen}

@@ -11,3 +11,9 @@ pub mod Reports
 pub mod Stopping
 pub mod WrittenAnswers
 pub mod WrittenEvents
+pub mod PolicyAnswers
+pub mod PolicySteps
+pub mod PolicySearch
+pub mod PolicyVerdicts
+pub mod OnePolicyAnswer
+pub mod OneDifference

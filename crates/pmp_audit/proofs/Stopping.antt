@@ -9,8 +9,8 @@ use Rattle.pmp_share.specs.Batches.{Batches, event_count}
 use Rattle.pmp_text.specs.declared.trace.Row.{Row}
 use Rattle.pmp_text.specs.Traces.{row_fields}
 use Rattle.pmp_audit.specs.declared.fault.AuditFault.{AuditFault}
-use Rattle.pmp_audit.specs.declared.fault.AuditFault.TheVariants.{Script, Trace, Share, Moved, BadAfter, Memory}
-use Rattle.pmp_audit.specs.declared.fault.AuditFault.TheVariants.{Output}
+use Rattle.pmp_audit.specs.declared.fault.AuditFault.TheVariants.{Script, Trace, Policy, Share, Moved, BadAfter, Memory}
+use Rattle.pmp_audit.specs.declared.fault.AuditFault.TheVariants.{Output, ScriptOf, BadAfterOf}
 use Rattle.pmp_audit.specs.Answers.{IsRefused}
 use Rattle.pmp_audit.specs.Rounds.{StopsRound}
 use Rattle.pmp_audit.specs.SharedAudit.{AreFaultless, MayStop, SawMore, SharedAuditRefuses}
@@ -28,12 +28,15 @@ pub stops_after : (batches published : Batches) (rows : List Row) (told : ℕ) �
     → MayStop batches (map row_fields rows) fault
 stops_after batches published rows told is (Script fault) stops asks = absurd stops
 stops_after batches published rows told is (Trace fault) stops asks = absurd stops
+stops_after batches published rows told is (Policy fault) stops asks = absurd stops
 stops_after batches published rows told is (Share NoPlace) stops asks = tt
 stops_after batches published rows told is (Share Full) stops asks = absurd stops
 stops_after batches published rows told is (Share share.Memory) stops asks = absurd stops
 stops_after batches published rows told is (Moved moved) stops asks =
     more_than_asked batches told moved.seen rows asks (rw is at stops)
 stops_after batches published rows told is BadAfter stops asks = absurd stops
+stops_after batches published rows told is (ScriptOf side fault) stops asks = absurd stops
+stops_after batches published rows told is (BadAfterOf side) stops asks = absurd stops
 stops_after batches published rows told is Memory stops asks = tt
 stops_after batches published rows told is Output stops asks = absurd stops
 
@@ -47,10 +50,13 @@ pub refused_so : {A : Type 0} (Says : A → List ℕ → Type 0) (before : Optio
     → IsRefused Says before before (SharedAuditRefuses script trace) fault
 refused_so Says before script trace inputs (Script fault) stops = absurd stops
 refused_so Says before script trace inputs (Trace fault) stops = absurd stops
+refused_so Says before script trace inputs (Policy fault) stops = absurd stops
 refused_so Says before script trace inputs (Share NoPlace) stops = (inputs, kept before)
 refused_so Says before script trace inputs (Share Full) stops = absurd stops
 refused_so Says before script trace inputs (Share share.Memory) stops = absurd stops
 refused_so Says before script trace inputs (Moved moved) stops = ((inputs, stops), kept before)
 refused_so Says before script trace inputs BadAfter stops = absurd stops
+refused_so Says before script trace inputs (ScriptOf side fault) stops = absurd stops
+refused_so Says before script trace inputs (BadAfterOf side) stops = absurd stops
 refused_so Says before script trace inputs Memory stops = kept before
 refused_so Says before script trace inputs Output stops = absurd stops

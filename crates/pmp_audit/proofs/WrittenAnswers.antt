@@ -4,8 +4,8 @@ use Rattle.std.specs.Prelude.{IfOk, IfErr}
 use Rattle.std.specs.Io.KnownBytes.{Appends, Keeps}
 use Rattle.pmp_text.specs.Bytes.{AppendsBeginning}
 use Rattle.pmp_audit.specs.declared.fault.AuditFault.{AuditFault}
-use Rattle.pmp_audit.specs.declared.fault.AuditFault.TheVariants.{Script, Trace, Share, Moved, BadAfter, Memory}
-use Rattle.pmp_audit.specs.declared.fault.AuditFault.TheVariants.{Output}
+use Rattle.pmp_audit.specs.declared.fault.AuditFault.TheVariants.{Script, Trace, Policy, Share, Moved, BadAfter, Memory}
+use Rattle.pmp_audit.specs.declared.fault.AuditFault.TheVariants.{Output, ScriptOf, BadAfterOf}
 use Rattle.pmp_audit.specs.Answers.{IsWritten, IsCutShort, IsRefused}
 
 -- what was appended to an empty vector is all that it holds
@@ -38,8 +38,11 @@ module _ {A : Type 0} (Says : A → List ℕ → Type 0) (before after : Option 
       → ((Refuses fault ⊎ (fault ≡ Memory)) × Keeps before after) ⊎ ((fault ≡ Output) × IsCutShort Says before after)
   refused_by Refuses (Script fault) (why, kept) = inl (inl why, kept)
   refused_by Refuses (Trace fault) (why, kept) = inl (inl why, kept)
+  refused_by Refuses (Policy fault) (why, kept) = inl (inl why, kept)
   refused_by Refuses (Share fault) (why, kept) = inl (inl why, kept)
   refused_by Refuses (Moved moved) (why, kept) = inl (inl why, kept)
   refused_by Refuses BadAfter (why, kept) = inl (inl why, kept)
+  refused_by Refuses (ScriptOf side fault) (why, kept) = inl (inl why, kept)
+  refused_by Refuses (BadAfterOf side) (why, kept) = inl (inl why, kept)
   refused_by Refuses Memory kept = inl (inr refl, kept)
   refused_by Refuses Output cut = inr (refl, cut)

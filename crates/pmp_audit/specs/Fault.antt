@@ -8,7 +8,7 @@ use Rattle.pmp_text.specs.declared.trace.TraceFault.{TraceFault}
 use Rattle.pmp_text.specs.declared.trace.TraceKind.{TraceKind}
 use Rattle.pmp_text.specs.declared.trace.TraceKind.TheVariants as trace
 use Rattle.pmp_audit.specs.declared.fault.AuditFault.{AuditFault}
-use Rattle.pmp_audit.specs.declared.fault.AuditFault.TheVariants.{Script, Trace, Share, Moved, Memory}
+use Rattle.pmp_audit.specs.declared.fault.AuditFault.TheVariants.{Script, Trace, Policy, Share, Moved, Memory}
 use Rattle.pmp_audit.specs.declared.shared_audit.work_fault.WorkFault.{WorkFault}
 use Rattle.pmp_audit.specs.declared.shared_audit.work_fault.WorkFault.TheVariants as work
 
@@ -26,6 +26,14 @@ trace_fault_as _ fault = Trace fault
 
 abbrev pub fault_of_trace : TraceFault → AuditFault
 fault_of_trace fault = trace_fault_as fault.kind fault
+
+-- a policy has the faults of a trace
+abbrev pub policy_fault_as : TraceKind → TraceFault → AuditFault
+policy_fault_as trace.Memory fault = Memory
+policy_fault_as _ fault = Policy fault
+
+abbrev pub fault_of_policy : TraceFault → AuditFault
+fault_of_policy fault = policy_fault_as fault.kind fault
 
 abbrev pub fault_of_share : ShareFault → AuditFault
 fault_of_share share.Memory = Memory

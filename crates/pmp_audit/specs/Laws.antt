@@ -10,9 +10,14 @@ use Rattle.pmp_text.specs.declared.lines.since.Since.{Since}
 use Rattle.pmp_text.specs.declared.trace.Row.{Row}
 use Rattle.pmp_text.specs.Contents.{ScriptContents}
 use Rattle.pmp_text.specs.Reports.{AreDecided}
+use Rattle.pmp_text.specs.declared.lines.changes.Only.{Only}
+use Rattle.pmp_audit.specs.declared.policy_check.PolicySummary.{PolicySummary}
+use Rattle.pmp_audit.specs.declared.policy_check.steps.Pace.{Pace}
 use Rattle.pmp_audit.specs.declared.trace_audit.Summary.{Summary}
 use Rattle.pmp_audit.specs.AskedFile.{SaysOfScript}
+use Rattle.pmp_audit.specs.RightsDiff.{DiffSays}
 use Rattle.pmp_audit.specs.EntryList.{IsEntryList}
+use Rattle.pmp_audit.specs.PolicyCheck.{PolicySays}
 use Rattle.pmp_audit.specs.Since.{IsSince}
 use Rattle.pmp_audit.specs.TraceAudit.{AuditSays}
 
@@ -24,6 +29,18 @@ OneListOfDecisionsLaw = (script : ScriptContents) (rows : List Row) (one other :
 abbrev pub OneReportLaw : Type 0
 OneReportLaw = (script trace : List ℕ) (one other : Summary) (text another : List ℕ)
     → AuditSays script trace one text → AuditSays script trace other another → (one ≡ other) × (text ≡ another)
+
+-- a script and a policy have one answer and one summary, after publications and after events
+abbrev pub OnePolicyAnswerLaw : Type 0
+OnePolicyAnswerLaw = (pace : Pace) (script policy : List ℕ) (one other : PolicySummary) (text another : List ℕ)
+    → PolicySays pace script policy one text → PolicySays pace script policy other another
+    → (one ≡ other) × (text ≡ another)
+
+-- two scripts have one list of differences, and one number of its rows
+abbrev pub OneDifferenceLaw : Type 0
+OneDifferenceLaw = (old : List ℕ) (old_after : Option ℕ) (new : List ℕ) (new_after : Option ℕ) (only : Option Only)
+    (one other : ℕ) (text another : List ℕ) → DiffSays old old_after new new_after only one text
+    → DiffSays old old_after new new_after only other another → (one ≡ other) × (text ≡ another)
 
 abbrev pub OneEntryListLaw : Type 0
 OneEntryListLaw = (script : List ℕ) (after : Option ℕ) (text other : List ℕ)

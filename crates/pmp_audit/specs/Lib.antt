@@ -5,16 +5,21 @@ pub mod TraceAudit
 pub mod SharedAudit
 pub mod AskedFile
 pub mod View
+pub mod RightsDiff
 pub mod WriteList
 pub mod Since
 pub mod EntryList
+pub mod PolicyCheck
 pub mod Fault
 -- Laws of these definitions, which are proved.
 pub mod Laws
 -- The rest, which only private contracts cite.
 pub mod Replay
+pub mod Sides
 pub mod Report
 pub mod EventRows
 pub mod SinceStep
 pub mod Working
 pub mod Rounds
+pub mod PolicyQuestions
+pub mod PolicyRows

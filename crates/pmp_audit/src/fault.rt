@@ -1,7 +1,8 @@
-//! Why a script, or a script and a trace, get no answer.
+//! Why a script, two scripts, or a script and another text, get no answer.
 
 ghost use Rattle.std.specs.Prelude.{◌≡◌};
-ghost use Rattle.pmp_audit.specs.Fault.{fault_of_script, fault_of_trace, fault_of_share};
+ghost use Rattle.pmp_audit.specs.Fault.{fault_of_policy, fault_of_script, fault_of_share, fault_of_trace};
+ghost use Rattle.pmp_audit.specs.Sides.{fault_on};
 ghost use Rattle.pmp_audit.specs.declared.fault.AuditFault.TheVariants.{Memory, Output};
 
 use pmp_share::{Moved, ShareFault};
@@ -9,7 +10,14 @@ use pmp_text::{OutputFault, ScriptFault, ScriptKind, TraceFault, TraceKind};
 use std::alloc::AllocError;
 use thiserror::Error;
 
-/// Why a script, or a script and a trace, get no answer.
+/// Which of two scripts.
+#[derive(Clone, Copy, Debug, PartialEq, Eq)]
+pub enum Side {
+    Old,
+    New,
+}
+
+/// Why a script, two scripts, or a script and another text, get no answer.
 #[derive(Clone, Copy, Debug, PartialEq, Eq, Error)]
 pub enum AuditFault {
     /// The script's own fault, which isn't `Memory`.
@@ -18,6 +26,9 @@ pub enum AuditFault {
     /// The trace's own fault, or that its input failed; not `Memory`.
     #[error("the trace has a fault")]
     Trace(TraceFault),
+    /// The policy's own fault, or that its input failed; not `Memory`.
+    #[error("the policy has a fault")]
+    Policy(TraceFault),
     /// The shared unit's refusal, which isn't `Memory`.
     #[error("the shared unit has no place")]
     Share(ShareFault),
@@ -27,12 +38,41 @@ pub enum AuditFault {
     /// The script has fewer publications than were asked for.
     #[error("the script has fewer publications than were asked for")]
     BadAfter,
+    /// The fault of one of two scripts, which isn't `Memory`.
+    #[error("one of the scripts has a fault")]
+    ScriptOf(Side, ScriptFault),
+    /// One of two scripts has fewer publications than were asked for.
+    #[error("one of the scripts has fewer publications than were asked for")]
+    BadAfterOf(Side),
     /// No memory.
     #[error("out of memory")]
     Memory,
     /// The output can't be written.
     #[error("the output can't be written")]
     Output,
+}
+
+impl AuditFault {
+    /// The fault of a script as that of the one on this side.
+    pub fn on_side(self, side: Side) -> AuditFault
+        ensures { result ≡ fault_on side self }
+    {
+        match self {
+            AuditFault::Script(fault) => AuditFault::ScriptOf(side, fault),
+            AuditFault::BadAfter => AuditFault::BadAfterOf(side),
+            fault => fault,
+        }
+    }
+
+    /// A policy gets no answer for this.
+    pub(crate) fn of_policy(fault: TraceFault) -> AuditFault
+        ensures { result ≡ fault_of_policy fault }
+    {
+        match fault.kind {
+            TraceKind::Memory => AuditFault::Memory,
+            _ => AuditFault::Policy(fault),
+        }
+    }
 }
 
 impl From<ScriptFault> for AuditFault {

@@ -1,8 +1,10 @@
 //! The laws of reports and entry lists, each the contract of a function that does nothing.
 
-ghost use Rattle.pmp_audit.specs.Laws.{OneEntryListLaw, OneListOfDecisionsLaw, OneReportLaw, SinceLaw};
+ghost use Rattle.pmp_audit.specs.Laws.{OneDifferenceLaw, OneEntryListLaw, OneListOfDecisionsLaw, OnePolicyAnswerLaw};
+ghost use Rattle.pmp_audit.specs.Laws.{OneReportLaw, SinceLaw};
 
 use pmp_core::laws::{law_one_decision, law_one_span, law_protected};
+use pmp_map::laws::law_one_list_of_rights_runs;
 
 /// Rows have one list of decisions that are each the manual's, however they are come by.
 pub fn law_one_list_of_decisions()
@@ -16,6 +18,18 @@ pub fn law_one_report()
     ensures { OneReportLaw }
 {
     law_one_list_of_decisions();
+}
+
+/// A script and a policy have one answer, and one summary.
+pub fn law_one_policy_answer()
+    ensures { OnePolicyAnswerLaw }
+{}
+
+/// Two scripts have one list of differences.
+pub fn law_one_difference()
+    ensures { OneDifferenceLaw }
+{
+    law_one_list_of_rights_runs();
 }
 
 /// Where an entry is frozen, it has been so, with its configuration and its bytes, ever since the publication that

@@ -1,0 +1,208 @@
+-- A script and a policy have one answer.
+use Rattle.std.proofs.Common.{◌≡◌, ℕ, ◌+◌, ◌<◌, ◌≤◌, List, [], ◌∷◌, map, Option, Some, None, refl, sym, ap, subst, ◌∙◌}
+use Rattle.std.proofs.Common.{inl, inr, arith}
+use Rattle.std.proofs.Math.Bridge.{le_prop}
+use Rattle.std.proofs.lemmas.Bool.{cases_lt, false≢true}
+use Rattle.std.specs.Prelude.{IsSome}
+use Rattle.pmp_core.specs.declared.access.TheConstants.{ADDRESS_LIMIT}
+use Rattle.pmp_core.specs.declared.entry.Entry.{Entry}
+use Rattle.pmp_core.specs.Matching.{Matches}
+use Rattle.pmp_core.specs.RegisterFile.{RegisterFile}
+use Rattle.pmp_core.proofs.Decisions.{least_once}
+use Rattle.pmp_map.specs.declared.run.Run.{Run}
+use Rattle.pmp_text.specs.declared.lines.verdict.Breach.{Breach}
+use Rattle.pmp_text.specs.declared.policy.Demand.{Demand}
+use Rattle.pmp_text.specs.declared.policy.Demand.TheVariants.{Never, Always, Held}
+use Rattle.pmp_text.specs.declared.policy.PolicyRow.{PolicyRow}
+use Rattle.pmp_text.specs.declared.policy.Kinds.{Kinds}
+use Rattle.pmp_text.specs.declared.policy.Modes.{Modes}
+use Rattle.pmp_text.specs.Policies.{policy_fields}
+use Rattle.pmp_audit.specs.Laws.{OnePolicyAnswerLaw}
+use Rattle.pmp_audit.specs.PolicyCheck.{IsBroken, IsFirstBreach, IsFirstIn, IsFirstLoose, IsFirstOf, IsFirstOfAll, IsFirstRun, IsLoose}
+use Rattle.pmp_audit.specs.PolicyCheck.{IsVerdict, IsVerdictBy, policy_summary, state_after, step_count, verdicts_text}
+use Rattle.pmp_audit.proofs.Lists.{one_list}
+
+-- ---- one run
+
+same_run : (one other : Run) → one.first ≡ other.first → one.last ≡ other.last → one.owner ≡ other.owner → one ≡ other
+same_run one other first last owner =
+    ap (λ (n : ℕ). record { first = n; last = one.last; owner = one.owner }) first
+    ∙ ap (λ (n : ℕ). record { first = other.first; last = n; owner = one.owner }) last
+    ∙ ap (λ (o : Option ℕ). record { first = other.first; last = other.last; owner = o }) owner
+
+module _ (entries : List Entry) (IsSo : ℕ → Type 0) (row : PolicyRow) where
+  abbrev First : Run → Type 0
+  First run = IsFirstRun entries IsSo row run
+
+  begins_by : (one other : Run) → First one → First other → one.first ≤ other.first
+  begins_by one other is too = elim (cases_lt other.first one.first) [
+    | inr by ↦ by
+    | inl before ↦ absurd (is.first other.first too.from before (too.all other.first (omega arith, too.proper)))
+  ]
+
+  module _ (one other : Run) (is : First one) (too : First other) where
+    same_first : one.first ≡ other.first
+    same_first = let here = begins_by one other is too in let there = begins_by other one too is in omega arith
+
+    same_owner : one.owner ≡ other.owner
+    same_owner = least_once (λ i. Matches entries i one.first) one.owner other.owner
+        (is.owned one.first (omega arith, is.proper))
+        (too.owned one.first (omega (arith, same_first), omega (arith, same_first, too.proper)))
+
+    ends_by : other.last ≤ one.last
+    ends_by = elim (cases_lt one.last other.last) [
+      | inr by ↦ by
+      | inl before ↦
+          absurd (is.apart (omega (arith, before, too.to)) other.owner
+          (too.owned (one.last + 1) (omega (arith, same_first, is.proper), omega (arith, before))) same_owner)
+    ]
+
+  same_runs : (one other : Run) → First one → First other → one ≡ other
+  same_runs one other is too =
+      let here = ends_by one other is too in
+      let there = ends_by other one too is in
+      same_run one other (same_first one other is too) (omega arith) (same_owner one other is too)
+
+  pub one_first : (one other : Option Run) → IsFirstOf entries IsSo row one → IsFirstOf entries IsSo row other
+      → one ≡ other
+  one_first None None is too = refl
+  one_first None (Some run) is too =
+      absurd (is run.first too.from (omega (arith, too.proper, too.to)) (too.all run.first (omega arith, too.proper)))
+  one_first (Some run) None is too =
+      absurd (too run.first is.from (omega (arith, is.proper, is.to)) (is.all run.first (omega arith, is.proper)))
+  one_first (Some one) (Some other) is too = ap Some (same_runs one other is too)
+
+-- ---- one verdict
+
+same_breach : (one other : Breach) → one.done ≡ other.done → one.run ≡ other.run → one ≡ other
+same_breach one other done run =
+    ap (λ (n : ℕ). record { done = n; run = one.run }) done
+    ∙ ap (λ (r : Run). record { done = other.done; run = r }) run
+
+none_is_some : {X : Type 0} (x : X) → None ≡ Some x → ⊥
+none_is_some x same = absurd cc
+
+module _ (state : ℕ → RegisterFile) (row : PolicyRow) (from to : ℕ) where
+  none_there : (done : ℕ) (run : Run) → IsFirstIn (state done) row None → IsFirstIn (state done) row (Some run) → ⊥
+  none_there done run none some = none run.first some.from (omega (arith, some.proper, some.to))
+      (some.all run.first (omega arith, some.proper))
+
+  breaks_by : (one other : Breach) → IsFirstBreach state row from to one → IsFirstBreach state row from to other
+      → one.done ≤ other.done
+  breaks_by one other is too = elim (cases_lt other.done one.done) [
+    | inr by ↦ by
+    | inl before ↦ absurd (none_there other.done other.run (is.before other.done too.after before) too.here)
+  ]
+
+  same_breaches : (one other : Breach) → IsFirstBreach state row from to one → IsFirstBreach state row from to other
+      → one ≡ other
+  same_breaches one other is too =
+      let here = breaks_by one other is too in
+      let there = breaks_by other one too is in
+      let done : one.done ≡ other.done = omega arith in
+      let moved = subst (λ (n : ℕ). IsFirstIn (state n) row (Some one.run)) done is.here in
+      let runs = one_first (state other.done).entries (IsBroken (state other.done) row) row (Some one.run)
+      (Some other.run) moved too.here in
+      same_breach one other done cc
+
+  one_of_all : (one other : Option Breach) → IsFirstOfAll state row from to one → IsFirstOfAll state row from to other
+      → one ≡ other
+  one_of_all None None is too = refl
+  one_of_all None (Some breach) is too =
+      absurd (none_there breach.done breach.run (is breach.done too.after too.until) too.here)
+  one_of_all (Some breach) None is too =
+      absurd (none_there breach.done breach.run (too breach.done is.after is.until) is.here)
+  one_of_all (Some one) (Some other) is too = ap Some (same_breaches one other is too)
+
+  loose_of : Option Run → Type 0
+  loose_of run = IsFirstOf (state to).entries (IsLoose (state to) row) row run
+
+  one_loose : (one other : Option Breach) → IsFirstLoose state row to one → IsFirstLoose state row to other
+      → one ≡ other
+  one_loose None None is too = refl
+  one_loose None (Some breach) is too =
+      absurd (none_is_some breach.run (one_first (state to).entries (IsLoose (state to) row) row None (Some breach.run) is too.1))
+  one_loose (Some breach) None is too =
+      absurd (none_is_some breach.run (one_first (state to).entries (IsLoose (state to) row) row None (Some breach.run) too is.1))
+  one_loose (Some one) (Some other) is too =
+      let runs = one_first (state to).entries (IsLoose (state to) row) row (Some one.run) (Some other.run) is.1 too.1 in
+      ap Some (same_breach one other (is.0 ∙ sym too.0) cc)
+
+  -- a row without a breach has none
+  never_both : (verdict : Option Breach) → IsSome verdict → IsFirstOfAll state row from to verdict
+      → IsFirstOfAll state row from to None → ⊥
+  never_both None some is none = absurd (false≢true some)
+  never_both (Some breach) some is none =
+      none_there breach.done breach.run (none breach.done is.after is.until) is.here
+
+  one_verdict_by : (demand : Demand) (one other : Option Breach) → IsVerdictBy demand state row from to one
+      → IsVerdictBy demand state row from to other → one ≡ other
+  one_verdict_by Never one other is too = one_of_all one other is too
+  one_verdict_by Always one other is too = one_of_all one other is too
+  one_verdict_by Held one other (inl is) (inl too) = one_of_all one other is.1 too.1
+  one_verdict_by Held one other (inl is) (inr too) = absurd (never_both one is.0 is.1 too.0)
+  one_verdict_by Held one other (inr is) (inl too) = absurd (never_both other too.0 too.1 is.0)
+  one_verdict_by Held one other (inr is) (inr too) = one_loose one other is.1 too.1
+
+-- ---- a row is what a policy says of it
+
+row_of : (from to : ℕ) (modes : Modes) (kinds : Kinds) (first last : ℕ) (demand : Demand) → from ≤ to → first ≤ last
+    → last < ADDRESS_LIMIT → PolicyRow
+row_of from to modes kinds first last demand forward ordered inside = record {
+  from = from;
+  to = to;
+  modes = modes;
+  kinds = kinds;
+  first = first;
+  last = last;
+  demand = demand;
+  forward = forward;
+  ordered = ordered;
+  inside = inside;
+}
+
+same_row : (one other : PolicyRow) → policy_fields one ≡ policy_fields other → one ≡ other
+unfolding row_of
+same_row one other same =
+    let From : ℕ → ℕ → ℕ → ℕ → Type 0 = λ f t a b. (forward : f ≤ t) (ordered : a ≤ b) (inside : b < ADDRESS_LIMIT)
+    → one ≡ row_of f t one.modes one.kinds a b one.demand forward ordered inside in
+    let here = row_of one.from one.to one.modes one.kinds one.first one.last one.demand in
+    let own : From one.from one.to one.first one.last = λ forward ordered inside.
+    ap (λ f. here f one.ordered one.inside) (le_prop one.forward forward)
+    ∙ ap (λ o. here forward o one.inside) (le_prop one.ordered ordered)
+    ∙ ap (λ i. here forward ordered i) (le_prop one.inside inside) in
+    let moved = subst (λ (n : ℕ). From n one.to one.first one.last) (ap (λ f. f.from) same) own in
+    let moved_to = subst (λ (n : ℕ). From other.from n one.first one.last) (ap (λ f. f.to) same) moved in
+    let moved_first = subst (λ (n : ℕ). From other.from other.to n one.last) (ap (λ f. f.first) same) moved_to in
+    let moved_last = subst (λ (n : ℕ). From other.from other.to other.first n) (ap (λ f. f.last) same) moved_first in
+    let there : Modes → Kinds → Demand → PolicyRow = λ m k d.
+    row_of other.from other.to m k other.first other.last d other.forward other.ordered other.inside in
+    moved_last other.forward other.ordered other.inside
+    ∙ ap (λ (m : Modes). there m one.kinds one.demand) (ap (λ f. f.modes) same)
+    ∙ ap (λ (k : Kinds). there other.modes k one.demand) (ap (λ f. f.kinds) same)
+    ∙ ap (λ (d : Demand). there other.modes other.kinds d) (ap (λ f. f.demand) same)
+
+same_rows : (one other : List PolicyRow) → map policy_fields one ≡ map policy_fields other → one ≡ other
+same_rows [] [] same = refl
+same_rows [] (row ∷ other) same = absurd cc
+same_rows (row ∷ one) [] same = absurd cc
+same_rows (row ∷ one) (another ∷ other) same =
+    let first = same_row row another cc in
+    let rest = same_rows one other cc in
+    cc
+
+-- ---- the law
+
+pub one_policy_answer : OnePolicyAnswerLaw
+one_policy_answer pace script policy one other text another said too =
+    let contents : said.contents ≡ too.contents = cc (said.script_means, too.script_means) in
+    let fields : map policy_fields said.rows ≡ map policy_fields too.rows =
+    cc (contents, said.policy_means, too.policy_means) in
+    let rows = same_rows said.rows too.rows fields in
+    let judged = rw (contents, rows) at said.judged in
+    let verdicts = one_list (IsVerdict pace too.contents)
+    (λ row. one_verdict_by (state_after pace too.contents) row (step_count pace too.contents.batches row.from)
+    (step_count pace too.contents.batches row.to) row.demand) too.rows said.verdicts too.verdicts judged too.judged in (
+      said.counted ∙ ap policy_summary verdicts ∙ sym too.counted,
+      said.text_is ∙ ap verdicts_text verdicts ∙ sym too.text_is,
+    )

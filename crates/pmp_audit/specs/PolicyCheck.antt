@@ -1,0 +1,153 @@
+-- What the rows of a policy come to, by bytes and by states of the register file (Volume II, 3.7.1.3).
+use Rattle.std.specs.Prelude.{◌≡◌, ◌≢◌, ℕ, ◌+◌, ◌<◌, ◌≤◌, Bool, true, false, List, [], ◌∷◌, length, map, take, count_by}
+use Rattle.std.specs.Prelude.{Option, Some, None, IsSome, is_some, Ok, Err, ◌⊎◌}
+use Rattle.std.specs.List.{AllZip, enumerate_from, flat_map}
+use Rattle.pmp_core.specs.declared.access.Kind.{Kind}
+use Rattle.pmp_core.specs.declared.access.Mode.{Mode}
+use Rattle.pmp_core.specs.declared.entry.Entry.{Entry}
+use Rattle.pmp_core.specs.declared.event.Event.{Event}
+use Rattle.pmp_core.specs.Decision.{IsOwner}
+use Rattle.pmp_core.specs.Histories.{file_after, joined}
+use Rattle.pmp_core.specs.RegisterFile.{RegisterFile}
+use Rattle.pmp_core.specs.Size.{count_of}
+use Rattle.pmp_map.specs.declared.run.Run.{Run}
+use Rattle.pmp_map.specs.OpenBytes.{IsAnswered, IsHeldByte}
+use Rattle.pmp_map.specs.Runs.{IsInRun}
+use Rattle.pmp_text.specs.declared.lines.verdict.Breach.{Breach}
+use Rattle.pmp_text.specs.declared.policy.Demand.{Demand}
+use Rattle.pmp_text.specs.declared.policy.Demand.TheVariants.{Never, Always, Held}
+use Rattle.pmp_text.specs.declared.policy.PolicyRow.{PolicyRow}
+use Rattle.pmp_text.specs.declared.trace.TraceFault.{TraceFault}
+use Rattle.pmp_text.specs.Contents.{ScriptContents}
+use Rattle.pmp_text.specs.Outcomes.{no_input_for_rows}
+use Rattle.pmp_text.specs.Policies.{has_kind, has_mode, policy_fields, policy_meaning}
+use Rattle.pmp_text.specs.Scripts.{script_meaning}
+use Rattle.pmp_text.specs.Verdicts.{verdict_row}
+use Rattle.pmp_audit.specs.declared.fault.AuditFault.{AuditFault}
+use Rattle.pmp_audit.specs.declared.fault.AuditFault.TheVariants.{Policy, Script}
+use Rattle.pmp_audit.specs.declared.policy_check.PolicySummary.{PolicySummary}
+use Rattle.pmp_audit.specs.declared.policy_check.steps.Pace.{Pace}
+use Rattle.pmp_audit.specs.declared.policy_check.steps.Pace.TheVariants.{Publications, Events}
+
+-- ---- the states that are asked
+
+-- a script's publications step by step: each whole, or each event by itself
+abbrev pub steps_of : Pace → List (List Event) → List (List Event)
+steps_of Publications batches = batches
+steps_of Events batches = map (λ event. event ∷ []) (joined batches)
+
+-- how many steps the first publications are
+abbrev pub step_count : Pace → List (List Event) → (publications : ℕ) → ℕ
+step_count Publications batches publications = publications
+step_count Events batches publications = length (joined (take publications batches))
+
+-- the register file after so many steps
+abbrev pub state_after : Pace → ScriptContents → (done : ℕ) → RegisterFile
+state_after pace script done = file_after (count_of script.size) (take done (steps_of pace script.batches))
+
+-- ---- one state
+
+-- the byte is open to one of the row's modes by one of its kinds, or closed
+abbrev pub IsFound : (allowed : Bool) → RegisterFile → PolicyRow → (byte : ℕ) → Type 0
+IsFound allowed file row byte =
+    (mode : Mode) × (kind : Kind) × (has_mode row.modes mode ≡ true) × (has_kind row.kinds kind ≡ true)
+    × IsAnswered file allowed mode kind byte
+
+-- what a demand is broken by: a byte that is open, or where it is always to be, one that is closed
+abbrev pub is_broken_by : Demand → Bool
+is_broken_by Never = true
+is_broken_by Always = false
+is_broken_by Held = true
+
+-- the byte breaks the row's demand
+abbrev pub IsBroken : RegisterFile → PolicyRow → (byte : ℕ) → Type 0
+IsBroken file row = IsFound (is_broken_by row.demand) file row
+
+-- the byte isn't held
+abbrev pub IsLoose : RegisterFile → PolicyRow → (byte : ℕ) → Type 0
+IsLoose file row byte = ¬ (IsHeldByte file byte)
+
+-- the run begins at the first byte of the row's range that is so, and goes on in the range as far as its owner does
+pub record IsFirstRun (entries : List Entry) (IsSo : ℕ → Type 0) (row : PolicyRow) (run : Run) : Type 0 where
+  pub proper : run.first ≤ run.last
+  pub from : row.first ≤ run.first
+  pub to : run.last ≤ row.last
+  pub all : (byte : ℕ) → IsInRun run byte → IsSo byte
+  pub first : (byte : ℕ) → row.first ≤ byte → byte < run.first → ¬ (IsSo byte)
+  pub owned : (byte : ℕ) → IsInRun run byte → IsOwner entries byte run.owner
+  pub apart : run.last < row.last → (other : Option ℕ) → IsOwner entries (run.last + 1) other → run.owner ≢ other
+
+-- that run, or none where no byte of the range is so
+abbrev pub IsFirstOf : (entries : List Entry) → (ℕ → Type 0) → PolicyRow → Option Run → Type 0
+IsFirstOf entries IsSo row None = (byte : ℕ) → row.first ≤ byte → byte ≤ row.last → ¬ (IsSo byte)
+IsFirstOf entries IsSo row (Some run) = IsFirstRun entries IsSo row run
+
+-- ---- all states
+
+-- the first run that breaks the demand in this state, or none
+abbrev pub IsFirstIn : RegisterFile → PolicyRow → Option Run → Type 0
+IsFirstIn file row = IsFirstOf file.entries (IsBroken file row) row
+
+-- the first breach of the states from the one after so many steps to the one after so many: first in time, and then in
+-- address
+pub record IsFirstBreach (state : ℕ → RegisterFile) (row : PolicyRow) (from to : ℕ) (breach : Breach) : Type 0 where
+  pub after : from ≤ breach.done
+  pub until : breach.done ≤ to
+  pub before : (done : ℕ) → from ≤ done → done < breach.done → IsFirstIn (state done) row None
+  pub here : IsFirstIn (state breach.done) row (Some breach.run)
+
+-- that breach, or none where no state has one
+abbrev pub IsFirstOfAll : (state : ℕ → RegisterFile) → PolicyRow → (from to : ℕ) → Option Breach → Type 0
+IsFirstOfAll state row from to None = (done : ℕ) → from ≤ done → done ≤ to → IsFirstIn (state done) row None
+IsFirstOfAll state row from to (Some breach) = IsFirstBreach state row from to breach
+
+-- the first run that isn't held in the last state, or none
+abbrev pub IsFirstLoose : (state : ℕ → RegisterFile) → PolicyRow → (to : ℕ) → Option Breach → Type 0
+IsFirstLoose state row to None = IsFirstOf (state to).entries (IsLoose (state to) row) row None
+IsFirstLoose state row to (Some breach) =
+    (breach.done ≡ to) × IsFirstOf (state to).entries (IsLoose (state to) row) row (Some breach.run)
+
+-- a hold is asked for where nothing is open
+abbrev pub IsVerdictBy : Demand → (state : ℕ → RegisterFile) → PolicyRow → (from to : ℕ) → Option Breach → Type 0
+IsVerdictBy Never state row from to verdict = IsFirstOfAll state row from to verdict
+IsVerdictBy Always state row from to verdict = IsFirstOfAll state row from to verdict
+IsVerdictBy Held state row from to verdict = (IsSome verdict × IsFirstOfAll state row from to verdict)
+    ⊎ (IsFirstOfAll state row from to None × IsFirstLoose state row to verdict)
+
+-- whether the row holds, and its first breach where it doesn't
+abbrev pub IsVerdict : Pace → ScriptContents → PolicyRow → Option Breach → Type 0
+IsVerdict pace script row = IsVerdictBy row.demand (state_after pace script) row
+    (step_count pace script.batches row.from) (step_count pace script.batches row.to)
+
+-- ---- a whole policy
+
+-- a row for each verdict, numbered from 1
+unfoldable pub verdicts_text : List (Option Breach) → List ℕ
+verdicts_text verdicts = flat_map (λ (number, verdict). verdict_row number verdict) (enumerate_from 1 verdicts)
+
+-- how many rows there are, and how many of them are broken
+abbrev pub policy_summary : List (Option Breach) → PolicySummary
+policy_summary verdicts = record { rows = length verdicts; broken = count_by is_some verdicts }
+
+-- the two texts mean this, each row has its verdict, and the text has them all
+pub record PolicySays (pace : Pace) (script policy : List ℕ) (summary : PolicySummary) (text : List ℕ) : Type 0 where
+  pub contents : ScriptContents
+  pub script_means : script_meaning script ≡ Ok contents
+  pub rows : List PolicyRow
+  pub policy_means : policy_meaning (length contents.batches) policy ≡ Ok (map policy_fields rows)
+  pub verdicts : List (Option Breach)
+  pub judged : AllZip (IsVerdict pace contents) rows verdicts
+  pub text_is : text ≡ verdicts_text verdicts
+  pub counted : summary ≡ policy_summary verdicts
+
+-- the script has no fault, and the policy has this one, or its input failed
+pub record IsFaultyPolicy (script policy : List ℕ) (fault : TraceFault) : Type 0 where
+  pub contents : ScriptContents
+  pub script_means : script_meaning script ≡ Ok contents
+  pub policy_means : (policy_meaning (length contents.batches) policy ≡ Err fault) ⊎ (fault ≡ no_input_for_rows)
+
+-- the script's own fault, then the policy's
+abbrev pub PolicyRefuses : (script policy : List ℕ) → AuditFault → Type 0
+PolicyRefuses script policy (Script fault) = script_meaning script ≡ Err fault
+PolicyRefuses script policy (Policy fault) = IsFaultyPolicy script policy fault
+PolicyRefuses script policy _ = ⊥

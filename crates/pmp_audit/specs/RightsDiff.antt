@@ -1,0 +1,49 @@
+-- What is said of two scripts' register files, and when that is refused.
+use Rattle.std.specs.Prelude.{◌≡◌, ℕ, ◌≤◌, List, length, Option, Ok}
+use Rattle.pmp_core.specs.RegisterFile.{RegisterFile}
+use Rattle.pmp_map.specs.declared.rights_run.RightsRun.{RightsRun}
+use Rattle.pmp_map.specs.RightsRuns.{AreRightsRuns}
+use Rattle.pmp_text.specs.declared.lines.changes.Only.{Only}
+use Rattle.pmp_text.specs.Changes.{change_count, change_rows}
+use Rattle.pmp_text.specs.Contents.{ScriptContents}
+use Rattle.pmp_text.specs.Reports.{file_of_script}
+use Rattle.pmp_text.specs.Scripts.{script_meaning}
+use Rattle.pmp_audit.specs.declared.fault.AuditFault.{AuditFault}
+use Rattle.pmp_audit.specs.declared.fault.AuditFault.TheVariants.{Script, BadAfter, ScriptOf, BadAfterOf}
+use Rattle.pmp_audit.specs.declared.fault.Side.TheVariants.{Old, New}
+use Rattle.pmp_audit.specs.AskedFile.{FileRefuses, asked_count}
+
+-- the script means this, no more publications are asked for than it has, and so many of them give the file
+pub record GivesFile (script : List ℕ) (after : Option ℕ) (file : RegisterFile) : Type 0 where
+  pub contents : ScriptContents
+  pub script_means : script_meaning script ≡ Ok contents
+  pub within : asked_count after contents ≤ length contents.batches
+  pub file_is : file ≡ file_of_script contents (asked_count after contents)
+
+-- both scripts give a file, the text has a row for each of the longest ranges of bytes where these differ as is asked,
+-- and the rows are counted
+pub record DiffSays (old : List ℕ) (old_after : Option ℕ) (new : List ℕ) (new_after : Option ℕ) (only : Option Only)
+    (rows : ℕ) (text : List ℕ) : Type 0 where
+  pub old_file : RegisterFile
+  pub new_file : RegisterFile
+  pub old_gives : GivesFile old old_after old_file
+  pub new_gives : GivesFile new new_after new_file
+  pub runs : List RightsRun
+  pub runs_are : AreRightsRuns old_file new_file runs
+  pub text_is : text ≡ change_rows only runs
+  pub counted : rows ≡ change_count only runs
+
+-- the new script is refused as any is, where the old one gives a file
+abbrev pub NewRefuses : (old : List ℕ) → (old_after : Option ℕ) → (new : List ℕ) → (new_after : Option ℕ)
+    → AuditFault → Type 0
+NewRefuses old old_after new new_after fault =
+    ((file : RegisterFile) × GivesFile old old_after file) × FileRefuses new new_after fault
+
+-- the old script's own fault, or too many of its publications are asked for; then the same of the new one
+abbrev pub DiffRefuses : (old : List ℕ) → (old_after : Option ℕ) → (new : List ℕ) → (new_after : Option ℕ)
+    → AuditFault → Type 0
+DiffRefuses old old_after new new_after (ScriptOf Old fault) = FileRefuses old old_after (Script fault)
+DiffRefuses old old_after new new_after (BadAfterOf Old) = FileRefuses old old_after BadAfter
+DiffRefuses old old_after new new_after (ScriptOf New fault) = NewRefuses old old_after new new_after (Script fault)
+DiffRefuses old old_after new new_after (BadAfterOf New) = NewRefuses old old_after new new_after BadAfter
+DiffRefuses old old_after new new_after _ = ⊥

@@ -1,0 +1,103 @@
+//! The rows of a policy, each judged in all states that it asks of.
+
+ghost use Rattle.std.specs.Prelude.{◌≡◌, ◌+◌, ◌^◌, ◌<◌, ◌≤◌, ◌++◌, All, IfOk, IfErr, OnOk, length, if◌then◌else◌, is_some};
+ghost use Rattle.pmp_text.specs.Verdicts.{verdict_row};
+ghost use Rattle.pmp_audit.specs.Answers.{IsWritten, IsRefused};
+ghost use Rattle.pmp_audit.specs.Fault.{fault_of_policy};
+ghost use Rattle.pmp_audit.specs.PolicyCheck.{PolicySays, PolicyRefuses};
+ghost use Rattle.pmp_audit.specs.PolicyRows.{AreJudged};
+
+mod question;
+mod search;
+mod steps;
+
+use crate::answer::write_answer;
+use crate::fault::AuditFault;
+use crate::policy_check::search::judge;
+use crate::policy_check::steps::Steps;
+use pmp_text::{Breach, PolicyRow, read_policy, read_script, write_verdict};
+use std::alloc::{AllocError, Global};
+use std::io::Write;
+pub use steps::Pace;
+
+/// How many rows a policy has, and how many of them are broken.
+#[derive(Clone, Copy, Debug, Default, PartialEq, Eq)]
+pub struct PolicySummary {
+    pub rows: u64,
+    pub broken: u64,
+}
+
+/// Judges each row of the policy after the script's publications that it names, or after each of their events, and
+/// writes a row for each, numbered from 1: that it holds, or its first breach, in time and then in address.
+///
+/// The script's fault comes before any of the policy. The text is whole before its first byte is written, so every
+/// refusal but `Output` leaves the output untouched. The time grows with the product of events and rows.
+pub fn check_policy<W: Write>(
+    alloc: Global,
+    pace: Pace,
+    script: &[u8],
+    policy: &[u8],
+    writer: &mut W,
+) -> Result<PolicySummary, AuditFault>
+    ensures ok { IfOk result
+        (IsWritten (PolicySays pace script.now policy.now) (W.contents writer.old) (W.contents writer.new)) }
+    ensures err { IfErr result
+        (IsRefused (PolicySays pace script.now policy.now) (W.contents writer.old) (W.contents writer.new)
+        (PolicyRefuses script.now policy.now)) }
+{
+    let script = read_script(alloc, script)?;
+    let rows = match read_policy(alloc, policy, script.batches()) {
+        Ok(rows) => rows,
+        Err(fault) => return Err(AuditFault::of_policy(fault)),
+    };
+    let mut text = Vec::new(alloc);
+    let steps = Steps {
+        script: &script,
+        pace,
+    };
+    let summary = write_verdicts(&mut text, &steps, &rows)?;
+    write_answer(writer, &text, summary)
+}
+
+/// Appends the verdicts on the rows.
+fn write_verdicts(
+    out: &mut Vec<u8>,
+    steps: &Steps<'_>,
+    rows: &[PolicyRow],
+) -> Result<PolicySummary, AllocError>
+    requires { All (λ row. row.to ≤ length steps.now.script.now.batches) rows.now }
+    ensures { IfOk result (AreJudged steps.now.pace steps.now.script.now rows.now out.old.items out.new.items) }
+{
+    let mut summary = PolicySummary::default();
+    for row in rows {
+        summary.add_row(out, judge(steps, row))?;
+    }
+    Ok(summary)
+}
+
+impl PolicySummary {
+    /// One more row, which has this verdict.
+    fn count(&mut self, verdict: Option<Breach>)
+        requires rows { self.old.rows + 1 < 2 ^ 64 }
+        requires broken { self.old.broken ≤ self.old.rows }
+        ensures rows { self.new.rows ≡ self.old.rows + 1 }
+        ensures broken { self.new.broken ≡ self.old.broken + (if is_some verdict then 1 else 0) }
+    {
+        self.rows += 1;
+        if verdict.is_some() {
+            self.broken += 1;
+        }
+    }
+
+    /// One more row, which has this verdict, appended to a text.
+    fn add_row(&mut self, out: &mut Vec<u8>, verdict: Option<Breach>) -> Result<(), AllocError>
+        requires rows { self.old.rows + 1 < 2 ^ 64 }
+        requires broken { self.old.broken ≤ self.old.rows }
+        ensures rows { self.new.rows ≡ self.old.rows + 1 }
+        ensures broken { self.new.broken ≡ self.old.broken + (if is_some verdict then 1 else 0) }
+        ensures written { OnOk result (out.new.items ≡ out.old.items ++ verdict_row self.new.rows verdict) }
+    {
+        self.count(verdict);
+        write_verdict(out, self.rows, verdict)
+    }
+}
