@@ -2,14 +2,15 @@
 use Rattle.std.proofs.Common.{ℕ, ◌<◌, ◌≤◌, ◌^◌, ◌++◌, List, Some, None, length, codes, decimal, arith}
 use Rattle.std.proofs.lemmas.Fmt.{length-decimal-le}
 use Rattle.std.proofs.lemmas.List.{length-append}
-use Rattle.pmp_tool.specs.declared.fault_line.Place.TheVariants.{ScriptLine, TraceRow}
+use Rattle.pmp_audit.specs.declared.fault.Side.TheVariants.{Old, New}
+use Rattle.pmp_tool.specs.declared.fault_line.Place.TheVariants.{ScriptLine, TraceRow, PolicyRow, Script, LineOf}
 use Rattle.pmp_tool.specs.declared.refusal.Refusal.{Refusal}
 use Rattle.pmp_tool.specs.declared.refusal.Refusal.TheVariants.{BadLength, PastEnd, BadVersion, BadLine, BadName}
 use Rattle.pmp_tool.specs.declared.refusal.Refusal.TheVariants.{OddCfg, BadNumber, BatchFull, Unpublished, TooLong}
 use Rattle.pmp_tool.specs.declared.refusal.Refusal.TheVariants.{BadHeader, BadRow, BadAfter, Order, BadWord, Memory}
 use Rattle.pmp_tool.specs.declared.refusal.Refusal.TheVariants.{NoPlace, Full, Moved, Input, Output}
 use Rattle.pmp_tool.specs.LineLengths.{LineFitsLaw}
-use Rattle.pmp_tool.specs.Refusals.{fault_text, name_of, number_of, refusal_text}
+use Rattle.pmp_tool.specs.Refusals.{name_of, number_of, refusal_text}
 
 -- a refusal's number has two digits, and its name eleven letters
 number_fits : (refusal : Refusal) → number_of refusal < 10 ^ 2
@@ -82,13 +83,25 @@ numbered_fits front number refusal small short =
     let d = length-append (codes ": refused ") (refusal_text refusal) in
     omega (arith, digits, told, short, a, b, c, d)
 
-pub line_fits : LineFitsLaw
-line_fits refusal None small =
+unnumbered_fits : (front : List ℕ) (refusal : Refusal) → length front ≤ 18
+    → length ((front ++ refusal_text refusal) ++ codes "\n") ≤ 62
+unnumbered_fits front refusal short =
     let told = refusal_fits refusal in
-    let a = length-append (fault_text refusal None) (codes "\n") in
-    let b = length-append (codes "pmp: refused ") (refusal_text refusal) in
-    omega (arith, told, a, b)
+    let a = length-append (front ++ refusal_text refusal) (codes "\n") in
+    let b = length-append front (refusal_text refusal) in
+    omega (arith, told, short, a, b)
+
+pub line_fits : LineFitsLaw
+line_fits refusal None small = unnumbered_fits (codes "pmp: refused ") refusal (omega arith)
 line_fits refusal (Some (ScriptLine line)) small =
     numbered_fits (codes "pmp: script line ") line refusal small (omega arith)
 line_fits refusal (Some (TraceRow row)) small =
     numbered_fits (codes "pmp: trace row ") row refusal small (omega arith)
+line_fits refusal (Some (PolicyRow row)) small =
+    numbered_fits (codes "pmp: policy row ") row refusal small (omega arith)
+line_fits refusal (Some (Script Old)) small = unnumbered_fits (codes "pmp: old: refused ") refusal (omega arith)
+line_fits refusal (Some (Script New)) small = unnumbered_fits (codes "pmp: new: refused ") refusal (omega arith)
+line_fits refusal (Some (LineOf Old line)) small =
+    numbered_fits (codes "pmp: old line ") line refusal small (omega arith)
+line_fits refusal (Some (LineOf New line)) small =
+    numbered_fits (codes "pmp: new line ") line refusal small (omega arith)

@@ -13,6 +13,8 @@ use Rattle.clap.proofs.WalkLemmas.{first_value-rows}
 use Rattle.pmp_text.specs.Numbers.{word_number}
 use Rattle.pmp_tool.specs.Commands.{after_of, asked_in, asked_of, command_named, number_given, required}
 use Rattle.pmp_tool.specs.Expected.{expected_given, expected_named, expected_of}
+use Rattle.pmp_text.specs.declared.lines.changes.Only.{Only}
+use Rattle.pmp_tool.specs.OnlyWord.{only_given, only_named, only_of}
 use Rattle.pmp_tool.specs.Refusals.{result_map}
 use Rattle.pmp_tool.specs.declared.command.CommandName.{CommandName}
 use Rattle.pmp_tool.specs.declared.expected.Expected.{Expected}
@@ -59,11 +61,23 @@ number_read None result is = rw is refl
 number_read (Some number) result is = rw is refl
 
 -- the number that the option's word has
-pub after_there : (found : Found) (word : Text) (result : Result ℕ Refusal)
-    → Some word ≡ first_value found (codes "after") → result ≡ ok_or (word_number word) BadWord
-    → result_map Some result ≡ after_of (first_of (codes "after") (rows_of found))
-after_there found word result read is =
-    rw (← (read ∙ first_value-rows found (codes "after"))) (number_read (word_number word) result is)
+pub after_there : (found : Found) (id word : Text) (result : Result ℕ Refusal)
+    → Some word ≡ first_value found id → result ≡ ok_or (word_number word) BadWord
+    → result_map Some result ≡ after_of (first_of id (rows_of found))
+after_there found id word result read is =
+    rw (← (read ∙ first_value-rows found id)) (number_read (word_number word) result is)
+
+only_read : (known : Option Only) (result : Result Only Refusal) → result ≡ ok_or known BadWord
+    → result_map Some result ≡ only_given known
+only_read None result is = rw is refl
+only_read (Some only) result is = rw is refl
+
+-- the changes that the option's word asks for
+pub only_there : (found : Found) (word : Text) (result : Result Only Refusal)
+    → Some word ≡ first_value found (codes "only") → result ≡ ok_or (only_named word) BadWord
+    → result_map Some result ≡ only_of (first_of (codes "only") (rows_of found))
+only_there found word result read is =
+    rw (← (read ∙ first_value-rows found (codes "only"))) (only_read (only_named word) result is)
 
 expected_read : (known : Option Expected) → ok_or known BadWord ≡ expected_given known
 expected_read None = refl

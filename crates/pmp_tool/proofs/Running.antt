@@ -14,8 +14,8 @@ use Rattle.pmp_tool.specs.CommandLines.{MayAskForText, pmp_app}
 use Rattle.pmp_tool.specs.Failures.{failure_status, unaudited, unparsed, unparsed_as}
 use Rattle.pmp_tool.specs.Inputs.{Inputs}
 use Rattle.pmp_tool.specs.Requests.{RequestRefuses, RequestSays}
-use Rattle.pmp_tool.specs.Runs.{CommandFails, Fails, TextFails, no_script, no_trace, no_answer, no_room, no_output}
-use Rattle.pmp_tool.specs.Runs.{refused_words, refused_word, no_memory, no_text, no_command}
+use Rattle.pmp_tool.specs.Runs.{CommandFails, Fails, TextFails, no_script, no_trace, no_policy, no_new, no_answer}
+use Rattle.pmp_tool.specs.Runs.{no_room, no_output, refused_words, refused_word, no_memory, no_text, no_command}
 
 module _ (words : List Text) (scripts traces : Inputs) (before after : Option (List ℕ)) (error : Error)
     (has : HasKind (fault_of pmp_app words) error)
@@ -69,10 +69,12 @@ command_keeps : {scripts traces : Inputs} {command : Command} {before after : Op
     → CommandFails scripts traces command before after failure → failure_status failure ≡ 2 → Keeps before after
 command_keeps (no_script fault unread keeps) two = keeps
 command_keeps (no_trace trace checkers fault asked unread keeps) two = keeps
-command_keeps {traces = traces} {command = command} {before = before} {after = after}
+command_keeps (no_policy policy pace fault asked unread keeps) two = keeps
+command_keeps (no_new new old_after new_after only fault asked unread keeps) two = keeps
+command_keeps {scripts = scripts} {traces = traces} {command = command} {before = before} {after = after}
     (no_answer script fault read refused) two =
-    refused_keeps (RequestSays traces script command.request) before after
-    (RequestRefuses traces script command.request) fault refused two
+    refused_keeps (RequestSays scripts traces script command.request) before after
+    (RequestRefuses scripts traces script command.request) fault refused two
 
 text_keeps : {before after : Option (List ℕ)} {failure : Failure} → TextFails before after failure
     → failure_status failure ≡ 2 → Keeps before after

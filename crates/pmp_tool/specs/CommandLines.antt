@@ -2,6 +2,7 @@
 use Rattle.std.specs.Prelude.{◌≡◌, ◌≢◌, ◌⊎◌, List, [], Some, Ok, Err, pos, true, codes}
 use Rattle.clap.specs.Words.{App, IsAmong, Rule, Text, fault_of, kind_of, new_app, new_rule, subcommand_of}
 use Rattle.clap.specs.Words.{with_rule, with_subcommand}
+use Rattle.clap.specs.declared.builder.action.ArgAction.TheVariants.{SetTrue}
 use Rattle.clap.specs.declared.builder.value_parser.ValueParser.TheVariants as parser
 use Rattle.clap.specs.declared.error.Error.{Error}
 use Rattle.clap.specs.declared.error.kind.ErrorKind.TheVariants.{DisplayHelp, DisplayVersion}
@@ -13,13 +14,13 @@ use Rattle.pmp_tool.specs.Commands.{Asked, asked_of}
 abbrev pub word_rule : (id : Text) → Rule
 word_rule id = record (new_rule id) { value_names = 1; required = true }
 
--- `--after N`
-abbrev pub after_rule : Rule
-after_rule = record (new_rule (codes "after")) { long = Some (codes "after"); value_names = 1 }
+-- an option with a word, `--NAME WORD`
+abbrev pub option_rule : (id : Text) → Rule
+option_rule id = record (new_rule id) { long = Some id; value_names = 1 }
 
--- `--expect ANSWER`
-abbrev pub expect_rule : Rule
-expect_rule = record (new_rule (codes "expect")) { long = Some (codes "expect"); value_names = 1 }
+-- an option without a word, `--NAME`
+abbrev pub flag_rule : (id : Text) → Rule
+flag_rule id = record (new_rule id) { long = Some id; action = Some SetTrue }
 
 -- `--checkers K`, a number from 1 to how many a unit has places for
 abbrev pub checkers_rule : Rule
@@ -32,11 +33,15 @@ checkers_rule = record (new_rule (codes "checkers")) {
 unfoldable pub with_word : App → (id : Text) → App
 with_word app id = with_rule app (word_rule id)
 
-unfoldable pub with_after : App → App
-with_after app = with_rule app after_rule
+unfoldable pub with_option : App → (id : Text) → App
+with_option app id = with_rule app (option_rule id)
 
-unfoldable pub with_expect : App → App
-with_expect app = with_rule app expect_rule
+unfoldable pub with_flag : App → (id : Text) → App
+with_flag app id = with_rule app (flag_rule id)
+
+-- `--after N`
+abbrev pub with_after : App → App
+with_after app = with_option app (codes "after")
 
 unfoldable pub with_checkers : App → App
 with_checkers app = with_rule app checkers_rule
@@ -48,12 +53,22 @@ script_app name = with_word (new_app name) (codes "script")
 -- `check SCRIPT MODE KIND START LENGTH [--after N] [--expect ANSWER]`
 abbrev pub check_app : App
 check_app =
-    with_expect (with_after (with_word (with_word (with_word (with_word (script_app (codes "check")) (codes "mode"))
-    (codes "kind")) (codes "start")) (codes "length")))
+    with_option (with_after (with_word (with_word (with_word (with_word (script_app (codes "check")) (codes "mode"))
+    (codes "kind")) (codes "start")) (codes "length"))) (codes "expect")
 
 -- `audit SCRIPT TRACE [--checkers K]`
 abbrev pub audit_app : App
 audit_app = with_checkers (with_word (script_app (codes "audit")) (codes "trace"))
+
+-- `policy SCRIPT POLICY [--each-write]`
+abbrev pub policy_app : App
+policy_app = with_flag (with_word (script_app (codes "policy")) (codes "policy")) (codes "each-write")
+
+-- `diff OLD NEW [--old-after N] [--new-after M] [--only CHANGE]`
+abbrev pub diff_app : App
+diff_app =
+    with_option (with_option (with_option (with_word (script_app (codes "diff")) (codes "new")) (codes "old-after"))
+    (codes "new-after")) (codes "only")
 
 -- `NAME SCRIPT [--after N]`, as `dump`, `map`, `picture` and `entries` are
 abbrev pub file_app : (name : Text) → App
@@ -85,7 +100,8 @@ with_views program =
 -- the program, with a subcommand for each thing that it does
 abbrev pub pmp_app : App
 pmp_app =
-    with_command (with_views (with_command (with_command top_app check_app) audit_app)) (script_app (codes "writes"))
+    with_command (with_command (with_views (with_command (with_command (with_command top_app check_app) audit_app)
+    policy_app)) (script_app (codes "writes"))) diff_app
 
 -- clap takes the words, and what it finds in them asks for that
 abbrev pub WordsAskFor : List Text → Asked → Type 0

@@ -1,5 +1,5 @@
 -- What the matches of the command line ask for.
-use Rattle.std.specs.Prelude.{ℕ, List, Option, Some, None, Result, Ok, Err, if◌then◌else◌, codes, option_map}
+use Rattle.std.specs.Prelude.{ℕ, List, Option, Some, None, Result, Ok, Err, ◌&&◌, if◌then◌else◌, codes, option_map}
 use Rattle.std.specs.Option.{option_and_then}
 use Rattle.std.specs.Str.{bytes_eq}
 use Rattle.clap.specs.Words.{Row, Text, first_of}
@@ -9,7 +9,10 @@ use Rattle.pmp_core.specs.declared.access.Kind.{Kind}
 use Rattle.pmp_core.specs.declared.access.Mode.{Mode}
 use Rattle.pmp_core.specs.Access.{access_fault}
 use Rattle.pmp_text.specs.AccessWords.{kind_named, mode_named}
+use Rattle.pmp_text.specs.declared.lines.changes.Only.{Only}
 use Rattle.pmp_text.specs.Numbers.{word_number}
+use Rattle.pmp_audit.specs.declared.policy_check.steps.Pace.{Pace}
+use Rattle.pmp_audit.specs.declared.policy_check.steps.Pace.TheVariants.{Events, Publications}
 use Rattle.pmp_audit.specs.declared.view.View.{View}
 use Rattle.pmp_audit.specs.declared.view.View.TheVariants.{Registers, Runs, Picture, Entries}
 use Rattle.pmp_tool.specs.declared.command.Command.{Command}
@@ -22,6 +25,7 @@ use Rattle.pmp_tool.specs.declared.refusal.Refusal.{Refusal}
 use Rattle.pmp_tool.specs.declared.refusal.Refusal.TheVariants.{BadWord}
 use Rattle.pmp_tool.specs.Checkers.{checkers_given}
 use Rattle.pmp_tool.specs.Expected.{expected_of}
+use Rattle.pmp_tool.specs.OnlyWord.{only_of}
 use Rattle.pmp_tool.specs.Refusals.{refusal_of_access, result_map}
 
 -- an access, in plain values
@@ -35,8 +39,10 @@ pub record AccessTask : Type 0 where
 pub data Task : Type 0 where
   Check : AccessTask → (after : Option ℕ) → Expected → Task
   Audit : (trace : Text) (checkers : Option ℕ) → Task
+  Policy : (policy : Text) → Pace → Task
   Show : View → (after : Option ℕ) → Task
   Writes : Task
+  Diff : (new : Text) (old_after new_after : Option ℕ) → Option Only → Task
 
 abbrev pub access_task : Access → AccessTask
 access_task access = record { mode = access.mode; kind = access.kind; start = access.start; length = access.length }
@@ -44,8 +50,10 @@ access_task access = record { mode = access.mode; kind = access.kind; start = ac
 abbrev pub task_of : Request → Task
 task_of (request.Check access after expected) = Check (access_task access) after expected
 task_of (request.Audit trace checkers) = Audit trace.now (option_map (λ checkers. checkers.count) checkers)
+task_of (request.Policy policy pace) = Policy policy.now pace
 task_of (request.Show view after) = Show view after
 task_of request.Writes = Writes
+task_of (request.Diff new old_after new_after only) = Diff new.now old_after new_after only
 
 -- a task, and the path of the script
 pub record Asked : Type 0 where
@@ -105,6 +113,17 @@ check_in rows =
     check_with (expected_of (first_of (codes "expect") rows)) (after_of (first_of (codes "after") rows))
     (access_in rows)
 
+-- one input of two can be standard input
+abbrev pub second_with : (script second : Result Text Refusal) → Result Text Refusal
+second_with (Err refusal) second = Err refusal
+second_with (Ok script) (Err refusal) = Err refusal
+second_with (Ok script) (Ok second) =
+    if bytes_eq script (codes "stdin") && bytes_eq second (codes "stdin") then Err BadWord else Ok second
+
+-- the second of a command's inputs, after its script
+abbrev pub second_in : (id : Text) → List Row → Result Text Refusal
+second_in id rows = second_with (required (first_of (codes "script") rows)) (required (first_of id rows))
+
 abbrev pub audit_with : (trace : Result Text Refusal) → (checkers : Result (Option ℕ) Refusal) → Result Task Refusal
 audit_with (Err refusal) checkers = Err refusal
 audit_with (Ok trace) (Err refusal) = Err refusal
@@ -113,24 +132,55 @@ audit_with (Ok trace) (Ok checkers) = Ok (Audit trace checkers)
 -- the trace's place is read before the option
 abbrev pub audit_in : List Row → Result Task Refusal
 audit_in rows =
-    audit_with (required (first_of (codes "trace") rows)) (checkers_of (first_of (codes "checkers") rows))
+    audit_with (second_in (codes "trace") rows) (checkers_of (first_of (codes "checkers") rows))
+
+abbrev pub diff_with : (new : Result Text Refusal) → (old_after new_after : Result (Option ℕ) Refusal)
+    → Result (Option Only) Refusal → Result Task Refusal
+diff_with (Err refusal) old_after new_after only = Err refusal
+diff_with (Ok new) (Err refusal) new_after only = Err refusal
+diff_with (Ok new) (Ok old_after) (Err refusal) only = Err refusal
+diff_with (Ok new) (Ok old_after) (Ok new_after) (Err refusal) = Err refusal
+diff_with (Ok new) (Ok old_after) (Ok new_after) (Ok only) = Ok (Diff new old_after new_after only)
+
+-- the new script's place is read before the options
+abbrev pub diff_in : List Row → Result Task Refusal
+diff_in rows =
+    diff_with (second_in (codes "new") rows) (after_of (first_of (codes "old-after") rows)) (after_of (first_of (codes "new-after") rows))
+    (only_of (first_of (codes "only") rows))
+
+-- clap finds the word `true` for an option without a word that is used
+abbrev pub pace_named : Text → Pace
+pace_named word = if bytes_eq word (codes "true") then Events else Publications
+
+-- how often a policy asks: after each publication where the option isn't used
+abbrev pub pace_of : Option Text → Pace
+pace_of None = Publications
+pace_of (Some word) = pace_named word
+
+abbrev pub policy_in : List Row → Result Task Refusal
+policy_in rows = result_map (λ policy. Policy policy (pace_of (first_of (codes "each-write") rows)))
+    (second_in (codes "policy") rows)
 
 -- what a command's matches ask for
 abbrev pub task_in : CommandName → List Row → Result Task Refusal
 task_in name.Check rows = check_in rows
 task_in name.Audit rows = audit_in rows
+task_in name.Policy rows = policy_in rows
 task_in (name.Show view) rows = result_map (Show view) (after_of (first_of (codes "after") rows))
 task_in name.Writes rows = Ok Writes
+task_in name.Diff rows = diff_in rows
 
 abbrev pub command_named : Text → Option CommandName
 command_named word =
     if bytes_eq word (codes "check") then Some name.Check
     else (if bytes_eq word (codes "audit") then Some name.Audit
+    else (if bytes_eq word (codes "policy") then Some name.Policy
     else (if bytes_eq word (codes "dump") then Some (name.Show Registers)
     else (if bytes_eq word (codes "map") then Some (name.Show Runs)
     else (if bytes_eq word (codes "picture") then Some (name.Show Picture)
     else (if bytes_eq word (codes "entries") then Some (name.Show Entries)
-    else (if bytes_eq word (codes "writes") then Some name.Writes else None))))))
+    else (if bytes_eq word (codes "writes") then Some name.Writes
+    else (if bytes_eq word (codes "diff") then Some name.Diff else None))))))))
 
 abbrev pub asked_with : (script : Result Text Refusal) → Result Task Refusal → Result Asked Refusal
 asked_with (Err refusal) task = Err refusal

@@ -1,5 +1,5 @@
 -- Which answer to a check is expected.
-use Rattle.std.specs.Prelude.{Bool, not, ℕ, List, Option, Some, None, Result, Ok, Err, codes, if◌then◌else◌}
+use Rattle.std.specs.Prelude.{Bool, not, Option, Some, None, Result, Ok, Err, codes, if◌then◌else◌}
 use Rattle.std.specs.Str.{bytes_eq}
 use Rattle.clap.specs.Words.{Text}
 use Rattle.pmp_core.specs.declared.decision.Decision.{Decision}

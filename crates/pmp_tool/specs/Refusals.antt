@@ -11,7 +11,9 @@ use Rattle.pmp_text.specs.declared.script.ScriptKind.TheVariants as script
 use Rattle.pmp_text.specs.declared.trace.TraceKind.{TraceKind}
 use Rattle.pmp_text.specs.declared.trace.TraceKind.TheVariants as trace
 use Rattle.pmp_tool.specs.declared.fault_line.Place.{Place}
-use Rattle.pmp_tool.specs.declared.fault_line.Place.TheVariants.{ScriptLine, TraceRow}
+use Rattle.pmp_audit.specs.declared.fault.Side.{Side}
+use Rattle.pmp_audit.specs.declared.fault.Side.TheVariants.{Old, New}
+use Rattle.pmp_tool.specs.declared.fault_line.Place.TheVariants.{ScriptLine, TraceRow, PolicyRow, Script, LineOf}
 use Rattle.pmp_tool.specs.declared.refusal.Refusal.{Refusal}
 use Rattle.pmp_tool.specs.declared.refusal.Refusal.TheVariants.{BadLength, PastEnd, BadVersion, BadLine, BadName}
 use Rattle.pmp_tool.specs.declared.refusal.Refusal.TheVariants.{OddCfg, BadNumber, BatchFull, Unpublished, TooLong}
@@ -76,13 +78,24 @@ status_of _ = 2
 abbrev pub refusal_text : Refusal → List ℕ
 refusal_text refusal = decimal (number_of refusal) ++ (codes " " ++ name_of refusal)
 
--- with the script's line or the trace's row, where it is known
+abbrev pub side_text : Side → List ℕ
+side_text Old = codes "old"
+side_text New = codes "new"
+
+-- with the script's line, the trace's row or the policy's, where it is known, and which of two scripts it is
 abbrev pub fault_text : Refusal → Option Place → List ℕ
 fault_text refusal None = codes "pmp: refused " ++ refusal_text refusal
 fault_text refusal (Some (ScriptLine line)) =
     codes "pmp: script line " ++ (decimal line ++ (codes ": refused " ++ refusal_text refusal))
 fault_text refusal (Some (TraceRow row)) =
     codes "pmp: trace row " ++ (decimal row ++ (codes ": refused " ++ refusal_text refusal))
+fault_text refusal (Some (PolicyRow row)) =
+    codes "pmp: policy row " ++ (decimal row ++ (codes ": refused " ++ refusal_text refusal))
+fault_text refusal (Some (Script side)) =
+    codes "pmp: " ++ (side_text side ++ (codes ": refused " ++ refusal_text refusal))
+fault_text refusal (Some (LineOf side line)) =
+    codes "pmp: "
+    ++ (side_text side ++ (codes " line " ++ (decimal line ++ (codes ": refused " ++ refusal_text refusal))))
 
 -- with its LF
 abbrev pub line_text : Refusal → Option Place → List ℕ
@@ -94,6 +107,12 @@ script_place line = if line == 0 then None else Some (ScriptLine line)
 
 abbrev pub trace_place : ℕ → Option Place
 trace_place row = if row == 0 then None else Some (TraceRow row)
+
+abbrev pub policy_place : ℕ → Option Place
+policy_place row = if row == 0 then None else Some (PolicyRow row)
+
+abbrev pub place_on : Side → (line : ℕ) → Place
+place_on side line = if line == 0 then Script side else LineOf side line
 
 abbrev pub refusal_of_access : AccessFault → Refusal
 refusal_of_access access.BadLength = BadLength

@@ -1,5 +1,5 @@
 -- What a run of the program answers, and why it gives no answer.
-use Rattle.std.specs.Prelude.{◌≡◌, ℕ, List, Option, ◌==◌, if◌then◌else◌}
+use Rattle.std.specs.Prelude.{◌≡◌, ℕ, List, Option, Some, ◌==◌, if◌then◌else◌}
 use Rattle.std.specs.Io.KnownBytes.{Appends, Keeps}
 use Rattle.std.specs.Borrow.{Bor}
 use Rattle.clap.specs.Words.{Text}
@@ -9,30 +9,34 @@ use Rattle.pmp_text.specs.Bytes.{AppendsBeginning}
 use Rattle.pmp_text.specs.declared.script.reader.TheConstants.{MAX_SCRIPT}
 use Rattle.pmp_text.specs.declared.trace.reader.TheConstants.{MAX_TRACE}
 use Rattle.pmp_audit.specs.declared.fault.AuditFault.{AuditFault}
+use Rattle.pmp_audit.specs.declared.fault.Side.{Side}
+use Rattle.pmp_audit.specs.declared.policy_check.steps.Pace.{Pace}
+use Rattle.pmp_audit.specs.declared.fault.Side.TheVariants.{New}
+use Rattle.pmp_text.specs.declared.lines.changes.Only.{Only}
 use Rattle.pmp_audit.specs.Answers.{IsRefused, IsWritten}
 use Rattle.pmp_tool.specs.declared.checkers.Checkers.{Checkers}
 use Rattle.pmp_tool.specs.declared.command.Command.{Command}
-use Rattle.pmp_tool.specs.declared.command.Request.TheVariants.{Audit}
+use Rattle.pmp_tool.specs.declared.command.Request.TheVariants.{Audit, Policy, Diff}
 use Rattle.pmp_tool.specs.declared.failure.Failure.{Failure}
 use Rattle.pmp_tool.specs.declared.failure.Failure.TheVariants.{Words}
 use Rattle.pmp_tool.specs.declared.refusal.Refusal.{Refusal}
 use Rattle.pmp_tool.specs.declared.refusal.Refusal.TheVariants.{Memory, Output}
 use Rattle.pmp_tool.specs.declared.run.Outcome.{Outcome}
-use Rattle.pmp_tool.specs.declared.run.Outcome.TheVariants.{Decided, Audited, Replayed, Told}
+use Rattle.pmp_tool.specs.declared.run.Outcome.TheVariants.{Decided, Audited, Judged, Replayed, Compared, Told}
 use Rattle.pmp_tool.specs.CommandLines.{IsRefusedCommandLine, MayAskForText, WordsAskFor, WordsAreRefused}
 use Rattle.pmp_tool.specs.Commands.{asked}
 use Rattle.pmp_tool.specs.Expected.{is_met}
-use Rattle.pmp_tool.specs.Failures.{refused, unaudited}
+use Rattle.pmp_tool.specs.Failures.{refused, unaudited, unread}
 use Rattle.pmp_tool.specs.Inputs.{AreBytesOf, CantBeRead, Inputs}
 use Rattle.pmp_tool.specs.Refusals.{refusal_of_input}
-use Rattle.pmp_tool.specs.Requests.{RequestRefuses, RequestSays}
+use Rattle.pmp_tool.specs.Requests.{RequestRefuses, RequestSays, old_side}
 
 -- the script of a command was read, and what the command asks for was written
 pub record CommandAnswers (scripts traces : Inputs) (command : Command) (before after : Option (List ℕ))
     (outcome : Outcome) : Type 0 where
   pub script : List ℕ
   pub read : AreBytesOf (scripts command.script.now) script
-  pub written : IsWritten (RequestSays traces script command.request) before after outcome
+  pub written : IsWritten (RequestSays scripts traces script command.request) before after outcome
 
 -- what the words ask for was written: help or the version, or the answer to a command
 abbrev pub Answers : (words : List Text) (scripts traces : Inputs) (before after : Option (List ℕ)) → Outcome → Type 0
@@ -40,21 +44,34 @@ Answers words scripts traces before after Told = MayAskForText words × ((text :
 Answers words scripts traces before after outcome =
     (command : Command) × WordsAskFor words (asked command) × CommandAnswers scripts traces command before after outcome
 
+-- a script can't be read, which of two is the one on a side
+abbrev pub IsUnread : (known : Option (List ℕ)) (side : Option Side) → Failure → Type 0
+IsUnread known side failure = (fault : InputFault) × CantBeRead MAX_SCRIPT known fault × (failure ≡ unread fault side)
+
 -- why a command gets no answer
 pub data CommandFails (scripts traces : Inputs) (command : Command)
     (before after : Option (List ℕ)) : Failure → Type 0 where
   -- its script can't be read
   no_script : (fault : InputFault) → CantBeRead MAX_SCRIPT (scripts command.script.now) fault → Keeps before after
-      → CommandFails scripts traces command before after (refused (refusal_of_input fault))
+      → CommandFails scripts traces command before after (unread fault (old_side command.request))
   -- nor can the trace that it names
   no_trace : (trace : Bor (List ℕ)) (checkers : Option Checkers) (fault : InputFault)
       → command.request ≡ Audit trace checkers
       → CantBeRead MAX_TRACE (traces trace.now) fault → Keeps before after
       → CommandFails scripts traces command before after (refused (refusal_of_input fault))
+  -- nor can the policy
+  no_policy : (policy : Bor (List ℕ)) (pace : Pace) (fault : InputFault) → command.request ≡ Policy policy pace
+      → CantBeRead MAX_TRACE (traces policy.now) fault → Keeps before after
+      → CommandFails scripts traces command before after (refused (refusal_of_input fault))
+  -- nor can the new script
+  no_new : (new : Bor (List ℕ)) (old_after new_after : Option ℕ) (only : Option Only) (fault : InputFault)
+      → command.request ≡ Diff new old_after new_after only
+      → CantBeRead MAX_SCRIPT (scripts new.now) fault → Keeps before after
+      → CommandFails scripts traces command before after (unread fault (Some New))
   -- what was read is refused, or memory or the output failed
   no_answer : (script : List ℕ) (fault : AuditFault) → AreBytesOf (scripts command.script.now) script
-      → IsRefused (RequestSays traces script command.request) before after
-      (RequestRefuses traces script command.request) fault
+      → IsRefused (RequestSays scripts traces script command.request) before after
+      (RequestRefuses scripts traces script command.request) fault
       → CommandFails scripts traces command before after (unaudited fault)
 
 -- why a text of help, or the version, isn't written wholly
@@ -79,10 +96,12 @@ pub data Fails (words : List Text) (scripts traces : Inputs) (before after : Opt
   no_command : (command : Command) (failure : Failure) → WordsAskFor words (asked command)
       → CommandFails scripts traces command before after failure → Fails words scripts traces before after failure
 
--- a check ends well where the answer is the expected one, an audit where all accesses are allowed, writes where none is
--- turned away, and all else does
+-- a check ends well where the answer is the expected one, an audit where all accesses are allowed, a policy where no row
+-- is broken, writes where none is turned away, a comparison where no row is written, and all else does
 abbrev pub outcome_status : Outcome → ℕ
 outcome_status (Decided decision expected) = if is_met expected decision then 0 else 1
 outcome_status (Audited summary) = if summary.faults == 0 then 0 else 1
+outcome_status (Judged summary) = if summary.broken == 0 then 0 else 1
 outcome_status (Replayed summary) = if summary.turned_away == 0 then 0 else 1
+outcome_status (Compared rows) = if rows == 0 then 0 else 1
 outcome_status _ = 0

@@ -5,17 +5,21 @@ ghost use Rattle.clap.specs.Words.{first_of, found_of, rows_of, subcommand_rows_
 ghost use Rattle.pmp_text.specs.AccessWords.{kind_named, mode_named};
 ghost use Rattle.pmp_text.specs.Numbers.{word_number};
 ghost use Rattle.pmp_tool.specs.Commands.{access_of, access_task, after_of, asked, asked_of, audit_in, check_in};
-ghost use Rattle.pmp_tool.specs.Commands.{checkers_of, command_named, required, task_in, task_of};
+ghost use Rattle.pmp_tool.specs.Commands.{checkers_of, command_named, diff_in, pace_named, pace_of, policy_in};
+ghost use Rattle.pmp_tool.specs.Commands.{required, second_in, task_in, task_of};
 ghost use Rattle.pmp_tool.specs.Expected.{expected_of};
+ghost use Rattle.pmp_tool.specs.OnlyWord.{only_of};
 ghost use Rattle.pmp_tool.specs.Refusals.{result_map};
+ghost use Rattle.pmp_tool.specs.Requests.{old_side};
 
 use crate::checkers::{Checkers, read_checkers};
 use crate::expected::{Expected, read_expected};
+use crate::only_word::read_only;
 use crate::refusal::Refusal;
 use clap::ArgMatches;
-use pmp_audit::View;
+use pmp_audit::{Pace, Side, View};
 use pmp_core::Access;
-use pmp_text::{read_kind, read_mode, read_word_number};
+use pmp_text::{Only, read_kind, read_mode, read_word_number};
 
 /// What is asked for of a script.
 #[derive(Clone, Copy)]
@@ -24,9 +28,26 @@ pub enum Request<'a> {
     Check(Access, Option<u64>, Expected),
     /// The path of the trace, and how many checkers decide its rows, where that is said.
     Audit(&'a str, Option<Checkers>),
+    /// The path of the policy, and how often it asks.
+    Policy(&'a str, Pace),
     /// What is shown, and how many publications are taken before it, where not all are.
     Show(View, Option<u64>),
     Writes,
+    /// The path of the new script, how many publications of the old one and of the new one are taken, where not all
+    /// are, and which changes are asked for, where not all are.
+    Diff(&'a str, Option<u64>, Option<u64>, Option<Only>),
+}
+
+impl Request<'_> {
+    /// Which side the command's script is on, where there are two.
+    pub fn old_side(&self) -> Option<Side>
+        ensures { result ≡ old_side self.now }
+    {
+        match self {
+            Request::Diff(..) => Some(Side::Old),
+            _ => None,
+        }
+    }
 }
 
 /// What the program's words ask for.
@@ -41,8 +62,10 @@ pub struct Command<'a> {
 enum CommandName {
     Check,
     Audit,
+    Policy,
     Show(View),
     Writes,
+    Diff,
 }
 
 fn read_name(word: &str) -> Option<CommandName>
@@ -51,11 +74,13 @@ fn read_name(word: &str) -> Option<CommandName>
     match word {
         "check" => Some(CommandName::Check),
         "audit" => Some(CommandName::Audit),
+        "policy" => Some(CommandName::Policy),
         "dump" => Some(CommandName::Show(View::Registers)),
         "map" => Some(CommandName::Show(View::Runs)),
         "picture" => Some(CommandName::Show(View::Picture)),
         "entries" => Some(CommandName::Show(View::Entries)),
         "writes" => Some(CommandName::Writes),
+        "diff" => Some(CommandName::Diff),
         _ => None,
     }
 }
@@ -78,8 +103,10 @@ fn read_request<'a>(name: CommandName, words: &ArgMatches<'a>) -> Result<Request
     match name {
         CommandName::Check => read_check(words),
         CommandName::Audit => read_audit(words),
-        CommandName::Show(view) => Ok(Request::Show(view, read_after(words)?)),
+        CommandName::Policy => read_policy(words),
+        CommandName::Show(view) => Ok(Request::Show(view, read_after(words, "after")?)),
         CommandName::Writes => Ok(Request::Writes),
+        CommandName::Diff => read_diff(words),
     }
 }
 
@@ -90,13 +117,54 @@ fn word_of<'a>(words: &ArgMatches<'a>, id: &str) -> Result<&'a str, Refusal>
     words.get_str(id).ok_or(Refusal::BadWord)
 }
 
+/// The path of the second input, after the script's. Only one of two inputs can be standard input.
+fn read_second<'a>(words: &ArgMatches<'a>, id: &str) -> Result<&'a str, Refusal>
+    ensures { result_map (λ word. word.now) result ≡ second_in id.now (rows_of (found_of words.now)) }
+{
+    let script = word_of(words, "script")?;
+    let second = word_of(words, id)?;
+    if script == "stdin" && second == "stdin" {
+        return Err(Refusal::BadWord);
+    }
+    Ok(second)
+}
+
 /// The trace of an audit, and its checkers.
 fn read_audit<'a>(words: &ArgMatches<'a>) -> Result<Request<'a>, Refusal>
     ensures { result_map task_of result ≡ audit_in (rows_of (found_of words.now)) }
 {
-    let trace = word_of(words, "trace")?;
+    let trace = read_second(words, "trace")?;
     let checkers = asked_checkers(words)?;
     Ok(Request::Audit(trace, checkers))
+}
+
+/// The policy, and how often it asks.
+fn read_policy<'a>(words: &ArgMatches<'a>) -> Result<Request<'a>, Refusal>
+    ensures { result_map task_of result ≡ policy_in (rows_of (found_of words.now)) }
+{
+    let policy = read_second(words, "policy")?;
+    Ok(Request::Policy(policy, asked_pace(words)))
+}
+
+/// `clap` finds the word `true` for an option without a word that is used.
+fn read_pace(word: &str) -> Pace
+    ensures { result ≡ pace_named word.now }
+{
+    if word == "true" {
+        Pace::Events
+    } else {
+        Pace::Publications
+    }
+}
+
+/// How often a policy asks.
+fn asked_pace(words: &ArgMatches) -> Pace
+    ensures { result ≡ pace_of (first_of (codes "each-write") (rows_of (found_of words.now))) }
+{
+    match words.get_str("each-write") {
+        Some(word) => read_pace(word),
+        None => Pace::Publications,
+    }
 }
 
 /// How many checkers decide, where the words say that.
@@ -115,7 +183,7 @@ fn read_check<'a>(words: &ArgMatches<'a>) -> Result<Request<'a>, Refusal>
     ensures { result_map task_of result ≡ check_in (rows_of (found_of words.now)) }
 {
     let expected = asked_answer(words)?;
-    let after = read_after(words)?;
+    let after = read_after(words, "after")?;
     let mode = word_of(words, "mode")?;
     let kind = word_of(words, "kind")?;
     let start = word_of(words, "start")?;
@@ -146,11 +214,32 @@ fn read_access(mode: &str, kind: &str, start: &str, length: &str) -> Result<Acce
     Ok(Access::new(mode, kind, start, length)?)
 }
 
-/// How many publications are taken, where the words say that.
-fn read_after(words: &ArgMatches) -> Result<Option<u64>, Refusal>
-    ensures { result ≡ after_of (first_of (codes "after") (rows_of (found_of words.now))) }
+/// The new script of a comparison, how many publications of both are taken, and which changes are asked for.
+fn read_diff<'a>(words: &ArgMatches<'a>) -> Result<Request<'a>, Refusal>
+    ensures { result_map task_of result ≡ diff_in (rows_of (found_of words.now)) }
 {
-    match words.get_str("after") {
+    let new = read_second(words, "new")?;
+    let old_after = read_after(words, "old-after")?;
+    let new_after = read_after(words, "new-after")?;
+    let only = asked_only(words)?;
+    Ok(Request::Diff(new, old_after, new_after, only))
+}
+
+/// Which changes are asked for, where the words say that.
+fn asked_only(words: &ArgMatches) -> Result<Option<Only>, Refusal>
+    ensures { result ≡ only_of (first_of (codes "only") (rows_of (found_of words.now))) }
+{
+    match words.get_str("only") {
+        Some(word) => Ok(Some(read_only(word).ok_or(Refusal::BadWord)?)),
+        None => Ok(None),
+    }
+}
+
+/// How many publications are taken, where the words say that by the option with this name.
+fn read_after(words: &ArgMatches, id: &str) -> Result<Option<u64>, Refusal>
+    ensures { result ≡ after_of (first_of id.now (rows_of (found_of words.now))) }
+{
+    match words.get_str(id) {
         Some(word) => Ok(Some(read_word_number(word.as_bytes()).ok_or(Refusal::BadWord)?)),
         None => Ok(None),
     }

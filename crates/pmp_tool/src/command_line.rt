@@ -3,13 +3,12 @@
 ghost use Rattle.std.specs.Prelude.{◌≡◌, map, false, IfOk, IfErr, string_bytes};
 ghost use Rattle.clap.specs.Words.{App, HasKind, fault_of, new_app, rule_of};
 ghost use Rattle.pmp_tool.specs.Building.{Builds, IsBuilt, IsCommand, IsTaken};
-ghost use Rattle.pmp_tool.specs.CommandLines.{after_rule, audit_app, check_app, checkers_rule, expect_rule, file_app};
-ghost use Rattle.pmp_tool.specs.CommandLines.{pmp_app, script_app, top_app, with_after, with_checkers, with_command};
-ghost use Rattle.pmp_tool.specs.CommandLines.{with_expect, with_views, with_word};
-ghost use Rattle.pmp_tool.specs.CommandLines.{word_rule};
+ghost use Rattle.pmp_tool.specs.CommandLines.{audit_app, check_app, checkers_rule, diff_app, file_app, flag_rule, option_rule};
+ghost use Rattle.pmp_tool.specs.CommandLines.{pmp_app, policy_app, script_app, top_app, with_after, with_checkers};
+ghost use Rattle.pmp_tool.specs.CommandLines.{with_command, with_flag, with_option, with_views, with_word, word_rule};
 
 use crate::help;
-use clap::{Arg, ArgMatches, Command, Error, value_parser};
+use clap::{Arg, ArgAction, ArgMatches, Command, Error, value_parser};
 use pmp_share::CHECKERS;
 use std::alloc::{AllocError, Global};
 
@@ -30,9 +29,10 @@ fn pmp<'a>(alloc: Global) -> Built<'a>
 {
     let program = with_command(top(alloc), check(alloc));
     let program = with_command(program, audit(alloc));
+    let program = with_command(program, policy(alloc));
     let program = with_views(alloc, program);
     let writes = of_script(alloc, "writes", help::WRITES, help::MORE_OF_WRITES);
-    with_command(program, writes)
+    with_command(with_command(program, writes), diff(alloc))
 }
 
 /// The program with a command more for each view of a register file.
@@ -57,7 +57,13 @@ fn check<'a>(alloc: Global) -> Built<'a>
     let command = with_word(alloc, command, "kind", "KIND", help::KIND);
     let command = with_word(alloc, command, "start", "START", help::START);
     let command = with_word(alloc, command, "length", "LENGTH", help::LENGTH);
-    with_expect(alloc, with_after(alloc, command))
+    with_option(
+        alloc,
+        with_after(alloc, command),
+        "expect",
+        "ANSWER",
+        help::EXPECT,
+    )
 }
 
 fn audit<'a>(alloc: Global) -> Built<'a>
@@ -66,6 +72,25 @@ fn audit<'a>(alloc: Global) -> Built<'a>
     let command = of_script(alloc, "audit", help::AUDIT, help::MORE_OF_AUDIT);
     let command = with_word(alloc, command, "trace", "TRACE", help::TRACE);
     with_checkers(alloc, command)
+}
+
+fn policy<'a>(alloc: Global) -> Built<'a>
+    ensures { IsBuilt result policy_app }
+{
+    let command = of_script(alloc, "policy", help::POLICY, help::MORE_OF_POLICY);
+    let command = with_word(alloc, command, "policy", "POLICY", help::POLICY_PATH);
+    with_flag(alloc, command, "each-write", help::EACH_WRITE)
+}
+
+fn diff<'a>(alloc: Global) -> Built<'a>
+    ensures { IsBuilt result diff_app }
+{
+    let command = Ok(named(alloc, "diff", help::DIFF, help::MORE_OF_DIFF));
+    let command = with_word(alloc, command, "script", "OLD", help::OLD);
+    let command = with_word(alloc, command, "new", "NEW", help::NEW);
+    let command = with_option(alloc, command, "old-after", "N", help::OLD_AFTER);
+    let command = with_option(alloc, command, "new-after", "M", help::NEW_AFTER);
+    with_option(alloc, command, "only", "CHANGE", help::ONLY)
 }
 
 /// A command of the register file after publications: `name SCRIPT [--after N]`.
@@ -132,38 +157,48 @@ fn word<'a>(alloc: Global, id: &'a str, name: &'a str, help: &'a str) -> Arg<'a>
         .required(true)
 }
 
+/// With `--after N`.
 fn with_after<'a>(alloc: Global, command: Built<'a>) -> Built<'a>
     ensures { Builds with_after command.entry result }
 {
-    command?.arg(after(alloc))
+    with_option(alloc, command, "after", "N", help::AFTER)
 }
 
-/// `--after N`, taken as text.
-fn after<'a>(alloc: Global) -> Arg<'a>
-    ensures rule { rule_of result ≡ after_rule }
+fn with_option<'a>(
+    alloc: Global,
+    command: Built<'a>,
+    id: &'a str,
+    name: &'a str,
+    help: &'a str,
+) -> Built<'a>
+    ensures { Builds (λ app. with_option app id.entry.now) command.entry result }
+{
+    command?.arg(option(alloc, id, name, help))
+}
+
+/// `--id name`, taken as text.
+fn option<'a>(alloc: Global, id: &'a str, name: &'a str, help: &'a str) -> Arg<'a>
+    ensures rule { rule_of result ≡ option_rule id.entry.now }
     ensures local { result.global ≡ false }
 {
-    Arg::new(alloc, "after")
-        .long("after")
-        .value_name("N")
-        .help(help::AFTER)
+    Arg::new(alloc, id).long(id).value_name(name).help(help)
 }
 
-fn with_expect<'a>(alloc: Global, command: Built<'a>) -> Built<'a>
-    ensures { Builds with_expect command.entry result }
+fn with_flag<'a>(alloc: Global, command: Built<'a>, id: &'a str, help: &'a str) -> Built<'a>
+    ensures { Builds (λ app. with_flag app id.entry.now) command.entry result }
 {
-    command?.arg(expect(alloc))
+    command?.arg(flag(alloc, id, help))
 }
 
-/// `--expect ANSWER`, taken as text.
-fn expect<'a>(alloc: Global) -> Arg<'a>
-    ensures rule { rule_of result ≡ expect_rule }
+/// `--id`, without a word of its own.
+fn flag<'a>(alloc: Global, id: &'a str, help: &'a str) -> Arg<'a>
+    ensures rule { rule_of result ≡ flag_rule id.entry.now }
     ensures local { result.global ≡ false }
 {
-    Arg::new(alloc, "expect")
-        .long("expect")
-        .value_name("ANSWER")
-        .help(help::EXPECT)
+    Arg::new(alloc, id)
+        .long(id)
+        .action(ArgAction::SetTrue)
+        .help(help)
 }
 
 fn with_checkers<'a>(alloc: Global, command: Built<'a>) -> Built<'a>

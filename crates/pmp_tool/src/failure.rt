@@ -2,14 +2,14 @@
 
 ghost use Rattle.std.specs.Prelude.{◌≡◌, ◌≤◌, IfSome, OnOk};
 ghost use Rattle.std.specs.Io.KnownBytes.{Appends};
-ghost use Rattle.pmp_tool.specs.Failures.{Tells, failure_status, failure_text, refused, unaudited, unparsed};
+ghost use Rattle.pmp_tool.specs.Failures.{Tells, failure_status, failure_text, refused, unaudited, unparsed, unread};
 ghost use Rattle.pmp_tool.specs.Refusals.{refusal_of_input};
 ghost use Rattle.pmp_tool.specs.declared.refusal.Refusal.TheVariants.{Memory, Output};
 
 use crate::fault_line::{FaultLine, Place};
 use crate::refusal::Refusal;
 use clap::error::ErrorKind;
-use pmp_audit::AuditFault;
+use pmp_audit::{AuditFault, Side};
 use pmp_text::{InputFault, OutputFault};
 use std::alloc::AllocError;
 use std::io::Write;
@@ -85,6 +85,18 @@ impl From<OutputFault> for Failure {
     }
 }
 
+impl Failure {
+    /// An input that can't be read: of two scripts, the one on a side.
+    pub fn unread(fault: InputFault, side: Option<Side>) -> Failure
+        ensures { result ≡ unread fault side }
+    {
+        Failure::Refused(FaultLine {
+            refusal: Refusal::from(fault),
+            place: side.map(Place::Script),
+        })
+    }
+}
+
 impl From<InputFault> for Failure {
     ghost from_gives = { λ fault failure. failure ≡ refused (refusal_of_input fault) };
 
@@ -106,9 +118,21 @@ impl From<AuditFault> for Failure {
                 refusal: Refusal::from(fault.kind),
                 place: Place::trace_row(fault.row),
             }),
+            AuditFault::Policy(fault) => Failure::Refused(FaultLine {
+                refusal: Refusal::from(fault.kind),
+                place: Place::policy_row(fault.row),
+            }),
             AuditFault::Share(fault) => Failure::from(Refusal::from(fault)),
             AuditFault::Moved(_) => Failure::from(Refusal::Moved),
             AuditFault::BadAfter => Failure::from(Refusal::BadAfter),
+            AuditFault::ScriptOf(side, fault) => Failure::Refused(FaultLine {
+                refusal: Refusal::from(fault.kind),
+                place: Some(Place::line_of(side, fault.line)),
+            }),
+            AuditFault::BadAfterOf(side) => Failure::Refused(FaultLine {
+                refusal: Refusal::BadAfter,
+                place: Some(Place::Script(side)),
+            }),
             AuditFault::Memory => Failure::from(Refusal::Memory),
             AuditFault::Output => Failure::from(Refusal::Output),
         }

@@ -4,10 +4,12 @@ ghost use Rattle.std.specs.Prelude.{◌≡◌, None, Some, OnOk, OnErr};
 ghost use Rattle.std.specs.Io.KnownBytes.{Appends};
 ghost use Rattle.pmp_text.specs.Bytes.{AppendsBeginning};
 ghost use Rattle.pmp_tool.specs.LineLengths.{LineFitsLaw};
-ghost use Rattle.pmp_tool.specs.Refusals.{fault_text, line_text, script_place, trace_place};
+ghost use Rattle.pmp_tool.specs.Refusals.{fault_text, line_text, place_on, policy_place, script_place};
+ghost use Rattle.pmp_tool.specs.Refusals.{side_text, trace_place};
 
 use crate::refusal::Refusal;
 use arrayvec::ArrayString;
+use pmp_audit::Side;
 use pmp_text::{OutputFault, write_out};
 use std::fmt;
 use std::fmt::Write as TextWrite;
@@ -20,6 +22,12 @@ pub enum Place {
     ScriptLine(u64),
     /// A row of the trace, from 1.
     TraceRow(u64),
+    /// A row of the policy, from 1.
+    PolicyRow(u64),
+    /// One of two scripts.
+    Script(Side),
+    /// A line of one of two scripts, from 1.
+    LineOf(Side, u64),
 }
 
 impl Place {
@@ -35,6 +43,33 @@ impl Place {
         ensures { result ≡ trace_place row }
     {
         (row > 0).then_some(Place::TraceRow(row))
+    }
+
+    /// A row of the policy, where 0 stands for none.
+    pub fn policy_row(row: u64) -> Option<Place>
+        ensures { result ≡ policy_place row }
+    {
+        (row > 0).then_some(Place::PolicyRow(row))
+    }
+
+    /// A line of one of two scripts, where 0 stands for none.
+    pub fn line_of(side: Side, line: u64) -> Place
+        ensures { result ≡ place_on side line }
+    {
+        if line > 0 {
+            Place::LineOf(side, line)
+        } else {
+            Place::Script(side)
+        }
+    }
+}
+
+fn side_word(side: Side) -> &'static str
+    ensures { result.now ≡ side_text side }
+{
+    match side {
+        Side::Old => "old",
+        Side::New => "new",
     }
 }
 
@@ -91,6 +126,15 @@ impl fmt::Display for FaultLine {
                 "pmp: script line {line}: refused {refusal}"
             ),
             Some(Place::TraceRow(row)) => write!(f, "pmp: trace row {row}: refused {refusal}"),
+            Some(Place::PolicyRow(row)) => write!(f, "pmp: policy row {row}: refused {refusal}"),
+            Some(Place::Script(side)) => {
+                let side = side_word(side);
+                write!(f, "pmp: {side}: refused {refusal}")
+            }
+            Some(Place::LineOf(side, line)) => {
+                let side = side_word(side);
+                write!(f, "pmp: {side} line {line}: refused {refusal}")
+            }
             None => write!(f, "pmp: refused {refusal}"),
         }
     }

@@ -11,6 +11,9 @@ pub const CHECK: &str = "Decides one access after publications of a script, and 
 pub const AUDIT: &str =
     "Decides each access of a trace after publications of a script, and writes a row for each";
 
+pub const POLICY: &str =
+    "Says whether each row of a policy holds after publications of a script, or where it is broken";
+
 pub const DUMP: &str = "Writes the unit's registers after publications of a script";
 
 pub const MAP: &str = "Writes which bytes each entry owns after publications of a script";
@@ -24,11 +27,33 @@ pub const ENTRIES: &str =
 pub const WRITES: &str =
     "Writes what each write of a script changes, and why it isn't stored as written";
 
+pub const DIFF: &str =
+    "Writes where two scripts differ in what they let each mode do, after publications of each";
+
+pub const OLD: &str = "The path of the old script, or stdin";
+
+pub const NEW: &str = "The path of the new script, or stdin where the old one isn't";
+
+pub const OLD_AFTER: &str =
+    "Takes the first N publications of the old script, as --after does for pmp map";
+
+pub const NEW_AFTER: &str = "Takes the first M publications of the new script";
+
+pub const ONLY: &str =
+    "Writes the rows that gain something, where CHANGE is more, or those that lose something, where it is less";
+
 pub const SCRIPT: &str =
     "The path of a script of at most 1048576 bytes, or stdin for standard input; it begins with pmp 1 for a unit of \
     16 entries, with pmp 2 for one of 64";
 
-pub const TRACE: &str = "The path of a trace of at most 16777216 bytes";
+pub const TRACE: &str =
+    "The path of a trace of at most 16777216 bytes, or stdin where the script isn't";
+
+pub const POLICY_PATH: &str =
+    "The path of a policy of at most 16777216 bytes, or stdin where the script isn't";
+
+pub const EACH_WRITE: &str =
+    "Asks after each event too, since a hart takes its writes one by one: N counts events then";
 
 pub const MODE: &str = "The mode of the access: M, S or U";
 
@@ -50,11 +75,13 @@ pub const CHECKERS: &str =
 
 pub const MORE: &str = "\
 Exit status:
-  0  every access is allowed or is answered as --expect says, every write is
-     stored as written, or what was asked for was written
+  0  every access is allowed or is answered as --expect says, every row of a
+     policy holds, every write is stored as written, two scripts don't differ,
+     or what was asked for was written
   1  the unit refuses an access or gives the answer that --expect doesn't name,
-     or doesn't store a write as written
-  2  no answer: the words, the script or the trace are at fault
+     or doesn't store a write as written, or a row of a policy is broken, or two
+     scripts differ
+  2  no answer: the words or an input are at fault
   3  no answer: memory, an input, the output or a place for a checker failed
 
 Example:
@@ -96,6 +123,44 @@ Example:
 
 docs/FORMATS.md describes scripts, traces, rows, and every refusal with its
 number.";
+
+pub const MORE_OF_POLICY: &str = "\
+A policy is a CSV text with the header from,to,modes,kind,first,last,demand and
+a row for each demand:
+  from,to     after which publications it is asked: from this number to that
+              one, where an empty one is the last; 0 is before the first
+  modes       one to three of the letters M, S and U
+  kind        fetch, load, store or any
+  first,last  the addresses of the first and last byte that it is asked of
+  demand      never   no byte is open to one of the modes by the kind (any: by
+                      one of the three)
+              always  every byte is open to each of the modes by the kind (any:
+                      by all three)
+              held    never, and no later write opens a byte without a reset:
+                      its owner and all entries before it are frozen, or where
+                      it has no owner, all entries are
+A byte is open to a mode and a kind where the access of that one byte is allowed.
+
+Each line answers a row: N,holds,,,, or N,broken,DONE,FIRST,LAST,OWNER with the
+first breach in time, and then in address.
+  DONE        after how many publications it is, with --each-write events
+  FIRST,LAST  the bytes at fault up to the next owner or the end of the range,
+              in hexadecimal digits
+  OWNER       the entry's number, or - where no entry matches
+
+Exit status:
+  0  every row holds
+  1  a row is broken
+  2  no answer: the words, the script or the policy are at fault
+  3  no answer: memory, an input or the output failed
+
+Example:
+  printf 'from,to,modes,kind,first,last,demand\\n0,,SU,any,0,15,never\\n' > p.csv
+  echo 'pmp 1' | pmp policy stdin p.csv
+  It answers 1,holds,,,,
+
+docs/FORMATS.md describes scripts, policies, these rows, and every refusal with
+its number.";
 
 pub const MORE_OF_DUMP: &str = "\
 A number is 1 to 20 decimal digits, or 0x and 1 to 16 hexadecimal digits.
@@ -221,4 +286,32 @@ Example:
   It answers 1,1,2,mseccfg,0x0000000000000008,0x0000000000000000,0x0000000000000000,ignored,bits,
 
 docs/FORMATS.md describes scripts, the event rows, and every refusal with its
+number.";
+
+pub const MORE_OF_DIFF: &str = "\
+A number is 1 to 20 decimal digits, or 0x and 1 to 16 hexadecimal digits.
+
+Each line is a longest range of bytes of which each script lets the modes do one
+thing, and the two not the same, whoever owns the bytes:
+FIRST,LAST,MOLD,SUOLD,MNEW,SUNEW,CHANGE.
+  FIRST,LAST  the addresses of its first and last byte, in hexadecimal digits
+  MOLD        what machine mode may do there by OLD: r, w and x, or - for each
+  SUOLD       the same for supervisor and user mode
+  MNEW,SUNEW  the same by NEW
+  CHANGE      more where nothing is lost, less where nothing is gained, else
+              both
+OLD and NEW may be one file, and scripts of 16 and of 64 entries.
+
+Exit status:
+  0  there is no line to write
+  1  the lines were written
+  2  no answer: the words or one of the scripts are at fault
+  3  no answer: memory, an input or the output failed
+
+Example:
+  printf 'pmp 1\\nwrite pmpaddr0 4\\nwrite pmpcfg0 0xf\\npublish\\n' > new.pmp
+  echo 'pmp 1' | pmp diff stdin new.pmp
+  It answers 00000000000000,0000000000000f,rwx,---,rwx,rwx,more
+
+docs/FORMATS.md describes scripts, these rows, and every refusal with its
 number.";

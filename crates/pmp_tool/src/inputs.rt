@@ -14,22 +14,23 @@ pub trait Inputs {
     /// The bytes of the script at a path, where it is known what they are.
     ghost scripts: { Self → List ℕ → Option (List ℕ) } = { λ _ _. None };
 
-    /// The bytes of the trace at a path, where it is known what they are.
+    /// The bytes of the trace or the policy at a path, where it is known what they are.
     ghost traces: { Self → List ℕ → Option (List ℕ) } = { λ _ _. None };
 
     /// The bytes of the script at this path.
     fn script(&mut self, path: &str) -> Result<Vec<u8>, InputFault>
         ensures read { IfOk result (λ bytes. AreBytesOf (scripts self.old path.now) bytes.items) }
         ensures unread { IfErr result (CantBeRead MAX_SCRIPT (scripts self.old path.now)) }
+        ensures scripts { scripts self.new ≡ scripts self.old }
         ensures traces { traces self.new ≡ traces self.old };
 
-    /// The bytes of the trace at this path.
+    /// The bytes of the trace or the policy at this path.
     fn trace(&mut self, path: &str) -> Result<Vec<u8>, InputFault>
         ensures read { IfOk result (λ bytes. AreBytesOf (traces self.old path.now) bytes.items) }
         ensures unread { IfErr result (CantBeRead MAX_TRACE (traces self.old path.now)) };
 }
 
-/// The files of the system. `stdin` as a script's path means standard input.
+/// The files of the system. The path `stdin` means standard input.
 #[derive(Drop)]
 pub struct SystemInputs<'a, R> {
     runtime: &'a R,
@@ -64,9 +65,15 @@ fn read_script_at<R: Files + Input + AllocGlobal>(
     }
 }
 
-/// The bytes of the trace at the path.
-fn read_trace_at<R: Files + AllocGlobal>(runtime: &R, path: &str) -> Result<Vec<u8>, InputFault>
+/// The bytes of the trace or the policy at the path, or of standard input.
+fn read_trace_at<R: Files + Input + AllocGlobal>(
+    runtime: &R,
+    path: &str,
+) -> Result<Vec<u8>, InputFault>
     ensures { IfOk result (λ bytes. length bytes.items ≤ MAX_TRACE) }
 {
-    read_trace_bytes(runtime.alloc(), &mut fs::open(runtime, path)?)
+    match path {
+        "stdin" => read_trace_bytes(runtime.alloc(), &mut runtime.reader()),
+        _ => read_trace_bytes(runtime.alloc(), &mut fs::open(runtime, path)?),
+    }
 }

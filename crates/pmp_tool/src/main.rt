@@ -9,6 +9,7 @@ mod failure;
 mod fault_line;
 mod help;
 mod inputs;
+mod only_word;
 mod refusal;
 mod run;
 

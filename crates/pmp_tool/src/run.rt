@@ -5,8 +5,9 @@ ghost use Rattle.std.specs.Io.KnownBytes.{Appends, Keeps};
 ghost use Rattle.pmp_audit.specs.Answers.{IsRefused, IsWritten};
 ghost use Rattle.pmp_audit.specs.TraceAudit.{AuditSays};
 ghost use Rattle.pmp_tool.specs.Failures.{Tells, failure_status};
+ghost use Rattle.pmp_tool.specs.Inputs.{AreBytesOf};
 ghost use Rattle.pmp_tool.specs.Requests.{AuditByRefuses};
-ghost use Rattle.pmp_tool.specs.Runs.{Answers, CommandAnswers, CommandFails, Fails, TextFails, outcome_status};
+ghost use Rattle.pmp_tool.specs.Runs.{Answers, CommandAnswers, CommandFails, Fails, IsUnread, TextFails, outcome_status};
 ghost use Rattle.pmp_tool.specs.declared.failure.Failure.{Failure};
 ghost use Rattle.pmp_tool.specs.declared.run.Outcome.{Outcome};
 ghost use Rattle.pmp_tool.specs.declared.run.Outcome.TheVariants.{Told};
@@ -18,7 +19,8 @@ use crate::expected::Expected;
 use crate::failure::Failure;
 use crate::inputs::Inputs;
 use pmp_audit::{
-    AuditFault, OpenGate, Summary, WriteSummary, audit, audit_shared, check, show, writes,
+    AuditFault, OpenGate, PolicySummary, Side, Summary, WriteSummary, audit, audit_shared, check,
+    check_policy, diff, show, writes,
 };
 use pmp_core::Decision;
 use pmp_text::write_out;
@@ -28,16 +30,16 @@ use std::sync::Wait;
 use std::thread::Threads;
 
 /// The exit status of texts and lists that were written, of an answer that is the expected one, of accesses that are
-/// all allowed, and of writes that are all stored.
+/// all allowed, of a policy that holds, of writes that are all stored, and of register files that don't differ as is asked.
 const DONE: u8 = 0;
 
-/// The exit status of an answer that isn't the expected one, of an access of a trace that is refused, and of a write
-/// that is turned away.
+/// The exit status of an answer that isn't the expected one, of an access of a trace that is refused, of a write that is
+/// turned away, and of register files that differ.
 const OTHER: u8 = 1;
 
 /// Runs the program on its words, those after its own name, and answers its exit status: 0 where the answer to a check
-/// is the expected one, each access of a trace is allowed, each write is stored, or what is shown or a text of help was
-/// written, 1 where that isn't so, 2 or 3 where there is no answer, with a text on `err` that says why.
+/// is the expected one, each access of a trace is allowed, each write is stored, no difference is written, or what is
+/// shown or a text of help was written, 1 where that isn't so, 2 or 3 where there is no answer, with a text on `err` that says why.
 ///
 /// `rt` makes the threads of an audit by several checkers, for which the call may wait.
 ///
@@ -121,7 +123,7 @@ fn answer<R: Threads + Wait + Sync, I: Inputs, O: Write>(
     ensures err { IfErr result (CommandFails (I.scripts inputs.old) (I.traces inputs.old) command.entry
         (O.contents out.old) (O.contents out.new)) }
 {
-    let script = inputs.script(command.script)?;
+    let script = script_at(inputs, command.script, command.request.old_side())?;
     match command.request {
         Request::Check(access, after, expected) => {
             let decision = check(alloc, &script, &access, after, out)?;
@@ -131,6 +133,11 @@ fn answer<R: Threads + Wait + Sync, I: Inputs, O: Write>(
             let trace = inputs.trace(trace)?;
             Ok(Outcome::Audited(audit_by(rt, alloc, checkers, &script, &trace, out)?))
         }
+        Request::Policy(policy, pace) => {
+            let policy = inputs.trace(policy)?;
+            let summary = check_policy(alloc, pace, &script, &policy, out)?;
+            Ok(Outcome::Judged(summary))
+        }
         Request::Show(view, after) => {
             show(alloc, view, &script, after, out)?;
             Ok(Outcome::Listed)
@@ -139,6 +146,24 @@ fn answer<R: Threads + Wait + Sync, I: Inputs, O: Write>(
             let summary = writes(alloc, &script, out)?;
             Ok(Outcome::Replayed(summary))
         }
+        Request::Diff(new, old_after, new_after, only) => {
+            let new = script_at(inputs, new, Some(Side::New))?;
+            let rows = diff(alloc, &script, old_after, &new, new_after, only, out)?;
+            Ok(Outcome::Compared(rows))
+        }
+    }
+}
+
+/// The bytes of the script at the path, which of two scripts is the one on a side.
+fn script_at<I: Inputs>(inputs: &mut I, path: &str, side: Option<Side>) -> Result<Vec<u8>, Failure>
+    ensures read { IfOk result (λ bytes. AreBytesOf (I.scripts inputs.old path.now) bytes.items) }
+    ensures unread { IfErr result (IsUnread (I.scripts inputs.old path.now) side) }
+    ensures scripts { I.scripts inputs.new ≡ I.scripts inputs.old }
+    ensures traces { I.traces inputs.new ≡ I.traces inputs.old }
+{
+    match inputs.script(path) {
+        Ok(script) => Ok(script),
+        Err(fault) => Err(Failure::unread(fault, side)),
     }
 }
 
@@ -169,10 +194,14 @@ enum Outcome {
     /// The decision on an access, and which answer to it is expected.
     Decided(Decision, Expected),
     Audited(Summary),
+    /// How many rows of a policy there are, and how many are broken.
+    Judged(PolicySummary),
     /// What is shown of a register file was written.
     Listed,
     /// What each write does was written.
     Replayed(WriteSummary),
+    /// So many rows were written, of where two register files differ.
+    Compared(u64),
     /// A text of help or the version was written.
     Told,
 }
@@ -184,7 +213,9 @@ impl Outcome {
         match self {
             Outcome::Decided(decision, expected) if !expected.is_met(decision) => OTHER,
             Outcome::Audited(summary) if summary.faults > 0 => OTHER,
+            Outcome::Judged(summary) if summary.broken > 0 => OTHER,
             Outcome::Replayed(summary) if summary.turned_away > 0 => OTHER,
+            Outcome::Compared(rows) if rows > 0 => OTHER,
             _ => DONE,
         }
     }
