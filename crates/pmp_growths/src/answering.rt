@@ -1,15 +1,18 @@
-//! The calls that answer a script, or a script and a trace.
+//! The calls that answer a script, two scripts, or a script and another text.
 
 ghost use Rattle.std.specs.Prelude.{◌≤◌};
 ghost use Rattle.pmp_share.specs.declared.opening.TheConstants.{CHECKERS};
 
 use crate::count::{begin, end};
 use crate::outcome::{Tried, answered_if, refused_if};
-use crate::texts::{ENTRIES, LAST_ROW, REGISTERS, REPORT, RUNS, SCRIPT, TRACE};
+use crate::texts::{
+    CHANGES, ENTRIES, LAST_ROW, POLICY, REGISTERS, REPORT, RUNS, SCRIPT, TRACE, VERDICTS,
+};
 use crate::worked::decision_after;
 use arrayvec::ArrayVec;
 use pmp_audit::{
-    AuditFault, OpenGate, Summary, audit, audit_shared, check, dump, entries_of, map_of,
+    AuditFault, OpenGate, Pace, PolicySummary, Summary, audit, audit_shared, check, check_policy,
+    diff, dump, entries_of, map_of,
 };
 use pmp_core::Access;
 use pmp_share::ShareFault;
@@ -24,15 +27,19 @@ pub enum Answering {
     Audit,
     /// By so many checkers, one to eight.
     SharedAudit(u8),
+    Policy,
     MapOf,
     EntriesOf,
     Dump,
+    Diff,
 }
 
 /// Writes to it take no memory.
 type Output = ArrayVec<u8, 1024>;
 
 const SUMMARY: Summary = Summary { rows: 4, faults: 2 };
+
+const JUDGED: PolicySummary = PolicySummary { rows: 2, broken: 1 };
 
 /// An audit by so many checkers. Where it gets no place, that counts as no memory.
 fn audits_by<R: Threads + Wait + Sync>(
@@ -67,9 +74,11 @@ impl Answering {
     fn text(self) -> &'static [u8] {
         match self {
             Answering::Check => LAST_ROW,
+            Answering::Policy => VERDICTS,
             Answering::MapOf => RUNS,
             Answering::EntriesOf => ENTRIES,
             Answering::Dump => REGISTERS,
+            Answering::Diff => CHANGES,
             _ => REPORT,
         }
     }
@@ -88,9 +97,13 @@ impl Answering {
             Answering::SharedAudit(checkers) => {
                 audits_by(rt, alloc, checkers.clamp(1, 8), output)
             }
+            Answering::Policy => {
+                Ok(check_policy(alloc, Pace::Events, SCRIPT, POLICY, output)? == JUDGED)
+            }
             Answering::MapOf => is_done(map_of(alloc, SCRIPT, Some(1), output)),
             Answering::EntriesOf => is_done(entries_of(alloc, SCRIPT, Some(1), output)),
             Answering::Dump => is_done(dump(alloc, SCRIPT, Some(1), output)),
+            Answering::Diff => Ok(diff(alloc, SCRIPT, Some(0), SCRIPT, None, None, output)? == 1),
         }
     }
 }

@@ -22,7 +22,7 @@ pub enum Case {
 }
 
 /// Each case once, with the word of the command line that stands for it.
-pub static CASES: [(&str, Case); 24] = [
+pub static CASES: [(&str, Case); 29] = [
     ("start", Case::Start),
     ("submit", Case::Share(Sharing::Submit)),
     ("publish", Case::Share(Sharing::Publish)),
@@ -41,18 +41,23 @@ pub static CASES: [(&str, Case); 24] = [
     ("read_bytes", Case::Read(Reading::Bytes)),
     ("read_script", Case::Read(Reading::Script)),
     ("read_trace", Case::Read(Reading::Trace)),
+    ("read_policy", Case::Read(Reading::Policy)),
     ("write_row", Case::Append(Writing::Row)),
     ("write_runs", Case::Append(Writing::Runs)),
     ("write_registers", Case::Append(Writing::Registers)),
     ("write_entries", Case::Append(Writing::Entries)),
+    ("write_verdict", Case::Append(Writing::Verdict)),
+    ("write_changes", Case::Append(Writing::Changes)),
     ("check", Case::Answer(Answering::Check)),
     ("audit", Case::Answer(Answering::Audit)),
     ("audit_shared_1", Case::Answer(Answering::SharedAudit(1))),
     ("audit_shared_2", Case::Answer(Answering::SharedAudit(2))),
     ("audit_shared_8", Case::Answer(Answering::SharedAudit(8))),
+    ("policy", Case::Answer(Answering::Policy)),
     ("map_of", Case::Answer(Answering::MapOf)),
     ("entries_of", Case::Answer(Answering::EntriesOf)),
     ("dump", Case::Answer(Answering::Dump)),
+    ("diff", Case::Answer(Answering::Diff)),
 ];
 
 impl Case {

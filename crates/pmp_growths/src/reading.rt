@@ -2,11 +2,12 @@
 
 use crate::count::{begin, end};
 use crate::outcome::{Tried, answered_if, refused_if};
-use crate::texts::{SCRIPT, TRACE};
+use crate::texts::{POLICY, SCRIPT, TRACE};
 use crate::worked::{page_load, writes};
 use pmp_core::{Access, AccessFault, Kind, Mode};
 use pmp_text::{
-    InputFault, Row, Script, ScriptKind, TraceKind, read_bytes, read_script, read_trace,
+    Demand, InputFault, Kinds, Modes, PolicyRow, Row, Script, ScriptKind, TraceKind, read_bytes,
+    read_policy, read_script, read_trace,
 };
 use std::alloc::Global;
 use std::io;
@@ -18,6 +19,7 @@ pub enum Reading {
     Bytes,
     Script,
     Trace,
+    Policy,
 }
 
 /// Gives the bytes that are left of a text, at most sixteen at a read.
@@ -103,10 +105,56 @@ fn reads_trace(alloc: Global) -> Tried {
     }
 }
 
+/// The rows of the policy.
+fn policy_rows() -> [PolicyRow; 2] {
+    let all = Modes {
+        machine: true,
+        supervisor: true,
+        user: true,
+    };
+    let user = Modes {
+        machine: false,
+        supervisor: false,
+        user: true,
+    };
+    [
+        PolicyRow {
+            from: 0,
+            to: 2,
+            modes: all,
+            kinds: Kinds::Any,
+            first: 0x80000000,
+            last: 0x80000fff,
+            demand: Demand::Always,
+        },
+        PolicyRow {
+            from: 1,
+            to: 2,
+            modes: user,
+            kinds: Kinds::One(Kind::Store),
+            first: 0x80000000,
+            last: 0x80000007,
+            demand: Demand::Never,
+        },
+    ]
+}
+
+fn reads_policy(alloc: Global) -> Tried {
+    let wanted = policy_rows();
+    begin(alloc);
+    let answer = read_policy(alloc, POLICY, 2);
+    end(alloc);
+    match answer {
+        Ok(rows) => answered_if(rows.as_slice() == wanted.as_slice(), "the rows"),
+        Err(fault) => refused_if(matches!(fault.kind, TraceKind::Memory) && fault.row == 0),
+    }
+}
+
 pub fn reads(alloc: Global, case: Reading) -> Tried {
     match case {
         Reading::Bytes => reads_bytes(alloc),
         Reading::Script => reads_script(alloc),
         Reading::Trace => reads_trace(alloc),
+        Reading::Policy => reads_policy(alloc),
     }
 }

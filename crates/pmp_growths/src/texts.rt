@@ -1,4 +1,4 @@
-//! A script and a trace, and the texts that answer them.
+//! A script, a trace and a policy, and the texts that answer them.
 
 /// The first two batches.
 pub const SCRIPT: &[u8] = b"pmp 1
@@ -17,6 +17,17 @@ pub const TRACE: &[u8] = b"after,mode,kind,start,length
 2,U,load,0x80000000,4
 ";
 
+pub const POLICY: &[u8] = b"from,to,modes,kind,first,last,demand
+0,,MSU,any,0x80000000,0x80000fff,always
+1,2,U,store,0x80000000,0x80000007,never
+";
+
+/// The answer to the policy: machine mode alone may do something without a rule, and none lets user mode store.
+pub const VERDICTS: &[u8] = b"1,broken,0,00000080000000,00000080000fff,-\n2,holds,,,,\n";
+
+/// A row of an answer to a policy.
+pub const VERDICT: &[u8] = b"2,broken,2,00000080000000,00000080000007,1\n";
+
 /// The audit of the trace.
 pub const REPORT: &[u8] = b"1,fault,5,none,\n2,allow,,rule,0\n3,fault,7,rule,0\n4,allow,,rule,1\n";
 
@@ -28,6 +39,9 @@ pub const RUNS: &[u8] = b"00000000000000,0000007fffffff,-,rwx,---
 00000080000000,00000080000fff,0,rwx,r--
 00000080001000,ffffffffffffff,-,rwx,---
 ";
+
+/// What the publications open.
+pub const CHANGES: &[u8] = b"00000080000000,00000080000fff,rwx,---,rwx,r--,more\n";
 
 /// The entries after the first publication.
 pub const ENTRIES: &[u8] = b"0,napot,00000080000000,00000080000fff,rwx,r--,-,-,,

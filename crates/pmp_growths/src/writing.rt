@@ -2,11 +2,14 @@
 
 use crate::count::{begin, end};
 use crate::outcome::{Tried, answered_if, refused_if};
-use crate::texts::{ENTRIES, LAST_ROW, REGISTERS, RUNS};
+use crate::texts::{CHANGES, ENTRIES, LAST_ROW, REGISTERS, RUNS, VERDICT};
 use crate::worked::{decision_after, file_after};
-use pmp_core::{Access, MAX_ENTRIES};
-use pmp_map::RunMap;
-use pmp_text::{Since, write_entries, write_registers, write_row, write_runs};
+use pmp_core::{Access, MAX_ENTRIES, Perms};
+use pmp_map::{ModeRights, RightsRun, Run, RunMap};
+use pmp_text::{
+    Breach, Since, write_changes, write_entries, write_registers, write_row, write_runs,
+    write_verdict,
+};
 use std::alloc::{AllocError, Global};
 
 /// Which call is tried.
@@ -16,6 +19,8 @@ pub enum Writing {
     Runs,
     Registers,
     Entries,
+    Verdict,
+    Changes,
 }
 
 impl Writing {
@@ -25,6 +30,8 @@ impl Writing {
             Writing::Runs => RUNS,
             Writing::Registers => REGISTERS,
             Writing::Entries => ENTRIES,
+            Writing::Verdict => VERDICT,
+            Writing::Changes => CHANGES,
         }
     }
 }
@@ -35,7 +42,36 @@ const OPEN: Since = Since {
     held: None,
 };
 
+/// Of a row that is broken by the second publication.
+const BREACH: Breach = Breach {
+    done: 2,
+    run: Run {
+        first: 0x80000000,
+        last: 0x80000007,
+        owner: Some(1),
+    },
+};
+
+/// What the first batch opens.
+const OPENED: RightsRun = RightsRun {
+    first: 0x8000_0000,
+    last: 0x8000_0fff,
+    old: ModeRights {
+        machine: Perms::RWX,
+        others: Perms::NONE,
+    },
+    new: ModeRights {
+        machine: Perms::RWX,
+        others: Perms::R,
+    },
+};
+
 const OLD_BYTES: &[u8] = b"old bytes\n";
+
+fn append_changes(out: &mut Vec<u8>) -> Result<(), AllocError> {
+    write_changes(out, &[OPENED], None)?;
+    Ok(())
+}
 
 /// Makes the call on the file after the first batch, of which it has the map.
 fn append(
@@ -52,6 +88,8 @@ fn append(
         Writing::Runs => write_runs(out, &file, &map),
         Writing::Registers => write_registers(out, &file),
         Writing::Entries => write_entries(out, &file, &[OPEN; MAX_ENTRIES]),
+        Writing::Verdict => write_verdict(out, 2, Some(BREACH)),
+        Writing::Changes => append_changes(out),
     };
     end(alloc);
     answer
