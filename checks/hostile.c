@@ -1,6 +1,7 @@
-// hostile PROGRAM check SCRIPT, hostile PROGRAM audit SCRIPT TRACE: runs the program on the last text with each byte
-// changed to each of eight others, and on each beginning of it. It has to answer or to refuse with a numbered line, and
-// not both. The last line is how many texts were answered and how many refused.
+// hostile PROGRAM check SCRIPT, hostile PROGRAM audit SCRIPT TRACE, hostile PROGRAM policy SCRIPT POLICY, hostile PROGRAM
+// diff OLD NEW: runs the program on the last text with each byte changed to each of eight others, and on each beginning
+// of it. It has to answer or to refuse with a numbered line, and not both. The last line is how many texts were answered
+// and how many refused.
 #define _GNU_SOURCE
 #include <fcntl.h>
 #include <spawn.h>
@@ -52,7 +53,8 @@ static void run(char **words, int out, int err, struct run *run) {
     take(err, run->err);
 }
 
-// Whether the text is one line that a refusal is told by: 'pmp: [script line N: |trace row N: ]refused N NAME'.
+// Whether the text is one line that a refusal is told by: 'pmp: [script line N: |trace row N: |new line N: ]refused N
+// NAME'.
 static int is_refusal(const char *text) {
     unsigned long place;
     unsigned number;
@@ -60,6 +62,8 @@ static int is_refusal(const char *text) {
     int end = 0;
     if (sscanf(text, "pmp: script line %lu: refused %u %31[A-Za-z]%n", &place, &number, name, &end) != 3 &&
         sscanf(text, "pmp: trace row %lu: refused %u %31[A-Za-z]%n", &place, &number, name, &end) != 3 &&
+        sscanf(text, "pmp: policy row %lu: refused %u %31[A-Za-z]%n", &place, &number, name, &end) != 3 &&
+        sscanf(text, "pmp: new line %lu: refused %u %31[A-Za-z]%n", &place, &number, name, &end) != 3 &&
         sscanf(text, "pmp: refused %u %31[A-Za-z]%n", &number, name, &end) != 2) {
         return 0;
     }
@@ -105,12 +109,12 @@ static int work(int worker, char **words, int last, const char *text, size_t len
 
 int main(int count, char **arguments) {
     if (count < 4 || count > 5) {
-        fprintf(stderr, "usage: hostile PROGRAM check SCRIPT | hostile PROGRAM audit SCRIPT TRACE\n");
+        fprintf(stderr, "usage: hostile PROGRAM check SCRIPT | hostile PROGRAM audit|policy|diff SCRIPT TEXT\n");
         return 2;
     }
     char *check[] = {arguments[1], "check", arguments[3], "U", "load", "0x80000000", "4", NULL};
-    char *audit[] = {arguments[1], "audit", arguments[3], count == 5 ? arguments[4] : NULL, NULL};
-    char **words = count == 5 ? audit : check;
+    char *two[] = {arguments[1], arguments[2], arguments[3], count == 5 ? arguments[4] : NULL, NULL};
+    char **words = count == 5 ? two : check;
     char text[MOST];
     FILE *source = fopen(arguments[count - 1], "rb");
     if (source == NULL) {
