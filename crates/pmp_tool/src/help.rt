@@ -53,7 +53,8 @@ pub const POLICY_PATH: &str =
     "The path of a policy of at most 16777216 bytes, or stdin where the script isn't";
 
 pub const EACH_WRITE: &str =
-    "Asks after each event too, since a hart takes its writes one by one: N counts events then";
+    "Asks after each write and reset behind publication FROM too, since a hart takes its writes one by one: DONE \
+    counts these events then";
 
 pub const MODE: &str = "The mode of the access: M, S or U";
 
@@ -76,11 +77,11 @@ pub const CHECKERS: &str =
 pub const MORE: &str = "\
 Exit status:
   0  every access is allowed or is answered as --expect says, every row of a
-     policy holds, every write is stored as written, two scripts don't differ,
+     policy holds, every write is stored as written, diff has nothing to write,
      or what was asked for was written
   1  the unit refuses an access or gives the answer that --expect doesn't name,
-     or doesn't store a write as written, or a row of a policy is broken, or two
-     scripts differ
+     or doesn't store a write as written, or a row of a policy is broken, or
+     diff writes a row
   2  no answer: the words or an input are at fault
   3  no answer: memory, an input, the output or a place for a checker failed
 
@@ -136,13 +137,15 @@ a row for each demand:
                       one of the three)
               always  every byte is open to each of the modes by the kind (any:
                       by all three)
-              held    never, and no later write opens a byte without a reset:
-                      its owner and all entries before it are frozen, or where
-                      it has no owner, all entries are
+              held    never, and after the last of these publications no
+                      write opens a byte without a reset: its owner and all
+                      entries before it are frozen then, or where it has no
+                      owner, all entries are
 A byte is open to a mode and a kind where the access of that one byte is allowed.
+The last byte is asked of too: it is an address, and no length.
 
 Each line answers a row: N,holds,,,, or N,broken,DONE,FIRST,LAST,OWNER with the
-first breach in time, and then in address.
+first breach in time, and then in address; further ones aren't told.
   DONE        after how many publications it is, with --each-write events
   FIRST,LAST  the bytes at fault up to the next owner or the end of the range,
               in hexadecimal digits
@@ -300,7 +303,8 @@ FIRST,LAST,MOLD,SUOLD,MNEW,SUNEW,CHANGE.
   MNEW,SUNEW  the same by NEW
   CHANGE      more where nothing is lost, less where nothing is gained, else
               both
-OLD and NEW may be one file, and scripts of 16 and of 64 entries.
+OLD and NEW may be one file, and scripts of 16 and of 64 entries. The two states
+alone are compared: neither what was open before them, nor locks.
 
 Exit status:
   0  there is no line to write
