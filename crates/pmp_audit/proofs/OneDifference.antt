@@ -19,7 +19,8 @@ pub one_difference : ((old new : RegisterFile) (one other : List RightsRun) → 
 one_difference one_list old old_after new new_after only one other text another said too =
     let olds = one_file old old_after said.old_file too.old_file said.old_gives too.old_gives in
     let news = one_file new new_after said.new_file too.new_file said.new_gives too.new_gives in
-    let runs = one_list too.old_file too.new_file said.runs too.runs (rw (olds, news) at said.runs_are) too.runs_are in (
+    let runs =
+    one_list too.old_file too.new_file said.runs too.runs (rw (olds, news) at said.runs_are) too.runs_are in (
       said.counted ∙ ap (change_count only) runs ∙ sym too.counted,
       said.text_is ∙ ap (change_rows only) runs ∙ sym too.text_is,
     )

@@ -18,7 +18,8 @@ use Rattle.pmp_text.specs.declared.policy.Kinds.{Kinds}
 use Rattle.pmp_text.specs.declared.policy.Modes.{Modes}
 use Rattle.pmp_text.specs.Policies.{policy_fields}
 use Rattle.pmp_audit.specs.Laws.{OnePolicyAnswerLaw}
-use Rattle.pmp_audit.specs.PolicyCheck.{IsBroken, IsFirstBreach, IsFirstIn, IsFirstLoose, IsFirstOf, IsFirstOfAll, IsFirstRun, IsLoose}
+use Rattle.pmp_audit.specs.PolicyCheck.{IsBroken, IsFirstBreach, IsFirstIn, IsFirstLoose, IsFirstOf, IsFirstOfAll}
+use Rattle.pmp_audit.specs.PolicyCheck.{IsFirstRun, IsLoose}
 use Rattle.pmp_audit.specs.PolicyCheck.{IsVerdict, IsVerdictBy, policy_summary, state_after, step_count, verdicts_text}
 use Rattle.pmp_audit.proofs.Lists.{one_list}
 
@@ -121,9 +122,11 @@ module _ (state : ℕ → RegisterFile) (row : PolicyRow) (from to : ℕ) where
       → one ≡ other
   one_loose None None is too = refl
   one_loose None (Some breach) is too =
-      absurd (none_is_some breach.run (one_first (state to).entries (IsLoose (state to) row) row None (Some breach.run) is too.1))
+      absurd (none_is_some breach.run
+      (one_first (state to).entries (IsLoose (state to) row) row None (Some breach.run) is too.1))
   one_loose (Some breach) None is too =
-      absurd (none_is_some breach.run (one_first (state to).entries (IsLoose (state to) row) row None (Some breach.run) too is.1))
+      absurd (none_is_some breach.run
+      (one_first (state to).entries (IsLoose (state to) row) row None (Some breach.run) too is.1))
   one_loose (Some one) (Some other) is too =
       let runs = one_first (state to).entries (IsLoose (state to) row) row (Some one.run) (Some other.run) is.1 too.1 in
       ap Some (same_breach one other (is.0 ∙ sym too.0) cc)

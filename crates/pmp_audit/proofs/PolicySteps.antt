@@ -42,7 +42,8 @@ no_fewer Events batches from to forward =
     let events : length (joined (take to batches)) ≡ length (joined (take from batches))
     + length (joined (take more (drop from batches))) =
     ap (λ (l : List (List Event)). length (joined l)) parts
-    ∙ ap (λ (l : List Event). length l) (flat_map-append (λ batch. batch) (take from batches) (take more (drop from batches)))
+    ∙ ap (λ (l : List Event). length l)
+    (flat_map-append (λ batch. batch) (take from batches) (take more (drop from batches)))
     ∙ length-append (joined (take from batches)) (joined (take more (drop from batches))) in
     omega (arith, events)
 

@@ -100,7 +100,8 @@ module _ (pace : Pace) (script : ScriptContents) where
       }
 
 -- the rows before place i, and the one there
-module _ (rows : List PolicyRow) (i : ℕ) (row : PolicyRow) (inside : i < length rows) (row_is : row ≡ get_or rows i row) where
+module _ (rows : List PolicyRow) (i : ℕ) (row : PolicyRow) (inside : i < length rows)
+    (row_is : row ≡ get_or rows i row) where
   pub one_row_more : take (i + 1) rows ≡ take i rows ++ row ∷ []
   one_row_more = take_more rows i row inside ∙ ap (λ (r : PolicyRow). take i rows ++ r ∷ []) (sym row_is)
 

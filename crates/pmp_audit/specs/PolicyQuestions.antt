@@ -24,7 +24,8 @@ finds_kind allowed rights kinds kind = has_kind kinds kind && is_so allowed (all
 
 abbrev pub finds_in : (allowed : Bool) → Rights → Kinds → Bool
 finds_in allowed rights kinds =
-    finds_kind allowed rights kinds Fetch || (finds_kind allowed rights kinds Load || finds_kind allowed rights kinds Store)
+    finds_kind allowed rights kinds Fetch
+    || (finds_kind allowed rights kinds Load || finds_kind allowed rights kinds Store)
 
 abbrev pub finds_mode : (allowed : Bool) → RegisterFile → (owner : Option ℕ) → PolicyRow → Mode → Bool
 finds_mode allowed file owner row mode =

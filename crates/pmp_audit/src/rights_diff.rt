@@ -32,7 +32,8 @@ pub fn diff<W: Write>(
     writer: &mut W,
 ) -> Result<u64, AuditFault>
     ensures ok { IfOk result
-        (IsWritten (DiffSays old.now old_after new.now new_after only) (W.contents writer.old) (W.contents writer.new)) }
+        (IsWritten (DiffSays old.now old_after new.now new_after only)
+        (W.contents writer.old) (W.contents writer.new)) }
     ensures err { IfErr result
         (IsRefused (DiffSays old.now old_after new.now new_after only) (W.contents writer.old) (W.contents writer.new)
         (DiffRefuses old.now old_after new.now new_after)) }

@@ -107,7 +107,8 @@ fewer_by_default : (mml mmwp mml_later mmwp_later : Bool) → (mml ≡ true → 
     → allows (default_rights_by mml_later mmwp_later mode) kind ≡ false
 fewer_by_default mml mmwp mml_later true up stays mode kind closed = allow_list_closes mml_later mode kind
 fewer_by_default mml true mml_later false up stays mode kind closed = absurd (false≢true (stays refl))
-fewer_by_default mml false mml_later false up stays mode kind closed = fewer_by_lockdown mml mml_later up mode kind closed
+fewer_by_default mml false mml_later false up stays mode kind closed =
+    fewer_by_lockdown mml mml_later up mode kind closed
 
 module _ (entry_inside : (entries : List Entry) (i byte : ℕ) → Matches entries i byte → i < length entries)
     (file : RegisterFile) (events : List Event) (writes : list_all is_write events ≡ true) (byte : ℕ) where

@@ -65,10 +65,11 @@ change_text Both = codes "both"
 
 -- `r`, `w` and `x`, each where the set has it
 abbrev pub set_text : Perms → List ℕ
-set_text perms = mark 114 (has_right perms Load) ∷ mark 119 (has_right perms Store) ∷ mark 120 (has_right perms Fetch) ∷ []
+set_text perms =
+    mark 114 (has_right perms Load) ∷ mark 119 (has_right perms Store) ∷ mark 120 (has_right perms Fetch) ∷ []
 
--- the first and the last byte in fourteen digits, the rights of machine mode and of the other modes by the old file, the
--- same by the new, and how it differs
+-- the first and the last byte in fourteen digits, the rights of machine mode and of the other modes by the old file,
+-- the same by the new, and how it differs
 unfoldable pub change_row : RightsRun → Change → List ℕ
 change_row run change =
     hex_text ADDRESS_DIGITS run.first

@@ -1,6 +1,7 @@
 //! Scripts: the publications that a text describes, and why a text describes none.
 
-ghost use Rattle.std.specs.Prelude.{◌≡◌, suc, ◌+◌, ◌<◌, ◌≤◌, ◌∷◌, ◌++◌, [], IfErr, OnErr, OnOk, length, slice_index_or, take};
+ghost use Rattle.std.specs.Prelude.{◌≡◌, suc, ◌+◌, ◌<◌, ◌≤◌, ◌∷◌, ◌++◌, [], IfErr, OnErr, OnOk, length, take};
+ghost use Rattle.std.specs.Prelude.{slice_index_or};
 ghost use Rattle.pmp_core.specs.declared.event.TheConstants.{BATCH_EVENTS};
 ghost use Rattle.pmp_core.specs.Histories.{joined};
 ghost use Rattle.pmp_text.specs.Contents.{ScriptContents};

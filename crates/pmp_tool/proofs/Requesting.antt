@@ -15,11 +15,13 @@ module _ (scripts traces : Inputs) (command : Command) (script : List ℕ)
     (read : AreBytesOf (scripts command.script.now) script) (request : Request) (is : command.request ≡ request)
     (before after : Option (List ℕ)) where
   module _ {A : Type 0} (outcome : A → Outcome) (Says : A → List ℕ → Type 0)
-      (says : (answer : A) (text : List ℕ) → Says answer text → RequestSays scripts traces script request (outcome answer) text)
+      (says : (answer : A) (text : List ℕ) → Says answer text
+      → RequestSays scripts traces script request (outcome answer) text)
       (Refuses : AuditFault → Type 0)
       (refuses : (fault : AuditFault) → Refuses fault → RequestRefuses scripts traces script request fault) where
     request_refused : (fault : AuditFault) → IsRefused Says before after Refuses fault
-        → IsRefused (RequestSays scripts traces script request) before after (RequestRefuses scripts traces script request) fault
+        → IsRefused (RequestSays scripts traces script request) before after
+        (RequestRefuses scripts traces script request) fault
     request_refused Memory keeps = keeps
     request_refused Output cut =
         record {

@@ -145,8 +145,8 @@ diff_with (Ok new) (Ok old_after) (Ok new_after) (Ok only) = Ok (Diff new old_af
 -- the new script's place is read before the options
 abbrev pub diff_in : List Row → Result Task Refusal
 diff_in rows =
-    diff_with (second_in (codes "new") rows) (after_of (first_of (codes "old-after") rows)) (after_of (first_of (codes "new-after") rows))
-    (only_of (first_of (codes "only") rows))
+    diff_with (second_in (codes "new") rows) (after_of (first_of (codes "old-after") rows))
+    (after_of (first_of (codes "new-after") rows)) (only_of (first_of (codes "only") rows))
 
 -- clap finds the word `true` for an option without a word that is used
 abbrev pub pace_named : Text → Pace

@@ -3,7 +3,8 @@
 ghost use Rattle.std.specs.Prelude.{◌≡◌, map, false, IfOk, IfErr, string_bytes};
 ghost use Rattle.clap.specs.Words.{App, HasKind, fault_of, new_app, rule_of};
 ghost use Rattle.pmp_tool.specs.Building.{Builds, IsBuilt, IsCommand, IsTaken};
-ghost use Rattle.pmp_tool.specs.CommandLines.{audit_app, check_app, checkers_rule, diff_app, file_app, flag_rule, option_rule};
+ghost use Rattle.pmp_tool.specs.CommandLines.{audit_app, check_app, checkers_rule, diff_app, file_app, flag_rule};
+ghost use Rattle.pmp_tool.specs.CommandLines.{option_rule};
 ghost use Rattle.pmp_tool.specs.CommandLines.{pmp_app, policy_app, script_app, top_app, with_after, with_checkers};
 ghost use Rattle.pmp_tool.specs.CommandLines.{with_command, with_flag, with_option, with_views, with_word, word_rule};
 

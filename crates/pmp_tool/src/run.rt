@@ -7,7 +7,8 @@ ghost use Rattle.pmp_audit.specs.TraceAudit.{AuditSays};
 ghost use Rattle.pmp_tool.specs.Failures.{Tells, failure_status};
 ghost use Rattle.pmp_tool.specs.Inputs.{AreBytesOf};
 ghost use Rattle.pmp_tool.specs.Requests.{AuditByRefuses};
-ghost use Rattle.pmp_tool.specs.Runs.{Answers, CommandAnswers, CommandFails, Fails, IsUnread, TextFails, outcome_status};
+ghost use Rattle.pmp_tool.specs.Runs.{Answers, CommandAnswers, CommandFails, Fails, IsUnread, TextFails};
+ghost use Rattle.pmp_tool.specs.Runs.{outcome_status};
 ghost use Rattle.pmp_tool.specs.declared.failure.Failure.{Failure};
 ghost use Rattle.pmp_tool.specs.declared.run.Outcome.{Outcome};
 ghost use Rattle.pmp_tool.specs.declared.run.Outcome.TheVariants.{Told};
@@ -30,16 +31,18 @@ use std::sync::Wait;
 use std::thread::Threads;
 
 /// The exit status of texts and lists that were written, of an answer that is the expected one, of accesses that are
-/// all allowed, of a policy that holds, of writes that are all stored, and of register files that don't differ as is asked.
+/// all allowed, of a policy that holds, of writes that are all stored, and of register files that don't differ as is
+/// asked.
 const DONE: u8 = 0;
 
-/// The exit status of an answer that isn't the expected one, of an access of a trace that is refused, of a write that is
-/// turned away, and of register files that differ.
+/// The exit status of an answer that isn't the expected one, of an access of a trace that is refused, of a policy that
+/// is broken, of a write that is turned away, and of register files that differ.
 const OTHER: u8 = 1;
 
 /// Runs the program on its words, those after its own name, and answers its exit status: 0 where the answer to a check
-/// is the expected one, each access of a trace is allowed, each write is stored, no difference is written, or what is
-/// shown or a text of help was written, 1 where that isn't so, 2 or 3 where there is no answer, with a text on `err` that says why.
+/// is the expected one, each access of a trace is allowed, each row of a policy holds, each write is stored, no
+/// difference is written, or what is shown or a text of help was written, 1 where that isn't so, 2 or 3 where there is
+/// no answer, with a text on `err` that says why.
 ///
 /// `rt` makes the threads of an audit by several checkers, for which the call may wait.
 ///

@@ -15,7 +15,7 @@ use pmp_text::{Demand, Kinds, PolicyRow};
 pub enum Question {
     /// Whether the row's demand is broken.
     IsBroken,
-    /// Whether nothing holds what the unit answers.
+    /// Whether the byte isn't held.
     IsLoose,
 }
 

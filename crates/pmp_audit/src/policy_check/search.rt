@@ -1,7 +1,8 @@
 //! Where a row of a policy is broken: first in time, and then in address.
 
 ghost use Rattle.std.specs.Prelude.{◌≤◌, length};
-ghost use Rattle.pmp_audit.specs.PolicyCheck.{IsFirstLoose, IsFirstOf, IsFirstOfAll, IsVerdict, state_after, step_count};
+ghost use Rattle.pmp_audit.specs.PolicyCheck.{IsFirstLoose, IsFirstOf, IsFirstOfAll, IsVerdict, state_after};
+ghost use Rattle.pmp_audit.specs.PolicyCheck.{step_count};
 ghost use Rattle.pmp_audit.specs.PolicyQuestions.{IsYes};
 
 use crate::policy_check::question::Question;

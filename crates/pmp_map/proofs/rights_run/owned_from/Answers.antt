@@ -6,8 +6,10 @@ pub returns-clause-rights : goal.returns-clause-rights
 returns-clause-rights c byte from to =
     let old = c.run_from-before in
     let new = c.run_from-after in
-    let in_old : IsInRun old.result byte = (omega (arith, old.ensures.run.begins, from), omega (arith, c.min.ensures, to)) in
-    let in_new : IsInRun new.result byte = (omega (arith, new.ensures.run.begins, from), omega (arith, c.min.ensures, to)) in (
+    let in_old : IsInRun old.result byte =
+    (omega (arith, old.ensures.run.begins, from), omega (arith, c.min.ensures, to)) in
+    let in_new : IsInRun new.result byte =
+    (omega (arith, new.ensures.run.begins, from), omega (arith, c.min.ensures, to)) in (
       (old.result.owner, old.ensures.run.owned byte in_old, c.of_owner.ensures),
       (new.result.owner, new.ensures.run.owned byte in_new, c.of_owner-2.ensures),
     )

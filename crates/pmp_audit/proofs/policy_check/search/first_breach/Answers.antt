@@ -68,6 +68,6 @@ returns-in-None c =
     let last : c.loop-done.done ≡ c.count-to.result =
     omega (arith, fewer, c.count-from.ensures, c.count-to.ensures, c.loop-done-test.false, c.loop-done.auto.done-end) in
     λ done from until. none_before state row c.count-from.result c.loop-done.done c.loop-done.invariant.none
-    (found_in IsBroken row c.loop-done.file (state c.loop-done.done) c.first_run-2.result None c.loop-done.invariant.file
-    c.in-None.is c.first_run-2.ensures) done (omega (arith, c.count-from.ensures))
+    (found_in IsBroken row c.loop-done.file (state c.loop-done.done) c.first_run-2.result None
+    c.loop-done.invariant.file c.in-None.is c.first_run-2.ensures) done (omega (arith, c.count-from.ensures))
     (omega (arith, last, until, c.count-to.ensures))

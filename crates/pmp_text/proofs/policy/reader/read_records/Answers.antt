@@ -15,12 +15,17 @@ returns-then-not-branch c =
     rw c.at.ensures (elim c.then-not-branch.branch [
       | then-not-branch-via-then-not-branch w ↦
           let found : c.in_ok-read_record.field-0 ≡ false = w.if-not-branch.true in
-          record { within = tt; given = inl (no_record is_policy_header (policy_rows_meaning c.args.publications) left (c.in_ok-read_record.ensures.end (ap Ok found))) }
+          record {
+            within = tt;
+            given = inl (no_record is_policy_header (policy_rows_meaning c.args.publications) left
+                (c.in_ok-read_record.ensures.end (ap Ok found)));
+          }
       | then-not-branch-via-else-not-branch+then-not-is_policy_header w ↦
           let found : c.in_ok-read_record.field-0 ≡ true = w.if-not-branch.false in
           record {
             within = tt;
-            given = inl (other_header is_policy_header (policy_rows_meaning c.args.publications) left (fields_of c.read_record.new.fields)
+            given = inl (other_header is_policy_header (policy_rows_meaning c.args.publications) left
+                (fields_of c.read_record.new.fields)
                 (records_left c.read_record.new.reader) (c.in_ok-read_record.ensures.next (ap Ok found))
                 (sym w.if-not-is_policy_header.ensures));
           }
@@ -29,6 +34,7 @@ returns-then-not-branch c =
 pub returns : goal.returns
 returns c =
     let found : c.in_ok-read_record.field-0 ≡ true = c.if-not-branch.false in
-    rw (this_header is_policy_header (policy_rows_meaning c.args.publications) (records_left c.args.reader.now) (fields_of c.read_record.new.fields)
+    rw (this_header is_policy_header (policy_rows_meaning c.args.publications) (records_left c.args.reader.now)
+    (fields_of c.read_record.new.fields)
     (records_left c.read_record.new.reader) (c.in_ok-read_record.ensures.next (ap Ok found))
     (sym c.if-not-is_policy_header.ensures)) c.read_rows.ensures
