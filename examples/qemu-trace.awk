@@ -66,7 +66,8 @@ $0 !~ ("_csr_write " form) {
     # What is left: 0: write reg0, val: 0x18
     sub(/^.*_csr_write hart /, "")
     if ($1 != hart ":") {
-        others++
+        if (!others[$1]++) harts = harts (harts == "" ? "" : ", ") $1 + 0
+        left_out++
         next
     }
     name = $3
@@ -83,9 +84,9 @@ $0 !~ ("_csr_write " form) {
 END {
     if (failed) exit 1
     publish()
-    if (others) say(others " writes of other harts were left out")
+    if (left_out) say("left out: " left_out " writes of other harts: " harts)
     if (!writes) {
-        say("the trace has no write of hart " hart)
+        say("the trace has no write of hart " hart (harts == "" ? "" : ": choose another by -v hart=.."))
         exit 1
     }
     print "pmp " (version ? version : high ? 2 : 1)
