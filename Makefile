@@ -34,12 +34,12 @@ library:
 	@echo "proving and building the C library; the log is bench/out/c-library.log"
 	@(cd crates/pmp_c && rt lib --jobs 1) >bench/out/c-library.log 2>&1 || { cat bench/out/c-library.log >&2; exit 1; }
 
-# rt ci proves and builds from nothing, and keeps no work; checks/wrong-bodies goes over what building keeps.
+# rt ci proves everything from nothing, and builds the program that the launcher then takes.
 test:
 	RT_JOBS=$(LANES) rt ci
-	./pmp --version
+	PMP_PROVED=yes ./pmp --version
 	$(MAKE) library
-	LANES=$(LANES) checks/wrong-bodies --kept
+	LANES=$(LANES) checks/wrong-bodies --proved
 	checks/library $(LIBRARY)
 	checks/worked $(PROGRAM)
 	checks/program $(PROGRAM)

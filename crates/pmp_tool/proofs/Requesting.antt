@@ -1,19 +1,16 @@
--- What a call of pmp_audit refuses, as a command that gets no answer.
-use Rattle.std.proofs.Common.{◌≡◌, ℕ, List, Option}
+-- What a call of pmp_audit refuses, as a request that gets no answer.
+use Rattle.std.proofs.Common.{ℕ, List, Option}
 use Rattle.pmp_audit.specs.Answers.{IsRefused}
 use Rattle.pmp_audit.specs.declared.fault.AuditFault.{AuditFault}
 use Rattle.pmp_audit.specs.declared.fault.AuditFault.TheVariants.{Memory, Output}
-use Rattle.pmp_tool.specs.declared.command.Command.{Command}
 use Rattle.pmp_tool.specs.declared.command.Request.{Request}
-use Rattle.pmp_tool.specs.declared.run.Outcome.{Outcome}
+use Rattle.pmp_tool.specs.declared.outcome.Outcome.{Outcome}
 use Rattle.pmp_tool.specs.Failures.{unaudited}
-use Rattle.pmp_tool.specs.Inputs.{AreBytesOf, Inputs}
+use Rattle.pmp_tool.specs.Inputs.{Inputs}
 use Rattle.pmp_tool.specs.Requests.{RequestRefuses, RequestSays}
-use Rattle.pmp_tool.specs.Runs.{CommandFails, no_answer}
+use Rattle.pmp_tool.specs.Runs.{RequestFails, no_answer}
 
-module _ (scripts traces : Inputs) (command : Command) (script : List ℕ)
-    (read : AreBytesOf (scripts command.script.now) script) (request : Request) (is : command.request ≡ request)
-    (before after : Option (List ℕ)) where
+module _ (scripts traces : Inputs) (script : List ℕ) (request : Request) (before after : Option (List ℕ)) where
   module _ {A : Type 0} (outcome : A → Outcome) (Says : A → List ℕ → Type 0)
       (says : (answer : A) (text : List ℕ) → Says answer text
       → RequestSays scripts traces script request (outcome answer) text)
@@ -34,5 +31,5 @@ module _ (scripts traces : Inputs) (command : Command) (script : List ℕ)
 
     -- what a call says of a request, and refuses, is what the request's definitions say
     pub not_answered : (fault : AuditFault) → IsRefused Says before after Refuses fault
-        → CommandFails scripts traces command before after (unaudited fault)
-    not_answered fault refused = no_answer script fault read (rw is (request_refused fault refused))
+        → RequestFails scripts traces script request before after (unaudited fault)
+    not_answered fault refused = no_answer fault (request_refused fault refused)

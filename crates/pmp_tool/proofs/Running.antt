@@ -9,12 +9,14 @@ use Rattle.pmp_audit.specs.Answers.{IsRefused}
 use Rattle.pmp_audit.specs.declared.fault.AuditFault.{AuditFault}
 use Rattle.pmp_audit.specs.declared.fault.AuditFault.TheVariants as audit
 use Rattle.pmp_tool.specs.declared.command.Command.{Command}
+use Rattle.pmp_tool.specs.declared.command.Request.{Request}
 use Rattle.pmp_tool.specs.declared.failure.Failure.{Failure}
 use Rattle.pmp_tool.specs.CommandLines.{MayAskForText, pmp_app}
 use Rattle.pmp_tool.specs.Failures.{failure_status, unaudited, unparsed, unparsed_as}
 use Rattle.pmp_tool.specs.Inputs.{Inputs}
 use Rattle.pmp_tool.specs.Requests.{RequestRefuses, RequestSays}
-use Rattle.pmp_tool.specs.Runs.{CommandFails, Fails, TextFails, no_script, no_trace, no_policy, no_new, no_answer}
+use Rattle.pmp_tool.specs.Runs.{CommandFails, Fails, RequestFails, TextFails, no_script, no_request}
+use Rattle.pmp_tool.specs.Runs.{no_trace, no_policy, no_new, no_answer}
 use Rattle.pmp_tool.specs.Runs.{no_room, no_output, refused_words, refused_word, no_memory, no_text, no_command}
 
 module _ (words : List Text) (scripts traces : Inputs) (before after : Option (List ℕ)) (error : Error)
@@ -65,16 +67,21 @@ refused_keeps Says before after Refuses audit.Memory refused two = absurd cc
 refused_keeps Says before after Refuses audit.Output refused two = absurd cc
 refused_keeps Says before after Refuses fault refused two = refused.1
 
+request_keeps : {scripts traces : Inputs} {script : List ℕ} {request : Request} {before after : Option (List ℕ)}
+    {failure : Failure} → RequestFails scripts traces script request before after failure
+    → failure_status failure ≡ 2 → Keeps before after
+request_keeps (no_trace trace checkers fault asked unread keeps) two = keeps
+request_keeps (no_policy policy pace fault asked unread keeps) two = keeps
+request_keeps (no_new new old_after new_after only fault asked unread keeps) two = keeps
+request_keeps {scripts = scripts} {traces = traces} {script = script} {request = request} {before = before}
+    {after = after} (no_answer fault refused) two =
+    refused_keeps (RequestSays scripts traces script request) before after
+    (RequestRefuses scripts traces script request) fault refused two
+
 command_keeps : {scripts traces : Inputs} {command : Command} {before after : Option (List ℕ)} {failure : Failure}
     → CommandFails scripts traces command before after failure → failure_status failure ≡ 2 → Keeps before after
 command_keeps (no_script fault unread keeps) two = keeps
-command_keeps (no_trace trace checkers fault asked unread keeps) two = keeps
-command_keeps (no_policy policy pace fault asked unread keeps) two = keeps
-command_keeps (no_new new old_after new_after only fault asked unread keeps) two = keeps
-command_keeps {scripts = scripts} {traces = traces} {command = command} {before = before} {after = after}
-    (no_answer script fault read refused) two =
-    refused_keeps (RequestSays scripts traces script command.request) before after
-    (RequestRefuses scripts traces script command.request) fault refused two
+command_keeps (no_request script failure read fails) two = request_keeps fails two
 
 text_keeps : {before after : Option (List ℕ)} {failure : Failure} → TextFails before after failure
     → failure_status failure ≡ 2 → Keeps before after

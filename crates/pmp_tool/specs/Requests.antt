@@ -14,8 +14,8 @@ use Rattle.pmp_audit.specs.WriteList.{WritesRefuse, WritesSay}
 use Rattle.pmp_tool.specs.declared.checkers.Checkers.{Checkers}
 use Rattle.pmp_tool.specs.declared.command.Request.{Request}
 use Rattle.pmp_tool.specs.declared.command.Request.TheVariants.{Check, Audit, Policy, Show, Writes, Diff}
-use Rattle.pmp_tool.specs.declared.run.Outcome.{Outcome}
-use Rattle.pmp_tool.specs.declared.run.Outcome.TheVariants.{Decided, Audited, Judged, Listed, Replayed, Compared}
+use Rattle.pmp_tool.specs.declared.outcome.Outcome.{Outcome}
+use Rattle.pmp_tool.specs.declared.outcome.Outcome.TheVariants.{Decided, Audited, Judged, Listed, Replayed, Compared}
 use Rattle.pmp_tool.specs.Inputs.{AreBytesOf, Inputs}
 
 -- which side the command's script is on, where there are two

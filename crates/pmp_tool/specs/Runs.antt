@@ -16,13 +16,14 @@ use Rattle.pmp_text.specs.declared.lines.changes.Only.{Only}
 use Rattle.pmp_audit.specs.Answers.{IsRefused, IsWritten}
 use Rattle.pmp_tool.specs.declared.checkers.Checkers.{Checkers}
 use Rattle.pmp_tool.specs.declared.command.Command.{Command}
+use Rattle.pmp_tool.specs.declared.command.Request.{Request}
 use Rattle.pmp_tool.specs.declared.command.Request.TheVariants.{Audit, Policy, Diff}
 use Rattle.pmp_tool.specs.declared.failure.Failure.{Failure}
 use Rattle.pmp_tool.specs.declared.failure.Failure.TheVariants.{Words}
 use Rattle.pmp_tool.specs.declared.refusal.Refusal.{Refusal}
 use Rattle.pmp_tool.specs.declared.refusal.Refusal.TheVariants.{Memory, Output}
-use Rattle.pmp_tool.specs.declared.run.Outcome.{Outcome}
-use Rattle.pmp_tool.specs.declared.run.Outcome.TheVariants.{Decided, Audited, Judged, Replayed, Compared, Told}
+use Rattle.pmp_tool.specs.declared.outcome.Outcome.{Outcome}
+use Rattle.pmp_tool.specs.declared.outcome.Outcome.TheVariants.{Decided, Audited, Judged, Replayed, Compared, Told}
 use Rattle.pmp_tool.specs.CommandLines.{IsRefusedCommandLine, MayAskForText, WordsAskFor, WordsAreRefused}
 use Rattle.pmp_tool.specs.Commands.{asked}
 use Rattle.pmp_tool.specs.Expected.{is_met}
@@ -48,31 +49,36 @@ Answers words scripts traces before after outcome =
 abbrev pub IsUnread : (known : Option (List ℕ)) (side : Option Side) → Failure → Type 0
 IsUnread known side failure = (fault : InputFault) × CantBeRead MAX_SCRIPT known fault × (failure ≡ unread fault side)
 
+-- why what is asked for of a script gets no answer
+pub data RequestFails (scripts traces : Inputs) (script : List ℕ) (request : Request)
+    (before after : Option (List ℕ)) : Failure → Type 0 where
+  -- the trace that it names can't be read
+  no_trace : (trace : Bor (List ℕ)) (checkers : Option Checkers) (fault : InputFault) → request ≡ Audit trace checkers
+      → CantBeRead MAX_TRACE (traces trace.now) fault → Keeps before after
+      → RequestFails scripts traces script request before after (refused (refusal_of_input fault))
+  -- nor can the policy
+  no_policy : (policy : Bor (List ℕ)) (pace : Pace) (fault : InputFault) → request ≡ Policy policy pace
+      → CantBeRead MAX_TRACE (traces policy.now) fault → Keeps before after
+      → RequestFails scripts traces script request before after (refused (refusal_of_input fault))
+  -- nor can the new script
+  no_new : (new : Bor (List ℕ)) (old_after new_after : Option ℕ) (only : Option Only) (fault : InputFault)
+      → request ≡ Diff new old_after new_after only → CantBeRead MAX_SCRIPT (scripts new.now) fault
+      → Keeps before after → RequestFails scripts traces script request before after (unread fault (Some New))
+  -- what was read is refused, or memory or the output failed
+  no_answer : (fault : AuditFault) → IsRefused (RequestSays scripts traces script request) before after
+      (RequestRefuses scripts traces script request) fault
+      → RequestFails scripts traces script request before after (unaudited fault)
+
 -- why a command gets no answer
 pub data CommandFails (scripts traces : Inputs) (command : Command)
     (before after : Option (List ℕ)) : Failure → Type 0 where
   -- its script can't be read
   no_script : (fault : InputFault) → CantBeRead MAX_SCRIPT (scripts command.script.now) fault → Keeps before after
       → CommandFails scripts traces command before after (unread fault (old_side command.request))
-  -- nor can the trace that it names
-  no_trace : (trace : Bor (List ℕ)) (checkers : Option Checkers) (fault : InputFault)
-      → command.request ≡ Audit trace checkers
-      → CantBeRead MAX_TRACE (traces trace.now) fault → Keeps before after
-      → CommandFails scripts traces command before after (refused (refusal_of_input fault))
-  -- nor can the policy
-  no_policy : (policy : Bor (List ℕ)) (pace : Pace) (fault : InputFault) → command.request ≡ Policy policy pace
-      → CantBeRead MAX_TRACE (traces policy.now) fault → Keeps before after
-      → CommandFails scripts traces command before after (refused (refusal_of_input fault))
-  -- nor can the new script
-  no_new : (new : Bor (List ℕ)) (old_after new_after : Option ℕ) (only : Option Only) (fault : InputFault)
-      → command.request ≡ Diff new old_after new_after only
-      → CantBeRead MAX_SCRIPT (scripts new.now) fault → Keeps before after
-      → CommandFails scripts traces command before after (unread fault (Some New))
-  -- what was read is refused, or memory or the output failed
-  no_answer : (script : List ℕ) (fault : AuditFault) → AreBytesOf (scripts command.script.now) script
-      → IsRefused (RequestSays scripts traces script command.request) before after
-      (RequestRefuses scripts traces script command.request) fault
-      → CommandFails scripts traces command before after (unaudited fault)
+  -- what it asks for of the script gets no answer
+  no_request : (script : List ℕ) (failure : Failure) → AreBytesOf (scripts command.script.now) script
+      → RequestFails scripts traces script command.request before after failure
+      → CommandFails scripts traces command before after failure
 
 -- why a text of help, or the version, isn't written wholly
 pub data TextFails (before after : Option (List ℕ)) : Failure → Type 0 where

@@ -1,6 +1,7 @@
 //! The command `pmp`, which decides accesses to physical memory as the PMP unit of one RV64 hart does.
 #![tactic(auto)]
 
+mod answer;
 mod checkers;
 mod command;
 mod command_line;
@@ -10,6 +11,7 @@ mod fault_line;
 mod help;
 mod inputs;
 mod only_word;
+mod outcome;
 mod refusal;
 mod run;
 

@@ -1,4 +1,4 @@
-use Rattle.pmp_tool.proofs.run.audit_by.Goals as goal
+use Rattle.pmp_tool.proofs.answer.audit_by.Goals as goal
 
 pub returns-in-Some-clause-ok : goal.returns-in-Some-clause-ok
 returns-in-Some-clause-ok g c = c.audit_shared.ensures.ok

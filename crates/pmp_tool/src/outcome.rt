@@ -1,0 +1,57 @@
+//! What the program did, and the exit status of that.
+
+ghost use Rattle.std.specs.Prelude.{◌≡◌, ◌==◌, if◌then◌else◌};
+ghost use Rattle.pmp_tool.specs.Runs.{outcome_status};
+
+use crate::expected::Expected;
+use pmp_audit::{PolicySummary, Summary, WriteSummary};
+use pmp_core::Decision;
+
+/// The exit status of texts and lists that were written, of an answer that is the expected one, of accesses that are
+/// all allowed, of a policy that holds, of writes that are all stored, and of register files that don't differ as is
+/// asked.
+const DONE: u8 = 0;
+
+/// The exit status of an answer that isn't the expected one, of an access of a trace that is refused, of a policy that
+/// is broken, of a write that is turned away, and of register files that differ.
+const OTHER: u8 = 1;
+
+/// What the program did.
+#[derive(Clone, Copy)]
+pub enum Outcome {
+    /// The decision on an access, and which answer to it is expected.
+    Decided(Decision, Expected),
+    Audited(Summary),
+    /// How many rows of a policy there are, and how many are broken.
+    Judged(PolicySummary),
+    /// What is shown of a register file was written.
+    Listed,
+    /// What each write does was written.
+    Replayed(WriteSummary),
+    /// So many rows were written, of where two register files differ.
+    Compared(u64),
+    /// A text of help or the version was written.
+    Told,
+}
+
+impl Outcome {
+    pub fn status(self) -> u8
+        ensures { result ≡ outcome_status self }
+    {
+        match self {
+            Outcome::Decided(decision, expected) if !expected.is_met(decision) => OTHER,
+            Outcome::Audited(summary) => status_of(summary.faults),
+            Outcome::Judged(summary) => status_of(summary.broken),
+            Outcome::Replayed(summary) => status_of(summary.turned_away),
+            Outcome::Compared(rows) => status_of(rows),
+            _ => DONE,
+        }
+    }
+}
+
+/// The exit status where so many rows aren't as is wished.
+fn status_of(others: u64) -> u8
+    ensures { result ≡ if others == 0 then 0 else 1 }
+{
+    if others > 0 { OTHER } else { DONE }
+}
