@@ -1,0 +1,54 @@
+//! The unit's control and status registers.
+
+use crate::ffi;
+use std::error::Error;
+use std::fmt;
+
+/// A register by its CSR number, which may be any.
+#[derive(Clone, Copy, Debug, PartialEq, Eq, Hash)]
+pub struct Csr(pub u32);
+
+impl Csr {
+    pub const MSECCFG: Csr = Csr(0x747);
+
+    /// `pmpaddr` of an entry.
+    pub const fn address(entry: u8) -> Csr {
+        Csr(0x3b0 + entry as u32)
+    }
+
+    /// The `pmpcfg` register of this number, which is even on RV64 and has the configurations of eight entries.
+    pub const fn configuration(number: u8) -> Csr {
+        Csr(0x3a0 + number as u32)
+    }
+}
+
+/// The unit has no such register.
+#[derive(Clone, Copy, Debug, PartialEq, Eq, Hash)]
+pub enum NoRegister {
+    /// It is an odd `pmpcfg` register, which RV64 doesn't have.
+    OddConfiguration,
+    /// It is none of the PMP registers.
+    Unknown,
+}
+
+impl NoRegister {
+    /// Reads the status of a write or a read, which is in the lowest byte of what they return.
+    pub(crate) fn of_status(number: u32) -> Result<(), NoRegister> {
+        match number & 0xff {
+            ffi::DONE => Ok(()),
+            ffi::ODD_CONFIGURATION => Err(NoRegister::OddConfiguration),
+            _ => Err(NoRegister::Unknown),
+        }
+    }
+}
+
+impl fmt::Display for NoRegister {
+    fn fmt(&self, to: &mut fmt::Formatter) -> fmt::Result {
+        to.write_str(match self {
+            NoRegister::OddConfiguration => "RV64 has no odd pmpcfg register",
+            NoRegister::Unknown => "the number is that of no PMP register",
+        })
+    }
+}
+
+impl Error for NoRegister {}
