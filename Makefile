@@ -1,7 +1,10 @@
 # make                      builds the program, where that isn't done
 # make library              builds the C library, where that isn't done
-# make install PREFIX=..    puts the program, its man page, docs/FORMATS.md and the C library with its header on a user's path
-# make uninstall PREFIX=..  takes them away
+# make install PREFIX=..    puts what a release has below PREFIX, as release/files lists it; install-program and
+#                           install-library put a part
+# make uninstall PREFIX=..  takes it away
+# make dist                 writes a release of what is built to dist/
+# make dist-test            makes one, and wants each tool that its check asks for
 # make soak SECONDS=..      lets a publisher and eight checkers run so long, and compares each answer with a replay
 # make test                 proves and tests everything, has the prover refuse the wrong bodies, then tries the program, the
 #                           libraries, the launcher and the documents
@@ -11,28 +14,21 @@ PROGRAM = crates/pmp_tool/out/pmp_tool
 GROWTHS = crates/pmp_growths/out/pmp_growths
 STRESS = crates/pmp_stress/out/pmp_stress
 LIBRARY = crates/pmp_c/out/libpmp_c.a
-# The man page has the program's version, as checks/documents says.
-VERSION = $(shell sed -n 's/^\.TH PMP 1 "" "pmp \([0-9.]*\)".*/\1/p' docs/pmp.1)
-BIN = $(DESTDIR)$(PREFIX)/bin
-DOC = $(DESTDIR)$(PREFIX)/share/doc/pmp
-MAN = $(DESTDIR)$(PREFIX)/share/man/man1
-INCLUDE = $(DESTDIR)$(PREFIX)/include
-LIB = $(DESTDIR)$(PREFIX)/lib
+export PREFIX DESTDIR
 
 # How many checks run side by side: one a processor, as far as memory goes, since each takes up to 3.5 GB. Given so, rt
 # ci has one process for each, which is less work than several for one.
 LANES = $(shell awk -v most="$$(nproc)" '/^MemAvailable/ { n = int($$2 / 3500000); print n < 1 ? 1 : n < most ? n : most }' /proc/meminfo)
 
-.PHONY: build library test install uninstall soak stress bench bench-decide bench-threads bench-limits bench-audit
+.PHONY: build library test install install-program install-library uninstall dist dist-test soak stress bench \
+    bench-decide bench-threads bench-limits bench-audit
 
 # The launcher builds the program, and then the program says its version.
 build:
 	@./pmp --version
 
 library:
-	@mkdir -p bench/out
-	@echo "proving and building the C library; the log is bench/out/c-library.log"
-	@(cd crates/pmp_c && rt lib --jobs 1) >bench/out/c-library.log 2>&1 || { cat bench/out/c-library.log >&2; exit 1; }
+	@release/library
 
 # rt ci proves everything from nothing, and builds the program that the launcher then takes.
 test:
@@ -41,6 +37,7 @@ test:
 	$(MAKE) library
 	LANES=$(LANES) checks/wrong-bodies --proved
 	checks/library $(LIBRARY)
+	checks/release
 	checks/worked $(PROGRAM)
 	checks/program $(PROGRAM)
 	checks/launcher
@@ -51,19 +48,22 @@ test:
 	checks/growths $(GROWTHS)
 
 install: build library
-	@install -d "$(BIN)" "$(DOC)" "$(MAN)" "$(INCLUDE)" "$(LIB)/pkgconfig"
-	@install -m 755 $(PROGRAM) "$(BIN)/pmp" && echo "installed $(BIN)/pmp"
-	@install -m 644 docs/FORMATS.md "$(DOC)/FORMATS.md" && echo "installed $(DOC)/FORMATS.md"
-	@install -m 644 docs/pmp.1 "$(MAN)/pmp.1" && echo "installed $(MAN)/pmp.1"
-	@install -m 644 include/tilvenka_pmp.h "$(INCLUDE)/tilvenka_pmp.h" && echo "installed $(INCLUDE)/tilvenka_pmp.h"
-	@install -m 644 $(LIBRARY) "$(LIB)/libpmp.a" && echo "installed $(LIB)/libpmp.a"
-	@sed 's|@PREFIX@|$(PREFIX)|; s|@VERSION@|$(VERSION)|' include/tilvenka_pmp.pc >"$(LIB)/pkgconfig/tilvenka_pmp.pc" \
-	    && echo "installed $(LIB)/pkgconfig/tilvenka_pmp.pc"
+	@release/install program library
+
+install-program: build
+	@release/install program
+
+install-library: library
+	@release/install library
 
 uninstall:
-	rm -f "$(BIN)/pmp" "$(DOC)/FORMATS.md" "$(MAN)/pmp.1" "$(INCLUDE)/tilvenka_pmp.h" "$(LIB)/libpmp.a" \
-	    "$(LIB)/pkgconfig/tilvenka_pmp.pc"
-	@rmdir "$(DOC)" 2>/dev/null || true
+	@release/install --remove
+
+dist:
+	@release/dist
+
+dist-test: build library
+	checks/release --all
 
 # Proves and builds the library and the program, and compares their times with plain C.
 bench: bench-decide bench-threads bench-limits bench-audit

@@ -1,0 +1,10 @@
+# A version serves who asks for it or for an older one, up to the first number that isn't 0.
+set(PACKAGE_VERSION @VERSION@)
+string(REGEX MATCH "^0\\.[0-9]+|^[0-9]+" tilvenka_pmp_line "${PACKAGE_VERSION}")
+string(REGEX MATCH "^0\\.[0-9]+|^[0-9]+" tilvenka_pmp_wanted "${PACKAGE_FIND_VERSION}")
+if(NOT PACKAGE_VERSION VERSION_LESS PACKAGE_FIND_VERSION AND tilvenka_pmp_line STREQUAL tilvenka_pmp_wanted)
+    set(PACKAGE_VERSION_COMPATIBLE TRUE)
+endif()
+if(PACKAGE_FIND_VERSION VERSION_EQUAL PACKAGE_VERSION)
+    set(PACKAGE_VERSION_EXACT TRUE)
+endif()
