@@ -1,3 +1,4 @@
+/* SPDX-License-Identifier: MIT OR Apache-2.0 */
 /* The PMP unit of an RV64 hart with Smepmp 1.0, as the RISC-V Privileged Architecture, Volume II, 3.7 defines it.
  *
  * The caller owns the unit: a struct of plain numbers without pointers. It may be copied, and zeroed memory is a unit
@@ -12,7 +13,7 @@
  * It is for 64-bit hosts of either byte order, whose own order a saved struct has. Bytes of a unit may differ where its
  * registers don't, so compare and hash what tilvenka_pmp_save gives.
  *
- * Link with libpmp.a. Addresses are byte addresses of physical memory unless said otherwise. */
+ * Link with -ltilvenka_pmp. Addresses are byte addresses of physical memory unless said otherwise. */
 #ifndef TILVENKA_PMP_H
 #define TILVENKA_PMP_H
 

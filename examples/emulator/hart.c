@@ -1,5 +1,5 @@
-/* A memory bus of an RV64 hart with a software TLB, which asks libpmp where a page comes into the TLB and where a CSR
- * is written. Reads a trace from standard input:
+/* A memory bus of an RV64 hart with a software TLB, which asks the library where a page comes into the TLB and where a
+ * CSR is written. Reads a trace from standard input:
  *
  *     write CSR VALUE                  writes a CSR
  *     fetch|load U|S|M ADDRESS LENGTH  reads up to 8 bytes, as instruction or as data

@@ -1,0 +1,27 @@
+# Completion of pmp for bash.
+_pmp() {
+    local word=${COMP_WORDS[COMP_CWORD]} before=${COMP_WORDS[COMP_CWORD - 1]} files= words=
+    local commands='check audit policy dump map picture entries writes diff'
+    if [ "$COMP_CWORD" = 1 ]; then
+        COMPREPLY=($(compgen -W "$commands help --help --version" -- "$word"))
+        return
+    fi
+    case ${COMP_WORDS[1]} in
+        check) words='--after --expect M S U fetch load store stdin'; files=yes ;;
+        audit) words='--checkers stdin'; files=yes ;;
+        policy) words='--each-write stdin'; files=yes ;;
+        dump | map | picture | entries) words='--after stdin'; files=yes ;;
+        writes) words='stdin'; files=yes ;;
+        diff) words='--old-after --new-after --only stdin'; files=yes ;;
+        help) words=$commands ;;
+    esac
+    case $before in
+        --expect) words='allow fault' files= ;;
+        --only) words='more less' files= ;;
+        --checkers) words='1 2 3 4 5 6 7 8' files= ;;
+        --after | --old-after | --new-after) words= files= ;;
+    esac
+    COMPREPLY=($(compgen -W "$words" -- "$word"))
+    [ -z "$files" ] || COMPREPLY+=($(compgen -f -- "$word"))
+}
+complete -o filenames -F _pmp pmp

@@ -1,0 +1,27 @@
+# Completion of pmp for fish.
+set -l commands check audit policy dump map picture entries writes diff
+complete -c pmp -n __fish_use_subcommand -f -l help -d 'tell of the commands'
+complete -c pmp -n __fish_use_subcommand -f -l version -d 'write the version'
+complete -c pmp -n __fish_use_subcommand -f -a check -d 'decide one access'
+complete -c pmp -n __fish_use_subcommand -f -a audit -d 'decide each access of a trace'
+complete -c pmp -n __fish_use_subcommand -f -a policy -d 'say whether each row of a policy holds'
+complete -c pmp -n __fish_use_subcommand -f -a dump -d 'write the registers'
+complete -c pmp -n __fish_use_subcommand -f -a map -d 'write which bytes each entry owns'
+complete -c pmp -n __fish_use_subcommand -f -a picture -d 'draw which bytes each entry owns'
+complete -c pmp -n __fish_use_subcommand -f -a entries -d 'write what each entry is and how it is locked'
+complete -c pmp -n __fish_use_subcommand -f -a writes -d 'write what each write changes'
+complete -c pmp -n __fish_use_subcommand -f -a diff -d 'write where two scripts differ'
+complete -c pmp -n __fish_use_subcommand -f -a help -d 'tell of a command'
+complete -c pmp -n '__fish_seen_subcommand_from help' -f -a "$commands"
+complete -c pmp -n '__fish_seen_subcommand_from check dump map picture entries' -l after -x \
+    -d 'take the first N publications'
+complete -c pmp -n '__fish_seen_subcommand_from check' -l expect -x -a 'allow fault' \
+    -d 'end with status 0 where this is the answer'
+complete -c pmp -n '__fish_seen_subcommand_from check' -a 'M S U fetch load store'
+complete -c pmp -n '__fish_seen_subcommand_from audit' -l checkers -x -a '1 2 3 4 5 6 7 8' -d 'decide by K threads'
+complete -c pmp -n '__fish_seen_subcommand_from policy' -l each-write -d 'ask after each write too'
+complete -c pmp -n '__fish_seen_subcommand_from diff' -l old-after -x \
+    -d 'take the first N publications of the old script'
+complete -c pmp -n '__fish_seen_subcommand_from diff' -l new-after -x \
+    -d 'take the first M publications of the new script'
+complete -c pmp -n '__fish_seen_subcommand_from diff' -l only -x -a 'more less' -d 'write the rows that change so'
