@@ -10,8 +10,8 @@ import zipfile
 from pathlib import Path
 
 HERE = Path(__file__).resolve().parent
-LIBRARY = HERE.parents[2] / "lib" / "libtilvenka_pmp.so.1"
-METADATA = "Metadata-Version: 2.1\nName: {name}\nVersion: {version}\nSummary: {description}\nLicense: MIT OR Apache-2.0\n"
+LIBRARY = HERE / "../../../lib/libtilvenka_pmp.so.1"
+METADATA = "Metadata-Version: 2.1\nName: tilvenka_pmp\nVersion: {version}\nSummary: {description}\nLicense: {license}\n"
 WHEEL = "Wheel-Version: 1.0\nGenerator: tilvenka\nRoot-Is-Purelib: {pure}\nTag: {tag}\n"
 
 
@@ -24,7 +24,7 @@ def said(name: str) -> str:
 
 def files_of(version: str, pure: bool, tag: str) -> dict[str, bytes]:
     info = f"tilvenka_pmp-{version}.dist-info"
-    metadata = METADATA.format(name="tilvenka_pmp", version=version, description=said("description"))
+    metadata = METADATA.format(version=version, description=said("description"), license="MIT OR Apache-2.0")
     files = {f"tilvenka_pmp/{it}": (HERE / "tilvenka_pmp" / it).read_bytes() for it in ("__init__.py", "py.typed")}
     if not pure:
         files[f"tilvenka_pmp/{LIBRARY.name}"] = LIBRARY.read_bytes()
@@ -38,7 +38,8 @@ def files_of(version: str, pure: bool, tag: str) -> dict[str, bytes]:
     return files
 
 
-def build_wheel(wheel_directory, config_settings=None, metadata_directory=None):
+def build_wheel(wheel_directory: str, config_settings: object = None, metadata_directory: object = None) -> str:
+    """The hook by which pip asks for a wheel."""
     pure = not LIBRARY.is_file()
     tag = "py3-none-any" if pure else "py3-none-linux_x86_64"
     name = f"tilvenka_pmp-{said('version')}-{tag}.whl"

@@ -34,7 +34,12 @@ pub struct Access {
 
 impl Access {
     pub const fn new(mode: Mode, kind: Kind, start: u64, length: u64) -> Access {
-        Access { mode, kind, start, length }
+        Access {
+            mode,
+            kind,
+            start,
+            length,
+        }
     }
 }
 
@@ -87,11 +92,10 @@ impl Answer {
             5 => Some(Fault::Load),
             _ => Some(Fault::Store),
         };
-        let entry = (number % ffi::SPLIT) as u8;
-        let cause = match number % ffi::FAULT / ffi::SPLIT {
-            0 => Cause::Rule(entry),
-            1 => Cause::Split(entry),
-            _ => Cause::NoMatch,
+        let cause = match number % ffi::FAULT {
+            ffi::NO_MATCH => Cause::NoMatch,
+            split if split >= ffi::SPLIT => Cause::Split((split - ffi::SPLIT) as u8),
+            entry => Cause::Rule(entry as u8),
         };
         Ok(Answer { fault, cause })
     }
@@ -124,7 +128,11 @@ impl Rights {
         match number {
             ffi::NO_RANGE => Err(NoRange),
             ffi::MIXED => Ok(None),
-            _ => Ok(Some(Rights { read: has(ffi::READ), write: has(ffi::WRITE), execute: has(ffi::EXECUTE) })),
+            _ => Ok(Some(Rights {
+                read: has(ffi::READ),
+                write: has(ffi::WRITE),
+                execute: has(ffi::EXECUTE),
+            })),
         }
     }
 }
@@ -133,7 +141,13 @@ impl Rights {
 impl fmt::Display for Rights {
     fn fmt(&self, to: &mut fmt::Formatter) -> fmt::Result {
         let letter = |has, letter| if has { letter } else { '-' };
-        write!(to, "{}{}{}", letter(self.read, 'r'), letter(self.write, 'w'), letter(self.execute, 'x'))
+        write!(
+            to,
+            "{}{}{}",
+            letter(self.read, 'r'),
+            letter(self.write, 'w'),
+            letter(self.execute, 'x')
+        )
     }
 }
 

@@ -51,7 +51,8 @@ pub struct Unit {
     pub map: Map,
 }
 
-const _: () = assert!(size_of::<Registers>() == 592 && size_of::<Unit>() == 592 + 8 * 217 + 8 + 32 * 217);
+const _: () =
+    assert!(size_of::<Registers>() == 592 && size_of::<Unit>() == 592 + 8 * 217 + 8 + 32 * 217);
 
 extern "C" {
     pub fn tilvenka_pmp_reset(unit: *mut Unit, entries: u64);
@@ -59,8 +60,20 @@ extern "C" {
     pub fn tilvenka_pmp_read(unit: *const Unit, csr: u32, value: *mut u64) -> u32;
     pub fn tilvenka_pmp_build(unit: *mut Unit);
     pub fn tilvenka_pmp_is_built(unit: *const Unit) -> bool;
-    pub fn tilvenka_pmp_decide(unit: *const Unit, mode: u32, kind: u32, start: u64, length: u64) -> u32;
-    pub fn tilvenka_pmp_decide_by_registers(unit: *const Unit, mode: u32, kind: u32, start: u64, length: u64) -> u32;
+    pub fn tilvenka_pmp_decide(
+        unit: *const Unit,
+        mode: u32,
+        kind: u32,
+        start: u64,
+        length: u64,
+    ) -> u32;
+    pub fn tilvenka_pmp_decide_by_registers(
+        unit: *const Unit,
+        mode: u32,
+        kind: u32,
+        start: u64,
+        length: u64,
+    ) -> u32;
     pub fn tilvenka_pmp_rights(unit: *const Unit, mode: u32, start: u64, length: u64) -> u32;
     pub fn tilvenka_pmp_save(unit: *const Unit, registers: *mut Registers);
     pub fn tilvenka_pmp_restore(unit: *mut Unit, registers: *const Registers);

@@ -35,14 +35,20 @@ pub struct Unit {
 impl Unit {
     /// A unit after reset, whose map isn't built.
     pub fn new(size: Size) -> Unit {
-        let map = ffi::Map { starts: [0; ffi::PLACES], runs: 0, rows: [[0; 16]; ffi::PLACES] };
+        let map = ffi::Map {
+            starts: [0; ffi::PLACES],
+            runs: 0,
+            rows: [[0; 16]; ffi::PLACES],
+        };
         let registers = Registers {
             addresses: [0; ffi::MAX_ENTRIES],
             configurations: [0; ffi::MAX_ENTRIES],
             mseccfg: 0,
             entries: size as u64,
         };
-        Unit { unit: ffi::Unit { registers, map } }
+        Unit {
+            unit: ffi::Unit { registers, map },
+        }
     }
 
     /// Resets the unit, whose size changes to this one.
@@ -75,22 +81,42 @@ impl Unit {
 
     /// Decides an access, by the map where it is built, and else by the registers.
     pub fn decide(&self, access: &Access) -> Result<Answer, NoAccess> {
-        let Access { mode, kind, start, length } = *access;
-        Answer::of_number(unsafe { ffi::tilvenka_pmp_decide(&self.unit, mode as u32, kind as u32, start, length) })
+        let Access {
+            mode,
+            kind,
+            start,
+            length,
+        } = *access;
+        Answer::of_number(unsafe {
+            ffi::tilvenka_pmp_decide(&self.unit, mode as u32, kind as u32, start, length)
+        })
     }
 
     /// The same by the registers alone: slower, and independent of the map.
     pub fn decide_by_registers(&self, access: &Access) -> Result<Answer, NoAccess> {
-        let Access { mode, kind, start, length } = *access;
+        let Access {
+            mode,
+            kind,
+            start,
+            length,
+        } = *access;
         Answer::of_number(unsafe {
-            ffi::tilvenka_pmp_decide_by_registers(&self.unit, mode as u32, kind as u32, start, length)
+            ffi::tilvenka_pmp_decide_by_registers(
+                &self.unit,
+                mode as u32,
+                kind as u32,
+                start,
+                length,
+            )
         })
     }
 
     /// What every access of the mode inside the range may do, as a TLB wants it of a page. `None` where not all bytes
     /// have the same entry, so that each access has to be decided.
     pub fn rights(&self, mode: Mode, start: u64, length: u64) -> Result<Option<Rights>, NoRange> {
-        Rights::of_number(unsafe { ffi::tilvenka_pmp_rights(&self.unit, mode as u32, start, length) })
+        Rights::of_number(unsafe {
+            ffi::tilvenka_pmp_rights(&self.unit, mode as u32, start, length)
+        })
     }
 
     /// All registers, with zeros for what a unit of sixteen entries lacks.
@@ -112,7 +138,11 @@ impl Unit {
         let count = built.unit.map.runs as usize;
         let starts = &built.unit.map.starts[..count];
         let ends = starts[1..].iter().copied().chain([1 << 56]);
-        starts.iter().zip(ends).map(|(&start, end)| built.run(start, end)).collect()
+        starts
+            .iter()
+            .zip(ends)
+            .map(|(&start, end)| built.run(start, end))
+            .collect()
     }
 
     fn run(&self, start: u64, end: u64) -> Run {
@@ -121,7 +151,13 @@ impl Unit {
         Run {
             first: start,
             last: end - 1,
-            owner: answer.ok().and_then(|it| if let Cause::Rule(entry) = it.cause { Some(entry) } else { None }),
+            owner: answer.ok().and_then(|it| {
+                if let Cause::Rule(entry) = it.cause {
+                    Some(entry)
+                } else {
+                    None
+                }
+            }),
             machine: rights(Mode::Machine).expect("a run has one owner"),
             others: rights(Mode::User).expect("a run has one owner"),
         }
@@ -146,6 +182,9 @@ impl Eq for Unit {}
 
 impl fmt::Debug for Unit {
     fn fmt(&self, to: &mut fmt::Formatter) -> fmt::Result {
-        to.debug_struct("Unit").field("registers", &self.save()).field("is_built", &self.is_built()).finish()
+        to.debug_struct("Unit")
+            .field("registers", &self.save())
+            .field("is_built", &self.is_built())
+            .finish()
     }
 }

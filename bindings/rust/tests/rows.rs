@@ -80,7 +80,10 @@ fn map(unit: &Unit) -> String {
         .iter()
         .map(|it| {
             let owner = it.owner.map_or("-".to_string(), |entry| entry.to_string());
-            format!("{:014x},{:014x},{owner},{},{}", it.first, it.last, it.machine, it.others)
+            format!(
+                "{:014x},{:014x},{owner},{},{}",
+                it.first, it.last, it.machine, it.others
+            )
         })
         .collect();
     lines.join(" ")
@@ -110,10 +113,18 @@ fn unit_after(size: Size, writes: &str) -> Unit {
 #[test]
 fn rows_are_answered() {
     let mut count = 0;
-    for row in ROWS.replace("\n    ", " ").lines().filter(|it| it.contains('|') && !it.starts_with('#')) {
+    for row in ROWS
+        .replace("\n    ", " ")
+        .lines()
+        .filter(|it| it.contains('|') && !it.starts_with('#'))
+    {
         let parts: Vec<&str> = row.split('|').map(str::trim).collect();
         let (sizes, kind) = parts[0].split_once(' ').unwrap();
-        let wanted = if kind == "read" { format!("{:#x}", number(parts[3])) } else { parts[3].to_string() };
+        let wanted = if kind == "read" {
+            format!("{:#x}", number(parts[3]))
+        } else {
+            parts[3].to_string()
+        };
         for size in [Size::Sixteen, Size::SixtyFour] {
             if sizes != "both" && number(sizes) != size as u64 {
                 continue;
@@ -136,7 +147,13 @@ fn rows_are_answered() {
 #[test]
 fn ranges_of_several_entries_are_mixed() {
     let unit = unit_after(Size::Sixteen, "pmpaddr0 0x200001ff; pmpcfg0 0x19");
-    assert_eq!(unit.rights(Mode::User, 0x80000000, 4096).unwrap().unwrap().to_string(), "r--");
+    assert_eq!(
+        unit.rights(Mode::User, 0x80000000, 4096)
+            .unwrap()
+            .unwrap()
+            .to_string(),
+        "r--"
+    );
     assert_eq!(unit.rights(Mode::User, 0x80000800, 4096), Ok(None));
     assert!(unit.rights(Mode::User, 0, 0).is_err());
     assert!(unit.rights(Mode::User, 1, 1 << 56).is_err());
