@@ -70,10 +70,10 @@ static unsigned number_of_plain(unsigned answer) {
     return answer;
 }
 
-static const struct peer library = {"libpmp", number_of_library, prepare_library, ask_library};
+static const struct peer library = {"tilvenka", number_of_library, prepare_library, ask_library};
 static const struct peer near = {"near", number_of_library, prepare_library, ask_near};
 static const struct peer registers = {"registers", number_of_library, prepare_library, ask_registers};
-static const struct peer library_fill = {"libpmp", NULL, prepare_library, ask_rights};
+static const struct peer library_fill = {"tilvenka", NULL, prepare_library, ask_rights};
 static const struct peer plain_c = {"plain C", number_of_plain, prepare_plain, ask_plain};
 
 /* QEMU's unit, and QEMU's names over the library: linked where QEMU's source could be fetched. */
@@ -158,7 +158,7 @@ static void measure_both(const char *name) {
 }
 
 static void print_head(const char *what) {
-    printf("%2u entries, %-24s %9s %9s %9s %9s %9s %9s %9s %9s\n", ENTRIES, what, "libpmp", "near", "registers",
+    printf("%2u entries, %-24s %9s %9s %9s %9s %9s %9s %9s %9s\n", ENTRIES, what, "tilvenka", "near", "registers",
            "plain C", "QEMU", "shim", "/plain C", "/QEMU");
 }
 
@@ -202,7 +202,7 @@ static void measure_decisions(void) {
 /* The rights of a page, which a TLB asks for where it takes the page in. */
 static void measure_fills(void) {
     const struct peer *const fillers[] = {&library_fill, &qemu_fill, &shim_fill};
-    printf("\n%2u entries, %-24s %9s %9s %9s\n", ENTRIES, "ns a page's rights", "libpmp", "QEMU", "shim");
+    printf("\n%2u entries, %-24s %9s %9s %9s\n", ENTRIES, "ns a page's rights", "tilvenka", "QEMU", "shim");
     set_regions(ENTRIES);
     set_loads(ENTRIES, 0);
     double times[3] = {0};
@@ -268,7 +268,7 @@ static void measure_build(const char *name) {
 }
 
 static void measure_writes(void) {
-    printf("\n%2u entries, %-24s %9s %9s %9s\n", ENTRIES, "ns a write", "libpmp", "+ build", "plain C");
+    printf("\n%2u entries, %-24s %9s %9s %9s\n", ENTRIES, "ns a write", "tilvenka", "+ build", "plain C");
     set_address_writes();
     measure_write("pmpaddr");
     set_configuration_writes();

@@ -1,5 +1,5 @@
-/* QEMU's functions of target/riscv/pmp.c, over libpmp: those that writes, accesses and TLB fills call. Each of up to
-   eight harts has a unit of its own. */
+/* QEMU's functions of target/riscv/pmp.c, over the library: those that writes, accesses and TLB fills call. Each of up
+   to eight harts has a unit of its own. */
 #include "cpu.h"
 #include "tilvenka_pmp.h"
 
