@@ -2,7 +2,7 @@
 //!
 //! A [`Unit`] takes the CSR writes that firmware makes, and decides an [`Access`] as the RISC-V Privileged Architecture,
 //! Volume II, says. It is plain numbers: it needs no allocation, and may be cloned and sent to other threads. No call
-//! panics or has a condition on its numbers.
+//! has a condition on its numbers.
 
 mod answer;
 mod csr;
