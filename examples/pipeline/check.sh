@@ -2,14 +2,14 @@
 # check.sh SCRIPT POLICY MAP: ends with 0 where each row of the policy holds after each write of the script, and the map
 # that the script leaves is the one in MAP; with 1 where that isn't so; with 2 where there is no answer. It takes the
 # pmp on the path, or the one that PMP names.
+[ $# = 3 ] || { echo 'usage: check.sh SCRIPT POLICY MAP' >&2; exit 2; }
 pmp=${PMP:-pmp}
 work=$(mktemp -d) || exit 2
 trap 'rm -rf "$work"' EXIT
-failed=0
 
 "$pmp" policy --each-write "$1" "$2" >"$work/verdicts"
 case $? in
-    0) ;;
+    0) failed=0 ;;
     1)
         failed=1
         grep ',broken,' "$work/verdicts" | while IFS=, read -r row verdict event first last owner; do
