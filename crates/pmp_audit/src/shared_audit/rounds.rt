@@ -100,6 +100,34 @@ fn round<R: Threads + Wait + Sync, G: Gate + Sync>(
     Ok(checkers_of(alloc, all)?)
 }
 
+/// A round of no more workers than there are rows: a checker for which there is no row gets no job, and where there is one
+/// row alone no thread is started.
+fn round_of_busy<R: Threads + Wait + Sync, G: Gate + Sync>(
+    rt: &R,
+    alloc: Global,
+    gate: &G,
+    publisher: &mut Publisher,
+    mut checkers: Vec<Checker>,
+    rows: &[Row],
+    decided: &mut Vec<Decision>,
+) -> Result<Vec<Checker>, AuditFault>
+    requires some { 0 < length checkers.items }
+    requires some_row { 0 < length rows.now }
+    requires few { length checkers.items ≤ CHECKERS }
+    requires same_unit { All (λ checker. checker.unit ≡ publisher.old.unit) checkers.items }
+    requires room { length decided.old.items + length rows.now + 1 ≤ 2 ^ 64 }
+    ensures same { publisher.new ≡ publisher.old }
+    ensures checkers { IfOk result (λ all. AreCheckersOf publisher.old.unit (length checkers.items) all.items) }
+    ensures decided { OnOk result (decided.new.items
+        ≡ decided.old.items ++ decided_in (file_after publisher.old.unit.entries publisher.old.published) rows.now) }
+    ensures refused { IfErr result (StopsRound publisher.old.published) }
+{
+    let mut idle = checkers.split_off(rows.len().min(checkers.len()))?;
+    let mut all = round(rt, alloc, gate, publisher, checkers, rows, decided)?;
+    all.append(&mut idle)?;
+    Ok(all)
+}
+
 /// Decides the next rows, as far as they ask for just `after` publications, which are done. Where there is none, no
 /// worker starts.
 pub(crate) fn decide_asking<R: Threads + Wait + Sync, G: Gate + Sync>(
@@ -128,5 +156,5 @@ pub(crate) fn decide_asking<R: Threads + Wait + Sync, G: Gate + Sync>(
     if next.is_empty() {
         return Ok(checkers);
     }
-    round(rt, alloc, gate, publisher, checkers, next, decided)
+    round_of_busy(rt, alloc, gate, publisher, checkers, next, decided)
 }
