@@ -222,8 +222,11 @@ module _ (saved : SavedRegisters) (i byte : ℕ) (new : Configuration) (inside :
       let within : i < length saved.configurations = omega arith in
       let back : configuration_of byte ≡ new = ap configuration_of is ∙ configuration_back new in
       record {
-        here = rw get_or-set_same (rw (back, stored_as_is (mseccfg_fields saved.mseccfg).mml reset_entry.configuration
-            new unreserved) refl);
+        here = rw get_or-set_same (rw (
+          back,
+          stored_as_is (mseccfg_fields saved.mseccfg).mml reset_entry.configuration
+              new unreserved,
+        ) refl);
         others = λ k other. rw get_or-set_other refl;
         mseccfg = refl;
         count = refl;

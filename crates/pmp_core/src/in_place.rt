@@ -282,7 +282,11 @@ impl SavedRegisters {
         requires { entry < count_of (saved_size self.now.entries) }
         ensures { result ≡ perms_of (rights (restored_file self.now) entry mode) }
     {
-        rule_rights(&self.configuration(usize::from(entry)), mode, &self.fields())
+        rule_rights(
+            &self.configuration(usize::from(entry)),
+            mode,
+            &self.fields(),
+        )
     }
 
     /// What the mode may do where no entry matches any byte of an access.

@@ -5,10 +5,16 @@ use Rattle.pmp_core.proofs.saved_registers.SavedRegisters.address_value.Goals as
 
 pub returns-then-index-count : goal.returns-then-index-count
 returns-then-index-count c =
-    c.address.ensures ∙ ap (λ (e : Entry). e.address) (sym (entry_in c.args.self.now c.args.index (omega (arith,
-    c.if-index-count.true, c.count.ensures.count))))
+    c.address.ensures ∙ ap (λ (e : Entry). e.address) (sym (entry_in c.args.self.now c.args.index (omega (
+      arith,
+      c.if-index-count.true,
+      c.count.ensures.count,
+    ))))
 
 pub returns-else-index-count : goal.returns-else-index-count
 returns-else-index-count c =
-    ap (λ (e : Entry). e.address) (sym (entry_past c.args.self.now c.args.index (omega (arith,
-    c.if-index-count.false, c.count.ensures.count))))
+    ap (λ (e : Entry). e.address) (sym (entry_past c.args.self.now c.args.index (omega (
+      arith,
+      c.if-index-count.false,
+      c.count.ensures.count,
+    ))))

@@ -14,11 +14,17 @@ returns-then-configuration c =
     let inside : i < length (restored_file saved).entries =
     omega (arith, c.loop-place-test.true, c.count-place-end.ensures.entries) in
     let locked : (entry_at (restored_file saved).entries i).configuration.locked ≡ true =
-    ap (λ (e : Entry). e.configuration.locked) (entry_in saved i (omega (arith, c.loop-place-test.true,
-    c.count-place-end.ensures.count)))
+    ap (λ (e : Entry). e.configuration.locked) (entry_in saved i (omega (
+      arith,
+      c.loop-place-test.true,
+      c.count-place-end.ensures.count,
+    )))
     ∙ ap (λ (k : Configuration). k.locked) (sym c.configuration.ensures) ∙ c.if-configuration.true in
     sym (list_any_at (λ (e : Entry). e.configuration.locked) (restored_file saved).entries i reset_entry inside locked)
 
 pub returns : goal.returns
-returns c = none_locked c.args.self.now (λ k inside. c.loop-place.invariant k (omega (arith, c.loop-place-test.false,
-    c.count-place-end.ensures.count)))
+returns c = none_locked c.args.self.now (λ k inside. c.loop-place.invariant k (omega (
+  arith,
+  c.loop-place-test.false,
+  c.count-place-end.ensures.count,
+)))

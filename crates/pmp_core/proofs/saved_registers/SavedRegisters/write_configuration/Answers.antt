@@ -24,8 +24,8 @@ module _ (c : After-byte) where
   is_set : IsSetAt c.args.self.now (with_byte c.args.self.now c.args.place c.byte-new.result stored_here c.requires
       (let told = c.told-self in told.1) (c.byte-new.ensures ∙ ap byte_of stored_is)
       (stored_unreserved_in c.args.self.now c.args.place c.args.byte)) c.args.place (record (restored_entry c.args.self.now c.args.place) {
-    configuration = stored_here;
-  })
+        configuration = stored_here;
+      })
   is_set = configuration_set c.args.self.now c.args.place c.byte-new.result stored_here c.requires
       (let told = c.told-self in told.1) (c.byte-new.ensures ∙ ap byte_of stored_is)
       (stored_unreserved_in c.args.self.now c.args.place c.args.byte)

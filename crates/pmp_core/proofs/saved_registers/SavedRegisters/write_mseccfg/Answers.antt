@@ -10,7 +10,8 @@ use Rattle.pmp_core.proofs.InPlace.{mseccfg_in, fields_once, mseccfg_written_is,
 use Rattle.pmp_core.proofs.saved_registers.SavedRegisters.write_mseccfg.Goals as goal
 use Rattle.pmp_core.proofs.saved_registers.SavedRegisters.write_mseccfg.Goals.{After-written-new, Else-value}
 use Rattle.pmp_core.proofs.saved_registers.SavedRegisters.write_mseccfg.Goals.{
-  else-new-via-then-new+else-not-old, else-new-via-else-new,
+  else-new-via-then-new+else-not-old,
+  else-new-via-else-new,
 }
 
 module _ (c : After-written-new) where
