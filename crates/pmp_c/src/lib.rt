@@ -6,7 +6,7 @@
 //! An access is named by its mode (0 user, 1 supervisor, 3 machine), its kind (0 fetch, 1 load, 2 store), the byte
 //! address of its first byte, and its length in bytes. An answer is the number of the cause (`i` for the rule of entry
 //! `i`, 256 + `i` for a split by entry `i`, 512 where no entry matches), and 1,024 times the exception code of a
-//! refusal; 65,535 answers numbers that name no access.
+//! refusal. The cause of numbers that name no access is 1,023.
 #![tactic(auto)]
 
 ghost use Rattle.std.specs.Prelude.{◌≡◌, ◌<◌, ◌≤◌, ◌↔◌, ◌⊎◌, Err, IsTrue, MatchResult};
@@ -19,7 +19,7 @@ ghost use Rattle.pmp_core.specs.RegisterFile.{reset_file};
 ghost use Rattle.pmp_core.specs.RegisterValue.{register_value};
 ghost use Rattle.pmp_core.specs.SavedRegisters.{saved_registers, restored_file, saved_size};
 ghost use Rattle.pmp_core.specs.Size.{count_of};
-ghost use Rattle.pmp_c.specs.Answer.{answer_number, no_access};
+ghost use Rattle.pmp_c.specs.Answer.{answer_number, no_access, no_cause};
 ghost use Rattle.pmp_c.specs.RangeRights.{IsRangeOf, AreRangeRights, no_range};
 ghost use Rattle.pmp_c.specs.Request.{IsNamed, mode_number};
 ghost use Rattle.pmp_c.specs.RunAnswer.{IsRunAnswer};
@@ -35,7 +35,7 @@ mod status;
 mod tables;
 mod unit;
 
-use crate::answer::NO_ACCESS;
+use crate::answer::{NO_CAUSE, no_access};
 use crate::request::Request;
 use crate::rights::NO_RANGE;
 use crate::status::{CHANGED, TAKEN, csr_of, refusal_status};
@@ -123,11 +123,11 @@ pub extern "C" fn tilvenka_pmp_decide(
 ) -> u32
     ensures answer { (access : Access) → IsNamed access mode kind start length → IsUnit unit.now
         → result ≡ answer_number access (decision_of (file_of_unit unit.now) access) }
-    ensures none { ((access : Access) → ¬ (IsNamed access mode kind start length)) → result ≡ no_access }
+    ensures none { ((access : Access) → ¬ (IsNamed access mode kind start length)) → result ≡ no_access kind }
 {
     match Request::new(mode, kind, start, length) {
         Some(request) => u32::from(unit.answer(&request)),
-        None => u32::from(NO_ACCESS),
+        None => u32::from(no_access(kind)),
     }
 }
 
@@ -142,7 +142,7 @@ pub extern "C" fn tilvenka_pmp_decide_by_registers(
 ) -> u32
     ensures answer { (access : Access) → IsNamed access mode kind start length
         → result ≡ answer_number access (decision_of (file_of_unit unit.now) access) }
-    ensures none { ((access : Access) → ¬ (IsNamed access mode kind start length)) → result ≡ no_access }
+    ensures none { ((access : Access) → ¬ (IsNamed access mode kind start length)) → result ≡ no_access kind }
 {
     u32::from(unit.answer_by_registers(mode, kind, start, length))
 }
@@ -165,7 +165,7 @@ pub extern "C" fn tilvenka_pmp_rights(unit: &Unit, mode: u32, start: u64, length
 }
 
 /// All bytes round this one that have its owner: the first and the last of them, and as the answer the number of the
-/// owner's cause and 1,024 times what the mode may do there; 65,535 where the numbers name no mode or no byte below
+/// owner's cause and 1,024 times what the mode may do there; 1,023 where the numbers name no mode or no byte below
 /// `2^56`, which leaves the others as they are.
 #[unsafe(no_mangle)]
 pub extern "C" fn tilvenka_pmp_run(
@@ -178,10 +178,10 @@ pub extern "C" fn tilvenka_pmp_run(
     ensures run { (named : Mode) → mode_number named ≡ mode → address < ADDRESS_LIMIT → IsUnit unit.now
         → IsRunAnswer (file_of_unit unit.now) named address first.new last.new result }
     ensures none { (((named : Mode) → ¬ (mode_number named ≡ mode)) ⊎ (ADDRESS_LIMIT ≤ address))
-        → (result ≡ no_access) × (first.new ≡ first.old) × (last.new ≡ last.old) }
+        → (result ≡ no_cause) × (first.new ≡ first.old) × (last.new ≡ last.old) }
 {
     if mode > 3 || mode == 2 || address >= ADDRESS_LIMIT {
-        return u32::from(NO_ACCESS);
+        return u32::from(NO_CAUSE);
     }
     let around = unit.around(mode, address);
     *first = around.first;

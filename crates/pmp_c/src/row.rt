@@ -9,7 +9,7 @@ ghost use Rattle.pmp_core.specs.Size.{count_of};
 ghost use Rattle.pmp_map.specs.Answers.{owned_rights, whole_cause};
 ghost use Rattle.pmp_c.specs.Rows.{IsRow, owned_answer};
 
-use crate::answer::{NO_ACCESS, number_by};
+use crate::answer::{NO_CAUSE, number_by};
 use pmp_core::{Cause, Kind, Mode, Perms, SavedRegisters};
 
 /// An answer for each mode and kind: at 4 times the mode's level, and the kind's number. There is no level 2.
@@ -59,19 +59,19 @@ pub fn row_of(registers: &SavedRegisters, owner: Option<u8>) -> Row
         fetch,
         load,
         store,
-        NO_ACCESS,
+        NO_CAUSE,
         fetch,
         load,
         store,
-        NO_ACCESS,
-        NO_ACCESS,
-        NO_ACCESS,
-        NO_ACCESS,
-        NO_ACCESS,
+        NO_CAUSE,
+        NO_CAUSE,
+        NO_CAUSE,
+        NO_CAUSE,
+        NO_CAUSE,
         owned_answer(owner, machine, Kind::Fetch),
         owned_answer(owner, machine, Kind::Load),
         owned_answer(owner, machine, Kind::Store),
-        NO_ACCESS,
+        NO_CAUSE,
     ]
 }
 

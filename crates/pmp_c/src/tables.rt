@@ -16,7 +16,7 @@ ghost use Rattle.pmp_c.specs.RunAnswer.{IsRunAnswer};
 ghost use Rattle.pmp_c.specs.Tables.{AreTables, IsFound, IsSweptTo};
 ghost use Rattle.pmp_core.specs.declared.access.TheConstants.{ADDRESS_LIMIT};
 
-use crate::answer::{NO_ACCESS, split_number};
+use crate::answer::{no_access, split_number};
 use crate::request::{Request, kind_of};
 use crate::rights::{MIXED, row_answer, row_rights};
 use crate::row::{Row, row_by, row_of};
@@ -129,7 +129,7 @@ impl Tables {
         let least = least_cause(&self.rows, place, last + 1);
         match kind_of(kind) {
             Some(kind) => split_number(kind, least),
-            None => NO_ACCESS,
+            None => no_access(kind),
         }
     }
 

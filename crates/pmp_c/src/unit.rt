@@ -13,7 +13,7 @@ ghost use Rattle.pmp_c.specs.RunAnswer.{IsRunAnswer};
 ghost use Rattle.pmp_c.specs.Unit.{file_of_unit, IsUnit, IsChanged};
 ghost use Rattle.pmp_core.specs.declared.access.TheConstants.{ADDRESS_LIMIT};
 
-use crate::answer::{NO_ACCESS, answer_number};
+use crate::answer::{answer_number, no_access};
 use crate::request::{Request, access_of};
 use crate::rights::{MIXED, row_answer, row_rights};
 use crate::row::row_of;
@@ -100,11 +100,11 @@ impl Unit {
     pub fn answer_by_registers(&self, mode: u32, kind: u32, start: u64, length: u64) -> u16
         ensures answer { (access : Access) → IsNamed access mode kind start length
             → result ≡ answer_number access (decision_of (file_of_unit self.now) access) }
-        ensures none { ((access : Access) → ¬ (IsNamed access mode kind start length)) → result ≡ no_access }
+        ensures none { ((access : Access) → ¬ (IsNamed access mode kind start length)) → result ≡ no_access kind }
     {
         match access_of(mode, kind, start, length) {
             Some(access) => answer_number(&access, &self.registers.decide(&access)),
-            None => NO_ACCESS,
+            None => no_access(kind),
         }
     }
 

@@ -23,10 +23,10 @@ nine : (file : RegisterFile) (owner : Option ℕ) (a b c d e f g h i : ℕ)
     → g ≡ owned_answer file owner M Fetch
     → h ≡ owned_answer file owner M Load
     → i ≡ owned_answer file owner M Store
-    → (mode : Mode) (kind : Kind) → slice_index (a ∷ b ∷ c ∷ 65535
-    ∷ d ∷ e ∷ f ∷ 65535
-    ∷ 65535 ∷ 65535 ∷ 65535 ∷ 65535
-    ∷ g ∷ h ∷ i ∷ 65535 ∷ []) (column_of mode kind)
+    → (mode : Mode) (kind : Kind) → slice_index (a ∷ b ∷ c ∷ 1023
+    ∷ d ∷ e ∷ f ∷ 1023
+    ∷ 1023 ∷ 1023 ∷ 1023 ∷ 1023
+    ∷ g ∷ h ∷ i ∷ 1023 ∷ []) (column_of mode kind)
     ≡ owned_answer file owner mode kind
 nine file owner a b c d e f g h i a_is b_is c_is d_is e_is f_is g_is h_is i_is U Fetch = a_is
 nine file owner a b c d e f g h i a_is b_is c_is d_is e_is f_is g_is h_is i_is U Load = b_is
