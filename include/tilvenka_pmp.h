@@ -186,6 +186,11 @@ void tilvenka_pmp_save(const tilvenka_pmp_unit *unit, tilvenka_pmp_registers *re
  * stored as a write stores it. The map isn't built. */
 void tilvenka_pmp_restore(tilvenka_pmp_unit *unit, const tilvenka_pmp_registers *registers);
 
+/* Whether a write or a read was done. */
+static inline bool tilvenka_pmp_is_done(uint32_t status) {
+    return status != TILVENKA_PMP_ODD_CONFIGURATION && status != TILVENKA_PMP_NO_REGISTER;
+}
+
 /* How many entries aren't off: of none, machine mode may do what it may without a unit. */
 static inline unsigned tilvenka_pmp_entries_on(const tilvenka_pmp_unit *unit) {
     unsigned count = 0;
