@@ -1,12 +1,18 @@
 -- Registers that stay plain numbers.
-use Rattle.std.proofs.Common.{◌≡◌, ◌≢◌, cond, ℕ, zero, suc, ◌+◌, ◌-◌, ◌*◌, ◌%◌, ◌<◌, ◌≤◌, Bool, true, false, not, ◌&&◌, ◌||◌, ◌⊎◌, List, [], ◌∷◌, length, slice_index, get_or, slice_set, refl}
+use Rattle.std.proofs.Common.{◌≡◌, ◌≢◌, cond, ℕ, zero, suc, ◌+◌, ◌-◌, ◌*◌, ◌%◌, ◌<◌, ◌≤◌, Bool, true, false, not, ◌==◌, ◌&&◌, ◌||◌, ◌⊎◌, List, [], ◌∷◌, length, slice_index, get_or, slice_set, refl}
 use Rattle.std.proofs.Common.{sym, ap, ◌∙◌, arith, inl, inr, get_or-set_other, get_or-set_same, length-set, map}
 use Rattle.std.proofs.Math.ListN.{set}
 use Rattle.std.specs.Int.{w64, to_le_bytes}
 use Rattle.std.specs.List.{range_with_len, list_any}
-use Rattle.std.proofs.lemmas.Bool.{cases_lt, cases_eq, or_from}
+use Rattle.std.proofs.lemmas.Bool.{cases_lt, cases_eq, cases_Bool, or_from, eq-eqb, ne_eqb, and_right}
 use Rattle.std.proofs.lemmas.List.{get_or_past, set_past, set-get_or}
-use Rattle.std.proofs.lemmas.List.FromFn.{fill_by_all}
+use Rattle.std.proofs.lemmas.List.Folds.{list_any_at}
+use Rattle.std.proofs.lemmas.List.FromFn.{fill_by_all, length-range_with_len, get_or-range_with_len}
+use Rattle.pmp_core.specs.declared.write_reasons.WriteReason.{WriteReason}
+use Rattle.pmp_core.specs.declared.write_reasons.WriteReason.TheVariants.{Absent, Bits, Frozen, Tor, Reserved, Lockdown}
+use Rattle.pmp_core.specs.declared.write_reasons.WriteReason.TheVariants.{Sticky, Bypass}
+use Rattle.pmp_core.specs.WriteReasons.{is_changed, turns_away, turns_entry_away_by, turns_some_entry_away}
+use Rattle.pmp_core.proofs.Reasons.{none_between}
 use Rattle.pmp_core.specs.declared.configuration.AddressMatching.{AddressMatching}
 use Rattle.pmp_core.specs.declared.configuration.Configuration.{Configuration}
 use Rattle.pmp_core.specs.declared.csr.Csr.TheVariants.{Addr, Cfg}
@@ -20,7 +26,7 @@ use Rattle.pmp_core.specs.declared.register_write.TheConstants.{WORD_ADDRESSES}
 use Rattle.pmp_core.specs.Configuration.{configuration_of, byte_of, is_reserved}
 use Rattle.pmp_core.specs.Mseccfg.{mseccfg_fields, mseccfg_value}
 use Rattle.pmp_core.specs.RegisterWrite.{admitted, stored_over, configured, is_tor, is_address_frozen, is_any_locked, written}
-use Rattle.pmp_core.specs.RegisterFile.{RegisterFile, file_of, reset_entry, entry_at}
+use Rattle.pmp_core.specs.RegisterFile.{RegisterFile, file_of, reset_entry, entry_at, is_frozen}
 use Rattle.pmp_core.specs.Matching.{low_address}
 use Rattle.pmp_core.specs.Ranges.{range_by, range_of}
 use Rattle.pmp_core.specs.SavedRegisters.{saved_size, restored_entry, restored_entries, restored_file, IsSetAt}
@@ -426,3 +432,83 @@ module _ (saved : SavedRegisters) (new : MseccfgFields) (value : ℕ) (is : valu
       (entries_in with_mseccfg
       ∙ sym (fill_by_all (restored_entry with_mseccfg) (restored_file saved).entries n reset_entry (length_in saved)
       (λ k inside. entry_in saved k inside ∙ sym (same_entry k))))
+
+-- ---- reasons of an address
+
+any_at_one : (p : ℕ → Bool) (n i : ℕ) → ((k : ℕ) → k ≢ i → p k ≡ false) → i < n
+    → list_any p (range_with_len 0 n) ≡ p i
+any_at_one p n i others inside = elim (cases_Bool (p i)) [
+  | inl holds ↦
+      let place : get_or (range_with_len 0 n) i 0 ≡ i = get_or-range_with_len 0 n i 0 inside ∙ omega arith in
+      list_any_at p (range_with_len 0 n) i 0 (omega (arith, length-range_with_len 0 n)) (rw place holds) ∙ sym holds
+  | inr none ↦ none_between p 0 n (λ k _ near. elim (cases_eq k i) [
+    | inl here ↦ rw here none
+    | inr other ↦ others k other
+  ]) ∙ sym none
+]
+
+any_past : (p : ℕ → Bool) (n i : ℕ) → ((k : ℕ) → k ≢ i → p k ≡ false) → n ≤ i
+    → list_any p (range_with_len 0 n) ≡ false
+any_past p n i others past = none_between p 0 n (λ k _ near. others k (λ here. absurd (omega arith)))
+
+-- a reason that an address register can have by one of its entries it has by its own alone
+own_alone : (reason : WriteReason) (file : RegisterFile) (i value k : ℕ) → k ≢ i
+    → turns_entry_away_by reason file (Addr i) value k ≡ false
+own_alone Absent file i value k other = refl
+own_alone Bits file i value k other = refl
+own_alone Frozen file i value k other = rw (ne_eqb i k (λ e. other (sym e))) (and_right _ false refl)
+own_alone Tor file i value k other = rw (ne_eqb i k (λ e. other (sym e))) (and_right _ false refl)
+own_alone Reserved file i value k other = refl
+own_alone Lockdown file i value k other = refl
+own_alone Sticky file i value k other = refl
+own_alone Bypass file i value k other = refl
+
+module _ (saved : SavedRegisters) (i value : ℕ) (reason : WriteReason) where
+  pub own_turned : i < count_in saved → turns_some_entry_away reason (restored_file saved) (Addr i) value
+      ≡ turns_entry_away_by reason (restored_file saved) (Addr i) value i
+  own_turned inside = any_at_one (turns_entry_away_by reason (restored_file saved) (Addr i) value)
+      (length (restored_file saved).entries) i (own_alone reason (restored_file saved) i value)
+      (omega (arith, length_in saved))
+
+  pub none_turned : count_in saved ≤ i → turns_some_entry_away reason (restored_file saved) (Addr i) value ≡ false
+  none_turned past = any_past (turns_entry_away_by reason (restored_file saved) (Addr i) value)
+      (length (restored_file saved).entries) i (own_alone reason (restored_file saved) i value)
+      (omega (arith, length_in saved))
+
+module _ (saved : SavedRegisters) (i : ℕ) (inside : i < count_in saved) where
+  pub frozen_in : is_frozen (restored_file saved) i
+      ≡ ((restored_entry saved i).configuration.locked && not (mseccfg_fields saved.mseccfg).rlb)
+  frozen_in =
+      ap (λ (m : MseccfgFields). (entry_at (restored_file saved).entries i).configuration.locked && not m.rlb)
+      (mseccfg_in saved)
+      ∙ ap (λ (e : Entry). e.configuration.locked && not (mseccfg_fields saved.mseccfg).rlb) (entry_in saved i inside)
+
+  pub own_changed : (value : ℕ) → is_changed (restored_file saved).entries (Addr i) value i
+      ≡ not (value == (restored_entry saved i).address)
+  own_changed value =
+      ap (λ (b : Bool). b && not (value == (entry_at (restored_file saved).entries i).address)) (eq-eqb i i refl)
+      ∙ ap (λ (e : Entry). not (value == e.address)) (entry_in saved i inside)
+
+module _ (saved : SavedRegisters) (i value : ℕ) where
+  pub turned_inside : i < count_in saved → (reason : WriteReason) → reason ≢ Absent → reason ≢ Bits
+      → turns_entry_away_by reason (restored_file saved) (Addr i) value i
+      ≡ turns_away reason (restored_file saved) (Addr i) value
+  turned_inside inside Absent absent bits = absurd (absent refl)
+  turned_inside inside Bits absent bits = absurd (bits refl)
+  turned_inside inside Frozen absent bits = sym (own_turned saved i value Frozen inside)
+  turned_inside inside Tor absent bits = sym (own_turned saved i value Tor inside)
+  turned_inside inside Reserved absent bits = sym (own_turned saved i value Reserved inside)
+  turned_inside inside Lockdown absent bits = sym (own_turned saved i value Lockdown inside)
+  turned_inside inside Sticky absent bits = refl
+  turned_inside inside Bypass absent bits = refl
+
+  pub turned_past : count_in saved ≤ i → (reason : WriteReason) → reason ≢ Absent → reason ≢ Bits
+      → false ≡ turns_away reason (restored_file saved) (Addr i) value
+  turned_past past Absent absent bits = absurd (absent refl)
+  turned_past past Bits absent bits = absurd (bits refl)
+  turned_past past Frozen absent bits = sym (none_turned saved i value Frozen past)
+  turned_past past Tor absent bits = sym (none_turned saved i value Tor past)
+  turned_past past Reserved absent bits = sym (none_turned saved i value Reserved past)
+  turned_past past Lockdown absent bits = sym (none_turned saved i value Lockdown past)
+  turned_past past Sticky absent bits = refl
+  turned_past past Bypass absent bits = refl

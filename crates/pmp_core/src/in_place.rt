@@ -1,16 +1,17 @@
 //! Registers that stay plain numbers: reads, writes and decisions that look at the entries that they need, and convert
 //! no others.
 
-ghost use Rattle.std.specs.Prelude.{◌≡◌, ◌≢◌, ◌*◌, ◌<◌, ◌≤◌, true, false, length};
+ghost use Rattle.std.specs.Prelude.{◌≡◌, ◌≢◌, ◌*◌, ◌<◌, ◌≤◌, ◌&&◌, not, true, false, length};
 ghost use Rattle.pmp_core.specs.Configuration.{byte_of};
 ghost use Rattle.pmp_core.specs.Mseccfg.{mseccfg_fields};
-ghost use Rattle.pmp_core.specs.RegisterFile.{entry_at};
+ghost use Rattle.pmp_core.specs.RegisterFile.{entry_at, is_frozen};
 ghost use Rattle.pmp_core.specs.RegisterValue.{configuration_word, register_value};
 ghost use Rattle.pmp_core.specs.RegisterWrite.{stored_over, is_address_frozen, is_any_locked, written};
 ghost use Rattle.pmp_core.specs.Ranges.{decision_in, decision_of, range_of, ranges_of};
 ghost use Rattle.pmp_core.specs.Rights.{perms_of, rights, default_rights};
 ghost use Rattle.pmp_core.specs.SavedRegisters.{restored_entry, restored_file, saved_size, IsSetAt};
 ghost use Rattle.pmp_core.specs.Size.{count_of};
+ghost use Rattle.pmp_core.specs.WriteReasons.{turns_away, turns_entry_away_by};
 
 use crate::access::{Access, Mode};
 use crate::configuration::{AddressMatching, Configuration};
@@ -25,6 +26,7 @@ use crate::register_write::{ENTRIES_PER_CFG, WORD_ADDRESSES, stored_over, withou
 use crate::rights::{default_rights_by, rule_rights};
 use crate::saved_registers::SavedRegisters;
 use crate::size::MAX_ENTRIES;
+use crate::write_reasons::WriteReason;
 
 impl SavedRegisters {
     /// How many entries the unit has.
@@ -131,6 +133,54 @@ impl SavedRegisters {
         }
         let next = self.configuration(index + 1);
         next.locked && next.matching == AddressMatching::Tor
+    }
+
+    /// Whether the entry is frozen.
+    #[inline]
+    fn is_frozen(&self, index: usize) -> bool
+        requires { index < count_of (saved_size self.now.entries) }
+        ensures { result ≡ is_frozen (restored_file self.now) index }
+    {
+        self.configuration(index).locked && !self.fields().rlb
+    }
+
+    /// Whether the entry isn't frozen, and its address is the low end of a frozen range.
+    #[inline]
+    fn is_low_end(&self, index: usize) -> bool
+        requires { index < count_of (saved_size self.now.entries) }
+        ensures { result ≡ (not (is_frozen (restored_file self.now) index)
+            && is_address_frozen (restored_file self.now) index) }
+    {
+        !self.is_frozen(index) && self.is_address_frozen(index)
+    }
+
+    /// Whether this reason holds for the entry of the address register.
+    #[inline]
+    fn turns_own_entry_away(&self, reason: WriteReason, index: usize, value: u64) -> bool
+        requires { index < count_of (saved_size self.now.entries) }
+        ensures { result ≡ turns_entry_away_by reason (restored_file self.now) (Csr.Addr index) value index }
+    {
+        let is_other = value != self.address(index);
+        match reason {
+            WriteReason::Frozen => self.is_frozen(index) && is_other,
+            WriteReason::Tor => self.is_low_end(index) && is_other,
+            _ => false,
+        }
+    }
+
+    /// Whether this is a reason why the address register wouldn't read the value, if it were written now.
+    #[inline]
+    pub fn turns_address_away(&self, reason: WriteReason, register: u8, value: u64) -> bool
+        ensures { result ≡ turns_away reason (restored_file self.now) (Csr.Addr register) value }
+    {
+        let index = usize::from(register);
+        let is_there = index < self.count();
+        match reason {
+            WriteReason::Absent => value != 0 && !is_there,
+            WriteReason::Bits => value / WORD_ADDRESSES != 0,
+            _ if is_there => self.turns_own_entry_away(reason, index, value),
+            _ => false,
+        }
     }
 
     /// Writes an address register, and answers whether that changed it.
