@@ -231,7 +231,7 @@ static void write_library(const struct write *some, size_t count) {
 static void write_and_ask(const struct write *some, size_t count) {
     for (size_t i = 0; i < count; i++) {
         tilvenka_pmp_write(&unit, some[i].number, some[i].value);
-        sink = tilvenka_pmp_rights(&unit, USER, region(i % ENTRIES), 4096);
+        sink = tilvenka_pmp_rights(&unit, TILVENKA_PMP_USER, region(i % ENTRIES), 4096);
     }
 }
 

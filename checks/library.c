@@ -248,8 +248,9 @@ static void try_wide_words(void) {
 // Whether the register reads this after a write of the value to a unit after reset.
 static bool is_stored(uint32_t csr, uint64_t value, uint64_t stored) {
     tilvenka_pmp_unit unit = {0};
-    uint32_t status = stored == 0 ? TILVENKA_PMP_DONE : TILVENKA_PMP_CHANGED;
-    return tilvenka_pmp_write(&unit, csr, value) == status && read_csr(&unit, csr) == stored;
+    uint32_t status = tilvenka_pmp_write(&unit, csr, value);
+    return read_csr(&unit, csr) == stored && ((status & TILVENKA_PMP_CHANGED) != 0) == (stored != 0)
+        && tilvenka_pmp_is_stored(status) == (stored == value);
 }
 
 // W without R, and bits 6 and 5 of a configuration byte, aren't stored.
@@ -424,22 +425,30 @@ static const struct {
 } WRITES[] = {
     {"", 0x3b0, 5, TILVENKA_PMP_CHANGED},
     {"3b0=5", 0x3b0, 5, TILVENKA_PMP_DONE},
-    {"3b0=5", 0x3b0, 0xffc0000000000005, TILVENKA_PMP_DONE},
-    {"", 0x3c0, 5, TILVENKA_PMP_DONE},
-    {"3a0=80", 0x3b0, 5, TILVENKA_PMP_DONE},
-    {"3b0=5 3a0=8900", 0x3b0, 6, TILVENKA_PMP_DONE},
+    {"3b0=5", 0x3b0, 0xffc0000000000005, TILVENKA_PMP_BITS},
+    {"", 0x3b0, 0x40000000000005, TILVENKA_PMP_CHANGED + TILVENKA_PMP_BITS},
+    {"", 0x3c0, 5, TILVENKA_PMP_ABSENT},
+    {"", 0x3c0, 0x40000000000000, TILVENKA_PMP_ABSENT + TILVENKA_PMP_BITS},
+    {"3a0=80", 0x3b0, 5, TILVENKA_PMP_FROZEN},
+    {"3a0=80", 0x3b0, 0, TILVENKA_PMP_DONE},
+    {"3b0=5 3a0=8900", 0x3b0, 6, TILVENKA_PMP_LOW_END},
+    {"3b0=5 3a0=8900", 0x3b0, 5, TILVENKA_PMP_DONE},
     {"3b0=5 3a0=900", 0x3b0, 6, TILVENKA_PMP_CHANGED},
-    {"3a0=1d", 0x3a0, 0x7d, TILVENKA_PMP_DONE},
-    {"3a0=98", 0x3a0, 0x18, TILVENKA_PMP_DONE},
+    {"747=4 3b0=5 3a0=8900", 0x3b0, 6, TILVENKA_PMP_CHANGED},
+    {"3a0=1d", 0x3a0, 0x7d, TILVENKA_PMP_BITS},
+    {"3a0=98", 0x3a0, 0x18, TILVENKA_PMP_FROZEN},
     {"3a0=98", 0x3a0, 0x1898, TILVENKA_PMP_CHANGED},
-    {"", 0x3a0, 2, TILVENKA_PMP_DONE},
+    {"3a0=98", 0x3a0, 0x1899, TILVENKA_PMP_CHANGED + TILVENKA_PMP_FROZEN},
+    {"", 0x3a0, 2, TILVENKA_PMP_RESERVED},
     {"747=1", 0x3a0, 2, TILVENKA_PMP_CHANGED},
-    {"747=1", 0x3a0, 0x9c, TILVENKA_PMP_DONE},
-    {"", 0x3a4, 0x19, TILVENKA_PMP_DONE},
-    {"747=3", MSECCFG, 0, TILVENKA_PMP_DONE},
+    {"747=1", 0x3a0, 0x9c, TILVENKA_PMP_LOCKDOWN},
+    {"747=5", 0x3a0, 0x9c, TILVENKA_PMP_CHANGED},
+    {"", 0x3a4, 0x19, TILVENKA_PMP_ABSENT},
+    {"747=3", MSECCFG, 0, TILVENKA_PMP_STICKY},
     {"747=3", MSECCFG, 7, TILVENKA_PMP_CHANGED},
-    {"3a0=80", MSECCFG, 4, TILVENKA_PMP_DONE},
-    {"", MSECCFG, 0xfffffffffffffff8, TILVENKA_PMP_DONE},
+    {"747=1", MSECCFG, 2, TILVENKA_PMP_CHANGED + TILVENKA_PMP_STICKY},
+    {"3a0=80", MSECCFG, 4, TILVENKA_PMP_BYPASS},
+    {"", MSECCFG, 0xfffffffffffffff8, TILVENKA_PMP_BITS},
 };
 
 // What a write says of itself: a map that is built stays where no register is another than before.
@@ -450,7 +459,8 @@ static void try_writes(void) {
         tilvenka_pmp_build(&unit);
         uint32_t status = tilvenka_pmp_write(&unit, WRITES[i].csr, WRITES[i].value);
         expect(status == WRITES[i].status && tilvenka_pmp_is_done(status), "write", i);
-        expect(tilvenka_pmp_is_built(&unit) == (status == TILVENKA_PMP_DONE), "map after a write", i);
+        expect(tilvenka_pmp_is_built(&unit) == !(status & TILVENKA_PMP_CHANGED), "map after a write", i);
+        expect(tilvenka_pmp_is_stored(status) == (read_csr(&unit, WRITES[i].csr) == WRITES[i].value), "stored", i);
     }
 }
 
@@ -607,8 +617,11 @@ static bool try_random_unit(tilvenka_pmp_unit *unit) {
     tilvenka_pmp_registers saved;
     fill((uint8_t *)unit, sizeof *unit);
     bool is_right = ask(unit);
-    uint32_t status = tilvenka_pmp_write(unit, 0x3a0 + next_random() % 96, next_number());
-    is_right &= status != TILVENKA_PMP_CHANGED || !tilvenka_pmp_is_built(unit);
+    uint32_t csr = next_random() % 16 ? 0x3a0 + next_random() % 80 : MSECCFG;
+    uint64_t value = next_number();
+    uint32_t status = tilvenka_pmp_write(unit, csr, value);
+    is_right &= !(status & TILVENKA_PMP_CHANGED) || !tilvenka_pmp_is_built(unit);
+    is_right &= !tilvenka_pmp_is_done(status) || tilvenka_pmp_is_stored(status) == (read_csr(unit, csr) == value);
     is_right &= ask(unit) && agrees(unit) && ask(unit);
     tilvenka_pmp_save(unit, &saved);
     tilvenka_pmp_restore(&other, &saved);

@@ -3,3 +3,4 @@ pub mod Naming
 pub mod Ranging
 pub mod Numbering
 pub mod Filling
+pub mod Reasoning

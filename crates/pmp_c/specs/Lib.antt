@@ -4,6 +4,7 @@ pub mod Answer
 pub mod RangeRights
 pub mod RunAnswer
 pub mod Unit
+pub mod Reasons
 pub mod Status
 -- What private contracts cite: rows of answers, and a unit's tables.
 pub mod Columns

@@ -28,6 +28,7 @@ ghost use Rattle.pmp_c.specs.Unit.{file_of_unit, IsUnit};
 
 mod answer;
 pub mod laws;
+mod reasons;
 mod request;
 mod rights;
 mod row;
@@ -38,7 +39,7 @@ mod unit;
 use crate::answer::{NO_CAUSE, no_access};
 use crate::request::Request;
 use crate::rights::NO_RANGE;
-use crate::status::{CHANGED, TAKEN, csr_of, refusal_status};
+use crate::status::{CHANGED, REASONS, TAKEN, csr_of, refusal_status};
 use pmp_core::{ADDRESS_LIMIT, RegFile, SavedRegisters};
 pub use tables::Tables;
 pub use unit::Unit;
@@ -57,8 +58,8 @@ pub extern "C" fn tilvenka_pmp_reset(unit: &mut Unit, entries: u64)
 }
 
 /// Writes a register (Volume II, 3.7.1 and Smepmp), by its CSR number. Answers 1 for an odd `pmpcfg` and 2 for what is
-/// no PMP register: these change nothing. Else 4 where a register is another than before, and then the map is to be
-/// built again; and 0 where none is.
+/// no PMP register: these change nothing. Else the sum of 4 where a register is another than before, and then the map is
+/// to be built again, and of 256 times the reasons why this one doesn't read the value, a bit for each in their order.
 #[unsafe(no_mangle)]
 pub extern "C" fn tilvenka_pmp_write(unit: &mut Unit, csr: u32, value: u64) -> u32
     ensures { MatchResult (numbered csr)
@@ -67,10 +68,11 @@ pub extern "C" fn tilvenka_pmp_write(unit: &mut Unit, csr: u32, value: u64) -> u
 {
     match csr_of(csr) {
         Ok(csr) => {
-            if unit.write(csr, value) {
-                CHANGED
+            let written = unit.write(csr, value);
+            if written.is_changed {
+                CHANGED + REASONS * written.reasons
             } else {
-                TAKEN
+                TAKEN + REASONS * written.reasons
             }
         }
         Err(fault) => refusal_status(fault),

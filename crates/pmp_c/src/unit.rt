@@ -8,12 +8,14 @@ ghost use Rattle.pmp_core.specs.SavedRegisters.{saved_registers};
 ghost use Rattle.pmp_c.specs.Answer.{answer_number, no_access};
 ghost use Rattle.pmp_c.specs.RangeRights.{IsRangeOf, AreRangeRights};
 ghost use Rattle.pmp_core.specs.RegisterWrite.{written};
+ghost use Rattle.pmp_c.specs.Reasons.{reasons_number};
 ghost use Rattle.pmp_c.specs.Request.{IsNamed, mode_number};
 ghost use Rattle.pmp_c.specs.RunAnswer.{IsRunAnswer};
 ghost use Rattle.pmp_c.specs.Unit.{file_of_unit, IsUnit, IsChanged};
 ghost use Rattle.pmp_core.specs.declared.access.TheConstants.{ADDRESS_LIMIT};
 
 use crate::answer::{answer_number, no_access};
+use crate::reasons::{address_reasons, reasons_between};
 use crate::request::{Request, access_of};
 use crate::rights::{MIXED, row_answer, row_rights};
 use crate::row::row_of;
@@ -28,6 +30,14 @@ pub struct Unit {
     pub registers: SavedRegisters,
     /// Empty from a write until it is built.
     pub map: Tables,
+}
+
+/// What a write came to.
+#[derive(Clone, Copy, Debug, PartialEq, Eq)]
+pub struct Written {
+    pub is_changed: bool,
+    /// Why the register doesn't read what was written: a bit for each reason.
+    pub reasons: u32,
 }
 
 /// A run of bytes, its owner, and what a mode may do there.
@@ -60,9 +70,9 @@ impl Unit {
         self.map.runs = 0;
     }
 
-    /// Writes a register, and answers whether that changed any. If so the map is empty then.
+    /// Sets a register as a write does, and answers whether that changed any. If so the map is empty then.
     #[inline]
-    pub fn write(&mut self, csr: Csr, value: u64) -> bool
+    fn set(&mut self, csr: Csr, value: u64) -> bool
         ensures written { file_of_unit self.new ≡ written (file_of_unit self.old) csr value }
         ensures unit { IsUnit self.old → IsUnit self.new }
         ensures same { result ≡ false → self.new ≡ self.old }
@@ -73,6 +83,33 @@ impl Unit {
             self.map.runs = 0;
         }
         is_changed
+    }
+
+    /// Writes a register.
+    #[inline]
+    pub fn write(&mut self, csr: Csr, value: u64) -> Written
+        ensures written { file_of_unit self.new ≡ written (file_of_unit self.old) csr value }
+        ensures unit { IsUnit self.old → IsUnit self.new }
+        ensures same { result.is_changed ≡ false → self.new ≡ self.old }
+        ensures changed { result.is_changed ≡ true → IsChanged self.old self.new }
+        ensures reasons { result.reasons ≡ reasons_number (file_of_unit self.old) csr value }
+        ensures most { result.reasons ≤ 255 }
+    {
+        if let Csr::Addr(register) = csr {
+            let reasons = address_reasons(&self.registers, register, value);
+            let is_changed = self.set(csr, value);
+            return Written {
+                is_changed,
+                reasons,
+            };
+        }
+        let before = self.registers;
+        let is_changed = self.set(csr, value);
+        let reasons = reasons_between(&before, &self.registers, csr, value);
+        Written {
+            is_changed,
+            reasons,
+        }
     }
 
     /// Builds the map, where it isn't built.

@@ -104,7 +104,7 @@ impl SavedRegisters {
     }
 
     /// The value of a register.
-    #[inline]
+    #[inline(always)]
     pub fn read(&self, csr: Csr) -> u64
         ensures { result ≡ register_value (restored_file self.now) csr }
     {
