@@ -288,8 +288,10 @@ static void measure_writes(void) {
            "a read", "plain C", "QEMU");
     set_address_writes();
     measure_write("pmpaddr");
-    set_configuration_writes();
+    set_configuration_writes(0x1d);
     measure_write("pmpcfg");
+    set_configuration_writes(0x1f);
+    measure_write("pmpcfg, mostly with reserved bytes");
     printf("\n%2u entries, %-24s %9s\n", ENTRIES, "ns a map", "build");
     write_count = 0;
     measure_build("no region");

@@ -88,14 +88,14 @@ enum {
     /* The bit of a write that is done, and by which a register isn't as before. */
     TILVENKA_PMP_CHANGED = 4,
     /* Bits of a write that is done: why the register doesn't read the value. There is one exactly where it doesn't. */
-    TILVENKA_PMP_ABSENT = 256,    /* the value isn't zero for an entry, or a register, that the unit doesn't have */
-    TILVENKA_PMP_BITS = 512,      /* it has bits that the register doesn't have */
-    TILVENKA_PMP_FROZEN = 1024,   /* it would change an entry that is frozen */
-    TILVENKA_PMP_LOW_END = 2048,  /* it would change the low end of a frozen entry's range */
-    TILVENKA_PMP_RESERVED = 4096, /* it has W without R for an entry, and MML is 0 */
-    TILVENKA_PMP_LOCKDOWN = 8192, /* it would add a locked rule by which machine mode executes, and MML is 1, RLB 0 */
-    TILVENKA_PMP_STICKY = 16384,  /* it would clear MML or MMWP */
-    TILVENKA_PMP_BYPASS = 32768   /* it would set RLB, and some entry is locked */
+    TILVENKA_PMP_ABSENT = 1 << 8, /* the value isn't zero for an entry, or a register, that the unit doesn't have */
+    TILVENKA_PMP_BITS = 1 << 9, /* it has bits that the register doesn't have */
+    TILVENKA_PMP_FROZEN = 1 << 10, /* it would change an entry that is frozen */
+    TILVENKA_PMP_LOW_END = 1 << 11, /* it would change the low end of a frozen entry's range */
+    TILVENKA_PMP_RESERVED = 1 << 12, /* it has W without R for an entry, and MML is 0 */
+    TILVENKA_PMP_LOCKDOWN = 1 << 13, /* it would add a locked rule that executes, MML is 1 and RLB is 0 */
+    TILVENKA_PMP_STICKY = 1 << 14, /* it would clear MML or MMWP */
+    TILVENKA_PMP_BYPASS = 1 << 15 /* it would set RLB, and some entry is locked */
 };
 
 /* An answer is one number: where the access fails, 1024 times the code of its fault; and what decided, as an entry, as
