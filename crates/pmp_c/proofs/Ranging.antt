@@ -169,8 +169,12 @@ module _ (file : RegisterFile) (tables : Tables) (are : AreTables file tables) w
       pub mixed_rights : slice_index tables.starts (place + 1) < byte + size
           → AreRangeRights file mode byte size mixed_number
       mixed_rights long = rights_of_two file are.addresses mode byte size full (owner_at place)
-          (slice_index tables.starts (place + 1)) (owned_here byte starts_at (omega (arith, at.here.1,
-          are.runs_are.gapless place at.inside, next_start)))
+          (slice_index tables.starts (place + 1)) (owned_here byte starts_at (omega (
+            arith,
+            at.here.1,
+            are.runs_are.gapless place at.inside,
+            next_start,
+          )))
           (omega (arith, at.here.1, are.runs_are.gapless place at.inside, next_start)) long
           (next_owned (omega arith))
 
@@ -197,15 +201,25 @@ module _ (file : RegisterFile) (tables : Tables) (are : AreTables file tables) w
     run_answer mode number is = record {
       from = starts_at;
       to = omega (arith, at.here.1, are.runs_are.gapless place at.inside, next_start);
-      inside = omega (arith, last_is, next_start, start_most ADDRESS_LIMIT (IsOwner file.entries) are.list are.runs_are
-          (place + 1));
+      inside = omega (
+        arith,
+        last_is,
+        next_start,
+        start_most ADDRESS_LIMIT (IsOwner file.entries) are.list are.runs_are
+            (place + 1),
+      );
       owner = owner_at place;
       owned = λ other from to. owned_here other from (omega (arith, last_is, to));
       before = λ some. elim (cases_lt 0 place) [
         | inl later ↦ not_before (place - 1) (omega arith)
         | inr first ↦ let zero_place : place ≡ 0 = omega arith in
-            absurd (omega (arith, some, are.starts_are place (omega arith), are.runs_are.begins,
-            ap (λ (k : ℕ). start_at ADDRESS_LIMIT are.list k) zero_place))
+            absurd (omega (
+              arith,
+              some,
+              are.starts_are place (omega arith),
+              are.runs_are.begins,
+              ap (λ (k : ℕ). start_at ADDRESS_LIMIT are.list k) zero_place,
+            ))
       ];
       after = λ less owned. next_owned (omega (arith, last_is, less)) (owner_at place) (rw last_is at owned) refl;
       number_is = is;

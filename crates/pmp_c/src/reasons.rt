@@ -51,12 +51,7 @@ fn file_reasons(registers: &SavedRegisters, csr: Csr, value: u64) -> u32
 }
 
 /// The reasons of a write that is done: none where the register reads the value.
-pub fn reasons_between(
-    before: &SavedRegisters,
-    after: &SavedRegisters,
-    csr: Csr,
-    value: u64,
-) -> u32
+pub fn reasons_between(before: &SavedRegisters, after: &SavedRegisters, csr: Csr, value: u64) -> u32
     requires { restored_file after.now ≡ written (restored_file before.now) csr value }
     ensures reasons { result ≡ reasons_number (restored_file before.now) csr value }
     ensures most { result ≤ 255 }

@@ -1,10 +1,10 @@
 -- Registers that stay plain numbers.
-use Rattle.std.proofs.Common.{◌≡◌, ◌≢◌, cond, ℕ, zero, suc, ◌+◌, ◌-◌, ◌*◌, ◌%◌, ◌<◌, ◌≤◌, Bool, true, false, not, ◌==◌, ◌&&◌, ◌||◌, ◌⊎◌, List, [], ◌∷◌, length, slice_index, get_or, slice_set, refl}
+use Rattle.std.proofs.Common.{◌≡◌, ◌≢◌, cond, ℕ, zero, suc, ◌+◌, ◌-◌, ◌*◌, ◌%◌, ◌<◌, ◌≤◌, Bool, true, false, not, ◌==◌, ◌&&◌, ◌||◌, ◌⊎◌, List, [], ◌∷◌, length, slice_index, get_or, refl}
 use Rattle.std.proofs.Common.{sym, ap, ◌∙◌, arith, inl, inr, get_or-set_other, get_or-set_same, length-set, map}
 use Rattle.std.proofs.Math.ListN.{set}
 use Rattle.std.specs.Int.{w64, to_le_bytes}
 use Rattle.std.specs.List.{range_with_len, list_any}
-use Rattle.std.proofs.lemmas.Bool.{cases_lt, cases_eq, cases_Bool, or_from, eq-eqb, ne_eqb, and_right}
+use Rattle.std.proofs.lemmas.Bool.{cases_eq, cases_Bool, or_from, eq-eqb, ne_eqb, and_right}
 use Rattle.std.proofs.lemmas.List.{get_or_past, set_past, set-get_or}
 use Rattle.std.proofs.lemmas.List.Folds.{list_any_at}
 use Rattle.std.proofs.lemmas.List.FromFn.{fill_by_all, length-range_with_len, get_or-range_with_len}
@@ -25,7 +25,7 @@ use Rattle.pmp_core.specs.declared.mseccfg.MseccfgFields.{MseccfgFields}
 use Rattle.pmp_core.specs.declared.register_write.TheConstants.{WORD_ADDRESSES}
 use Rattle.pmp_core.specs.Configuration.{configuration_of, byte_of, is_reserved}
 use Rattle.pmp_core.specs.Mseccfg.{mseccfg_fields, mseccfg_value}
-use Rattle.pmp_core.specs.RegisterWrite.{admitted, stored_over, configured, is_tor, is_address_frozen, is_any_locked, written}
+use Rattle.pmp_core.specs.RegisterWrite.{stored_over, configured, is_tor, is_address_frozen, is_any_locked, written}
 use Rattle.pmp_core.specs.RegisterFile.{RegisterFile, file_of, reset_entry, entry_at, is_frozen}
 use Rattle.pmp_core.specs.Matching.{low_address}
 use Rattle.pmp_core.specs.Ranges.{range_by, range_of}

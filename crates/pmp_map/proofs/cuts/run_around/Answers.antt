@@ -1,4 +1,4 @@
-use Rattle.std.proofs.Common.{◌≡◌, ◌+◌, ◌-◌, ◌<◌, refl, arith}
+use Rattle.std.proofs.Common.{◌≡◌, ◌+◌, ◌-◌, refl, arith}
 use Rattle.std.proofs.lemmas.Bool.{false≢true}
 use Rattle.pmp_map.proofs.CutFacts.{one_more_swept, one_more_swept_down, owned_around, unowned_around}
 use Rattle.pmp_map.proofs.cuts.run_around.Goals as goal

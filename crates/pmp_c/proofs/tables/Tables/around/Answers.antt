@@ -1,4 +1,3 @@
-use Rattle.std.proofs.Common.{arith, sym}
 use Rattle.pmp_map.specs.Runs.{map_run}
 use Rattle.pmp_c.proofs.Answering.{run_found}
 use Rattle.pmp_c.proofs.Ranging.{run_answer}

@@ -1,4 +1,4 @@
-use Rattle.std.proofs.Common.{◌≡◌, ◌≢◌, ℕ, ◌<◌, ◌≤◌, Option, length, refl, sym, ap, ◌∙◌, arith}
+use Rattle.std.proofs.Common.{◌≡◌, ◌≢◌, ℕ, ◌<◌, Option, length, ap, arith}
 use Rattle.pmp_core.specs.declared.access.TheConstants.{ADDRESS_LIMIT}
 use Rattle.pmp_core.specs.Ranges.{ranges_of}
 use Rattle.pmp_core.specs.SavedRegisters.{restored_file}

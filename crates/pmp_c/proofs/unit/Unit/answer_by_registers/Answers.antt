@@ -1,6 +1,5 @@
 use Rattle.std.proofs.Common.{◌∙◌, ap}
 use Rattle.pmp_core.specs.declared.access.Access.{Access}
-use Rattle.pmp_core.specs.RegisterFile.{RegisterFile}
 use Rattle.pmp_core.specs.Ranges.{decision_of}
 use Rattle.pmp_c.specs.Answer.{answer_number}
 use Rattle.pmp_c.specs.Unit.{file_of_unit}

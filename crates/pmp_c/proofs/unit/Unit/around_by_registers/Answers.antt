@@ -1,7 +1,5 @@
-use Rattle.std.proofs.Common.{◌≡◌, ◌+◌, arith}
-use Rattle.pmp_core.specs.Ranges.{ranges_of}
+use Rattle.std.proofs.Common.{arith}
 use Rattle.pmp_core.specs.SavedRegisters.{restored_file}
-use Rattle.pmp_map.specs.Owners.{OwnsBytes}
 use Rattle.pmp_c.proofs.Filling.{owner_in}
 use Rattle.pmp_c.proofs.Ranging.{around_answer}
 use Rattle.pmp_c.proofs.unit.Unit.around_by_registers.Goals as goal

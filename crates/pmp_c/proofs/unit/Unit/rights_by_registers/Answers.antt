@@ -1,6 +1,5 @@
 use Rattle.std.proofs.Common.{arith}
 use Rattle.pmp_core.specs.SavedRegisters.{restored_file}
-use Rattle.pmp_c.proofs.Filling.{owner_in}
 use Rattle.pmp_c.proofs.Ranging.{stretch_rights, stretch_mixed}
 use Rattle.pmp_c.proofs.unit.Unit.rights_by_registers.Goals as goal
 

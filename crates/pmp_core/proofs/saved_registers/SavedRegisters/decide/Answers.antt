@@ -1,10 +1,8 @@
 use Rattle.std.proofs.Common.{◌≡◌, ◌<◌, Bool, true, false, length, slice_index_or, sym, ap, ◌∙◌, arith, refl}
 use Rattle.pmp_core.specs.declared.decision.Cause.TheVariants.{NoMatch}
 use Rattle.pmp_core.specs.declared.decision.Decision.{Decision}
-use Rattle.pmp_core.specs.declared.range.ByteRange.{ByteRange}
 use Rattle.pmp_core.specs.Ranges.{decision_in, decision_of, is_touched, ranges_of}
 use Rattle.pmp_core.specs.SavedRegisters.{restored_file}
-use Rattle.pmp_core.proofs.InPlace.{length_in}
 use Rattle.pmp_core.proofs.Places.{length-ranges_of, range_at, no_range}
 use Rattle.pmp_core.proofs.Passes.{pass_touched, pass_untouched, pass_end}
 use Rattle.pmp_core.proofs.saved_registers.SavedRegisters.decide.Goals as goal

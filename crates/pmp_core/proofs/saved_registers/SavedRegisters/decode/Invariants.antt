@@ -1,4 +1,3 @@
-use Rattle.std.proofs.Common.{◌≡◌, length}
 use Rattle.pmp_core.specs.SavedRegisters.{restored_file}
 use Rattle.pmp_core.proofs.Places.{Decoded}
 use Rattle.pmp_core.proofs.saved_registers.SavedRegisters.decode.Given as goal

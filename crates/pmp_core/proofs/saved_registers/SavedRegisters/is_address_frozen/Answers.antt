@@ -1,4 +1,4 @@
-use Rattle.std.proofs.Common.{◌≡◌, ◌<◌, ◌≤◌, ℕ, suc, add-one, Bool, true, false, sym, ap, ◌∙◌, arith, refl}
+use Rattle.std.proofs.Common.{◌≡◌, ℕ, suc, add-one, Bool, true, false, sym, ap, ◌∙◌, arith, refl}
 use denote.Enum.Bare.{sameb}
 use Rattle.pmp_core.specs.contracts.configuration.AddressMatching.{the_type}
 use Rattle.pmp_core.specs.declared.configuration.AddressMatching.{AddressMatching}

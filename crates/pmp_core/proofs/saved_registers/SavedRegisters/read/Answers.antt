@@ -1,4 +1,4 @@
-use Rattle.std.proofs.Common.{◌≡◌, sym, ap, ◌∙◌}
+use Rattle.std.proofs.Common.{sym, ap, ◌∙◌}
 use Rattle.pmp_core.specs.Mseccfg.{mseccfg_value}
 use Rattle.pmp_core.proofs.InPlace.{mseccfg_in}
 use Rattle.pmp_core.proofs.saved_registers.SavedRegisters.read.Goals as goal

@@ -1,4 +1,4 @@
-use Rattle.std.proofs.Common.{◌≡◌, ◌≢◌, ◌%◌, ◌<◌, false, sym, ap, ◌∙◌, arith}
+use Rattle.std.proofs.Common.{sym, ◌∙◌, arith}
 use Rattle.pmp_core.proofs.InPlace.{address_absent, address_kept, address_same, address_written_is, address_changed}
 use Rattle.pmp_core.proofs.saved_registers.SavedRegisters.write_address.Goals as goal
 

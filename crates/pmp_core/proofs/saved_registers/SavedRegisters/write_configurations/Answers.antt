@@ -1,4 +1,4 @@
-use Rattle.std.proofs.Common.{◌≡◌, ◌≢◌, ◌%◌, ◌<◌, false, sym, ap, ◌∙◌, arith}
+use Rattle.std.proofs.Common.{◌≡◌, arith}
 use Rattle.pmp_core.proofs.InPlace.{configured_start, configured_step, configurations_written_is, configurations_changed}
 use Rattle.pmp_core.proofs.InPlace.{configurations_odd, configurations_past}
 use Rattle.pmp_core.proofs.saved_registers.SavedRegisters.write_configurations.Goals as goal
