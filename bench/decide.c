@@ -22,21 +22,13 @@ static void prepare_library(const struct write *writes, size_t count) {
 
 /* The number that the peers answer by, of the library's. */
 static unsigned number_of_library(unsigned answer) {
-    if (answer == TILVENKA_PMP_NO_ACCESS)
+    if (tilvenka_pmp_is_no_access(answer))
         return NO_ACCESS;
     return answer % TILVENKA_PMP_FAULT + (tilvenka_pmp_is_allowed(answer) ? ALLOWED : 0);
 }
 
 static inline unsigned answer_of_library(struct request request) {
     return tilvenka_pmp_decide(&unit, request.mode, request.kind, request.start, request.length);
-}
-
-static inline unsigned answer_near(struct request request) {
-    static uint32_t run;
-    tilvenka_pmp_found found =
-        tilvenka_pmp_decide_near(&unit, run, request.mode, request.kind, request.start, request.length);
-    run = found.run;
-    return found.answer;
 }
 
 static inline unsigned answer_by_registers(struct request request) {
@@ -48,7 +40,6 @@ static inline unsigned rights_of_page(struct request request) {
 }
 
 ASK_BY(ask_library, answer_of_library)
-ASK_BY(ask_near, answer_near)
 ASK_BY(ask_registers, answer_by_registers)
 ASK_BY(ask_rights, rights_of_page)
 
@@ -70,18 +61,17 @@ static unsigned number_of_plain(unsigned answer) {
     return answer;
 }
 
-static const struct peer library = {"tilvenka", number_of_library, prepare_library, ask_library};
-static const struct peer near = {"near", number_of_library, prepare_library, ask_near};
-static const struct peer registers = {"registers", number_of_library, prepare_library, ask_registers};
-static const struct peer library_fill = {"tilvenka", NULL, prepare_library, ask_rights};
-static const struct peer plain_c = {"plain C", number_of_plain, prepare_plain, ask_plain};
+static const struct peer library = {"tilvenka", number_of_library, prepare_library, NULL, ask_library};
+static const struct peer registers = {"registers", number_of_library, prepare_library, NULL, ask_registers};
+static const struct peer library_fill = {"tilvenka", NULL, prepare_library, NULL, ask_rights};
+static const struct peer plain_c = {"plain C", number_of_plain, prepare_plain, NULL, ask_plain};
 
 /* QEMU's unit, and QEMU's names over the library: linked where QEMU's source could be fetched. */
 extern const struct peer qemu __attribute__((weak)), qemu_fill __attribute__((weak));
 extern const struct peer shim __attribute__((weak)), shim_fill __attribute__((weak));
 
-static const struct peer *const ALL[] = {&library, &near, &registers, &plain_c, &qemu, &shim};
-enum { LIBRARY = 0, PLAIN_C = 3, QEMU = 4, PEERS = sizeof ALL / sizeof *ALL };
+static const struct peer *const ALL[] = {&library, &registers, &plain_c, &qemu, &shim};
+enum { LIBRARY = 0, PLAIN_C = 2, QEMU = 3, PEERS = sizeof ALL / sizeof *ALL };
 
 /* The runs. */
 
@@ -158,12 +148,12 @@ static void measure_both(const char *name) {
 }
 
 static void print_head(const char *what) {
-    printf("%2u entries, %-24s %9s %9s %9s %9s %9s %9s %9s %9s\n", ENTRIES, what, "tilvenka", "near", "registers",
-           "plain C", "QEMU", "shim", "/plain C", "/QEMU");
+    printf("%2u entries, %-24s %9s %9s %9s %9s %9s %9s %9s\n", ENTRIES, what, "tilvenka", "registers", "plain C",
+            "QEMU", "shim", "/plain C", "/QEMU");
 }
 
 static void compare_small_files(void) {
-    static const struct peer *const exact[] = {&library, &near, &registers};
+    static const struct peer *const exact[] = {&library, &registers};
     for (unsigned count = 0; count < SMALL_FILES; count++) {
         set_small_file();
         prepare_plain(writes, write_count);
@@ -215,12 +205,13 @@ static void measure_fills(void) {
     print_row("a region each", times, 3);
 }
 
-/* The time of one call, which goes over the last WRITES of the writes. */
-static double time_of_writes(void (*run)(const struct write *, size_t)) {
+/* The time of one call, which goes over the last WRITES of the writes, in a unit with all before them. */
+static double time_of_writes(void (*run)(const struct write *, size_t), void (*prepare)(const struct write *, size_t)) {
     double best = 1e18;
+    if (run == NULL)
+        return 0;
     for (unsigned round = 0; round < ROUNDS; round++) {
-        prepare_library(writes, write_count - WRITES);
-        prepare_plain(writes, write_count - WRITES);
+        prepare(writes, write_count - WRITES);
         double before = nanoseconds();
         run(writes + write_count - WRITES, WRITES);
         double time = nanoseconds() - before;
@@ -230,9 +221,18 @@ static double time_of_writes(void (*run)(const struct write *, size_t)) {
     return best / WRITES;
 }
 
+static volatile uint64_t sink;
+
 static void write_library(const struct write *some, size_t count) {
     for (size_t i = 0; i < count; i++)
         tilvenka_pmp_write(&unit, some[i].number, some[i].value);
+}
+
+static void write_and_ask(const struct write *some, size_t count) {
+    for (size_t i = 0; i < count; i++) {
+        tilvenka_pmp_write(&unit, some[i].number, some[i].value);
+        sink = tilvenka_pmp_rights(&unit, TILVENKA_PMP_USER, region(i % ENTRIES), 4096);
+    }
 }
 
 static void write_and_build(const struct write *some, size_t count) {
@@ -242,15 +242,29 @@ static void write_and_build(const struct write *some, size_t count) {
     }
 }
 
+static void read_library(const struct write *some, size_t count) {
+    uint64_t value = 0;
+    for (size_t i = 0; i < count; i++) {
+        tilvenka_pmp_read(&unit, some[i].number, &value);
+        sink = value;
+    }
+}
+
 static void write_plain(const struct write *some, size_t count) {
     for (size_t i = 0; i < count; i++)
         write_register(&plain, &some[i]);
 }
 
 static void measure_write(const char *name) {
-    const double times[3] = {time_of_writes(write_library), time_of_writes(write_and_build),
-                             time_of_writes(write_plain)};
-    print_row(name, times, 3);
+    const double times[6] = {
+        time_of_writes(write_library, prepare_library),
+        time_of_writes(write_and_ask, prepare_library),
+        time_of_writes(write_and_build, prepare_library),
+        time_of_writes(read_library, prepare_library),
+        time_of_writes(write_plain, prepare_plain),
+        &qemu != NULL ? time_of_writes(qemu.write, qemu.prepare) : 0,
+    };
+    print_row(name, times, 6);
 }
 
 static void measure_build(const char *name) {
@@ -258,8 +272,10 @@ static void measure_build(const char *name) {
     prepare_library(writes, write_count);
     for (unsigned round = 0; round < ROUNDS; round++) {
         double before = nanoseconds();
-        for (unsigned i = 0; i < BUILDS; i++)
+        for (unsigned i = 0; i < BUILDS; i++) {
+            unit.map.runs = 0;
             tilvenka_pmp_build(&unit);
+        }
         double time = nanoseconds() - before;
         if (time < best)
             best = time;
@@ -268,12 +284,17 @@ static void measure_build(const char *name) {
 }
 
 static void measure_writes(void) {
-    printf("\n%2u entries, %-24s %9s %9s %9s\n", ENTRIES, "ns a write", "tilvenka", "+ build", "plain C");
+    printf("\n%2u entries, %-24s %9s %9s %9s %9s %9s %9s\n", ENTRIES, "ns a write", "tilvenka", "+ rights", "+ build",
+           "a read", "plain C", "QEMU");
     set_address_writes();
     measure_write("pmpaddr");
-    set_configuration_writes();
+    set_configuration_writes(0x1d);
     measure_write("pmpcfg");
+    set_configuration_writes(0x1f);
+    measure_write("pmpcfg, mostly with reserved bytes");
     printf("\n%2u entries, %-24s %9s\n", ENTRIES, "ns a map", "build");
+    write_count = 0;
+    measure_build("no region");
     set_regions(ENTRIES);
     measure_build("a region each");
     set_comb();

@@ -30,6 +30,8 @@ struct peer {
     unsigned (*number_of)(unsigned answer);
     /* The registers after these writes from reset, in a unit of as many entries as the benchmark is compiled for. */
     void (*prepare)(const struct write *writes, size_t count);
+    /* Makes these writes as it stands; NULL where they are timed otherwise. */
+    void (*write)(const struct write *writes, size_t count);
     void (*ask)(const struct request *requests, size_t count, uint16_t *answers, enum pace pace);
 };
 

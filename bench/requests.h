@@ -74,10 +74,11 @@ static void add_configurations(uint64_t mask) {
     add_write(PMPCFG0 + 2 * below(ENTRIES / 8), (next_random() ^ next_random() << 32) & mask);
 }
 
-static void set_configuration_writes(void) {
+/* Random bits of these in each byte. */
+static void set_configuration_writes(uint8_t mask) {
     set_regions(ENTRIES);
     for (size_t i = 0; i < WRITES; i++)
-        add_configurations(UINT64_C(0x1f1f1f1f1f1f1f1f));
+        add_configurations(UINT64_C(0x0101010101010101) * mask);
 }
 
 /* Ranges of every kind in the lowest bytes, which overlap, some of them locked. */

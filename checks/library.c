@@ -11,25 +11,6 @@ enum { RANDOM_UNITS = 20000 };
 
 static const uint32_t MODES[3] = {U, S, M};
 
-// Writes from reset, given as 'CSR=VALUE' in hexadecimal digits.
-static void write_all(tilvenka_pmp_unit *unit, const char *writes) {
-    unsigned csr;
-    unsigned long long value;
-    int length;
-    while (sscanf(writes, " %x=%llx%n", &csr, &value, &length) == 2) {
-        if (tilvenka_pmp_write(unit, csr, value) != TILVENKA_PMP_DONE)
-            abort();
-        writes += length;
-    }
-    if (*writes != 0)
-        abort();
-}
-
-static uint64_t read_csr(const tilvenka_pmp_unit *unit, uint32_t csr) {
-    uint64_t value = UINT64_MAX;
-    return tilvenka_pmp_read(unit, csr, &value) == TILVENKA_PMP_DONE ? value : UINT64_MAX;
-}
-
 static const struct decision {
     const char *writes;
     uint32_t mode, kind;
@@ -66,15 +47,17 @@ static const struct decision {
     {"3b0=ffffffffffffffff 3a0=f", U, LOAD, 0xfffffffffffffc, 1, NONE + 5 * 1024},
     {"3b0=200001ff 3a0=99", M, STORE, 0x80000000, 4, 7 * 1024},
     {"3b0=200001ff 3a0=99", M, LOAD, 0x80000000, 4, 0},
-    {"", U, LOAD, 0xffffffffffffff, 2, NO_ACCESS},
-    {"", U, LOAD, 0, 0, NO_ACCESS},
-    {"", U, LOAD, 0, 4097, NO_ACCESS},
-    {"", M, LOAD, UINT64_MAX, UINT64_MAX, NO_ACCESS},
+    {"", U, LOAD, 0xffffffffffffff, 2, NO_ACCESS + 5 * 1024},
+    {"", S, FETCH, 0xffffffffffffff, 2, NO_ACCESS + 1 * 1024},
+    {"", M, STORE, 0x100000000000000, 1, NO_ACCESS + 7 * 1024},
+    {"", U, LOAD, 0, 0, NO_ACCESS + 5 * 1024},
+    {"", U, LOAD, 0, 4097, NO_ACCESS + 5 * 1024},
+    {"", M, LOAD, UINT64_MAX, UINT64_MAX, NO_ACCESS + 5 * 1024},
     {"", M, LOAD, 0, 4096, NONE},
-    {"", 2, LOAD, 0, 4, NO_ACCESS},
-    {"", 4, LOAD, 0, 4, NO_ACCESS},
-    {"", M, 3, 0, 4, NO_ACCESS},
-    {"", UINT32_MAX, UINT32_MAX, 0, 4, NO_ACCESS},
+    {"", 2, LOAD, 0, 4, NO_ACCESS + 5 * 1024},
+    {"", 4, LOAD, 0, 4, NO_ACCESS + 5 * 1024},
+    {"", M, 3, 0, 4, NO_ACCESS + 5 * 1024},
+    {"", UINT32_MAX, UINT32_MAX, 0, 4, NO_ACCESS + 5 * 1024},
 };
 
 static void try_decisions(void) {
@@ -147,14 +130,8 @@ static void try_sizes(void) {
     }
 }
 
-static uint32_t status_of(uint32_t csr) {
-    if (csr >= PMPCFG0 && csr < PMPADDR0)
-        return csr % 2 == 1 ? TILVENKA_PMP_ODD_CONFIGURATION : TILVENKA_PMP_DONE;
-    return (csr >= PMPADDR0 && csr < PMPADDR0 + 64) || csr == MSECCFG ? TILVENKA_PMP_DONE : TILVENKA_PMP_NO_REGISTER;
-}
-
-// Whether a number names the register that it should, or none. What is refused leaves the value and the unit as they
-// were.
+// Whether a number names the register that it should, or none. What is refused leaves the value, and what writes no new
+// value or is refused leaves the unit and its map.
 static bool is_named_right(tilvenka_pmp_unit *unit, uint32_t csr) {
     static tilvenka_pmp_unit before;
     uint32_t status = status_of(csr);
@@ -163,7 +140,7 @@ static bool is_named_right(tilvenka_pmp_unit *unit, uint32_t csr) {
     is_right &= value == (status == TILVENKA_PMP_DONE ? 0 : 77);
     before = *unit;
     is_right &= tilvenka_pmp_write(unit, csr, 0) == status;
-    return is_right && (status == TILVENKA_PMP_DONE || memcmp(unit, &before, sizeof before) == 0);
+    return is_right && memcmp(unit, &before, sizeof before) == 0;
 }
 
 // Each number below 0x2000, and each register's with a bit more: one cut to sixteen bits would name a register there.
@@ -201,41 +178,54 @@ static uint32_t rights_by_page(uint32_t mode, uint64_t start, uint64_t length) {
     return tilvenka_pmp_rights(&unit, mode, start, length) == rights ? rights : UINT32_MAX;
 }
 
+// Whether these numbers have a run, with a map and without. Where they have none, nothing is written.
+static bool is_run(uint32_t mode, uint64_t address) {
+    tilvenka_pmp_unit unit = page_at_zero();
+    bool is_one[2];
+    for (unsigned built = 0; built < 2; built++) {
+        uint64_t first = 77, last = 78;
+        is_one[built] = !tilvenka_pmp_is_no_access(tilvenka_pmp_run(&unit, mode, address, &first, &last));
+        if (is_one[built] != (first <= address && address <= last) || (!is_one[built] && (first != 77 || last != 78)))
+            return !is_one[0];
+        tilvenka_pmp_build(&unit);
+    }
+    return is_one[0] && is_one[1];
+}
+
 static void try_wide_addresses(void) {
     expect(decide_by_page(U, LOAD, 0, 4) == 0 && rights_by_page(U, 0, 4096) == TILVENKA_PMP_READ, "the page at 0", 0);
     for (unsigned bit = 12; bit < 64; bit++) {
         uint64_t high = UINT64_C(1) << bit;
         bool is_address = bit < 56;
-        expect(decide_by_page(U, LOAD, high, 4) == (is_address ? NONE + 5 * 1024 : NO_ACCESS), "start with bit", bit);
-        expect(decide_by_page(U, LOAD, 0, high + 4) == NO_ACCESS, "length with bit", bit);
+        expect(decide_by_page(U, LOAD, high, 4) == (is_address ? NONE + 5 * 1024 : NO_ACCESS + 5 * 1024), "start with bit", bit);
+        expect(decide_by_page(U, LOAD, 0, high + 4) == NO_ACCESS + 5 * 1024, "length with bit", bit);
         expect(rights_by_page(U, high, 4096) == (is_address ? 0 : TILVENKA_PMP_NO_RANGE), "range at bit", bit);
         expect(rights_by_page(U, 0, high + 4096) == (is_address ? TILVENKA_PMP_MIXED : TILVENKA_PMP_NO_RANGE),
                "range of a length with bit", bit);
     }
 }
 
-// Any `near` leaves the answer as it is.
 static void try_wide_words(void) {
-    tilvenka_pmp_unit unit = page_at_zero(), built = unit;
-    tilvenka_pmp_build(&built);
+    static const uint32_t codes[3] = {1, 5, 7};
     for (unsigned bit = 2; bit < 32; bit++) {
         uint32_t high = UINT32_C(1) << bit;
         for (unsigned low = 0; low < 3; low++) {
-            expect(decide_by_page(MODES[low] + high, LOAD, 0, 4) == NO_ACCESS, "mode with bit", bit);
+            expect(decide_by_page(MODES[low] + high, low, 0, 4) == NO_ACCESS + codes[low] * 1024, "mode with bit", bit);
             expect(rights_by_page(MODES[low] + high, 0, 4096) == TILVENKA_PMP_NO_RANGE, "mode of a range, bit", bit);
-            expect(decide_by_page(U, low + high, 0, 4) == NO_ACCESS, "kind with bit", bit);
-            expect(tilvenka_pmp_decide_near(&unit, low + high, U, LOAD, 0, 4).answer == 0
-                       && tilvenka_pmp_decide_near(&built, low + high, U, LOAD, 0, 4).answer == 0
-                       && tilvenka_pmp_decide_near(&built, low + high, U, LOAD, 4096, 4).answer == NONE + 5 * 1024,
-                   "near with bit", bit);
+            expect(decide_by_page(U, low + high, 0, 4) == NO_ACCESS + 5 * 1024, "kind with bit", bit);
+            expect(!is_run(MODES[low] + high, 0), "mode of a run, bit", bit);
         }
     }
+    for (unsigned bit = 12; bit < 64; bit++)
+        expect(is_run(U, UINT64_C(1) << bit) == (bit < 56), "address of a run, bit", bit);
 }
 
 // Whether the register reads this after a write of the value to a unit after reset.
 static bool is_stored(uint32_t csr, uint64_t value, uint64_t stored) {
     tilvenka_pmp_unit unit = {0};
-    return tilvenka_pmp_write(&unit, csr, value) == TILVENKA_PMP_DONE && read_csr(&unit, csr) == stored;
+    uint32_t status = tilvenka_pmp_write(&unit, csr, value);
+    return read_csr(&unit, csr) == stored && ((status & TILVENKA_PMP_CHANGED) != 0) == (stored != 0)
+        && tilvenka_pmp_is_stored(status) == (stored == value);
 }
 
 // W without R, and bits 6 and 5 of a configuration byte, aren't stored.
@@ -427,8 +417,8 @@ static bool ask(const tilvenka_pmp_unit *unit) {
         uint64_t start = next_number(), length = next_random() % 4 ? next_random() % 16 : next_number();
         tilvenka_pmp_decide(unit, mode, kind, start, length);
         tilvenka_pmp_decide_by_registers(unit, mode, kind, start, length);
-        tilvenka_pmp_decide_near(unit, next_number(), mode, kind, start, length);
         tilvenka_pmp_rights(unit, mode, start, length);
+        tilvenka_pmp_run(unit, mode, start, &value, &length);
         tilvenka_pmp_read(unit, 0x3a0 + next_random() % 96, &value);
     }
     tilvenka_pmp_save(unit, &saved);
@@ -436,9 +426,27 @@ static bool ask(const tilvenka_pmp_unit *unit) {
     return memcmp(&before, unit, sizeof before) == 0;
 }
 
+// Whether rights and runs are the same without the unit's map, and a run goes as far as one entry has all bytes.
+static bool asks_alike(const tilvenka_pmp_unit *unit, uint32_t mode, uint64_t start, uint64_t length) {
+    static tilvenka_pmp_unit bare;
+    uint64_t first = 1, last = 0, bare_first = 1, bare_last = 0;
+    bare.registers = unit->registers;
+    uint32_t answer = tilvenka_pmp_run(unit, mode, start, &first, &last);
+    bool is_same = tilvenka_pmp_run(&bare, mode, start, &bare_first, &bare_last) == answer;
+    is_same &= first == bare_first && last == bare_last;
+    is_same &= tilvenka_pmp_rights(unit, mode, start, length) == tilvenka_pmp_rights(&bare, mode, start, length);
+    if (tilvenka_pmp_is_no_access(answer))
+        return is_same;
+    is_same &= tilvenka_pmp_rights(&bare, mode, first, last - first + 1) == tilvenka_pmp_run_rights(answer);
+    is_same &= first == 0 || tilvenka_pmp_rights(&bare, mode, first - 1, 2) == TILVENKA_PMP_MIXED;
+    return is_same && (last >> 56 != 0 || last == (UINT64_C(1) << 56) - 1
+                       || tilvenka_pmp_rights(&bare, mode, last, 2) == TILVENKA_PMP_MIXED);
+}
+
 // Whether the unit decides alike by its registers and by the map that is built of them, whatever they were.
 static bool agrees(tilvenka_pmp_unit *unit) {
     bool is_same = true;
+    unit->map.runs = 0;
     tilvenka_pmp_build(unit);
     for (unsigned turn = 0; turn < 16; turn++) {
         uint32_t mode = MODES[next_random() % 3], kind = next_random() % 3;
@@ -447,7 +455,7 @@ static bool agrees(tilvenka_pmp_unit *unit) {
         uint64_t length = 1 + next_random() % 16;
         uint32_t answer = tilvenka_pmp_decide_by_registers(unit, mode, kind, start, length);
         is_same &= tilvenka_pmp_decide(unit, mode, kind, start, length) == answer;
-        is_same &= tilvenka_pmp_decide_near(unit, next_number(), mode, kind, start, length).answer == answer;
+        is_same &= asks_alike(unit, mode, start, length);
     }
     return is_same;
 }
@@ -457,8 +465,11 @@ static bool try_random_unit(tilvenka_pmp_unit *unit) {
     tilvenka_pmp_registers saved;
     fill((uint8_t *)unit, sizeof *unit);
     bool is_right = ask(unit);
-    uint32_t status = tilvenka_pmp_write(unit, 0x3a0 + next_random() % 96, next_number());
-    is_right &= status != TILVENKA_PMP_DONE || !tilvenka_pmp_is_built(unit);
+    uint32_t csr = next_random() % 16 ? 0x3a0 + next_random() % 80 : MSECCFG;
+    uint64_t value = next_number();
+    uint32_t status = tilvenka_pmp_write(unit, csr, value);
+    is_right &= !(status & TILVENKA_PMP_CHANGED) || !tilvenka_pmp_is_built(unit);
+    is_right &= !tilvenka_pmp_is_done(status) || tilvenka_pmp_is_stored(status) == (read_csr(unit, csr) == value);
     is_right &= ask(unit) && agrees(unit) && ask(unit);
     tilvenka_pmp_save(unit, &saved);
     tilvenka_pmp_restore(&other, &saved);

@@ -7,11 +7,12 @@
  * one call may not overlap. Reset, restore and save also take memory that holds nothing yet. Calls on different units
  * need no lock. Calls on one unit may run at once where all of them take it as const.
  *
- * Decisions and rights go by the map where it is built. So change the registers by these calls alone: whoever writes to
- * the struct itself, or takes a whole unit from elsewhere, builds the map before the next decision.
+ * Reading the struct is safe at any time. Decisions, rights and runs go by the map where it is built, and a build keeps
+ * one that is. So change the registers by these calls alone: whoever writes to the struct itself, or takes a whole unit
+ * from elsewhere, sets `map.runs` to 0.
  *
- * It is for 64-bit hosts of either byte order, whose own order a saved struct has. Bytes of a unit may differ where its
- * registers don't, so compare and hash what tilvenka_pmp_save gives.
+ * It is for 64-bit hosts, whose own byte order a saved struct has, and was built for x86-64 Linux. Bytes of a unit may
+ * differ where its registers don't, so compare and hash what tilvenka_pmp_save gives.
  *
  * Link with -ltilvenka_pmp. Addresses are byte addresses of physical memory unless said otherwise. */
 #ifndef TILVENKA_PMP_H
@@ -39,10 +40,44 @@ enum {
 
 /* The modes, as the manual numbers them (1.2). It is the effective mode that is asked for: that of MPP for loads and
  * stores under MPRV (3.1.6.3), and supervisor mode where a page table is walked. */
-enum { TILVENKA_PMP_USER = 0, TILVENKA_PMP_SUPERVISOR = 1, TILVENKA_PMP_MACHINE = 3 };
+typedef enum tilvenka_pmp_mode {
+    TILVENKA_PMP_USER = 0,
+    TILVENKA_PMP_SUPERVISOR = 1,
+    TILVENKA_PMP_MACHINE = 3
+} tilvenka_pmp_mode;
 
 /* The kinds of access. An AMO or a store-conditional is a store. */
-enum { TILVENKA_PMP_FETCH = 0, TILVENKA_PMP_LOAD = 1, TILVENKA_PMP_STORE = 2 };
+typedef enum tilvenka_pmp_kind {
+    TILVENKA_PMP_FETCH = 0,
+    TILVENKA_PMP_LOAD = 1,
+    TILVENKA_PMP_STORE = 2
+} tilvenka_pmp_kind;
+
+TILVENKA_PMP_ASSERT(sizeof(tilvenka_pmp_mode) == 4 && sizeof(tilvenka_pmp_kind) == 4, "enumerations are narrow");
+
+/* The CSRs. Of the pmpcfg registers RV64 has the even ones. */
+enum { TILVENKA_PMP_PMPCFG0 = 0x3a0, TILVENKA_PMP_PMPADDR0 = 0x3b0, TILVENKA_PMP_MSECCFG = 0x747 };
+
+/* Each of them with its name: TILVENKA_PMP_CSRS(CSR) is CSR(0x3a0, "pmpcfg0") and so on. A unit of sixteen entries has
+ * those of the first two lines, and mseccfg. */
+#define TILVENKA_PMP_CSRS(CSR) \
+    CSR(0x3a0, "pmpcfg0") CSR(0x3a2, "pmpcfg2") TILVENKA_PMP_TEN(CSR, 0x3b0, "pmpaddr") \
+    TILVENKA_PMP_SIX(CSR, 0x3ba, "pmpaddr1") \
+    CSR(0x3a4, "pmpcfg4") CSR(0x3a6, "pmpcfg6") CSR(0x3a8, "pmpcfg8") CSR(0x3aa, "pmpcfg10") CSR(0x3ac, "pmpcfg12") \
+    CSR(0x3ae, "pmpcfg14") CSR(0x3c0, "pmpaddr16") CSR(0x3c1, "pmpaddr17") CSR(0x3c2, "pmpaddr18") \
+    CSR(0x3c3, "pmpaddr19") TILVENKA_PMP_TEN(CSR, 0x3c4, "pmpaddr2") TILVENKA_PMP_TEN(CSR, 0x3ce, "pmpaddr3") \
+    TILVENKA_PMP_TEN(CSR, 0x3d8, "pmpaddr4") TILVENKA_PMP_TEN(CSR, 0x3e2, "pmpaddr5") \
+    CSR(0x3ec, "pmpaddr60") CSR(0x3ed, "pmpaddr61") CSR(0x3ee, "pmpaddr62") CSR(0x3ef, "pmpaddr63") \
+    CSR(0x747, "mseccfg")
+#define TILVENKA_PMP_SIX(CSR, number, name) \
+    CSR((number), name "0") CSR((number) + 1, name "1") CSR((number) + 2, name "2") CSR((number) + 3, name "3") \
+    CSR((number) + 4, name "4") CSR((number) + 5, name "5")
+#define TILVENKA_PMP_TEN(CSR, number, name) \
+    TILVENKA_PMP_SIX(CSR, number, name) CSR((number) + 6, name "6") CSR((number) + 7, name "7") \
+    CSR((number) + 8, name "8") CSR((number) + 9, name "9")
+
+/* The bits of mseccfg that the unit has. Those of other extensions, as Zkr's, are the emulator's to keep. */
+enum { TILVENKA_PMP_MML = 1, TILVENKA_PMP_MMWP = 2, TILVENKA_PMP_RLB = 4 };
 
 /* What a write or a read of a CSR came to. */
 enum {
@@ -50,17 +85,30 @@ enum {
     /* An odd pmpcfg register, which RV64 doesn't have (3.7.1). */
     TILVENKA_PMP_ODD_CONFIGURATION = 1,
     /* No register of the unit. */
-    TILVENKA_PMP_NO_REGISTER = 2
+    TILVENKA_PMP_NO_REGISTER = 2,
+    /* The bit of a write that is done, and by which a register isn't as before. */
+    TILVENKA_PMP_CHANGED = 4,
+    /* Bits of a write that is done: why the register doesn't read the value. There is one exactly where it doesn't. */
+    TILVENKA_PMP_ABSENT = 1 << 8, /* the value isn't zero for an entry, or a register, that the unit doesn't have */
+    TILVENKA_PMP_BITS = 1 << 9, /* it has bits that the register doesn't have */
+    TILVENKA_PMP_FROZEN = 1 << 10, /* it would change an entry that is frozen */
+    TILVENKA_PMP_LOW_END = 1 << 11, /* it would change the low end of a frozen entry's range */
+    TILVENKA_PMP_RESERVED = 1 << 12, /* it has W without R for an entry, and MML is 0 */
+    TILVENKA_PMP_LOCKDOWN = 1 << 13, /* it would add a locked rule that executes, MML is 1 and RLB is 0 */
+    TILVENKA_PMP_STICKY = 1 << 14, /* it would clear MML or MMWP */
+    TILVENKA_PMP_BYPASS = 1 << 15 /* it would set RLB, and some entry is locked */
 };
 
 /* An answer is one number: where the access fails, 1024 times the code of its fault; and what decided, as an entry, as
- * TILVENKA_PMP_SPLIT and an entry that has some of the bytes but not all, or as TILVENKA_PMP_NO_MATCH. */
+ * TILVENKA_PMP_SPLIT and an entry that has some of the bytes but not all, or as one of the others. */
 enum {
     TILVENKA_PMP_SPLIT = 256,
+    /* No entry has any of the bytes. */
     TILVENKA_PMP_NO_MATCH = 512,
-    TILVENKA_PMP_FAULT = 1024,
-    /* The numbers name no access: a mode or kind that isn't one, a length that isn't 1 to 4096, an end above 2^56. */
-    TILVENKA_PMP_NO_ACCESS = 65535
+    /* The numbers name no access: a mode or kind that isn't one, a length that isn't 1 to 4096, an end above 2^56. The
+     * fault is that of the kind, as beyond 2^56 a hart raises it, and that of a load where the kind isn't one. */
+    TILVENKA_PMP_NO_ACCESS = 1023,
+    TILVENKA_PMP_FAULT = 1024
 };
 
 /* What holds for every access inside a range: a set of the first three, or else one of the others, which have none of
@@ -105,45 +153,41 @@ TILVENKA_PMP_ASSERT(offsetof(tilvenka_pmp_map, rows) == 8 * 217 + 8, "the rows l
 TILVENKA_PMP_ASSERT(TILVENKA_PMP_ALIGNMENT(tilvenka_pmp_unit) == 8, "the unit is aligned otherwise");
 TILVENKA_PMP_ASSERT(sizeof(tilvenka_pmp_unit) == 592 + 8 * 217 + 8 + 32 * 217, "the unit is laid out otherwise");
 
-typedef struct tilvenka_pmp_found {
-    uint32_t answer;
-    uint32_t run; /* to be handed to the next call, as `near` */
-} tilvenka_pmp_found;
-
-TILVENKA_PMP_ASSERT(sizeof(tilvenka_pmp_found) == 8, "what is found is laid out otherwise");
-
 /* Resets the unit, which has 64 entries from now on where `entries` is 64, and else 16. The map isn't built. */
 void tilvenka_pmp_reset(tilvenka_pmp_unit *unit, uint64_t entries);
 
 /* Writes the CSR with this number, 0x3a0 to 0x3ef or 0x747, as firmware does in machine mode: locks, reserved bits and
- * sticky bits as 3.7.1 and Smepmp say. After TILVENKA_PMP_DONE the map isn't built; else nothing changed. */
+ * sticky bits as 3.7.1 and Smepmp say. With TILVENKA_PMP_CHANGED the registers aren't as before, and the map isn't
+ * built; else nothing changed, and there is nothing to flush. The registers of entries that a unit of sixteen lacks are
+ * there: they read as zero, and a write to them is done and changes nothing. */
 uint32_t tilvenka_pmp_write(tilvenka_pmp_unit *unit, uint32_t csr, uint64_t value);
 
 /* Reads the CSR with this number. Unless it is TILVENKA_PMP_DONE, `value` stays. */
 uint32_t tilvenka_pmp_read(const tilvenka_pmp_unit *unit, uint32_t csr, uint64_t *value);
 
-/* Builds the map, by which a decision is a search in place of a walk: once after the last of several writes. That takes
- * 48 KiB of the stack, as tilvenka_pmp_rights does without a map; other calls take at most 12. */
+/* Builds the map, by which a decision is a search in place of a walk: once after the last of several writes. One that
+ * is built is left. Every call takes at most 12 KiB of the stack. */
 void tilvenka_pmp_build(tilvenka_pmp_unit *unit);
 
 bool tilvenka_pmp_is_built(const tilvenka_pmp_unit *unit);
 
 /* Decides an access, by the map where it is built, and else by the registers. The answer is the same. */
-uint32_t tilvenka_pmp_decide(const tilvenka_pmp_unit *unit, uint32_t mode, uint32_t kind, uint64_t start,
-                             uint64_t length);
+uint32_t tilvenka_pmp_decide(const tilvenka_pmp_unit *unit, tilvenka_pmp_mode mode, tilvenka_pmp_kind kind,
+                             uint64_t start, uint64_t length);
 
 /* The same by the registers alone: slower, and independent of the map. */
-uint32_t tilvenka_pmp_decide_by_registers(const tilvenka_pmp_unit *unit, uint32_t mode, uint32_t kind, uint64_t start,
-                                          uint64_t length);
-
-/* The same, where the access is likely to be in the run of the one before: looks there first. Any `near` will do. */
-tilvenka_pmp_found tilvenka_pmp_decide_near(const tilvenka_pmp_unit *unit, uint32_t near, uint32_t mode,
-                                            uint32_t kind, uint64_t start, uint64_t length);
+uint32_t tilvenka_pmp_decide_by_registers(const tilvenka_pmp_unit *unit, tilvenka_pmp_mode mode,
+                                          tilvenka_pmp_kind kind, uint64_t start, uint64_t length);
 
 /* What holds for every access of the mode inside the range. It serves a TLB fill: a page is a range of 4096 bytes. An
- * access that goes on into the next page isn't covered by the rights of both: it has to be decided. Where the map isn't
- * built, each call builds one for itself, which takes microseconds. */
-uint32_t tilvenka_pmp_rights(const tilvenka_pmp_unit *unit, uint32_t mode, uint64_t start, uint64_t length);
+ * access that goes on into the next page isn't covered by the rights of both: it has to be decided. */
+uint32_t tilvenka_pmp_rights(const tilvenka_pmp_unit *unit, tilvenka_pmp_mode mode, uint64_t start, uint64_t length);
+
+/* The run of a byte: from `first` to `last` lie all bytes round it that have the same entry, or none. It serves a TLB
+ * entry of any size. The answer is that entry or TILVENKA_PMP_NO_MATCH, and 1024 times the rights of the mode there. It
+ * is TILVENKA_PMP_NO_ACCESS, and `first` and `last` stay, where the mode isn't one or the address isn't below 2^56. */
+uint32_t tilvenka_pmp_run(const tilvenka_pmp_unit *unit, tilvenka_pmp_mode mode, uint64_t address, uint64_t *first,
+                          uint64_t *last);
 
 /* A snapshot: all registers, with zeros for what a unit of sixteen lacks. */
 void tilvenka_pmp_save(const tilvenka_pmp_unit *unit, tilvenka_pmp_registers *registers);
@@ -152,13 +196,57 @@ void tilvenka_pmp_save(const tilvenka_pmp_unit *unit, tilvenka_pmp_registers *re
  * stored as a write stores it. The map isn't built. */
 void tilvenka_pmp_restore(tilvenka_pmp_unit *unit, const tilvenka_pmp_registers *registers);
 
+/* Whether a write or a read was done. */
+static inline bool tilvenka_pmp_is_done(uint32_t status) {
+    return status != TILVENKA_PMP_ODD_CONFIGURATION && status != TILVENKA_PMP_NO_REGISTER;
+}
+
+/* Whether the register reads what was written. */
+static inline bool tilvenka_pmp_is_stored(uint32_t status) {
+    return tilvenka_pmp_is_done(status) && status < TILVENKA_PMP_ABSENT;
+}
+
+/* How many entries aren't off: of none, machine mode may do what it may without a unit. */
+static inline unsigned tilvenka_pmp_entries_on(const tilvenka_pmp_unit *unit) {
+    unsigned count = 0;
+    for (unsigned entry = 0; entry < (unit->registers.entries == 64 ? 64 : 16); entry++)
+        count += (unit->registers.configurations[entry] & 0x18) != 0;
+    return count;
+}
+
+/* The parts of an answer, and of a run's but for the fault. */
+
 static inline bool tilvenka_pmp_is_allowed(uint32_t answer) {
     return answer < TILVENKA_PMP_FAULT;
 }
 
-/* The exception code of a failed access: 1, 5 or 7 (3.1.15). It is 0 of one that is allowed, and 63, which is no code,
- * of TILVENKA_PMP_NO_ACCESS: beyond 2^56 a hart raises the access fault of its kind. */
+/* The exception code of a failed access, 1, 5 or 7 (3.1.15), and 0 of one that is allowed. */
 static inline uint32_t tilvenka_pmp_fault(uint32_t answer) {
+    return answer / TILVENKA_PMP_FAULT;
+}
+
+/* Whether no entry has any of the bytes. */
+static inline bool tilvenka_pmp_is_unmatched(uint32_t answer) {
+    return answer % TILVENKA_PMP_FAULT == TILVENKA_PMP_NO_MATCH;
+}
+
+/* Whether the entry has some of the bytes and not all. */
+static inline bool tilvenka_pmp_is_partial(uint32_t answer) {
+    return answer % TILVENKA_PMP_FAULT / TILVENKA_PMP_SPLIT == 1;
+}
+
+static inline bool tilvenka_pmp_is_no_access(uint32_t answer) {
+    return answer % TILVENKA_PMP_FAULT == TILVENKA_PMP_NO_ACCESS;
+}
+
+/* The entry that decided, below 64; at least 64 where there is none. */
+static inline uint32_t tilvenka_pmp_entry(uint32_t answer) {
+    uint32_t cause = answer % TILVENKA_PMP_FAULT;
+    return cause < TILVENKA_PMP_NO_MATCH ? cause % TILVENKA_PMP_SPLIT : cause;
+}
+
+/* The rights of a run's answer. */
+static inline uint32_t tilvenka_pmp_run_rights(uint32_t answer) {
     return answer / TILVENKA_PMP_FAULT;
 }
 

@@ -13,6 +13,11 @@ static void write_register(const struct write *write) {
         pmpcfg_csr_write(&env, write->number - 0x3a0, write->value);
 }
 
+static void write_all(const struct write *writes, size_t count) {
+    for (size_t i = 0; i < count; i++)
+        write_register(&writes[i]);
+}
+
 /* Clears the unit by writes, since it need not lie in `env`. Nothing is locked. */
 static void clear(void) {
     for (unsigned word = 0; word < ENTRIES / 4; word += 2)
@@ -24,8 +29,7 @@ static void clear(void) {
 static void prepare(const struct write *writes, size_t count) {
     env.features = 1 << RISCV_FEATURE_MMU | 1 << RISCV_FEATURE_PMP | 1 << RISCV_FEATURE_EPMP;
     clear();
-    for (size_t i = 0; i < count; i++)
-        write_register(&writes[i]);
+    write_all(writes, count);
 }
 
 static inline unsigned answer_to(struct request request) {
@@ -51,5 +55,5 @@ ASK_BY(fill, fill_for)
 #define NAME_OF(WORD) STRING(WORD)
 #define FILL_OF(WORD) WORD##_fill
 #define FILL(WORD) FILL_OF(WORD)
-const struct peer PEER = {NAME_OF(PEER), NULL, prepare, ask};
-const struct peer FILL(PEER) = {NAME_OF(PEER), NULL, prepare, fill};
+const struct peer PEER = {NAME_OF(PEER), NULL, prepare, write_all, ask};
+const struct peer FILL(PEER) = {NAME_OF(PEER), NULL, prepare, write_all, fill};

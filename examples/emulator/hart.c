@@ -45,7 +45,7 @@ static void flush(struct hart *hart) {
 
 static uint32_t write_csr(struct hart *hart, uint32_t csr, uint64_t value) {
     uint32_t status = tilvenka_pmp_write(&hart->pmp, csr, value);
-    if (status == TILVENKA_PMP_DONE)
+    if (status & TILVENKA_PMP_CHANGED)
         flush(hart);
     return status;
 }
@@ -95,18 +95,13 @@ static uint8_t *memory_of(struct hart *hart, const struct access *access) {
 }
 
 static void print_fault(uint32_t answer) {
-    if (answer == TILVENKA_PMP_NO_ACCESS) {
-        printf("no access\n");
-        return;
-    }
-    uint32_t cause = answer % TILVENKA_PMP_FAULT;
     printf("fault %" PRIu32 ", ", tilvenka_pmp_fault(answer));
-    if (cause >= TILVENKA_PMP_NO_MATCH)
+    if (tilvenka_pmp_is_no_access(answer))
+        printf("no access\n");
+    else if (tilvenka_pmp_is_unmatched(answer))
         printf("no entry\n");
-    else if (cause >= TILVENKA_PMP_SPLIT)
-        printf("split by entry %" PRIu32 "\n", cause - TILVENKA_PMP_SPLIT);
     else
-        printf("entry %" PRIu32 "\n", cause);
+        printf("%sentry %" PRIu32 "\n", tilvenka_pmp_is_partial(answer) ? "split by " : "", tilvenka_pmp_entry(answer));
 }
 
 static void print_bytes(const uint8_t *bytes, uint64_t length) {
@@ -183,7 +178,7 @@ static bool run_line(struct hart *hart, const char *line) {
     static const char *const written[] = {"written", "an odd configuration register", "no register of the unit"};
     struct words words = read_words(line);
     if (words.count == 3 && strcmp(words.word[0], "write") == 0 && number(words.word[1]) <= UINT32_MAX) {
-        printf("%s\n", written[write_csr(hart, number(words.word[1]), number(words.word[2]))]);
+        printf("%s\n", written[write_csr(hart, number(words.word[1]), number(words.word[2])) & 3]);
         return true;
     }
     if (words.count == 1 && strcmp(words.word[0], "migrate") == 0) {

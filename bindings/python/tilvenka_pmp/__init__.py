@@ -26,11 +26,12 @@ class _C:
 
     MAX_ENTRIES = 64
     PLACES = 217
-    DONE = 0
+    ODD_CONFIGURATION = 1
+    NO_REGISTER = 2
     SPLIT = 256
     NO_MATCH = 512
     FAULT = 1024
-    NO_ACCESS = 65535
+    NO_ACCESS = 1023
     MIXED = 8
     NO_RANGE = 16
 
@@ -208,8 +209,8 @@ class Unit:
 
     @staticmethod
     def _expect_done(status: int, register: Union[int, str]) -> None:
-        """The status of a write or a read is in the lowest byte of what they return."""
-        if status & 0xFF != _C.DONE:
+        """What a write did is told in other bits."""
+        if status in (_C.ODD_CONFIGURATION, _C.NO_REGISTER):
             raise KeyError(register)
 
     def build(self) -> None:
@@ -218,7 +219,7 @@ class Unit:
 
     @property
     def is_built(self) -> bool:
-        """Whether the map is built. A write leaves none."""
+        """Whether the map is built. A write that changes a register leaves none."""
         return bool(_library.tilvenka_pmp_is_built(self._unit))
 
     def decide(self, mode: Mode, kind: Kind, start: int, length: int) -> Answer:
@@ -233,9 +234,9 @@ class Unit:
     def _answer(self, call: ctypes._NamedFuncPointer, mode: Mode, kind: Kind, start: int, length: int) -> Answer:
         start, length = _number(start, 64, "start"), _number(length, 64, "length")
         number = call(self._unit, Mode(mode), Kind(kind), start, length)
-        if number == _C.NO_ACCESS:
-            raise ValueError("an access has 1 to 4096 bytes below 2^56")
         fault, cause = divmod(number, _C.FAULT)
+        if cause == _C.NO_ACCESS:
+            raise ValueError("an access has 1 to 4096 bytes below 2^56")
         if cause == _C.NO_MATCH:
             return Answer(fault or None, Cause.NO_MATCH, None)
         is_split, entry = divmod(cause, _C.SPLIT)

@@ -83,9 +83,6 @@ impl Answer {
     }
 
     pub(crate) fn of_number(number: u32) -> Result<Answer, NoAccess> {
-        if number == ffi::NO_ACCESS {
-            return Err(NoAccess);
-        }
         let fault = match number / ffi::FAULT {
             0 => None,
             1 => Some(Fault::Instruction),
@@ -93,6 +90,7 @@ impl Answer {
             _ => Some(Fault::Store),
         };
         let cause = match number % ffi::FAULT {
+            ffi::NO_ACCESS => return Err(NoAccess),
             ffi::NO_MATCH => Cause::NoMatch,
             split if split >= ffi::SPLIT => Cause::Split((split - ffi::SPLIT) as u8),
             entry => Cause::Rule(entry as u8),

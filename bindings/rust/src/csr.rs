@@ -32,12 +32,12 @@ pub enum NoRegister {
 }
 
 impl NoRegister {
-    /// Reads the status of a write or a read, which is in the lowest byte of what they return.
+    /// Reads the status of a write or a read. What a write did is told in other bits.
     pub(crate) fn of_status(number: u32) -> Result<(), NoRegister> {
-        match number & 0xff {
-            ffi::DONE => Ok(()),
+        match number {
             ffi::ODD_CONFIGURATION => Err(NoRegister::OddConfiguration),
-            _ => Err(NoRegister::Unknown),
+            ffi::NO_REGISTER => Err(NoRegister::Unknown),
+            _ => Ok(()),
         }
     }
 }

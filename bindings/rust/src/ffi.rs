@@ -13,13 +13,13 @@ pub const FETCH: u32 = 0;
 pub const LOAD: u32 = 1;
 pub const STORE: u32 = 2;
 
-pub const DONE: u32 = 0;
 pub const ODD_CONFIGURATION: u32 = 1;
+pub const NO_REGISTER: u32 = 2;
 
 pub const SPLIT: u32 = 256;
 pub const NO_MATCH: u32 = 512;
 pub const FAULT: u32 = 1024;
-pub const NO_ACCESS: u32 = 65535;
+pub const NO_ACCESS: u32 = 1023;
 
 pub const READ: u32 = 1;
 pub const WRITE: u32 = 2;

@@ -74,7 +74,7 @@ impl Unit {
         unsafe { ffi::tilvenka_pmp_build(&mut self.unit) }
     }
 
-    /// Whether the map is built. A write leaves none.
+    /// Whether the map is built. A write that changes a register leaves none.
     pub fn is_built(&self) -> bool {
         unsafe { ffi::tilvenka_pmp_is_built(&self.unit) }
     }

@@ -20,11 +20,12 @@ use Rattle.pmp_map.specs.declared.run.Run.{Run}
 use Rattle.pmp_map.specs.declared.search.TheConstants.{PLACES}
 use Rattle.pmp_map.specs.Answers.{decision_by, refusal_by, whole_cause, owned_rights}
 use Rattle.pmp_map.specs.Runs.{map_run}
-use Rattle.pmp_map.proofs.Order.{start_at, starts_rise, in_run, run_before}
+use Rattle.pmp_map.proofs.Order.{start_at, start_past, starts_rise, in_run, run_before}
 use Rattle.pmp_map.proofs.Starts.{IsPlaceOf, place_found}
 use Rattle.pmp_map.proofs.LeastOwner.{OwnsOne}
 use Rattle.pmp_map.proofs.Decided.{decided_whole, decided_split}
 use Rattle.pmp_c.specs.declared.tables.Tables.{Tables}
+use Rattle.pmp_c.specs.declared.tables.TheConstants.{FEW}
 use Rattle.pmp_c.specs.Answer.{cause_number, fault_number, answer_number}
 use Rattle.pmp_c.specs.Causes.{cause_at, IsLeastCause}
 use Rattle.pmp_c.specs.Columns.{column_of}
@@ -42,7 +43,7 @@ cause_most None small = omega arith
 cause_most (Some i) small = omega arith
 
 -- the first answer of a row tells the cause
-row_cause : (file : RegisterFile) (owner : Option ℕ) (row : List ℕ) → IsRow file owner row
+pub row_cause : (file : RegisterFile) (owner : Option ℕ) (row : List ℕ) → IsRow file owner row
     → slice_index row 0 % 1024 ≡ cause_number (whole_cause owner)
 row_cause file owner row is =
     let allowed = allows (owned_rights file owner U) Fetch in
@@ -67,8 +68,12 @@ module _ (file : RegisterFile) (tables : Tables) (are : AreTables file tables) w
 
   pub run_found : (byte place : ℕ) → byte < ADDRESS_LIMIT → place + 1 < PLACES → IsFound tables byte place
       → IsPlaceOf are.list byte place
-  run_found byte place = place_found file.entries are.list tables.starts are.runs_are are.few are.starts_are tables.runs
-      byte place are.count
+  run_found byte place small places is_found = place_found file.entries are.list tables.starts are.runs_are are.few
+      are.starts_are tables.runs byte place are.count small places (λ within. is_found within (λ few. omega (
+        arith,
+        are.starts_are FEW (omega arith),
+        start_past ADDRESS_LIMIT are.list FEW (omega (arith, are.count)),
+      )))
 
   abbrev pub owner_at : ℕ → Option ℕ
   owner_at k = (map_run are.list k).owner

@@ -2,3 +2,5 @@ pub mod Answering
 pub mod Naming
 pub mod Ranging
 pub mod Numbering
+pub mod Filling
+pub mod Reasoning

@@ -6,8 +6,8 @@ use Rattle.pmp_core.specs.declared.decision.Cause.{Cause}
 use Rattle.pmp_core.specs.declared.decision.Cause.TheVariants.{Rule, Split, NoMatch}
 use Rattle.pmp_core.specs.declared.decision.Decision.{Decision}
 use Rattle.pmp_core.specs.FaultCode.{access_fault_code}
-use Rattle.pmp_c.specs.Answer.{cause_number, fault_number, number_by}
-use Rattle.pmp_c.specs.AnswerLaw.{IsByteCause, AnswerLaw, NoAccessLaw, ReadingLaw}
+use Rattle.pmp_c.specs.Answer.{cause_number, fault_number, number_by, no_access}
+use Rattle.pmp_c.specs.AnswerLaw.{IsByteCause, AnswerLaw, NoAccessLaw, NoAccessFaultLaw, ReadingLaw}
 
 cause_low : (cause : Cause) → IsByteCause cause → cause_number cause ≤ 512
 cause_low (Rule i) low = omega arith
@@ -51,15 +51,27 @@ fault_low Fetch false = omega arith
 fault_low Load false = omega arith
 fault_low Store false = omega arith
 
-pub never_no_access : NoAccessLaw
-never_no_access access decision low e =
-    let cause = cause_low decision.cause low in
-    let fault = fault_low access.kind decision.allowed in
-    absurd (omega (arith, cause, fault, e))
-
 parted : (cause fault : ℕ) → cause ≤ 512
     → ((cause + 1024 * fault) / 1024 ≡ fault) × ((cause + 1024 * fault) % 1024 ≡ cause)
 parted cause fault low = (omega arith, omega arith)
+
+-- what decides is left
+no_cause_part : (code : ℕ) → (1023 + 1024 * code) % 1024 ≡ 1023
+no_cause_part code = omega arith
+
+no_access_part : (kind : ℕ) → no_access kind % 1024 ≡ 1023
+no_access_part kind = no_cause_part _
+
+pub never_no_access : NoAccessLaw
+never_no_access access decision kind low e =
+    let cause = cause_low decision.cause low in
+    let parts = parted (cause_number decision.cause) (fault_number access.kind decision.allowed) cause in
+    absurd (omega (arith, parts.1, no_access_part kind, ap (λ (n : ℕ). n % 1024) e))
+
+pub no_access_fault : NoAccessFaultLaw
+no_access_fault Fetch = refl
+no_access_fault Load = refl
+no_access_fault Store = refl
 
 below : (kind : Kind) (allowed : Bool) (cause : ℕ) → cause ≤ 512
     → (cause + 1024 * fault_number kind allowed) < 1024 ↔ allowed ≡ true

@@ -1,5 +1,5 @@
 -- The number of an answer.
-use Rattle.std.specs.Prelude.{ℕ, ◌+◌, ◌*◌, Bool, if◌then◌else◌}
+use Rattle.std.specs.Prelude.{ℕ, ◌+◌, ◌*◌, ◌==◌, Bool, if◌then◌else◌}
 use Rattle.pmp_core.specs.declared.access.Access.{Access}
 use Rattle.pmp_core.specs.declared.access.Kind.{Kind}
 use Rattle.pmp_core.specs.declared.decision.Cause.{Cause}
@@ -19,9 +19,13 @@ fault_number kind allowed = if allowed then 0 else access_fault_code kind
 abbrev pub number_by : Kind → Cause → (allowed : Bool) → ℕ
 number_by kind cause allowed = cause_number cause + 1024 * fault_number kind allowed
 
--- what is answered where numbers name no access
-abbrev pub no_access : ℕ
-no_access = 65535
+-- what is answered where numbers name no access: the cause is none, and the fault that of the kind, or a load's where the
+-- kind isn't one
+abbrev pub no_cause : ℕ
+no_cause = 1023
+
+abbrev pub no_access : (kind : ℕ) → ℕ
+no_access kind = no_cause + 1024 * (if kind == 0 then 1 else (if kind == 2 then 7 else 5))
 
 -- the number that answers the access
 abbrev pub answer_number : Access → Decision → ℕ

@@ -2,8 +2,10 @@
 pub mod Request
 pub mod Answer
 pub mod RangeRights
-pub mod Status
+pub mod RunAnswer
 pub mod Unit
+pub mod Reasons
+pub mod Status
 -- What private contracts cite: rows of answers, and a unit's tables.
 pub mod Columns
 pub mod Rows

@@ -1,11 +1,26 @@
 -- The number by which a call says whether it took a register's number.
-use Rattle.std.specs.Prelude.{ℕ, Result, Ok, Err}
+use Rattle.std.specs.Prelude.{◌≡◌, ◌↔◌, ℕ, ◌/◌, ◌%◌, ◌<◌, Result, Ok, Err}
 use Rattle.pmp_core.specs.declared.csr.Csr.{Csr}
 use Rattle.pmp_core.specs.declared.csr.CsrFault.{CsrFault}
 use Rattle.pmp_core.specs.declared.csr.CsrFault.TheVariants.{OddCfg, NotPmp}
+use Rattle.pmp_core.specs.RegisterValue.{register_value}
+use Rattle.pmp_core.specs.RegisterWrite.{written}
+use Rattle.pmp_c.specs.declared.unit.Unit.{Unit}
+use Rattle.pmp_c.specs.Reasons.{reasons_number}
+use Rattle.pmp_c.specs.Unit.{file_of_unit, IsUnit, IsChanged}
 
 -- 0 where the call took it
 abbrev pub status_number : Result Csr CsrFault → ℕ
 status_number (Ok csr) = 0
 status_number (Err OddCfg) = 1
 status_number (Err NotPmp) = 2
+
+-- a write to the register that left a unit, and the number that says of it whether any register is another, and why this
+-- one doesn't read the value
+pub record IsWriteAnswer (old new : Unit) (csr : Csr) (value number : ℕ) : Type 0 where
+  pub file : file_of_unit new ≡ written (file_of_unit old) csr value
+  pub order : IsUnit old → IsUnit new
+  pub same : number / 4 % 2 ≡ 0 → new ≡ old
+  pub changed : number / 4 % 2 ≡ 1 → IsChanged old new
+  pub reasons : number / 256 ≡ reasons_number (file_of_unit old) csr value
+  pub stored : number < 256 ↔ register_value (file_of_unit new) csr ≡ value

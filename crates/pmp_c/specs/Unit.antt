@@ -1,5 +1,5 @@
 -- What the numbers of a unit stand for.
-use Rattle.std.specs.Prelude.{◌<◌}
+use Rattle.std.specs.Prelude.{◌≡◌, ◌≢◌, ◌<◌}
 use Rattle.pmp_core.specs.RegisterFile.{RegisterFile}
 use Rattle.pmp_core.specs.SavedRegisters.{restored_file}
 use Rattle.pmp_c.specs.declared.unit.Unit.{Unit}
@@ -12,3 +12,8 @@ file_of_unit unit = restored_file unit.registers
 -- the map, where it is built, is that of the registers
 abbrev pub IsUnit : Unit → Type 0
 IsUnit unit = 0 < unit.map.runs → AreTables (file_of_unit unit) unit.map
+
+-- the registers stand for another file, and the map isn't built
+pub record IsChanged (old new : Unit) : Type 0 where
+  pub file : file_of_unit new ≢ file_of_unit old
+  pub unbuilt : new.map.runs ≡ 0

@@ -2,12 +2,24 @@
 
 ghost use Rattle.std.specs.Prelude.{◌≡◌, ◌+◌, ◌*◌, ◌≤◌};
 ghost use Rattle.pmp_core.specs.FaultCode.{access_fault_code};
-ghost use Rattle.pmp_c.specs.Answer.{cause_number, number_by, answer_number};
+ghost use Rattle.pmp_c.specs.Answer.{cause_number, number_by, answer_number, no_access};
 
 use pmp_core::{Access, Cause, Decision, Kind};
 
-/// The answer where the numbers name no access.
-pub const NO_ACCESS: u16 = 65535;
+/// What decides where the numbers name no access.
+pub const NO_CAUSE: u16 = 1023;
+
+/// The answer where the numbers name no access, of which this is the kind's.
+#[cold]
+pub fn no_access(kind: u32) -> u16
+    ensures { result ≡ no_access kind }
+{
+    match kind {
+        0 => NO_CAUSE + 1024,
+        2 => NO_CAUSE + 7 * 1024,
+        _ => NO_CAUSE + 5 * 1024,
+    }
+}
 
 fn cause_number(cause: Cause) -> u16
     ensures number { result ≡ cause_number cause }

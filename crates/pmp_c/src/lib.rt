@@ -6,27 +6,29 @@
 //! An access is named by its mode (0 user, 1 supervisor, 3 machine), its kind (0 fetch, 1 load, 2 store), the byte
 //! address of its first byte, and its length in bytes. An answer is the number of the cause (`i` for the rule of entry
 //! `i`, 256 + `i` for a split by entry `i`, 512 where no entry matches), and 1,024 times the exception code of a
-//! refusal; 65,535 answers numbers that name no access.
+//! refusal. The cause of numbers that name no access is 1,023.
 #![tactic(auto)]
 
-ghost use Rattle.std.specs.Prelude.{◌≡◌, ◌<◌, ◌↔◌, IsTrue, MatchResult};
+ghost use Rattle.std.specs.Prelude.{◌≡◌, ◌<◌, ◌≤◌, ◌↔◌, ◌⊎◌, Err, IsTrue, MatchResult};
 ghost use Rattle.pmp_core.specs.declared.access.Access.{Access};
 ghost use Rattle.pmp_core.specs.declared.access.Mode.{Mode};
+ghost use Rattle.pmp_core.specs.declared.access.TheConstants.{ADDRESS_LIMIT};
 ghost use Rattle.pmp_core.specs.Csr.{numbered};
 ghost use Rattle.pmp_core.specs.Ranges.{decision_of};
 ghost use Rattle.pmp_core.specs.RegisterFile.{reset_file};
 ghost use Rattle.pmp_core.specs.RegisterValue.{register_value};
-ghost use Rattle.pmp_core.specs.RegisterWrite.{written};
 ghost use Rattle.pmp_core.specs.SavedRegisters.{saved_registers, restored_file, saved_size};
 ghost use Rattle.pmp_core.specs.Size.{count_of};
-ghost use Rattle.pmp_c.specs.Answer.{answer_number, no_access};
+ghost use Rattle.pmp_c.specs.Answer.{answer_number, no_access, no_cause};
 ghost use Rattle.pmp_c.specs.RangeRights.{IsRangeOf, AreRangeRights, no_range};
-ghost use Rattle.pmp_c.specs.Request.{IsNamed};
-ghost use Rattle.pmp_c.specs.Status.{status_number};
+ghost use Rattle.pmp_c.specs.Request.{IsNamed, mode_number};
+ghost use Rattle.pmp_c.specs.RunAnswer.{IsRunAnswer};
+ghost use Rattle.pmp_c.specs.Status.{status_number, IsWriteAnswer};
 ghost use Rattle.pmp_c.specs.Unit.{file_of_unit, IsUnit};
 
 mod answer;
 pub mod laws;
+mod reasons;
 mod request;
 mod rights;
 mod row;
@@ -34,13 +36,13 @@ mod status;
 mod tables;
 mod unit;
 
-use crate::answer::NO_ACCESS;
+use crate::answer::{NO_CAUSE, no_access};
 use crate::request::Request;
 use crate::rights::NO_RANGE;
-use crate::status::{TAKEN, csr_of, refusal_status};
-use pmp_core::{ADDRESS_LIMIT, Event, RegFile, SavedRegisters};
+use crate::status::{CHANGED, REASONS, TAKEN, csr_of, refusal_status};
+use pmp_core::{ADDRESS_LIMIT, RegFile, SavedRegisters};
 pub use tables::Tables;
-pub use unit::{Found, Unit};
+pub use unit::Unit;
 
 /// Resets a unit of so many entries: 64, and every other number means 16 (Volume II, 3.7.1). All registers are zero.
 #[unsafe(no_mangle)]
@@ -55,28 +57,29 @@ pub extern "C" fn tilvenka_pmp_reset(unit: &mut Unit, entries: u64)
     unit.set_file(&RegFile::reset_of(size));
 }
 
-/// Writes a register (Volume II, 3.7.1 and Smepmp), by its CSR number. The map is then to be built again. Answers 0,
-/// or 1 for an odd `pmpcfg` and 2 for what is no PMP register: these change nothing.
+/// Writes a register (Volume II, 3.7.1 and Smepmp), by its CSR number. Answers 1 for an odd `pmpcfg` and 2 for what is
+/// no PMP register: these change nothing. Else the sum of 4 where a register is another than before, and then the map is
+/// to be built again, and of 256 times the reasons why this one doesn't read the value, a bit for each in their order.
 #[unsafe(no_mangle)]
 pub extern "C" fn tilvenka_pmp_write(unit: &mut Unit, csr: u32, value: u64) -> u32
-    ensures status { result ≡ status_number (numbered csr) }
-    ensures effect { MatchResult (numbered csr)
-        (λ named. (file_of_unit unit.new ≡ written (file_of_unit unit.old) named value) × (unit.new.map.runs ≡ 0)
-        × IsUnit unit.new)
-        (λ fault. unit.new ≡ unit.old) }
+    ensures { MatchResult (numbered csr)
+        (λ named. IsWriteAnswer unit.old unit.new named value result)
+        (λ fault. (result ≡ status_number (Err fault)) × (unit.new ≡ unit.old)) }
 {
     match csr_of(csr) {
         Ok(csr) => {
-            let mut file = unit.file();
-            file.step(Event::Write(csr, value));
-            unit.set_file(&file);
-            TAKEN
+            let written = unit.write(csr, value);
+            if written.is_changed {
+                CHANGED + REASONS * written.reasons
+            } else {
+                TAKEN + REASONS * written.reasons
+            }
         }
         Err(fault) => refusal_status(fault),
     }
 }
 
-/// Reads a register, by its CSR number. Answers as a write does.
+/// Reads a register, by its CSR number. Answers 0, or as a write does where it doesn't.
 #[unsafe(no_mangle)]
 pub extern "C" fn tilvenka_pmp_read(unit: &Unit, csr: u32, value: &mut u64) -> u32
     ensures status { result ≡ status_number (numbered csr) }
@@ -86,18 +89,18 @@ pub extern "C" fn tilvenka_pmp_read(unit: &Unit, csr: u32, value: &mut u64) -> u
 {
     match csr_of(csr) {
         Ok(csr) => {
-            *value = unit.file().read(csr);
+            *value = unit.registers.read(csr);
             TAKEN
         }
         Err(fault) => refusal_status(fault),
     }
 }
 
-/// Builds the map, by which decisions are faster.
+/// Builds the map, by which decisions are faster, where it isn't built.
 #[unsafe(no_mangle)]
 pub extern "C" fn tilvenka_pmp_build(unit: &mut Unit)
     ensures registers { unit.new.registers ≡ unit.old.registers }
-    ensures unit { IsUnit unit.new }
+    ensures unit { IsUnit unit.old → IsUnit unit.new }
     ensures built { 0 < unit.new.map.runs }
 {
     unit.build();
@@ -122,34 +125,11 @@ pub extern "C" fn tilvenka_pmp_decide(
 ) -> u32
     ensures answer { (access : Access) → IsNamed access mode kind start length → IsUnit unit.now
         → result ≡ answer_number access (decision_of (file_of_unit unit.now) access) }
-    ensures none { ((access : Access) → ¬ (IsNamed access mode kind start length)) → result ≡ no_access }
+    ensures none { ((access : Access) → ¬ (IsNamed access mode kind start length)) → result ≡ no_access kind }
 {
     match Request::new(mode, kind, start, length) {
         Some(request) => u32::from(unit.answer(&request)),
-        None => u32::from(NO_ACCESS),
-    }
-}
-
-/// The same, which tries a run first: that of the last answer, or any number.
-#[unsafe(no_mangle)]
-pub extern "C" fn tilvenka_pmp_decide_near(
-    unit: &Unit,
-    near: u32,
-    mode: u32,
-    kind: u32,
-    start: u64,
-    length: u64,
-) -> Found
-    ensures answer { (access : Access) → IsNamed access mode kind start length → IsUnit unit.now
-        → result.answer ≡ answer_number access (decision_of (file_of_unit unit.now) access) }
-    ensures none { ((access : Access) → ¬ (IsNamed access mode kind start length)) → result.answer ≡ no_access }
-{
-    match Request::new(mode, kind, start, length) {
-        Some(request) => unit.answer_near(near, &request),
-        None => Found {
-            answer: u32::from(NO_ACCESS),
-            run: near,
-        },
+        None => u32::from(no_access(kind)),
     }
 }
 
@@ -164,7 +144,7 @@ pub extern "C" fn tilvenka_pmp_decide_by_registers(
 ) -> u32
     ensures answer { (access : Access) → IsNamed access mode kind start length
         → result ≡ answer_number access (decision_of (file_of_unit unit.now) access) }
-    ensures none { ((access : Access) → ¬ (IsNamed access mode kind start length)) → result ≡ no_access }
+    ensures none { ((access : Access) → ¬ (IsNamed access mode kind start length)) → result ≡ no_access kind }
 {
     u32::from(unit.answer_by_registers(mode, kind, start, length))
 }
@@ -184,6 +164,31 @@ pub extern "C" fn tilvenka_pmp_rights(unit: &Unit, mode: u32, start: u64, length
         return NO_RANGE;
     }
     unit.rights(mode, start, length)
+}
+
+/// All bytes round this one that have its owner: the first and the last of them, and as the answer the number of the
+/// owner's cause and 1,024 times what the mode may do there; 1,023 where the numbers name no mode or no byte below
+/// `2^56`, which leaves the others as they are.
+#[unsafe(no_mangle)]
+pub extern "C" fn tilvenka_pmp_run(
+    unit: &Unit,
+    mode: u32,
+    address: u64,
+    first: &mut u64,
+    last: &mut u64,
+) -> u32
+    ensures run { (named : Mode) → mode_number named ≡ mode → address < ADDRESS_LIMIT → IsUnit unit.now
+        → IsRunAnswer (file_of_unit unit.now) named address first.new last.new result }
+    ensures none { (((named : Mode) → ¬ (mode_number named ≡ mode)) ⊎ (ADDRESS_LIMIT ≤ address))
+        → (result ≡ no_cause) × (first.new ≡ first.old) × (last.new ≡ last.old) }
+{
+    if mode > 3 || mode == 2 || address >= ADDRESS_LIMIT {
+        return u32::from(NO_CAUSE);
+    }
+    let around = unit.around(mode, address);
+    *first = around.first;
+    *last = around.last;
+    around.answer
 }
 
 /// Writes the registers out, with zeros for what the unit doesn't have.

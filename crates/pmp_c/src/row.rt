@@ -1,26 +1,28 @@
 //! What accesses are answered whose bytes have one owner.
 
-ghost use Rattle.std.specs.Prelude.{◌≡◌, ◌<◌, IfSome, length};
+ghost use Rattle.std.specs.Prelude.{◌≡◌, ◌<◌, IfSome};
 ghost use Rattle.pmp_core.specs.declared.access.Mode.{Mode};
 ghost use Rattle.pmp_core.specs.RegisterFile.{RegisterFile};
 ghost use Rattle.pmp_core.specs.Rights.{perms_of};
+ghost use Rattle.pmp_core.specs.SavedRegisters.{restored_file, saved_size};
+ghost use Rattle.pmp_core.specs.Size.{count_of};
 ghost use Rattle.pmp_map.specs.Answers.{owned_rights, whole_cause};
 ghost use Rattle.pmp_c.specs.Rows.{IsRow, owned_answer};
 
-use crate::answer::{NO_ACCESS, number_by};
-use pmp_core::{Cause, Kind, Mode, Perms, RegFile};
+use crate::answer::{NO_CAUSE, number_by};
+use pmp_core::{Cause, Kind, Mode, Perms, SavedRegisters};
 
 /// An answer for each mode and kind: at 4 times the mode's level, and the kind's number. There is no level 2.
 pub type Row = [u16; 16];
 
 /// What the owner's rule allows the mode, or the default where there is no owner.
-fn owned_rights(file: &RegFile, owner: Option<u8>, mode: Mode) -> Perms
-    requires { IfSome owner (λ entry. entry < length file.now.entries) }
-    ensures { result ≡ perms_of (owned_rights file.now owner mode) }
+pub fn owned_rights(registers: &SavedRegisters, owner: Option<u8>, mode: Mode) -> Perms
+    requires { IfSome owner (λ entry. entry < count_of (saved_size registers.now.entries)) }
+    ensures { result ≡ perms_of (owned_rights (restored_file registers.now) owner mode) }
 {
     match owner {
-        Some(entry) => file.rights(entry, mode),
-        None => file.default_rights(mode),
+        Some(entry) => registers.rights(entry, mode),
+        None => registers.default_rights(mode),
     }
 }
 
@@ -43,30 +45,45 @@ fn owned_answer(owner: Option<u8>, rights: Perms, kind: Kind) -> u16
     number_by(kind, whole_cause(owner), rights.allows(kind))
 }
 
-/// The answers where all bytes have this owner.
-pub fn row_of(file: &RegFile, owner: Option<u8>) -> Row
-    requires { IfSome owner (λ entry. entry < length file.now.entries) }
-    ensures { IsRow file.now owner result }
+/// The answers where all bytes have this owner. Supervisor and user mode have the same.
+pub fn row_of(registers: &SavedRegisters, owner: Option<u8>) -> Row
+    requires { IfSome owner (λ entry. entry < count_of (saved_size registers.now.entries)) }
+    ensures { IsRow (restored_file registers.now) owner result }
 {
-    let user = owned_rights(file, owner, Mode::U);
-    let supervisor = owned_rights(file, owner, Mode::S);
-    let machine = owned_rights(file, owner, Mode::M);
+    let others = owned_rights(registers, owner, Mode::U);
+    let machine = owned_rights(registers, owner, Mode::M);
+    let fetch = owned_answer(owner, others, Kind::Fetch);
+    let load = owned_answer(owner, others, Kind::Load);
+    let store = owned_answer(owner, others, Kind::Store);
     [
-        owned_answer(owner, user, Kind::Fetch),
-        owned_answer(owner, user, Kind::Load),
-        owned_answer(owner, user, Kind::Store),
-        NO_ACCESS,
-        owned_answer(owner, supervisor, Kind::Fetch),
-        owned_answer(owner, supervisor, Kind::Load),
-        owned_answer(owner, supervisor, Kind::Store),
-        NO_ACCESS,
-        NO_ACCESS,
-        NO_ACCESS,
-        NO_ACCESS,
-        NO_ACCESS,
+        fetch,
+        load,
+        store,
+        NO_CAUSE,
+        fetch,
+        load,
+        store,
+        NO_CAUSE,
+        NO_CAUSE,
+        NO_CAUSE,
+        NO_CAUSE,
+        NO_CAUSE,
         owned_answer(owner, machine, Kind::Fetch),
         owned_answer(owner, machine, Kind::Load),
         owned_answer(owner, machine, Kind::Store),
-        NO_ACCESS,
+        NO_CAUSE,
     ]
+}
+
+/// The same, of which that without owner is known.
+#[inline]
+pub fn row_by(registers: &SavedRegisters, unowned: &Row, owner: Option<u8>) -> Row
+    requires owner { IfSome owner (λ entry. entry < count_of (saved_size registers.now.entries)) }
+    requires unowned { IsRow (restored_file registers.now) None unowned.now }
+    ensures { IsRow (restored_file registers.now) owner result }
+{
+    match owner {
+        Some(entry) => row_of(registers, Some(entry)),
+        None => *unowned,
+    }
 }

@@ -9,6 +9,12 @@ use pmp_core::{Csr, CsrFault};
 /// The status of a call that took the register's number.
 pub const TAKEN: u32 = 0;
 
+/// The bit of a write that changed a register.
+pub const CHANGED: u32 = 4;
+
+/// What the reasons of a write are multiplied by.
+pub const REASONS: u32 = 256;
+
 /// The status of a call that didn't.
 pub fn refusal_status(fault: CsrFault) -> u32
     ensures { result ≡ status_number (Err fault) }

@@ -4,23 +4,28 @@ ghost use Rattle.std.specs.Prelude.{◌≡◌, ◌+◌, ◌<◌, ◌≤◌, leng
 ghost use Rattle.pmp_core.specs.declared.access.Access.{Access};
 ghost use Rattle.pmp_core.specs.declared.access.Mode.{Mode};
 ghost use Rattle.pmp_core.specs.RegisterFile.{RegisterFile};
-ghost use Rattle.pmp_core.specs.Ranges.{decision_of};
+ghost use Rattle.pmp_core.specs.Ranges.{decision_of, ranges_of};
+ghost use Rattle.pmp_core.specs.SavedRegisters.{restored_file};
 ghost use Rattle.pmp_map.specs.declared.run.TheConstants.{RUNS};
 ghost use Rattle.pmp_map.specs.declared.search.TheConstants.{PLACES};
-ghost use Rattle.pmp_map.specs.Runs.{HasOwnersBelow};
 ghost use Rattle.pmp_c.specs.Answer.{answer_number};
 ghost use Rattle.pmp_c.specs.Causes.{IsLeastCause};
 ghost use Rattle.pmp_c.specs.RangeRights.{IsRangeOf, AreRangeRights};
-ghost use Rattle.pmp_c.specs.Request.{IsNamed, kind_number};
-ghost use Rattle.pmp_c.specs.Tables.{AreTables, AreRows, IsFound};
+ghost use Rattle.pmp_c.specs.Request.{IsNamed, mode_number, kind_number};
+ghost use Rattle.pmp_c.specs.RunAnswer.{IsRunAnswer};
+ghost use Rattle.pmp_c.specs.Tables.{AreTables, IsFound, IsSweptTo};
 ghost use Rattle.pmp_core.specs.declared.access.TheConstants.{ADDRESS_LIMIT};
 
-use crate::answer::{NO_ACCESS, split_number};
+use crate::answer::{no_access, split_number};
 use crate::request::{Request, kind_of};
-use crate::rights::{MIXED, row_rights};
-use crate::row::{Row, row_of};
-use pmp_core::RegFile;
-use pmp_map::{PLACES, Run, RunMap, place_of};
+use crate::rights::{MIXED, row_answer, row_rights};
+use crate::row::{Row, row_by, row_of};
+use crate::unit::Around;
+use pmp_core::{ADDRESS_LIMIT, ByteRange, MAX_ENTRIES, SavedRegisters};
+use pmp_map::{PLACES, place_among_six, place_of, stretch_from};
+
+/// Tables with no more runs than this are searched by one count.
+const FEW: u64 = 6;
 
 /// Where each run of a register file's map begins, and what it answers.
 #[repr(C)]
@@ -32,18 +37,6 @@ pub struct Tables {
     pub runs: u64,
     /// What each run answers to the accesses inside it.
     pub rows: [Row; PLACES],
-}
-
-fn rows_of(file: &RegFile, runs: &[Run]) -> [Row; PLACES]
-    requires few { length runs.now ≤ RUNS }
-    requires owners { HasOwnersBelow (length file.now.entries) runs.now }
-    ensures { AreRows file.now runs.now result }
-{
-    let mut rows = [[NO_ACCESS; 16]; PLACES];
-    for (place, run) in runs.iter().enumerate() {
-        rows[place] = row_of(file, run.owner);
-    }
-    rows
 }
 
 /// The least number of the causes of the runs from one place up to another, without that; 512 where no entry owns any.
@@ -60,16 +53,37 @@ fn least_cause(rows: &[Row; PLACES], first: usize, end: usize) -> u16
 }
 
 impl Tables {
-    /// The tables of a register file.
-    pub fn of_file(file: &RegFile) -> Tables
-        ensures { AreTables file.now result }
+    /// Writes the runs of the registers into the first places, from one change of owner to the next, and answers how
+    /// many there are.
+    fn sweep(&mut self, registers: &SavedRegisters, ranges: &[ByteRange]) -> usize
+        requires { ranges.now ≡ ranges_of (restored_file registers.now).entries }
+        ensures swept { IsSweptTo (restored_file registers.now) self.new.starts self.new.rows ADDRESS_LIMIT result }
+        ensures few { result ≤ RUNS }
     {
-        let map = RunMap::build(file);
-        let runs = map.runs();
-        Tables {
-            starts: *map.starts(),
-            runs: runs.len() as u64,
-            rows: rows_of(file, runs),
+        let unowned = row_of(registers, None);
+        let mut place = 0;
+        let mut first = 0;
+        while first < ADDRESS_LIMIT {
+            let stretch = stretch_from(ranges, first);
+            self.starts[place] = first;
+            self.rows[place] = row_by(registers, &unowned, stretch.owner);
+            place += 1;
+            first = stretch.end;
+        }
+        place
+    }
+
+    /// Makes them the tables of the registers.
+    pub fn fill(&mut self, registers: &SavedRegisters)
+        ensures { AreTables (restored_file registers.now) self.new }
+    {
+        let mut decoded = [ByteRange::EMPTY; MAX_ENTRIES];
+        let ranges = &mut decoded[..registers.count()];
+        registers.decode(ranges);
+        let runs = self.sweep(registers, ranges);
+        self.runs = runs as u64;
+        for place in runs..PLACES {
+            self.starts[place] = ADDRESS_LIMIT;
         }
     }
 
@@ -79,12 +93,16 @@ impl Tables {
         ensures inside { result + 1 < PLACES }
         ensures found { IsFound self.now byte result }
     {
-        place_of(&self.starts, self.runs as usize, byte)
+        if self.runs <= FEW {
+            place_among_six(&self.starts, byte)
+        } else {
+            place_of(&self.starts, self.runs as usize, byte)
+        }
     }
 
     /// The same place, found sooner where it is `near`.
     #[inline(always)]
-    pub fn place_near(&self, near: usize, byte: u64) -> usize
+    fn place_near(&self, near: usize, byte: u64) -> usize
         ensures inside { result + 1 < PLACES }
         ensures found { IsFound self.now byte result }
     {
@@ -107,11 +125,11 @@ impl Tables {
             → kind_number access.kind ≡ kind → access.start + access.length ≡ last_byte + 1
             → result ≡ answer_number access (decision_of file access) }
     {
-        let last = self.place_of(last_byte);
+        let last = self.place_near(place + 1, last_byte);
         let least = least_cause(&self.rows, place, last + 1);
         match kind_of(kind) {
             Some(kind) => split_number(kind, least),
-            None => NO_ACCESS,
+            None => no_access(kind),
         }
     }
 
@@ -145,6 +163,21 @@ impl Tables {
             row_rights(&self.rows[place], mode)
         } else {
             MIXED
+        }
+    }
+
+    /// The run of the byte, and what the mode of this level may do there.
+    pub fn around(&self, mode: u32, byte: u64) -> Around
+        requires level { mode < 4 }
+        requires inside { byte < ADDRESS_LIMIT }
+        ensures { (file : RegisterFile) (named : Mode) → AreTables file self.now → mode_number named ≡ mode
+            → IsRunAnswer file named byte result.first result.last result.answer }
+    {
+        let place = self.place_of(byte);
+        Around {
+            first: self.starts[place],
+            last: self.starts[place + 1].saturating_sub(1),
+            answer: row_answer(&self.rows[place], mode),
         }
     }
 }

@@ -19,6 +19,7 @@ pub mod Stored
 pub mod Spans
 pub mod StoredBytes
 pub mod Saved
+pub mod InPlace
 pub mod Reasons
 pub mod WordBytes
 pub mod AbsentBytes

@@ -1,5 +1,5 @@
 -- The registers of a unit as plain numbers, and the file that numbers stand for (Volume II, 3.7.1 and Smepmp).
-use Rattle.std.specs.Prelude.{ℕ, ◌%◌, ◌==◌, true, if◌then◌else◌, List, length, map, replicate, slice_index}
+use Rattle.std.specs.Prelude.{◌≡◌, ◌≢◌, ℕ, ◌%◌, ◌==◌, true, if◌then◌else◌, List, length, map, replicate, slice_index}
 use Rattle.std.specs.List.{range_with_len}
 use Rattle.pmp_core.specs.declared.csr.Csr.TheVariants.{Addr, Mseccfg}
 use Rattle.pmp_core.specs.declared.entry.Entry.{Entry}
@@ -52,3 +52,10 @@ zero_registers = record {
   mseccfg = 0;
   entries = 0;
 }
+
+-- the numbers say this of entry i, and of all else what they said before
+pub record IsSetAt (old new : SavedRegisters) (i : ℕ) (entry : Entry) : Type 0 where
+  pub here : restored_entry new i ≡ entry
+  pub others : (k : ℕ) → k ≢ i → restored_entry new k ≡ restored_entry old k
+  pub mseccfg : new.mseccfg ≡ old.mseccfg
+  pub count : new.entries ≡ old.entries

@@ -11,6 +11,7 @@ mod decision;
 mod decision_by_ranges;
 mod entry;
 mod event;
+mod in_place;
 pub mod laws;
 mod lock;
 mod mseccfg;

@@ -18,7 +18,8 @@ pub const WORD_ADDRESSES: u64 = 1 << 54;
 /// How many entries a configuration register has bytes of.
 pub const ENTRIES_PER_CFG: usize = 8;
 
-fn without_reserved(configuration: Configuration) -> Configuration
+/// A reserved combination of R and W as it is stored.
+pub fn without_reserved(configuration: Configuration) -> Configuration
     ensures { result ≡ without_reserved configuration }
 {
     if configuration.is_reserved() {

@@ -12,16 +12,16 @@ use Rattle.pmp_map.specs.Runs.{IsInRun, run_at, AreRunsTo}
 use Rattle.pmp_map.proofs.Order.{start_at, start_past}
 
 module _ (to end : ℕ) (runs : List Run) (run : Run) where
-  length_pushed : length (runs ++ run ∷ []) ≡ length runs + 1
+  pub length_pushed : length (runs ++ run ∷ []) ≡ length runs + 1
   length_pushed = length-append runs (run ∷ [])
 
-  old_run : (k : ℕ) → k < length runs → run_at end (runs ++ run ∷ []) k ≡ run_at to runs k
+  pub old_run : (k : ℕ) → k < length runs → run_at end (runs ++ run ∷ []) k ≡ run_at to runs k
   old_run k inside = get_or-append runs (run ∷ []) _ k inside ∙ get_or_default runs k _ _ inside
 
-  new_run : (k : ℕ) → k ≡ length runs → run_at end (runs ++ run ∷ []) k ≡ run
+  pub new_run : (k : ℕ) → k ≡ length runs → run_at end (runs ++ run ∷ []) k ≡ run
   new_run k here = rw here (get_or-append_seam runs run [] _)
 
-  old_start : run.first ≡ to → (k : ℕ) → k ≤ length runs → start_at end (runs ++ run ∷ []) k ≡ start_at to runs k
+  pub old_start : run.first ≡ to → (k : ℕ) → k ≤ length runs → start_at end (runs ++ run ∷ []) k ≡ start_at to runs k
   old_start begin k inside = elim (cases_lt k (length runs)) [
     | inl lt ↦ ap (λ (r : Run). r.first) (old_run k lt)
     | inr le ↦ ap (λ (r : Run). r.first) (new_run k (omega arith)) ∙ begin ∙ sym (start_past to runs k le)

@@ -15,8 +15,8 @@ mod straddling;
 mod tables;
 
 pub use answers::owned_rights;
-pub use cuts::run_from;
+pub use cuts::{Stretch, run_around, run_from, stretch_from};
 pub use rights_run::{ModeRights, RightsRun, rights_runs};
 pub use run::{RUNS, Run};
 pub use run_map::RunMap;
-pub use search::{PLACES, SHORT, place_of};
+pub use search::{PLACES, SHORT, place_among_six, place_of};

@@ -52,3 +52,12 @@ pub fn place_of(starts: &[u64; PLACES], runs: usize, byte: u64) -> usize
     let near = count_from(starts, far, 6, byte);
     count_from(starts, near, 1, byte)
 }
+
+/// The same place, where the byte lies below the seventh start.
+#[inline(always)]
+pub fn place_among_six(starts: &[u64; PLACES], byte: u64) -> usize
+    ensures inside { result + 1 < PLACES }
+    ensures between { IsRising starts.now → IsBetween starts.now byte 0 6 → IsBetween starts.now byte result 1 }
+{
+    count_from(starts, 0, 1, byte)
+}

@@ -24,13 +24,13 @@ module _ (file : RegisterFile) (owner : Option ℕ) (row : List ℕ) (is : IsRow
       ∙ ap (λ (n : ℕ). bit_of (nat_lt n 1024)) (is.answers mode kind)
       ∙ ap bit_of (allowed_low (cause_number (whole_cause owner)) kind allowed (cause_most owner is.number))
 
-pub returns : goal.returns
-returns c = λ file owner named is mode_is.
+pub returns-clause-rights : goal.returns-clause-rights
+returns-clause-rights c = λ file owner named is mode_is.
     let row = c.args.row.now in
     let load = bit_at file owner row is named Load (4 * c.args.mode + 1) c.allowed.result (omega arith)
-    c.allowed.ensures in
+    c.allowed.ensures.bit in
     let store = bit_at file owner row is named Store (4 * c.args.mode + 2) c.allowed-2.result (omega arith)
-    c.allowed-2.ensures in
+    c.allowed-2.ensures.bit in
     let fetch = bit_at file owner row is named Fetch (4 * c.args.mode) c.allowed-3.result (omega arith)
-    c.allowed-3.ensures in
+    c.allowed-3.ensures.bit in
     omega (arith, load, store, fetch)

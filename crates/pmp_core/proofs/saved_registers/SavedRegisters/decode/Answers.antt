@@ -1,0 +1,12 @@
+use Rattle.std.proofs.Common.{arith}
+use Rattle.pmp_core.specs.SavedRegisters.{restored_file}
+use Rattle.pmp_core.proofs.InPlace.{length_in}
+use Rattle.pmp_core.proofs.Places.{all_decoded}
+use Rattle.pmp_core.proofs.saved_registers.SavedRegisters.decode.Goals as goal
+
+pub range-requires : goal.range-requires
+range-requires c = omega (arith, length_in c.args.self.now)
+
+pub returns : goal.returns
+returns c = all_decoded (restored_file c.args.self.now).entries c.loop-index.ranges (omega arith)
+    (λ k inside. c.loop-index.invariant k (omega arith))

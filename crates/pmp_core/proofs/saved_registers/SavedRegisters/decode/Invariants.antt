@@ -1,0 +1,6 @@
+use Rattle.pmp_core.specs.SavedRegisters.{restored_file}
+use Rattle.pmp_core.proofs.Places.{Decoded}
+use Rattle.pmp_core.proofs.saved_registers.SavedRegisters.decode.Given as goal
+
+abbrev pub invariant-loop-index : goal.invariant-loop-index
+invariant-loop-index l = Decoded (restored_file l.self).entries l.ranges l.index

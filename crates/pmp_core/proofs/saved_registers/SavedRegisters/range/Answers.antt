@@ -1,0 +1,22 @@
+use Rattle.std.proofs.Common.{◌≡◌, ◌∙◌, ap, arith}
+use Rattle.pmp_core.specs.declared.entry.Entry.{Entry}
+use Rattle.pmp_core.specs.Ranges.{range_by}
+use Rattle.pmp_core.proofs.InPlace.{low_in, low_after, low_first, range_in_place}
+use Rattle.pmp_core.proofs.saved_registers.SavedRegisters.range.Goals as goal
+use Rattle.pmp_core.proofs.saved_registers.SavedRegisters.range.Goals.{in-Some, in-None}
+
+pub returns : goal.returns
+returns c =
+    let saved = c.args.self.now in
+    let low = c.match-checked_sub.low in
+    let is : low ≡ low_in saved c.args.index = elim c.match-checked_sub.branch [
+      | in-Some w ↦
+          let some = w.in-Some.ensures in
+          w.low-is ∙ w.address-low.ensures ∙ low_after saved c.args.index w.in-Some.before some.0 some.1
+      | in-None w ↦
+          let none = w.in-None.ensures in
+          w.low-is ∙ low_first saved c.args.index (omega (arith, none))
+    ] in
+    c.range_by.ensures
+    ∙ ap (λ (e : Entry). range_by e.configuration.matching low e.address) c.entry.ensures
+    ∙ range_in_place saved low c.args.index c.requires is

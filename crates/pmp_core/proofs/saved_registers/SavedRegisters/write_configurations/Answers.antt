@@ -1,0 +1,39 @@
+use Rattle.std.proofs.Common.{◌≡◌, arith}
+use Rattle.pmp_core.proofs.InPlace.{configured_start, configured_step, configurations_written_is, configurations_changed}
+use Rattle.pmp_core.proofs.InPlace.{configurations_odd, configurations_past}
+use Rattle.pmp_core.proofs.saved_registers.SavedRegisters.write_configurations.Goals as goal
+
+pub returns-then-register-eq1-clause-written : goal.returns-then-register-eq1-clause-written
+returns-then-register-eq1-clause-written c =
+    configurations_odd c.args.self.now c.args.register c.args.value c.if-register-eq1.true
+
+pub returns-then-first-count-clause-written : goal.returns-then-first-count-clause-written
+returns-then-first-count-clause-written c =
+    configurations_past c.args.self.now c.args.register c.args.value
+    (omega (arith, c.if-first-count.true, c.count.ensures.count, c.from-first.ensures))
+
+pub loop-place-init : goal.loop-place-init
+loop-place-init c = configured_start c.args.self.now c.args.register c.args.value
+
+pub loop-place-preserved : goal.loop-place-preserved
+loop-place-preserved c =
+    let loop = c.loop-place in
+    configured_step c.args.self.now loop.self c.write_configuration-is_new.new.self c.args.register c.args.value
+    loop.place loop.is_changed c.write_configuration-is_new.result (omega (arith, c.if-register-eq1.false))
+    c.loop-place-test.true (omega (arith, c.if-first-count.false, c.count.ensures.count, c.from-first.ensures))
+    loop.invariant
+    (rw (c.from-first.ensures, c.to_le_bytes-bytes.ensures) at c.write_configuration-is_new.ensures.set)
+    c.write_configuration-is_new.ensures.same
+    (rw c.from-first.ensures at c.write_configuration-is_new.ensures.changed)
+
+pub returns : goal.returns
+returns c =
+    let loop = c.loop-place in
+    let whole : loop.place ≡ 8 = omega arith in
+    let done = rw whole at loop.invariant in
+    record {
+      written = configurations_written_is c.args.self.now loop.self c.args.register c.args.value loop.is_changed done;
+      same = loop.invariant.same;
+      changed = configurations_changed c.args.self.now loop.self c.args.register c.args.value loop.is_changed done
+          (omega (arith, c.if-register-eq1.false)) (omega (arith, c.if-first-count.false, c.count.ensures.count, c.from-first.ensures));
+    }

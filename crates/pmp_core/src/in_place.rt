@@ -1,0 +1,384 @@
+//! Registers that stay plain numbers: reads, writes and decisions that look at the entries that they need, and convert
+//! no others.
+
+ghost use Rattle.std.specs.Prelude.{◌≡◌, ◌≢◌, ◌*◌, ◌<◌, ◌≤◌, ◌&&◌, not, true, false, length};
+ghost use Rattle.pmp_core.specs.Configuration.{byte_of};
+ghost use Rattle.pmp_core.specs.Mseccfg.{mseccfg_fields};
+ghost use Rattle.pmp_core.specs.RegisterFile.{entry_at, is_frozen};
+ghost use Rattle.pmp_core.specs.RegisterValue.{configuration_word, register_value};
+ghost use Rattle.pmp_core.specs.RegisterWrite.{stored_over, is_address_frozen, is_any_locked, written};
+ghost use Rattle.pmp_core.specs.Ranges.{decision_in, decision_of, range_of, ranges_of};
+ghost use Rattle.pmp_core.specs.Rights.{perms_of, rights, default_rights};
+ghost use Rattle.pmp_core.specs.SavedRegisters.{restored_entry, restored_file, saved_size, IsSetAt};
+ghost use Rattle.pmp_core.specs.Size.{count_of};
+ghost use Rattle.pmp_core.specs.WriteReasons.{turns_away, turns_entry_away_by};
+
+use crate::access::{Access, Mode};
+use crate::configuration::{AddressMatching, Configuration};
+use crate::csr::Csr;
+use crate::decision::{Cause, Decision};
+use crate::event::Event;
+use crate::mseccfg::MseccfgFields;
+use crate::perms::Perms;
+use crate::range::{ByteRange, range_by};
+use crate::register_file::RegFile;
+use crate::register_write::{ENTRIES_PER_CFG, WORD_ADDRESSES, stored_over, without_reserved};
+use crate::rights::{default_rights_by, rule_rights};
+use crate::saved_registers::SavedRegisters;
+use crate::size::MAX_ENTRIES;
+use crate::write_reasons::WriteReason;
+
+impl SavedRegisters {
+    /// How many entries the unit has.
+    #[inline]
+    pub fn count(&self) -> usize
+        ensures count { result ≡ count_of (saved_size self.now.entries) }
+        ensures entries { result ≡ length (restored_file self.now).entries }
+        ensures most { result ≤ MAX_ENTRIES }
+    {
+        usize::from(self.size().entries())
+    }
+
+    #[inline]
+    fn fields(&self) -> MseccfgFields
+        ensures { result ≡ mseccfg_fields self.now.mseccfg }
+    {
+        MseccfgFields::from_value(self.mseccfg)
+    }
+
+    #[inline]
+    fn configuration(&self, place: usize) -> Configuration
+        requires { place < MAX_ENTRIES }
+        ensures { result ≡ (restored_entry self.now place).configuration }
+    {
+        let configuration = Configuration::from_byte(self.configurations[place]);
+        if self.fields().mml {
+            configuration
+        } else {
+            without_reserved(configuration)
+        }
+    }
+
+    #[inline]
+    fn address(&self, place: usize) -> u64
+        requires { place < MAX_ENTRIES }
+        ensures { result ≡ (restored_entry self.now place).address }
+    {
+        self.addresses[place] % WORD_ADDRESSES
+    }
+
+    /// The configuration byte of the entry, if there is one.
+    #[inline]
+    fn byte(&self, index: usize) -> u8
+        ensures { result ≡ byte_of (entry_at (restored_file self.now).entries index).configuration }
+    {
+        if index < self.count() {
+            self.configuration(index).byte()
+        } else {
+            0
+        }
+    }
+
+    /// The address of the entry, if there is one.
+    #[inline]
+    fn address_value(&self, index: usize) -> u64
+        ensures { result ≡ (entry_at (restored_file self.now).entries index).address }
+    {
+        if index < self.count() {
+            self.address(index)
+        } else {
+            0
+        }
+    }
+
+    /// Packs the bytes of the eight entries that the configuration register holds, if there are any.
+    fn configuration_word(&self, register: u8) -> u64
+        ensures { result ≡ configuration_word (restored_file self.now).entries (4 * register) }
+    {
+        let first = 4 * usize::from(register);
+        let mut bytes = [0; 8];
+        for place in 0..bytes.len() {
+            bytes[place] = self.byte(first + place);
+        }
+        u64::from_le_bytes(bytes)
+    }
+
+    /// The value of a register.
+    #[inline(always)]
+    pub fn read(&self, csr: Csr) -> u64
+        ensures { result ≡ register_value (restored_file self.now) csr }
+    {
+        match csr {
+            Csr::Cfg(register) if register % 2 == 1 => 0,
+            Csr::Cfg(register) => self.configuration_word(register),
+            Csr::Addr(register) => self.address_value(usize::from(register)),
+            Csr::Mseccfg => self.fields().value(),
+        }
+    }
+
+    /// Whether entry `index` keeps its address, for its own lock or as the low end of a locked range.
+    #[inline]
+    fn is_address_frozen(&self, index: usize) -> bool
+        requires { index < count_of (saved_size self.now.entries) }
+        ensures { result ≡ is_address_frozen (restored_file self.now) index }
+    {
+        if self.fields().rlb {
+            return false;
+        }
+        if self.configuration(index).locked {
+            return true;
+        }
+        if index + 1 >= self.count() {
+            return false;
+        }
+        let next = self.configuration(index + 1);
+        next.locked && next.matching == AddressMatching::Tor
+    }
+
+    /// Whether the entry is frozen.
+    #[inline]
+    fn is_frozen(&self, index: usize) -> bool
+        requires { index < count_of (saved_size self.now.entries) }
+        ensures { result ≡ is_frozen (restored_file self.now) index }
+    {
+        self.configuration(index).locked && !self.fields().rlb
+    }
+
+    /// Whether the entry isn't frozen, and its address is the low end of a frozen range.
+    #[inline]
+    fn is_low_end(&self, index: usize) -> bool
+        requires { index < count_of (saved_size self.now.entries) }
+        ensures { result ≡ (not (is_frozen (restored_file self.now) index)
+            && is_address_frozen (restored_file self.now) index) }
+    {
+        !self.is_frozen(index) && self.is_address_frozen(index)
+    }
+
+    /// Whether this reason holds for the entry of the address register.
+    #[inline]
+    fn turns_own_entry_away(&self, reason: WriteReason, index: usize, value: u64) -> bool
+        requires { index < count_of (saved_size self.now.entries) }
+        ensures { result ≡ turns_entry_away_by reason (restored_file self.now) (Csr.Addr index) value index }
+    {
+        let is_other = value != self.address(index);
+        match reason {
+            WriteReason::Frozen => self.is_frozen(index) && is_other,
+            WriteReason::Tor => self.is_low_end(index) && is_other,
+            _ => false,
+        }
+    }
+
+    /// Whether this is a reason why the address register wouldn't read the value, if it were written now.
+    #[inline]
+    pub fn turns_address_away(&self, reason: WriteReason, register: u8, value: u64) -> bool
+        ensures { result ≡ turns_away reason (restored_file self.now) (Csr.Addr register) value }
+    {
+        let index = usize::from(register);
+        let is_there = index < self.count();
+        match reason {
+            WriteReason::Absent => value != 0 && !is_there,
+            WriteReason::Bits => value / WORD_ADDRESSES != 0,
+            _ if is_there => self.turns_own_entry_away(reason, index, value),
+            _ => false,
+        }
+    }
+
+    /// Writes an address register, and answers whether that changed it.
+    #[inline]
+    fn write_address(&mut self, register: u8, value: u64) -> bool
+        ensures written { restored_file self.new ≡ written (restored_file self.old) (Csr.Addr register) value }
+        ensures same { result ≡ false → self.new ≡ self.old }
+        ensures changed { result ≡ true → restored_file self.new ≢ restored_file self.old }
+    {
+        let index = usize::from(register);
+        let address = value % WORD_ADDRESSES;
+        if index >= self.count() {
+            return false;
+        }
+        if self.is_address_frozen(index) {
+            return false;
+        }
+        if self.address(index) == address {
+            return false;
+        }
+        self.addresses[index] = address;
+        true
+    }
+
+    /// Writes a byte over an entry's configuration, and answers whether that changed it.
+    #[inline]
+    fn write_configuration(&mut self, place: usize, byte: u8) -> bool
+        requires { place < MAX_ENTRIES }
+        ensures set { let entry = restored_entry self.old place in let fields = mseccfg_fields self.old.mseccfg in
+            IsSetAt self.old self.new place
+            (record entry { configuration = stored_over fields.mml fields.rlb entry.configuration byte }) }
+        ensures same { result ≡ false → self.new ≡ self.old }
+        ensures changed { result ≡ true → restored_entry self.new place ≢ restored_entry self.old place }
+    {
+        let old = self.configuration(place);
+        let new = stored_over(old, byte, &self.fields()).byte();
+        if new == old.byte() {
+            return false;
+        }
+        self.configurations[place] = new;
+        true
+    }
+
+    /// Writes a configuration register, the lowest byte to the lowest entry, and answers whether that changed it.
+    fn write_configurations(&mut self, register: u8, value: u64) -> bool
+        ensures written { restored_file self.new ≡ written (restored_file self.old) (Csr.Cfg register) value }
+        ensures same { result ≡ false → self.new ≡ self.old }
+        ensures changed { result ≡ true → restored_file self.new ≢ restored_file self.old }
+    {
+        let first = 4 * usize::from(register);
+        if register % 2 == 1 {
+            return false;
+        }
+        if first >= self.count() {
+            return false;
+        }
+        let bytes = value.to_le_bytes();
+        let mut is_changed = false;
+        for place in 0..ENTRIES_PER_CFG {
+            let is_new = self.write_configuration(first + place, bytes[place]);
+            is_changed |= is_new;
+        }
+        is_changed
+    }
+
+    /// Whether some entry is locked, be it off or not.
+    fn is_any_locked(&self) -> bool
+        ensures { result ≡ is_any_locked (restored_file self.now).entries }
+    {
+        for place in 0..self.count() {
+            if self.configuration(place).locked {
+                return true;
+            }
+        }
+        false
+    }
+
+    /// Sets `mseccfg`, and MML with it, which says what a byte stands for: all are converted. That is once from a reset
+    /// on.
+    #[cold]
+    #[inline(never)]
+    fn raise_lockdown(&mut self, value: u64)
+        ensures { restored_file self.new ≡ written (restored_file self.old) Csr.Mseccfg value }
+    {
+        let mut file = RegFile::restore(self);
+        file.step(Event::Write(Csr::Mseccfg, value));
+        *self = file.save();
+    }
+
+    /// Writes `mseccfg`, and answers whether that changed it.
+    fn write_mseccfg(&mut self, value: u64) -> bool
+        ensures written { restored_file self.new ≡ written (restored_file self.old) Csr.Mseccfg value }
+        ensures same { result ≡ false → self.new ≡ self.old }
+        ensures changed { result ≡ true → restored_file self.new ≢ restored_file self.old }
+    {
+        let old = self.fields();
+        let new = old.written(value, self.is_any_locked());
+        if new.value() == old.value() {
+            return false;
+        }
+        if new.mml && !old.mml {
+            self.raise_lockdown(value);
+        } else {
+            self.mseccfg = new.value();
+        }
+        true
+    }
+
+    /// Writes a register, and answers whether that changed any.
+    #[inline]
+    pub fn write(&mut self, csr: Csr, value: u64) -> bool
+        ensures written { restored_file self.new ≡ written (restored_file self.old) csr value }
+        ensures same { result ≡ false → self.new ≡ self.old }
+        ensures changed { result ≡ true → restored_file self.new ≢ restored_file self.old }
+    {
+        match csr {
+            Csr::Cfg(register) => self.write_configurations(register, value),
+            Csr::Addr(register) => self.write_address(register, value),
+            Csr::Mseccfg => self.write_mseccfg(value),
+        }
+    }
+
+    /// Where the entry matches.
+    #[inline]
+    fn range(&self, index: usize) -> ByteRange
+        requires { index < count_of (saved_size self.now.entries) }
+        ensures { result ≡ range_of (restored_file self.now).entries index }
+    {
+        let low = match index.checked_sub(1) {
+            Some(before) => self.address(before),
+            None => 0,
+        };
+        range_by(low, &self.entry(index))
+    }
+
+    /// Writes where each entry matches.
+    pub fn decode(&self, ranges: &mut [ByteRange])
+        requires { length ranges.old ≡ length (restored_file self.now).entries }
+        ensures { ranges.new ≡ ranges_of (restored_file self.now).entries }
+    {
+        for index in 0..ranges.len() {
+            ranges[index] = self.range(index);
+        }
+    }
+
+    /// What the entry's rule allows the mode, where the entry matches every byte of an access.
+    #[inline]
+    pub fn rights(&self, entry: u8, mode: Mode) -> Perms
+        requires { entry < count_of (saved_size self.now.entries) }
+        ensures { result ≡ perms_of (rights (restored_file self.now) entry mode) }
+    {
+        rule_rights(
+            &self.configuration(usize::from(entry)),
+            mode,
+            &self.fields(),
+        )
+    }
+
+    /// What the mode may do where no entry matches any byte of an access.
+    #[inline]
+    pub fn default_rights(&self, mode: Mode) -> Perms
+        ensures { result ≡ perms_of (default_rights (restored_file self.now) mode) }
+    {
+        default_rights_by(mode, &self.fields())
+    }
+
+    /// The decision of the entry whose range is the first that the access touches.
+    fn decide_in(&self, index: usize, range: &ByteRange, access: &Access) -> Decision
+        requires { index < count_of (saved_size self.now.entries) }
+        ensures { result ≡ decision_in (restored_file self.now) access.now index range.now }
+    {
+        let number = index as u8;
+        if range.is_covered(access) {
+            Decision {
+                allowed: self.rights(number, access.mode).allows(access.kind),
+                cause: Cause::Rule(number),
+            }
+        } else {
+            Decision {
+                allowed: false,
+                cause: Cause::Split(number),
+            }
+        }
+    }
+
+    /// Decides an access, in one pass over the entries, of which it decodes no more than it passes.
+    pub fn decide(&self, access: &Access) -> Decision
+        ensures { result ≡ decision_of (restored_file self.now) access.now }
+    {
+        for index in 0..self.count() {
+            let range = self.range(index);
+            if range.is_touched(access) {
+                return self.decide_in(index, &range, access);
+            }
+        }
+        Decision {
+            allowed: self.default_rights(access.mode).allows(access.kind),
+            cause: Cause::NoMatch,
+        }
+    }
+}
