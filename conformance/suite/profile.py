@@ -1,0 +1,114 @@
+"""A profile: what the manual leaves to a hart. A switch that a file gives is demanded; any other is found by probing, or
+by the cases where it shows, and is told in the report."""
+from dataclasses import dataclass, field
+
+from .case import ARENA, RLB, Builder, Case
+
+# Each switch, and what it says.
+SWITCHES = {
+    "entries": "how many entries there are: 0, 16 or 64",
+    "grain": "the least size of a region, in bytes",
+    "address_bits": "how many bits an address register has",
+    "smepmp": "whether mseccfg is there and has its bits: yes or no",
+    "reset_mseccfg": "what mseccfg is after power comes",
+    "reset_rest": "whether a reset leaves other fields than A and L: kept or cleared",
+    "reserved": "what is left of a byte with W and without R, where MML is 0: as-written, no-rights or other",
+    "barred": "how much of a write is ignored for a byte that lockdown bars: byte or register",
+    "absent": "how an access to a register of a missing entry ends: zero or exception",
+    "misaligned": "whether a misaligned access in several rules is one access: whole, parts or exception",
+    "mseccfg_bits": "which bits of other extensions mseccfg has, of 0x300000700",
+    "fault_address": "what mtval is at a fault: zero or address",
+}
+OTHER_EXTENSIONS = 0x300000700
+
+
+@dataclass
+class Profile:
+    given: dict = field(default_factory=dict)
+    # Each switch with the values seen, and in how many answers.
+    seen: dict = field(default_factory=dict)
+    entries: int = 16
+    grain: int = 4
+    address_bits: int = 54
+    has_smepmp: bool = True
+    reset_mseccfg: int = 0
+    absent: set = field(default_factory=set)
+
+    def allows(self, switch, value):
+        """Notes the choice; whether it may be made."""
+        values = self.seen.setdefault(switch, {})
+        values[value] = values.get(value, 0) + 1
+        return self.given.get(switch, value) == value
+
+    def lines(self):
+        for switch in SWITCHES:
+            values = self.seen.get(switch, {})
+            if switch in self.given:
+                yield f"{switch} {self.given[switch]}    # as given"
+            elif values:
+                more = "" if len(values) == 1 else "    # " + ", ".join(f"{it} {count}" for it, count in values.items())
+                yield f"{switch} {max(values, key=values.get)}{more}"
+            else:
+                yield f"# {switch}: not seen"
+
+
+def read(path):
+    given = {}
+    with open(path, encoding="utf-8") as it:
+        for line in it:
+            words = line.split("#")[0].split()
+            if words and (len(words) != 2 or words[0] not in SWITCHES):
+                raise SystemExit(f"conformance: {path}: no switch and value: {line.strip()}")
+            if words:
+                given[words[0]] = words[1]
+    return given
+
+
+def probe():
+    """A case whose first look is at what power left, and whose later ones show which registers there are."""
+    case = Builder("probe", "probe", 2, looks=64)
+    for entry in (0, 15, 16, 63):
+        case.write(f"pmpaddr{entry}", 2**64 - 1)
+    return case.write("mseccfg", RLB).ask(ARENA + 1, 2, "M", ("load",)).case
+
+
+def note(profile, steps):
+    """What the probe's looks say."""
+    state, looks = {}, [it for it in steps if hasattr(it, "changed")]
+    if len(looks) < 6:
+        raise SystemExit("conformance: the simulator doesn't answer the probe")
+    profile.reset_mseccfg = looks[0].changed.get("mseccfg", 0)
+    profile.absent = looks[0].missing
+    for look in looks:
+        state.update(look.changed)
+    ones = state.get("pmpaddr0", 0) & (2**54 - 1)
+    has = [bool(state.get(f"pmpaddr{it}")) for it in (15, 63)]
+    profile.entries = 64 if has[1] else 16 if has[0] else 0
+    profile.grain = (ones & -ones) * 4 if ones else 4
+    profile.address_bits = ones.bit_length()
+    profile.has_smepmp = "mseccfg" not in profile.absent and bool(state.get("mseccfg", 0) & RLB)
+    for switch, value in (("entries", profile.entries), ("grain", profile.grain), ("address_bits", profile.address_bits),
+                          ("smepmp", "yes" if profile.has_smepmp else "no"), ("reset_mseccfg", hex(profile.reset_mseccfg))):
+        profile.allows(switch, str(value))
+
+
+def reason_to_skip(profile, case: Case, is_hart):
+    """Why the hart can't be asked this case, or nothing. What isn't a hart has as many entries as the case."""
+    if case.version == 2 and profile.entries < 64:
+        return f"of 64 entries, where the hart has {profile.entries}"
+    if case.rule == "Registers 4" and profile.entries == 64 and is_hart:
+        return "of missing entries, where the hart has 64"
+    if not profile.has_smepmp and any(it[0] == "write" and it[1] == "mseccfg" for it in case.events):
+        return "of mseccfg, which the hart lacks"
+    if profile.grain > 4 and any(is_finer(profile.grain, it) for it in case.events):
+        return f"of addresses finer than {profile.grain} bytes"
+    return None
+
+
+def is_finer(grain, event):
+    if event[0] == "reset":
+        return False
+    if event[1].startswith("pmpaddr"):
+        # A region by its low ones is at least twice the grain; an end of a range is a multiple of it.
+        return event[2] % (grain // 4) not in (0, grain // 4 - 1) or (grain == 8 and event[2] & 3 == 1)
+    return event[1] != "mseccfg" and any(it >> 3 & 3 == 2 for it in event[2].to_bytes(8, "little"))
