@@ -211,7 +211,7 @@ static void write_bytes(unsigned first, uint64_t value) {
         unsigned entry = first + place;
         uint8_t byte = value >> (8 * (turn == bytes_in_reverse ? 7 - place : place));
         is_one_refused |= turn == frozen_byte_drops_the_write && is_frozen(entry);
-        is_one_refused |= turn == barred_byte_drops_the_write && is_barred(byte);
+        is_one_refused |= turn == barred_byte_drops_the_write && is_barred(byte) && !is_frozen(entry);
         if (is_frozen(entry) || is_barred(byte))
             continue;
         unit.byte[entry] = legal_byte(byte);

@@ -56,7 +56,7 @@ static unsigned index_of(unsigned number) {
 }
 
 static struct outcome in_machine_mode(const char *place, unsigned index, uint64_t argument) {
-    return attempt((uint64_t)place + 8 * index, argument, 0, 0, 0);
+    return attempt((uint64_t)place + 8 * index, argument, 0, MACHINE << 11, 0);
 }
 
 static void write_csr(unsigned number, uint64_t value) {
@@ -200,13 +200,21 @@ static const uint64_t *beginning(void) {
         return cases + 1;
     KEPT->mark = 0;
     failed = KEPT->failed;
-    fill_arena();
     for (const uint64_t *at = cases + 1; at < cases + KEPT->place; at++) {
         if ((*at & 0xff) == CASE)
             count = *at >> 8 & 0xff;
         at += (*at & 0xff) == EXPECT ? 2 : (*at & 0xff) == WRITE || (*at & 0xff) == ACCESS || (*at & 0xff) == SPOT;
     }
     return cases + KEPT->place;
+}
+
+/* An exception that nothing asked for: the rest can't be told. */
+void lost(void) {
+    board_settle();
+    tohost = 3;
+    board_end(1);
+    for (;;)
+        ;
 }
 
 void harness(void) {

@@ -40,5 +40,6 @@ struct kept {
 };
 
 void harness(void);
+void lost(void);
 #endif
 #endif

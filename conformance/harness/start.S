@@ -9,6 +9,7 @@ _start:
     bnez t0, park
     la t0, caught
     csrw mtvec, t0
+    csrw mscratch, zero
     la sp, stack_end
     j harness
 park:
@@ -34,9 +35,11 @@ attempt:
     sd s10, 88(sp)
     sd s11, 96(sp)
     csrw mscratch, sp
-    li t0, MPRV | MPP
-    csrc mstatus, t0
-    csrs mstatus, a3
+    csrr t0, mstatus
+    li t1, ~(MPRV | MPP)
+    and t0, t0, t1
+    or t0, t0, a3
+    csrw mstatus, t0
     bnez a4, 1f
     jr a0
 1:  csrw mepc, a0
@@ -47,7 +50,8 @@ attempt:
 caught:
     li t0, MPRV
     csrc mstatus, t0
-    csrr sp, mscratch
+    csrrw sp, mscratch, zero
+    beqz sp, 1f
     ld ra, 0(sp)
     ld s0, 8(sp)
     ld s1, 16(sp)
@@ -65,6 +69,8 @@ caught:
     csrr a0, mcause
     mv a1, a2
     ret
+1:  la sp, stack_end
+    j lost
 
     .option norvc
     .macro write_csr number

@@ -1,7 +1,7 @@
 """Cases as the harness reads them: words of 64 bits."""
 import struct
 
-from .case import name_of, number_of
+from .case import number_of
 
 END, CASE, WRITE, LOOK, EXPECT, ACCESS, RESET, SPOT = range(8)
 KEEP = 1 << 16
@@ -57,9 +57,9 @@ def expects(before, after, is_first):
             yield from (EXPECT | number_of(name) << 16, ALL_ONES, value)
 
 
-def words_of(number, case, part, expected, flags=0):
+def words_of(case, part, expected):
     """A run of a case with one part of its accesses. What is judged in the harness is what has no lawful choice."""
-    yield CASE | case.looks << 8 | flags | number << 32
+    yield CASE | case.looks << 8
     for start in sorted({it.start for it in part if is_spot(it)}):
         yield from (SPOT, start)
     yield LOOK
@@ -91,6 +91,3 @@ def blob_of(runs, is_quiet=False):
     for it in runs:
         words += it
     return struct.pack(f"<{len(words) + 1}Q", *words, END)
-
-
-__all__ = ["blob_of", "name_of", "parts_of", "ways_of", "words_of", "KEEP"]

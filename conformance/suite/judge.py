@@ -5,7 +5,7 @@ from dataclasses import dataclass
 from .answers import Answer, Look
 from .blob import ways_of
 from .case import registers_of
-from .profile import OTHER_EXTENSIONS
+from .profile import OTHER_EXTENSIONS, read_back
 
 FAULTS = {"fetch": 1, "load": 5, "store": 7}
 MISALIGNED = {"fetch": 0, "load": 4, "store": 6}
@@ -51,23 +51,24 @@ class Judge:
         if after and case.events[after - 1][0] == "reset":
             state.update({it: 0 for it in state})
         state.update(look.changed)
-        wanted = expected.registers[after]
+        if state == expected.registers[after] and self.profile.grain == 4:
+            return None
+        wanted = {it: read_back(self.profile, expected.registers[after], it) for it in state}
         if case.looks > 16 and case.version == 1 and after == 0:
             self.note_absent(look)
-        unlike = [it for it in state if state[it] != wanted.get(it, 0)]
-        verdicts = [self.unlike(case, after, expected, it, state[it]) for it in unlike]
+        unlike = [it for it in state if state[it] != wanted[it]]
+        verdicts = [self.unlike(case, after, expected, it, state[it], wanted[it]) for it in unlike]
         if WRONG in verdicts:
             name = unlike[verdicts.index(WRONG)]
-            return Difference(after, name, 0, f"{wanted.get(name, 0):#018x}", f"{state[name]:#018x}")
+            return Difference(after, name, 0, f"{wanted[name]:#018x}", f"{state[name]:#018x}")
         return LAWFUL if LAWFUL in verdicts else None
 
     def note_absent(self, look):
         missing = {it for it in look.missing if it != "mseccfg"}
         self.profile.allows("absent", "exception" if missing else "zero")
 
-    def unlike(self, case, after, expected, name, got):
+    def unlike(self, case, after, expected, name, got, wanted):
         """What a register is that doesn't read what is expected: a lawful choice, none that matters, or wrong."""
-        wanted = expected.registers[after].get(name, 0)
         event = case.events[after - 1] if after else ("reset",)
         if event[0] == "reset":
             return self.unlike_after_reset(name, got)

@@ -2,7 +2,7 @@
 by the cases where it shows, and is told in the report."""
 from dataclasses import dataclass, field
 
-from .case import ARENA, RLB, Builder, Case
+from .case import ARENA, NA4, NAPOT, RLB, TOR, Builder, Case
 
 # Each switch, and what it says.
 SWITCHES = {
@@ -33,6 +33,11 @@ class Profile:
     has_smepmp: bool = True
     reset_mseccfg: int = 0
     absent: set = field(default_factory=set)
+
+    @property
+    def bits(self):
+        """How many bits of an address register lie below the grain."""
+        return self.grain.bit_length() - 3
 
     def allows(self, switch, value):
         """Notes the choice; whether it may be made."""
@@ -92,7 +97,7 @@ def note(profile, steps):
         profile.allows(switch, str(value))
 
 
-def reason_to_skip(profile, case: Case, is_hart):
+def reason_to_skip(profile, case: Case, expected, is_hart):
     """Why the hart can't be asked this case, or nothing. What isn't a hart has as many entries as the case."""
     if case.version == 2 and profile.entries < 64:
         return f"of 64 entries, where the hart has {profile.entries}"
@@ -100,15 +105,38 @@ def reason_to_skip(profile, case: Case, is_hart):
         return "of missing entries, where the hart has 64"
     if not profile.has_smepmp and any(it[0] == "write" and it[1] == "mseccfg" for it in case.events):
         return "of mseccfg, which the hart lacks"
-    if profile.grain > 4 and any(is_finer(profile.grain, it) for it in case.events):
-        return f"of addresses finer than {profile.grain} bytes"
+    if profile.grain > 4 and (writes_four_bytes(case) or any(is_finer(profile.bits, it) for it in expected.registers)):
+        return f"of regions finer than {profile.grain} bytes"
     return None
 
 
-def is_finer(grain, event):
-    if event[0] == "reset":
-        return False
-    if event[1].startswith("pmpaddr"):
-        # A region by its low ones is at least twice the grain; an end of a range is a multiple of it.
-        return event[2] % (grain // 4) not in (0, grain // 4 - 1) or (grain == 8 and event[2] & 3 == 1)
-    return event[1] != "mseccfg" and any(it >> 3 & 3 == 2 for it in event[2].to_bytes(8, "little"))
+def writes_four_bytes(case):
+    values = [it[2] for it in case.events if it[0] == "write" and it[1].startswith("pmpcfg")]
+    return any(it >> 3 & 3 == NA4 for value in values for it in value.to_bytes(8, "little"))
+
+
+def matching_of(state, entry):
+    return state.get(f"pmpcfg{entry // 8 * 2}", 0) >> (8 * (entry % 8) + 3) & 3
+
+
+def is_finer(bits, state):
+    """Whether a rule begins or ends inside a region of the grain."""
+    low = (1 << bits) - 1
+    before = 0
+    for entry in range(64):
+        address, matching = state.get(f"pmpaddr{entry}", 0), matching_of(state, entry)
+        if matching == TOR and (before | address) & low:
+            return True
+        if matching == NAPOT and ~address & low >> 1:
+            return True
+        before = address
+    return False
+
+
+def read_back(profile, state, name):
+    """What a register reads at the hart's grain: low bits of an address are 0 or 1 there, as the entry matches."""
+    value = state.get(name, 0)
+    if profile.grain == 4 or not name.startswith("pmpaddr"):
+        return value
+    low = (1 << profile.bits) - 1
+    return value | low >> 1 if matching_of(state, int(name[7:])) >= NA4 else value & ~low

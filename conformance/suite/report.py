@@ -27,10 +27,18 @@ def probe(oracle, simulator, given):
     return profile
 
 
-def runs_of(cases, expected, profile, simulator, found):
-    """A run for each part of each case that the hart can be asked."""
-    for case, answer in zip(cases, expected):
-        reason = profiles.reason_to_skip(profile, case, simulator.is_hart)
+class Suite:
+    """Cases with what is expected of them, and a run for each part of one."""
+
+    def __init__(self, oracle, cases):
+        self.oracle, self.cases, self.expected = oracle, cases, oracle.answer(cases)
+        self.runs = [[Run(case, tuple(part), it) for part in parts_of(case)] for case, it in zip(cases, self.expected)]
+
+
+def runs_of(suite, profile, simulator, found):
+    """The runs of the cases that the hart can be asked."""
+    for case, answer, runs in zip(suite.cases, suite.expected, suite.runs):
+        reason = profiles.reason_to_skip(profile, case, answer, simulator.is_hart)
         if simulator.is_hart and not answer.is_safe:
             reason = "that close the harness' own memory to it"
         if reason:
@@ -38,13 +46,13 @@ def runs_of(cases, expected, profile, simulator, found):
             found.reasons[reason] += 1
             continue
         found.tried[case.rule] += 1
-        yield from (Run(case, tuple(part), answer) for part in parts_of(case))
+        yield from runs
 
 
-def compare(oracle, simulator, cases, expected, given):
+def compare(suite, simulator, given, rules=(*RULES, SEEDED)):
     """What is found, and the hart's profile. On a hart each difference is one that shows in a run of its own too."""
-    profile, found = probe(oracle, simulator, given), Found()
-    runs = list(runs_of(cases, expected, profile, simulator, found))
+    profile, found = probe(suite.oracle, simulator, given), Found()
+    runs = [it for it in runs_of(suite, profile, simulator, found) if it.case.rule in rules]
     judge = Judge(profile)
 
     def differing(runs, steps):

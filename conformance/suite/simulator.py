@@ -1,10 +1,10 @@
 """Runs cases on a simulator: a program in the way of harness/, or one that reads the cases itself."""
 import os
-import re
-import shutil
+import resource
 import subprocess
 from concurrent.futures import ThreadPoolExecutor
 from dataclasses import dataclass
+from functools import cached_property
 
 from . import answers
 from .blob import blob_of, words_of
@@ -12,11 +12,19 @@ from .blob import blob_of, words_of
 SECTION = b"conformance cases"
 
 
-@dataclass(frozen=True)
+@dataclass(frozen=True, eq=False)
 class Run:
     case: object
     part: tuple
     expected: object
+
+    @cached_property
+    def words(self):
+        return list(words_of(self.case, self.part, self.expected))
+
+    def numbered(self, number, flags=0):
+        """The words of the run, which is told by this number."""
+        return [self.words[0] | flags | number << 32, *self.words[1:]]
 
     @property
     def is_sticky(self):
@@ -33,7 +41,7 @@ def batches_of(runs, room, most):
     sticky = [it for it in runs if it.is_sticky]
     batches, batch, size = [], [], 0
     for run in plain:
-        words = len(list(words_of(0, run.case, run.part, run.expected))) * 8
+        words = len(run.words) * 8
         if batch and (size + words > room or len(batch) >= most):
             batches.append(batch)
             batch, size = [], 0
@@ -57,7 +65,7 @@ class PlainHart:
         for entries in (16, 64):
             mine = {it: run for it, run in enumerate(runs) if run.case.entries == entries}
             with open(self.path, "wb") as it:
-                it.write(blob_of([words_of(number, run.case, run.part, run.expected, flags) for number, run in mine.items()]))
+                it.write(blob_of([run.numbered(number, flags) for number, run in mine.items()]))
             text = subprocess.run([*self.words, str(entries), self.path], capture_output=True, text=True, check=True).stdout
             found.update(answers.read(text)[0])
         return [found.get(it, []) for it in range(len(runs))]
@@ -67,8 +75,8 @@ class Hart:
     """A simulator that runs an ELF. ELF stands for the file in its words, or comes last."""
 
     is_hart = True
-    # A hart that hangs has no answer. Nothing else depends on this limit.
-    LIMIT = 20
+    # A hart that hangs has no answer: so many seconds of a processor, and as a last resort so many by the clock.
+    LIMIT, LAST_RESORT = 4, 300
 
     def __init__(self, words, elf, work, jobs):
         self.words, self.work, self.jobs = words, work, jobs
@@ -79,7 +87,7 @@ class Hart:
         self.starts = 0
 
     def write_elf(self, path, runs, flags=0, is_quiet=False):
-        blob = blob_of([words_of(number, it.case, it.part, it.expected, flags) for number, it in enumerate(runs)], is_quiet)
+        blob = blob_of([it.numbered(number, flags) for number, it in enumerate(runs)], is_quiet)
         if len(blob) > self.room:
             raise SystemExit(f"conformance: a case of {len(blob)} bytes, where the harness has room for {self.room}")
         with open(path, "wb") as it:
@@ -92,13 +100,18 @@ class Hart:
         self.write_elf(path, batch, flags)
         words = [it.replace("ELF", path) for it in self.words] if "ELF" in self.words else [*self.words, path]
         try:
-            done = subprocess.run(words, stdin=subprocess.DEVNULL, capture_output=True, timeout=self.LIMIT, check=False)
+            done = subprocess.run(words, stdin=subprocess.DEVNULL, capture_output=True, timeout=self.LAST_RESORT,
+                                  preexec_fn=self.limit, check=False)
             text = done.stdout
         except subprocess.TimeoutExpired as it:
             text = it.stdout or b""
         os.remove(path)
         found = answers.read(text.decode("ascii", "replace"))[0]
         return [found.get(it, []) for it in range(len(batch))]
+
+    @classmethod
+    def limit(cls):
+        resource.setrlimit(resource.RLIMIT_CPU, (cls.LIMIT, cls.LIMIT))
 
     def run(self, runs, flags=0, is_alone=False):
         order = {id(run): place for place, run in enumerate(runs)}
@@ -110,10 +123,3 @@ class Hart:
                     found[order[id(run)]] = these
         return found
 
-
-def is_there(word):
-    return shutil.which(word) is not None
-
-
-def words_in(text):
-    return re.findall(r"\S+", text)
