@@ -110,7 +110,7 @@ static void clear_registers(void) {
 }
 
 static void fill_arena(void) {
-    for (uint64_t at = ARENA; at < ARENA + ARENA_SIZE; at += 8)
+    for (uint64_t at = ARENA - 64; at < ARENA + ARENA_SIZE + 64; at += 8)
         *(volatile uint64_t *)at = COMPRESSED_EBREAKS;
     in_machine_mode(fence_code, 0, 0);
 }

@@ -52,7 +52,7 @@ class Judge:
             state.update({it: 0 for it in state})
         state.update(look.changed)
         if state == expected.registers[after] and self.profile.grain == 4:
-            return None
+            return self.note_alike(case, after, expected)
         wanted = {it: read_back(self.profile, expected.registers[after], it) for it in state}
         if case.looks > 16 and case.version == 1 and after == 0:
             self.note_absent(look)
@@ -62,6 +62,15 @@ class Judge:
             name = unlike[verdicts.index(WRONG)]
             return Difference(after, name, 0, f"{wanted[name]:#018x}", f"{state[name]:#018x}")
         return LAWFUL if LAWFUL in verdicts else None
+
+    def note_alike(self, case, after, expected):
+        """Notes the choices that are made as the program makes them."""
+        reasons = expected.reasons[after - 1][0] if after else ()
+        if "reserved" in reasons:
+            self.profile.allows("reserved", "no-rights")
+        if "lockdown" in reasons and expected.registers[after] != expected.registers[after - 1]:
+            self.profile.allows("barred", "byte")
+        return None
 
     def note_absent(self, look):
         missing = {it for it in look.missing if it != "mseccfg"}

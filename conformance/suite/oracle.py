@@ -64,21 +64,22 @@ class Oracle:
     def answer(self, cases):
         """What is expected of each case, in their order."""
         found, chunk, size, rows = {}, [], 0, 0
-        for case in sorted(cases, key=lambda it: it.version):
+        for place in sorted(range(len(cases)), key=lambda it: cases[it].version):
+            case = cases[place]
             asked = list(questions(case, self.is_for_hart))
             script = sum(len(it) + 1 for it in case.lines()) + 16
-            other = chunk and chunk[0][0].version != case.version
+            other = chunk and chunk[0][1].version != case.version
             if chunk and (other or size + script > MAX_SCRIPT or rows + len(asked) > MAX_ROWS):
                 found.update(self.answer_chunk(chunk))
                 chunk, size, rows = [], 0, 0
-            chunk.append((case, asked))
+            chunk.append((place, case, asked))
             size, rows = size + script, rows + len(asked)
         found.update(self.answer_chunk(chunk) if chunk else {})
-        return [found[case.name] for case in cases]
+        return [found[it] for it in range(len(cases))]
 
     def answer_chunk(self, chunk):
-        script, trace, done = [f"pmp {chunk[0][0].version}"], ["after,mode,kind,start,length"], 0
-        for case, asked in chunk:
+        script, trace, done = [f"pmp {chunk[0][1].version}"], ["after,mode,kind,start,length"], 0
+        for _, case, asked in chunk:
             script += ["reset", "publish", *case.lines()]
             for _, row in asked:
                 after, rest = row.split(",", 1)
@@ -91,7 +92,7 @@ class Oracle:
                     it.write("\n".join(lines) + "\n")
             writes = iter([it.split(",") for it in self.ask("writes", paths[0])])
             answers = iter([it.split(",")[1] for it in self.ask("audit", *paths)])
-        return {case.name: expected_of(case, asked, writes, answers) for case, asked in chunk}
+        return {place: expected_of(case, asked, writes, answers) for place, case, asked in chunk}
 
     def check_dump(self, case, expected):
         """Whether `pmp dump` says the same of the registers at the case's end."""

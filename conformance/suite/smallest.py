@@ -78,8 +78,8 @@ def lines_to_paste(found, program):
         what = f"{access.mode} {access.kind} {access.start:#x} {access.length}"
         yield f"{program} check stdin {what} <<'END'"
     else:
-        by, what = "", access or ""
-        yield f"{program} dump stdin <<'END' | grep '^{what} '"
+        by = ""
+        yield f"{program} dump stdin <<'END'" + (f" | grep '^{access} '" if access else "")
     yield from run.case.script(difference.after).splitlines()[1:]
     yield "END"
     atomic = " (an LR or an AMO)" if isinstance(access, Access) and access.atomic else ""
