@@ -124,6 +124,10 @@ stub_operations:
     .section .data
     .balign 64
     .globl tohost, fromhost
+    .type tohost, @object
+    .size tohost, 8
+    .type fromhost, @object
+    .size fromhost, 8
 tohost:
     .dword 0
     .balign 64

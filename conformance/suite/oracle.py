@@ -21,6 +21,8 @@ class Expected:
     reasons: list
     # "allow", "fault", or "either" where that depends on how the hart parts a misaligned access.
     answers: dict = field(default_factory=dict)
+    # Of each access, why: the cause of `pmp audit`.
+    causes: dict = field(default_factory=dict)
     # For which (number of events, mode) the harness' stub may be fetched.
     stubs: set = field(default_factory=set)
     # Whether the harness keeps its code, its data and its devices throughout.
@@ -91,7 +93,7 @@ class Oracle:
                 with open(path, "w", encoding="ascii") as it:
                     it.write("\n".join(lines) + "\n")
             writes = iter([it.split(",") for it in self.ask("writes", paths[0])])
-            answers = iter([it.split(",")[1] for it in self.ask("audit", *paths)])
+            answers = iter([it.split(",") for it in self.ask("audit", *paths)])
         return {place: expected_of(case, asked, writes, answers) for place, case, asked in chunk}
 
     def check_dump(self, case, expected):
@@ -121,8 +123,10 @@ def expected_of(case, asked, writes, answers):
     return expected
 
 
-def note_answer(expected, key, row, answer):
+def note_answer(expected, key, row, told):
+    answer = told[1]
     if not isinstance(key, tuple):
+        expected.causes[key] = told[3]
         expected.answers[key] = answer if key.is_aligned or answer == "allow" else "either"
     elif key[0] == "safe":
         expected.is_safe &= answer == "allow"

@@ -97,12 +97,16 @@ def note(profile, steps):
         profile.allows(switch, str(value))
 
 
-def reason_to_skip(profile, case: Case, expected, is_hart):
+def reason_to_skip(profile, case: Case, expected, simulator):
     """Why the hart can't be asked this case, or nothing. What isn't a hart has as many entries as the case."""
     if case.version == 2 and profile.entries < 64:
         return f"of 64 entries, where the hart has {profile.entries}"
-    if case.rule == "Registers 4" and profile.entries == 64 and is_hart:
+    if case.rule == "Registers 4" and profile.entries == 64 and simulator.is_hart:
         return "of missing entries, where the hart has 64"
+    if not simulator.has_reset and ("reset",) in case.events:
+        return "of a reset, which software can't ask this board for"
+    if simulator.is_hart and not expected.is_safe:
+        return "that close the harness' own memory to it"
     if not profile.has_smepmp and any(it[0] == "write" and it[1] == "mseccfg" for it in case.events):
         return "of mseccfg, which the hart lacks"
     if profile.grain > 4 and (writes_four_bytes(case) or any(is_finer(profile.bits, it) for it in expected.registers)):

@@ -48,9 +48,7 @@ def may_enter(access, expected):
 def runs_of(suite, profile, simulator, found):
     """The runs of the cases that the hart can be asked."""
     for case, answer, runs in zip(suite.cases, suite.expected, suite.runs):
-        reason = profiles.reason_to_skip(profile, case, answer, simulator.is_hart)
-        if simulator.is_hart and not answer.is_safe:
-            reason = "that close the harness' own memory to it"
+        reason = profiles.reason_to_skip(profile, case, answer, simulator)
         if reason:
             found.skipped[case.rule] += 1
             found.reasons[reason] += 1
@@ -90,7 +88,7 @@ def groups_of(differing):
     """The differences of a rule in lists of a kind, the smallest first."""
     groups = defaultdict(list)
     for it in sorted(differing, key=size_of):
-        groups[kind_of(it[1])].append(it)
+        groups[kind_of(it)].append(it)
     return sorted(groups.values(), key=lambda it: size_of(it[0]))
 
 

@@ -54,7 +54,7 @@ def batches_of(runs, room, most):
 class PlainHart:
     """A program that is given the number of entries and a file of cases, and resets itself before each case."""
 
-    is_hart = False
+    is_hart, has_reset = False, True
 
     def __init__(self, words, work):
         self.words = words
@@ -78,8 +78,8 @@ class Hart:
     # A hart that hangs has no answer: so many seconds of a processor, and as a last resort so many by the clock.
     LIMIT, LAST_RESORT = 4, 300
 
-    def __init__(self, words, elf, work, jobs):
-        self.words, self.work, self.jobs = words, work, jobs
+    def __init__(self, words, elf, work, jobs, has_reset):
+        self.words, self.work, self.jobs, self.has_reset = words, work, jobs, has_reset
         with open(elf, "rb") as it:
             self.image = it.read()
         self.place = self.image.index(SECTION)

@@ -2,19 +2,20 @@
 from dataclasses import replace
 
 from .blob import parts_of
-from .case import Access, Case
+from .case import TOR, Access, Case
 from .judge import Judge
-from .profile import Profile
+from .profile import Profile, matching_of
 from .simulator import Run
 
 
-def kind_of(difference):
+def kind_of(found):
     """What sort of difference it is, by which they are told apart."""
+    run, difference = found
     if isinstance(difference.access, Access):
-        access = difference.access
-        return (access.kind, access.mode == "M", access.is_aligned, difference.effect, difference.got.split(",")[0])
-    name = difference.access or "none"
-    return (name.rstrip("0123456789"), "", "", difference.effect, "")
+        access, cause = difference.access, run.expected.causes[difference.access]
+        return access.kind, access.mode == "M", access.is_aligned, difference.effect, difference.got.split(",")[0], cause
+    reasons = " ".join(run.expected.reasons[difference.after - 1][0]) if difference.after else ""
+    return (difference.access or "none").rstrip("0123456789"), reasons
 
 
 def size_of(found):
@@ -35,6 +36,15 @@ def without(case, place):
     return Case(case.name, case.rule, case.version, events, accesses, case.looks)
 
 
+def is_kept(run, place):
+    """Whether the event writes an end of a TOR entry, without which the entry would end at 0, which is another case."""
+    event, state = run.case.events[place], run.expected.registers[-1]
+    if event[0] == "reset" or not event[1].startswith("pmpaddr"):
+        return False
+    entry = int(event[1][7:])
+    return TOR in (matching_of(state, entry), matching_of(state, entry + 1))
+
+
 class Smaller:
     def __init__(self, oracle, simulator, profile):
         self.oracle, self.simulator, self.profile = oracle, simulator, profile
@@ -48,7 +58,7 @@ class Smaller:
         judge = Judge(Profile(self.profile.given, {}, *self.probed()))
         for run, steps in zip(runs, self.simulator.run(runs, **alone)):
             difference = judge.compare(run.case, run.part, run.expected, steps)
-            if difference and kind_of(difference) == kind and difference.after == len(run.case.events):
+            if difference and kind_of((run, difference)) == kind and difference.after == len(run.case.events):
                 yield run, difference
 
     def probed(self):
@@ -57,13 +67,14 @@ class Smaller:
 
     def smallest(self, found):
         """The found run without the events that it doesn't need."""
-        kind = kind_of(found[1])
+        kind = kind_of(found)
         found = next(self.try_all([cut(found[0].case, found[1])], kind), found)
         while True:
             case = found[0].case
             if found[1].after != len(case.events):
                 return found
-            smaller = list(self.try_all([without(case, it) for it in range(len(case.events))], kind))
+            places = [it for it in range(len(case.events)) if not is_kept(found[0], it)]
+            smaller = list(self.try_all([without(case, it) for it in places], kind))
             if not smaller:
                 return found
             found = smaller[-1]

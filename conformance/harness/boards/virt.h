@@ -1,5 +1,6 @@
 /* QEMU's machine "virt": memory, the console and what resets the board or ends a run. */
 #define BOARD_MEMORY UINT64_C(0x80000000)
+#define BOARD_HAS_RESET
 
 static inline void board_put(char letter) {
     *(volatile uint8_t *)0x10000000 = letter;
