@@ -1,5 +1,5 @@
-/* plain_hart [--turn NAME] ENTRIES CASES: performs cases as the harness does on a hart, by a plain unit that is turned in
-   one way. plain_hart --list: the turns, and the rule whose cases find each. */
+/* plain_hart [--turn NAME] ENTRIES CASES: performs cases as the harness does on a hart, by a plain unit that is turned
+   in one way. plain_hart --list: the turns, and the rule whose cases find each. */
 #include "turns.h"
 #include <stdint.h>
 #include <stdio.h>
@@ -12,7 +12,6 @@ enum { R = 1, W = 2, X = 4, LOCK = 128 };
 enum { OFF, TOR, NA4, NAPOT };
 enum { MML = 1, MMWP = 2, RLB = 4 };
 enum { END, CASE, WRITE, LOOK, EXPECT, ACCESS, RESET, SPOT };
-enum { NOBODY = 64 };
 /* Numbers beside the causes of faults. */
 enum { MISALIGNED = 4, ALLOWED = 32 };
 
@@ -84,7 +83,8 @@ static int matches(unsigned entry, uint64_t byte) {
     case TOR:
         return is_in_range(entry, byte);
     case NA4:
-        return byte >> 2 == unit.address[entry] || (turn == four_bytes_are_eight && byte >> 2 == unit.address[entry] + 1);
+        return byte >> 2 == unit.address[entry]
+            || (turn == four_bytes_are_eight && byte >> 2 == unit.address[entry] + 1);
     default:
         return is_in_power(entry, byte);
     }
@@ -258,12 +258,13 @@ static void write_security(uint64_t value) {
         unit.security = (unit.security & ~UINT64_C(1)) | (value & MML);
     if (turn == allow_list_falls)
         unit.security = (unit.security & ~UINT64_C(2)) | (value & MMWP);
-    if (before & RLB ? value & RLB || turn == bypass_stays : value & RLB && (!is_one_locked || turn == bypass_rises_over_lock))
+    int may_rise = before & RLB || !is_one_locked || turn == bypass_rises_over_lock;
+    if ((value & RLB && may_rise) || (before & RLB && turn == bypass_stays))
         unit.security |= RLB;
     unit.security |= kept_security(value);
 }
 
-/* Which register it is: an entry's number, and what of it; nobody has the odd ones. */
+/* Whether the number is that of a register of bytes, and the first entry of those; nobody has the odd ones. */
 static int is_byte_register(unsigned number, unsigned *first) {
     *first = 4 * (number - 0x3a0);
     return number >= 0x3a0 && number < 0x3b0 && number % 2 == 0;
@@ -315,14 +316,15 @@ static void look_at(unsigned number, int is_first) {
         printf("x %x\n", number);
 }
 
-static void look(unsigned count, int is_first) {
+static void look(unsigned count, int *is_first) {
     for (unsigned register_ = 0; register_ < count / 4; register_ += 2)
-        look_at(0x3a0 + register_, is_first);
+        look_at(0x3a0 + register_, *is_first);
     for (unsigned entry = 0; entry < count; entry++)
-        look_at(0x3b0 + entry, is_first);
-    look_at(0x747, is_first);
+        look_at(0x3b0 + entry, *is_first);
+    look_at(0x747, *is_first);
     puts("w");
     shown = unit;
+    *is_first = 0;
 }
 
 static void reset(void) {
@@ -350,16 +352,13 @@ static void run(const uint64_t *at) {
         switch (word & 0xff) {
         case CASE:
             memset(&unit, 0, sizeof unit);
-            memset(&shown, 0, sizeof shown);
+            shown = unit;
             count = word >> 8 & 0xff;
             printf("c %llx\n", (unsigned long long)(word >> 32));
             is_first = 1;
             break;
         case WRITE: write_register(word >> 16 & 0xfff, *++at); break;
-        case LOOK:
-            look(count, is_first);
-            is_first = 0;
-            break;
+        case LOOK: look(count, &is_first); break;
         case EXPECT: at += 2; break;
         case ACCESS: perform(word, *++at); break;
         case RESET:
@@ -383,15 +382,12 @@ static void turn_to(const char *name) {
 }
 
 int main(int count, char **words) {
-    if (count == 2 && strcmp(words[1], "--list") == 0) {
-        for (unsigned it = 0; it < sizeof turns / sizeof *turns; it++)
-            printf("%s %s\n", turns[it].name, turns[it].rule);
-        return 0;
-    }
+    for (unsigned it = 0; it < sizeof turns / sizeof *turns && strcmp(words[count - 1], "--list") == 0; it++)
+        printf("%s %s\n", turns[it].name, turns[it].rule);
     if (count == 5 && strcmp(words[1], "--turn") == 0)
         turn_to(words[2]);
     if (count < 3)
-        return 2;
+        return count != 2;
     entries = atoi(words[count - 2]);
     FILE *file = fopen(words[count - 1], "rb");
     static uint64_t cases[1 << 20];

@@ -181,7 +181,8 @@ static void perform(uint64_t word, uint64_t start) {
     if (!is_stub && mode != MACHINE)
         status |= MPRV;
     outcome = attempt(target, start, pattern_at(start), status, is_stub);
-    tell(word, start, outcome.cause, target, outcome.cause == ECALL + (is_stub ? mode : MACHINE) && read_mepc() == target + 4);
+    int is_allowed = outcome.cause == ECALL + (is_stub ? mode : MACHINE) && read_mepc() == target + 4;
+    tell(word, start, outcome.cause, target, is_allowed);
 }
 
 /* After a reset the hart goes on behind it, by what memory kept. */

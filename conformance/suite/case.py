@@ -80,7 +80,7 @@ class Case:
 
 
 class Builder:
-    """Writes a case step by step. A configuration byte is written with the others of its register as they were meant."""
+    """Writes a case step by step. A byte is written with the others of its register as they were meant."""
 
     def __init__(self, rule, name, version=1, looks=None):
         self.case = Case(name, rule, version, looks=looks or (64 if version == 2 else 16))

@@ -1,5 +1,5 @@
-"""What the proved program says of cases: `pmp writes` for each register, `pmp audit` for each access. Many cases are asked
-in one script, with a reset before each, and `pmp dump` says the same of one case at its end."""
+"""What the proved program says of cases: `pmp writes` for each register, `pmp audit` for each access. Many cases are
+asked in one script, with a reset before each, and `pmp dump` says the same of one case at its end."""
 import os
 import subprocess
 import tempfile
@@ -102,7 +102,12 @@ class Oracle:
             it.write(case.script())
             it.flush()
             lines = self.ask("dump", it.name)
-        return dict((name, int(value, 16)) for name, value in map(str.split, lines)) == expected.registers[-1]
+        return dumps(lines, expected)
+
+
+def dumps(lines, expected):
+    """Whether the lines of `pmp dump` are the registers at the end."""
+    return {name: int(value, 16) for name, value in map(str.split, lines)} == expected.registers[-1]
 
 
 def expected_of(case, asked, writes, answers):

@@ -1,5 +1,5 @@
-"""A profile: what the manual leaves to a hart. A switch that a file gives is demanded; any other is found by probing, or
-by the cases where it shows, and is told in the report."""
+"""A profile: what the manual leaves to a hart. A switch that a file gives is demanded; any other is found by probing,
+or by the cases where it shows, and is told in the report."""
 from dataclasses import dataclass, field
 
 from .case import ARENA, NA4, NAPOT, RLB, TOR, Builder, Case
@@ -92,9 +92,10 @@ def note(profile, steps):
     profile.grain = (ones & -ones) * 4 if ones else 4
     profile.address_bits = ones.bit_length()
     profile.has_smepmp = "mseccfg" not in profile.absent and bool(state.get("mseccfg", 0) & RLB)
-    for switch, value in (("entries", profile.entries), ("grain", profile.grain), ("address_bits", profile.address_bits),
-                          ("smepmp", "yes" if profile.has_smepmp else "no"), ("reset_mseccfg", hex(profile.reset_mseccfg))):
-        profile.allows(switch, str(value))
+    for switch in ("entries", "grain", "address_bits"):
+        profile.allows(switch, str(getattr(profile, switch)))
+    profile.allows("smepmp", "yes" if profile.has_smepmp else "no")
+    profile.allows("reset_mseccfg", hex(profile.reset_mseccfg))
 
 
 def reason_to_skip(profile, case: Case, expected, simulator):

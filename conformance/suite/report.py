@@ -1,4 +1,4 @@
-"""Runs all cases on a simulator, and tells what it found: a row for each rule, and the smallest case where one differs."""
+"""Runs all cases on a simulator, and tells what it found: a row for each rule, and the smallest case that differs."""
 from collections import Counter, defaultdict
 
 from . import profile as profiles
@@ -38,8 +38,8 @@ class Suite:
 
 
 def may_enter(access, expected):
-    """Whether some entry is on where a fetch needs that the hart enters a mode below machine mode. Without one, the cases
-    of Deciding 5 alone try it, since a simulator may refuse the entry itself."""
+    """Whether some entry is on where a fetch needs that the hart enters a mode below machine mode. Without one, the
+    cases of Deciding 5 alone try it, since a simulator may refuse the entry itself."""
     state = expected.registers[access.after]
     is_one_on = any(value & 0x1818181818181818 for name, value in state.items() if name.startswith("pmpcfg"))
     return access.mode == "M" or access.kind != "fetch" or is_one_on

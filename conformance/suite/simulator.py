@@ -66,8 +66,8 @@ class PlainHart:
             mine = {it: run for it, run in enumerate(runs) if run.case.entries == entries}
             with open(self.path, "wb") as it:
                 it.write(blob_of([run.numbered(number, flags) for number, run in mine.items()]))
-            text = subprocess.run([*self.words, str(entries), self.path], capture_output=True, text=True, check=True).stdout
-            found.update(answers.read(text)[0])
+            words = [*self.words, str(entries), self.path]
+            found.update(answers.read(subprocess.run(words, capture_output=True, text=True, check=True).stdout)[0])
         return [found.get(it, []) for it in range(len(runs))]
 
 

@@ -12,8 +12,9 @@ def kind_of(found):
     """What sort of difference it is, by which they are told apart."""
     run, difference = found
     if isinstance(difference.access, Access):
-        access, cause = difference.access, run.expected.causes[difference.access]
-        return access.kind, access.mode == "M", access.is_aligned, difference.effect, difference.got.split(",")[0], cause
+        access, got = difference.access, difference.got.split(",")[0]
+        cause = run.expected.causes[access]
+        return access.kind, access.mode == "M", access.is_aligned, difference.effect, got, cause
     reasons = " ".join(run.expected.reasons[difference.after - 1][0]) if difference.after else ""
     return (difference.access or "none").rstrip("0123456789"), reasons
 
@@ -52,7 +53,8 @@ class Smaller:
     def try_all(self, cases, kind):
         """Of each case, the run and its difference where it is of that kind."""
         cases = [it for it in cases if it.accesses or it.events]
-        runs = [Run(case, tuple(parts_of(case)[0]), expected) for case, expected in zip(cases, self.oracle.answer(cases))]
+        expected = self.oracle.answer(cases)
+        runs = [Run(case, tuple(parts_of(case)[0]), it) for case, it in zip(cases, expected)]
         runs = [it for it in runs if it.expected.is_safe or not self.simulator.is_hart]
         alone = {"is_alone": True} if self.simulator.is_hart else {}
         judge = Judge(Profile(self.profile.given, {}, *self.probed()))

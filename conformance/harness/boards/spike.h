@@ -1,4 +1,4 @@
-/* Spike's layout, and that of other boards with a host: all goes by tohost. There is no reset that software can ask for. */
+/* Spike's layout, and that of other boards with a host: all goes by tohost, and software can ask for no reset. */
 #define BOARD_MEMORY UINT64_C(0x80000000)
 
 /* A letter for the console, which is the host's device 1 and command 1. */
