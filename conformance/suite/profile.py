@@ -100,6 +100,8 @@ def note(profile, steps):
 
 def reason_to_skip(profile, case: Case, expected, simulator):
     """Why the hart can't be asked this case, or nothing. What isn't a hart has as many entries as the case."""
+    if profile.entries == 0:
+        return "of entries, where the hart has none"
     if case.version == 2 and profile.entries < 64:
         return f"of 64 entries, where the hart has {profile.entries}"
     if case.rule == "Registers 4" and profile.entries == 64 and simulator.is_hart:
