@@ -45,11 +45,16 @@ class Profile:
         values[value] = values.get(value, 0) + 1
         return self.given.get(switch, value) == value
 
+    def unmet(self):
+        """The switches that are demanded, where the hart has shown another value."""
+        return [it for it, value in self.given.items() if set(self.seen.get(it, ())) - {value}]
+
     def lines(self):
         for switch in SWITCHES:
             values = self.seen.get(switch, {})
             if switch in self.given:
-                yield f"{switch} {self.given[switch]}    # as given"
+                more = "but the hart has " + ", ".join(values) if switch in self.unmet() else "as given"
+                yield f"{switch} {self.given[switch]}    # {more}"
             elif values:
                 more = "" if len(values) == 1 else "    # " + ", ".join(f"{it} {count}" for it, count in values.items())
                 yield f"{switch} {max(values, key=values.get)}{more}"
