@@ -6,10 +6,12 @@
 # make dist                 writes a release of what is built to dist/
 # make dist-test            makes one, and wants each tool that its check asks for
 # make soak SECONDS=..      lets a publisher and eight checkers run so long, and compares each answer with a replay
+# make conformance          tries QEMU's unit, or that of HART="simulator ELF", by cases of each rule
 # make test                 proves and tests everything, has the prover refuse the wrong bodies, then tries the program, the
 #                           libraries, the launcher and the documents
 PREFIX ?= /usr/local
 SECONDS ?= 600
+HART ?= qemu-system-riscv64 -M virt -cpu rv64,x-epmp=true -m 16M -display none -monitor none -serial stdio -bios ELF
 PROGRAM = crates/pmp_tool/out/pmp_tool
 GROWTHS = crates/pmp_growths/out/pmp_growths
 STRESS = crates/pmp_stress/out/pmp_stress
@@ -20,8 +22,8 @@ export PREFIX DESTDIR
 # ci has one process for each, which is less work than several for one.
 LANES = $(shell awk -v most="$$(nproc)" '/^MemAvailable/ { n = int($$2 / 3500000); print n < 1 ? 1 : n < most ? n : most }' /proc/meminfo)
 
-.PHONY: build library test install install-program install-library uninstall dist dist-test soak stress bench \
-    bench-decide bench-threads bench-limits bench-audit
+.PHONY: build library test conformance install install-program install-library uninstall dist dist-test soak stress \
+    bench bench-decide bench-threads bench-limits bench-audit
 
 # The launcher builds the program, and then the program says its version.
 build:
@@ -39,6 +41,7 @@ test:
 	checks/library $(LIBRARY)
 	checks/release
 	checks/worked $(PROGRAM)
+	checks/conformance $(PROGRAM)
 	checks/program $(PROGRAM)
 	checks/launcher
 	checks/documents $(PROGRAM)
@@ -46,6 +49,13 @@ test:
 	checks/limits
 	checks/hostile $(PROGRAM)
 	checks/growths $(GROWTHS)
+
+# Ends with status 1 where something differs.
+conformance:
+	@for it in $(firstword $(HART)) riscv64-unknown-elf-gcc; do command -v $$it >/dev/null || { \
+	    echo "there is no $$it; Debian's packages are qemu-system-misc and gcc-riscv64-unknown-elf" >&2; exit 2; }; done
+	@$(MAKE) build
+	conformance/run --cases conformance/out/cases -- $(HART)
 
 install: build library
 	@release/install program library

@@ -1,0 +1,45 @@
+/* What the parts of the harness share. Assembly reads it too. */
+#ifndef HARNESS_H
+#define HARNESS_H
+
+/* Where things are, from the start of memory on; suite/case.py has the same places. */
+#define DATA_PLACE 0x10000
+#define CASES_PLACE 0x12000
+#define CASES_SIZE 0x5000
+#define KEPT_PLACE 0x17f00
+#define STUB_PLACE 0x20000
+#define ARENA_PLACE 0x100000
+#define ARENA_SIZE 0x8000
+
+#define MPRV 0x20000
+#define MPP 0x1800
+
+/* Indices into the lists of instructions that `attempt` runs, eight bytes each. */
+#define CSR_COUNT 81
+
+#ifndef __ASSEMBLER__
+#include <stdint.h>
+
+struct outcome {
+    uint64_t cause;
+    uint64_t value;
+};
+
+/* Runs an instruction at `target`, with these in its registers, and comes back by the exception that it or the ecall
+   behind it raises. `status` is set in mstatus before; the target is reached by mret where `by_return` isn't 0. */
+struct outcome attempt(uint64_t target, uint64_t address, uint64_t value, uint64_t status, uint64_t by_return);
+
+extern const char csr_writes[], csr_reads[], machine_operations[], stub_operations[], fence_addresses[], fence_code[];
+extern uint64_t cases[];
+extern volatile uint64_t tohost;
+
+struct kept {
+    uint64_t mark;
+    uint64_t place;
+    uint64_t failed;
+};
+
+void harness(void);
+void lost(void);
+#endif
+#endif

@@ -1,0 +1,18 @@
+"""The families of cases: one for each rule of docs/RULES.md, and seeded ones on top."""
+from . import deciding, matching, registers, seeded, writing
+
+RULES = (
+    *(f"Registers {it}" for it in range(1, 8)),
+    *(f"Matching {it}" for it in range(1, 5)),
+    *(f"Deciding {it}" for it in range(1, 7)),
+    *(f"Writing {it}" for it in range(1, 7)),
+)
+SEEDED = "Seeded"
+
+
+def all_cases(seed, random_cases):
+    found = [it.case for family in (registers, matching, deciding, writing) for it in family.cases()]
+    found += [it.case for it in seeded.cases(seed, random_cases)]
+    for number, case in enumerate(found):
+        case.name = f"{number:04}-{case.name}"
+    return found

@@ -1,0 +1,99 @@
+"""Makes a differing case smaller while it differs in the same way, and writes it so that one can paste it."""
+from dataclasses import replace
+
+from .blob import parts_of
+from .case import TOR, Access, Case
+from .judge import Judge
+from .profile import Profile, matching_of
+from .simulator import Run
+
+
+def kind_of(found):
+    """What sort of difference it is, by which they are told apart."""
+    run, difference = found
+    if isinstance(difference.access, Access):
+        access, got = difference.access, difference.got.split(",")[0]
+        cause = run.expected.causes[access]
+        return access.kind, access.mode == "M", access.is_aligned, difference.effect, got, cause
+    reasons = " ".join(run.expected.reasons[difference.after - 1][0]) if difference.after else ""
+    return (difference.access or "none").rstrip("0123456789"), reasons
+
+
+def size_of(found):
+    run, difference = found
+    return difference.after, len(run.case.name), run.case.name
+
+
+def cut(case, difference):
+    """The case up to the difference, with the access at fault alone."""
+    accesses = [difference.access] if isinstance(difference.access, Access) else []
+    return Case(case.name, case.rule, case.version, case.events[:difference.after], accesses, case.looks)
+
+
+def without(case, place):
+    """The case without one event."""
+    events = case.events[:place] + case.events[place + 1:]
+    accesses = [replace(it, after=it.after - 1) for it in case.accesses]
+    return Case(case.name, case.rule, case.version, events, accesses, case.looks)
+
+
+def is_kept(run, place):
+    """Whether the event writes an end of a TOR entry, without which the entry would end at 0, which is another case."""
+    event, state = run.case.events[place], run.expected.registers[-1]
+    if event[0] == "reset" or not event[1].startswith("pmpaddr"):
+        return False
+    entry = int(event[1][7:])
+    return TOR in (matching_of(state, entry), matching_of(state, entry + 1))
+
+
+class Smaller:
+    def __init__(self, oracle, simulator, profile):
+        self.oracle, self.simulator, self.profile = oracle, simulator, profile
+
+    def try_all(self, cases, kind):
+        """Of each case, the run and its difference where it is of that kind."""
+        cases = [it for it in cases if it.accesses or it.events]
+        expected = self.oracle.answer(cases)
+        runs = [Run(case, tuple(parts_of(case)[0]), it) for case, it in zip(cases, expected)]
+        runs = [it for it in runs if it.expected.is_safe or not self.simulator.is_hart]
+        alone = {"is_alone": True} if self.simulator.is_hart else {}
+        judge = Judge(Profile(self.profile.given, {}, *self.probed()))
+        for run, steps in zip(runs, self.simulator.run(runs, **alone)):
+            difference = judge.compare(run.case, run.part, run.expected, steps)
+            if difference and kind_of((run, difference)) == kind and difference.after == len(run.case.events):
+                yield run, difference
+
+    def probed(self):
+        it = self.profile
+        return it.entries, it.grain, it.address_bits, it.has_smepmp, it.reset_mseccfg, it.absent
+
+    def smallest(self, found):
+        """The found run without the events that it doesn't need."""
+        kind = kind_of(found)
+        found = next(self.try_all([cut(found[0].case, found[1])], kind), found)
+        while True:
+            case = found[0].case
+            if found[1].after != len(case.events):
+                return found
+            places = [it for it in range(len(case.events)) if not is_kept(found[0], it)]
+            smaller = list(self.try_all([without(case, it) for it in places], kind))
+            if not smaller:
+                return found
+            found = smaller[-1]
+
+
+def lines_to_paste(found, program):
+    """A command for the program, and what each side says."""
+    run, difference = found
+    access = difference.access
+    if isinstance(access, Access):
+        by = " by the mode itself" if difference.way else ""
+        what = f"{access.mode} {access.kind} {access.start:#x} {access.length}"
+        yield f"{program} check stdin {what} <<'END'"
+    else:
+        by = ""
+        yield f"{program} dump stdin <<'END'" + (f" | grep '^{access} '" if access else "")
+    yield from run.case.script(difference.after).splitlines()[1:]
+    yield "END"
+    atomic = " (an LR or an AMO)" if isinstance(access, Access) and access.atomic else ""
+    yield f"# the program says {difference.wanted}, the simulator {difference.got}{atomic}{by}"
