@@ -178,18 +178,18 @@ static uint32_t rights_by_page(uint32_t mode, uint64_t start, uint64_t length) {
     return tilvenka_pmp_rights(&unit, mode, start, length) == rights ? rights : UINT32_MAX;
 }
 
-// Whether these numbers have a run, with a map and without. Where they have none, nothing is written.
-static bool is_run(uint32_t mode, uint64_t address) {
+// Whether it is told rightly that these numbers have a run, or none, with a map and without. Where they have none,
+// nothing is written.
+static bool is_told(uint32_t mode, uint64_t address, bool has_run) {
     tilvenka_pmp_unit unit = page_at_zero();
-    bool is_one[2];
+    bool is_right = true;
     for (unsigned built = 0; built < 2; built++) {
         uint64_t first = 77, last = 78;
-        is_one[built] = !tilvenka_pmp_is_no_access(tilvenka_pmp_run(&unit, mode, address, &first, &last));
-        if (is_one[built] != (first <= address && address <= last) || (!is_one[built] && (first != 77 || last != 78)))
-            return !is_one[0];
+        bool is_run = !tilvenka_pmp_is_no_access(tilvenka_pmp_run(&unit, mode, address, &first, &last));
+        is_right &= is_run == has_run && (has_run ? first <= address && address <= last : first == 77 && last == 78);
         tilvenka_pmp_build(&unit);
     }
-    return is_one[0] && is_one[1];
+    return is_right;
 }
 
 static void try_wide_addresses(void) {
@@ -213,11 +213,11 @@ static void try_wide_words(void) {
             expect(decide_by_page(MODES[low] + high, low, 0, 4) == NO_ACCESS + codes[low] * 1024, "mode with bit", bit);
             expect(rights_by_page(MODES[low] + high, 0, 4096) == TILVENKA_PMP_NO_RANGE, "mode of a range, bit", bit);
             expect(decide_by_page(U, low + high, 0, 4) == NO_ACCESS + 5 * 1024, "kind with bit", bit);
-            expect(!is_run(MODES[low] + high, 0), "mode of a run, bit", bit);
+            expect(is_told(MODES[low] + high, 0, false), "mode of a run, bit", bit);
         }
     }
     for (unsigned bit = 12; bit < 64; bit++)
-        expect(is_run(U, UINT64_C(1) << bit) == (bit < 56), "address of a run, bit", bit);
+        expect(is_told(U, UINT64_C(1) << bit, bit < 56), "address of a run, bit", bit);
 }
 
 // Whether the register reads this after a write of the value to a unit after reset.

@@ -7,9 +7,9 @@
  * one call may not overlap. Reset, restore and save also take memory that holds nothing yet. Calls on different units
  * need no lock. Calls on one unit may run at once where all of them take it as const.
  *
- * Reading the struct is safe at any time. Decisions, rights and runs go by the map where it is built, and a build keeps
- * one that is. So change the registers by these calls alone: whoever writes to the struct itself, or takes a whole unit
- * from elsewhere, sets `map.runs` to 0.
+ * Reading the struct is like a call that takes it as const. Decisions, rights and runs go by the map where it is built,
+ * and a build keeps one that is. So change the registers by these calls alone: whoever writes to the struct itself, or
+ * takes a whole unit from elsewhere, sets `map.runs` to 0.
  *
  * It is for 64-bit hosts, whose own byte order a saved struct has, and was built for x86-64 Linux. Bytes of a unit may
  * differ where its registers don't, so compare and hash what tilvenka_pmp_save gives.
@@ -27,7 +27,9 @@
 extern "C" {
 #define TILVENKA_PMP_ASSERT static_assert
 #define TILVENKA_PMP_ALIGNMENT alignof
+#define TILVENKA_PMP_WORD : uint32_t
 #else
+#define TILVENKA_PMP_WORD
 #define TILVENKA_PMP_ASSERT _Static_assert
 #define TILVENKA_PMP_ALIGNMENT _Alignof
 #endif
@@ -40,14 +42,14 @@ enum {
 
 /* The modes, as the manual numbers them (1.2). It is the effective mode that is asked for: that of MPP for loads and
  * stores under MPRV (3.1.6.3), and supervisor mode where a page table is walked. */
-typedef enum tilvenka_pmp_mode {
+typedef enum tilvenka_pmp_mode TILVENKA_PMP_WORD {
     TILVENKA_PMP_USER = 0,
     TILVENKA_PMP_SUPERVISOR = 1,
     TILVENKA_PMP_MACHINE = 3
 } tilvenka_pmp_mode;
 
 /* The kinds of access. An AMO or a store-conditional is a store. */
-typedef enum tilvenka_pmp_kind {
+typedef enum tilvenka_pmp_kind TILVENKA_PMP_WORD {
     TILVENKA_PMP_FETCH = 0,
     TILVENKA_PMP_LOAD = 1,
     TILVENKA_PMP_STORE = 2
@@ -81,6 +83,7 @@ enum { TILVENKA_PMP_MML = 1, TILVENKA_PMP_MMWP = 2, TILVENKA_PMP_RLB = 4 };
 
 /* What a write or a read of a CSR came to. */
 enum {
+    /* A read is done; or a write is, the register reads the value, and none is another than before. */
     TILVENKA_PMP_DONE = 0,
     /* An odd pmpcfg register, which RV64 doesn't have (3.7.1). */
     TILVENKA_PMP_ODD_CONFIGURATION = 1,
@@ -91,9 +94,9 @@ enum {
     /* Bits of a write that is done: why the register doesn't read the value. There is one exactly where it doesn't. */
     TILVENKA_PMP_ABSENT = 1 << 8, /* the value isn't zero for an entry, or a register, that the unit doesn't have */
     TILVENKA_PMP_BITS = 1 << 9, /* it has bits that the register doesn't have */
-    TILVENKA_PMP_FROZEN = 1 << 10, /* it would change an entry that is frozen */
-    TILVENKA_PMP_LOW_END = 1 << 11, /* it would change the low end of a frozen entry's range */
-    TILVENKA_PMP_RESERVED = 1 << 12, /* it has W without R for an entry, and MML is 0 */
+    TILVENKA_PMP_FROZEN = 1 << 10, /* it has another byte or address for an entry that is frozen */
+    TILVENKA_PMP_LOW_END = 1 << 11, /* it is another address for an entry that isn't frozen, but the next is, and TOR */
+    TILVENKA_PMP_RESERVED = 1 << 12, /* it has W without R for an entry that isn't frozen, and MML is 0 */
     TILVENKA_PMP_LOCKDOWN = 1 << 13, /* it would add a locked rule that executes, MML is 1 and RLB is 0 */
     TILVENKA_PMP_STICKY = 1 << 14, /* it would clear MML or MMWP */
     TILVENKA_PMP_BYPASS = 1 << 15 /* it would set RLB, and some entry is locked */
@@ -166,7 +169,7 @@ uint32_t tilvenka_pmp_write(tilvenka_pmp_unit *unit, uint32_t csr, uint64_t valu
 uint32_t tilvenka_pmp_read(const tilvenka_pmp_unit *unit, uint32_t csr, uint64_t *value);
 
 /* Builds the map, by which a decision is a search in place of a walk: once after the last of several writes. One that
- * is built is left. Every call takes at most 12 KiB of the stack. */
+ * is built is left. */
 void tilvenka_pmp_build(tilvenka_pmp_unit *unit);
 
 bool tilvenka_pmp_is_built(const tilvenka_pmp_unit *unit);
@@ -206,7 +209,7 @@ static inline bool tilvenka_pmp_is_stored(uint32_t status) {
     return tilvenka_pmp_is_done(status) && status < TILVENKA_PMP_ABSENT;
 }
 
-/* How many entries aren't off: of none, machine mode may do what it may without a unit. */
+/* How many entries aren't off. Where none is on, no entry matches any access. */
 static inline unsigned tilvenka_pmp_entries_on(const tilvenka_pmp_unit *unit) {
     unsigned count = 0;
     for (unsigned entry = 0; entry < (unit->registers.entries == 64 ? 64 : 16); entry++)
@@ -214,7 +217,7 @@ static inline unsigned tilvenka_pmp_entries_on(const tilvenka_pmp_unit *unit) {
     return count;
 }
 
-/* The parts of an answer, and of a run's but for the fault. */
+/* The parts of a decision's answer. A run's answer isn't to be handed to these two. */
 
 static inline bool tilvenka_pmp_is_allowed(uint32_t answer) {
     return answer < TILVENKA_PMP_FAULT;
@@ -224,6 +227,8 @@ static inline bool tilvenka_pmp_is_allowed(uint32_t answer) {
 static inline uint32_t tilvenka_pmp_fault(uint32_t answer) {
     return answer / TILVENKA_PMP_FAULT;
 }
+
+/* The parts of a decision's answer, and of a run's. */
 
 /* Whether no entry has any of the bytes. */
 static inline bool tilvenka_pmp_is_unmatched(uint32_t answer) {

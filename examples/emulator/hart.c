@@ -178,7 +178,8 @@ static bool run_line(struct hart *hart, const char *line) {
     static const char *const written[] = {"written", "an odd configuration register", "no register of the unit"};
     struct words words = read_words(line);
     if (words.count == 3 && strcmp(words.word[0], "write") == 0 && number(words.word[1]) <= UINT32_MAX) {
-        printf("%s\n", written[write_csr(hart, number(words.word[1]), number(words.word[2])) & 3]);
+        uint32_t status = write_csr(hart, number(words.word[1]), number(words.word[2]));
+        printf("%s\n", written[tilvenka_pmp_is_done(status) ? 0 : status]);
         return true;
     }
     if (words.count == 1 && strcmp(words.word[0], "migrate") == 0) {

@@ -22,7 +22,7 @@ __version__ = "0.1.0"
 
 
 class _C:
-    """What tilvenka_pmp.h declares, by its names without their prefix, which checks/release compares."""
+    """What is taken of tilvenka_pmp.h, by its names without their prefix, which checks/release compares."""
 
     MAX_ENTRIES = 64
     PLACES = 217

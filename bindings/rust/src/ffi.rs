@@ -1,4 +1,4 @@
-//! What `tilvenka_pmp.h` declares, by its names without their prefix, which `checks/release` compares.
+//! What is taken of `tilvenka_pmp.h`, by its names without their prefix, which `checks/release` compares.
 
 use std::mem::size_of;
 

@@ -19,8 +19,8 @@ fault_number kind allowed = if allowed then 0 else access_fault_code kind
 abbrev pub number_by : Kind → Cause → (allowed : Bool) → ℕ
 number_by kind cause allowed = cause_number cause + 1024 * fault_number kind allowed
 
--- what is answered where numbers name no access: the cause is none, and the fault that of the kind, or a load's where the
--- kind isn't one
+-- what is answered where numbers name no access: the cause is none, and the fault that of the kind, or a load's where
+-- the kind isn't one
 abbrev pub no_cause : ℕ
 no_cause = 1023
 

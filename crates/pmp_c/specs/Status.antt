@@ -1,5 +1,5 @@
--- The number by which a call says whether it took a register's number.
-use Rattle.std.specs.Prelude.{◌≡◌, ◌↔◌, ℕ, ◌/◌, ◌%◌, ◌<◌, Result, Ok, Err}
+-- The number by which a call says whether it took a register's number, and what a write did.
+use Rattle.std.specs.Prelude.{◌≡◌, ◌↔◌, ℕ, ◌*◌, ◌/◌, ◌%◌, ◌<◌, Result, Ok, Err}
 use Rattle.pmp_core.specs.declared.csr.Csr.{Csr}
 use Rattle.pmp_core.specs.declared.csr.CsrFault.{CsrFault}
 use Rattle.pmp_core.specs.declared.csr.CsrFault.TheVariants.{OddCfg, NotPmp}
@@ -15,11 +15,12 @@ status_number (Ok csr) = 0
 status_number (Err OddCfg) = 1
 status_number (Err NotPmp) = 2
 
--- a write to the register that left a unit, and the number that says of it whether any register is another, and why this
--- one doesn't read the value
+-- a write to the register that left a unit, and the number that says of it whether any register is another, and why
+-- this one doesn't read the value; it has no other bit
 pub record IsWriteAnswer (old new : Unit) (csr : Csr) (value number : ℕ) : Type 0 where
   pub file : file_of_unit new ≡ written (file_of_unit old) csr value
   pub order : IsUnit old → IsUnit new
+  pub low : number % 256 ≡ 4 * (number / 4 % 2)
   pub same : number / 4 % 2 ≡ 0 → new ≡ old
   pub changed : number / 4 % 2 ≡ 1 → IsChanged old new
   pub reasons : number / 256 ≡ reasons_number (file_of_unit old) csr value

@@ -117,6 +117,7 @@ impl Unit {
         ensures registers { self.new.registers ≡ self.old.registers }
         ensures unit { IsUnit self.old → IsUnit self.new }
         ensures built { 0 < self.new.map.runs }
+        ensures kept { 0 < self.old.map.runs → self.new ≡ self.old }
     {
         if self.map.runs == 0 {
             self.map.fill(&self.registers);

@@ -36,6 +36,7 @@ returns-then-written c =
     rw (← c.in-Ok.ensures) (record {
       file = write.ensures.written;
       order = write.ensures.unit;
+      low = omega arith;
       same = λ e. absurd (omega arith);
       changed = λ e. write.ensures.changed c.if-written.true;
       reasons = reasons_part c.args.unit.now.registers _ c.in-Ok.csr c.args.value (4 + 256 * write.result.reasons)
@@ -51,6 +52,7 @@ returns-else-written c =
     rw (← c.in-Ok.ensures) (record {
       file = write.ensures.written;
       order = write.ensures.unit;
+      low = omega arith;
       same = λ e. write.ensures.same c.if-written.false;
       changed = λ e. absurd (omega arith);
       reasons = reasons_part c.args.unit.now.registers _ c.in-Ok.csr c.args.value (0 + 256 * write.result.reasons)
