@@ -7,6 +7,7 @@
 # make dist-test            makes one, and wants each tool that its check asks for
 # make soak SECONDS=..      lets a publisher and eight checkers run so long, and compares each answer with a replay
 # make conformance          tries QEMU's unit, or that of HART="simulator ELF", by cases of each rule
+# make qemu                 builds QEMU 7.2 as it is and over the library, boots OpenSBI and U-Boot on both, and compares
 # make test                 proves and tests everything, has the prover refuse the wrong bodies, then tries the program, the
 #                           libraries, the launcher and the documents
 PREFIX ?= /usr/local
@@ -22,7 +23,7 @@ export PREFIX DESTDIR
 # ci has one process for each, which is less work than several for one.
 LANES = $(shell awk -v most="$$(nproc)" '/^MemAvailable/ { n = int($$2 / 3500000); print n < 1 ? 1 : n < most ? n : most }' /proc/meminfo)
 
-.PHONY: build library test conformance install install-program install-library uninstall dist dist-test soak stress \
+.PHONY: build library test conformance qemu install install-program install-library uninstall dist dist-test soak stress \
     bench bench-decide bench-threads bench-limits bench-audit
 
 # The launcher builds the program, and then the program says its version.
@@ -56,6 +57,9 @@ conformance:
 	    echo "there is no $$it; Debian's packages are qemu-system-misc and gcc-riscv64-unknown-elf" >&2; exit 2; }; done
 	@$(MAKE) build
 	conformance/run --cases conformance/out/cases -- $(HART)
+
+qemu: library
+	@integrations/qemu/try
 
 install: build library
 	@release/install program library

@@ -18,8 +18,11 @@ static void write_all(const struct write *writes, size_t count) {
         write_register(&writes[i]);
 }
 
-/* Clears the unit by writes, since it need not lie in `env`. Nothing is locked. */
+/* Clears the unit, where no reset does, by writes. Nothing is locked. */
 static void clear(void) {
+#ifdef HAS_RESET
+    pmp_reset(&env);
+#endif
     for (unsigned word = 0; word < ENTRIES / 4; word += 2)
         pmpcfg_csr_write(&env, word, 0);
     for (unsigned entry = 0; entry < ENTRIES; entry++)

@@ -1,4 +1,4 @@
-/* What QEMU's pmp.c takes from the rest of QEMU, as little as it needs. */
+/* What a pmp.c, QEMU's or ours, takes from the rest of QEMU, as little as it needs. */
 #ifndef QEMU_STUBS_CPU_H
 #define QEMU_STUBS_CPU_H
 #include <stdbool.h>
@@ -8,6 +8,7 @@ typedef uint64_t target_ulong;
 typedef uint64_t hwaddr;
 typedef struct CPUArchState CPURISCVState;
 
+#define TARGET_RISCV64
 #define MAX_RISCV_PMPS ENTRIES
 #include "pmp.h"
 
@@ -24,6 +25,9 @@ struct CPUArchState {
     target_ulong mseccfg;
     target_ulong mhartid;
     uint32_t features;
+    struct {
+        bool ext_zkr;
+    } cfg;
 };
 
 static inline bool riscv_feature(CPURISCVState *env, int feature) {
@@ -33,6 +37,9 @@ static inline bool riscv_feature(CPURISCVState *env, int feature) {
 #define get_field(value, mask) (((value) & (uint64_t)(mask)) / ((mask) & ~((mask) << 1)))
 #define riscv_cpu_mxl(env) ((void)(env), MXL_RV64)
 #define env_cpu(env) (env)
+#define env_archcpu(env) (env)
+#define ARRAY_SIZE(array) (sizeof(array) / sizeof((array)[0]))
+#define qemu_cpu_is_self(cpu) ((void)(cpu), true)
 #define tlb_flush(cpu) ((void)(cpu))
 #define qemu_log_mask(...) ((void)0)
 #define g_assert_not_reached() __builtin_unreachable()
