@@ -33,12 +33,16 @@ build:
 library:
 	@release/library
 
-# rt ci proves and builds from nothing, and keeps no work; checks/wrong-bodies goes over what building keeps.
+# rt ci proves and builds all from nothing. What comes after it goes over the libraries that it leaves, so no others may
+# stand in their places, and the launcher takes the program that it leaves, with the sums of the sources from before.
 test:
+	rm -rf crates/*/out/rlib
+	mkdir -p out && release/sums >out/proving
 	RT_JOBS=$(LANES) rt ci
+	rt version >out/kit && { cat out/proving && cksum <$(PROGRAM); } >out/built && rm out/proving
 	./pmp --version
-	$(MAKE) library
-	LANES=$(LANES) checks/wrong-bodies --kept
+	RT=$(CURDIR)/checks/over-proved $(MAKE) library
+	LANES=$(LANES) checks/wrong-bodies --proved
 	checks/library $(LIBRARY)
 	checks/release
 	checks/worked $(PROGRAM)

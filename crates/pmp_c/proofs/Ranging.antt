@@ -1,5 +1,6 @@
 -- What a mode may do in a whole range.
-use Rattle.std.proofs.Common.{◌≡◌, ◌≢◌, ℕ, List, ◌+◌, ◌-◌, ◌*◌, ◌/◌, ◌%◌, ◌<◌, ◌≤◌, ◌==◌, Bool, true, false, nat_lt, length}
+use Rattle.std.proofs.Common.{◌≡◌, ◌≢◌, ℕ, List, ◌+◌, ◌-◌, ◌*◌, ◌/◌, ◌%◌, ◌<◌, ◌≤◌, ◌==◌, Bool, true, false, nat_lt}
+use Rattle.std.proofs.Common.{length}
 use Rattle.std.proofs.Common.{slice_index, Option, refl, sym, ap, ◌∙◌, arith, inl, inr}
 use Rattle.std.proofs.lemmas.Bool.{cases_lt}
 use Rattle.std.proofs.lemmas.Bool.Decides.{nat_tests}
@@ -182,7 +183,8 @@ module _ (file : RegisterFile) (tables : Tables) (are : AreTables file tables) w
     last_is = omega (arith, at.here.1, are.runs_are.gapless place at.inside, next_start)
 
     -- the byte before the run has the owner of the run before
-    not_before : (j : ℕ) → j + 1 ≡ place → ¬ (IsOwner file.entries (slice_index tables.starts place - 1) (owner_at place))
+    not_before : (j : ℕ) → j + 1 ≡ place
+        → ¬ (IsOwner file.entries (slice_index tables.starts place - 1) (owner_at place))
     not_before j next owned =
         let here = at.inside in
         let start : slice_index tables.starts place ≡ start_at ADDRESS_LIMIT are.list place =
@@ -190,14 +192,16 @@ module _ (file : RegisterFile) (tables : Tables) (are : AreTables file tables) w
         let proper = are.runs_are.proper j (omega arith) in
         let meet = are.runs_are.gapless j (omega arith) in
         let meets : (map_run are.list j).last + 1 ≡ start_at ADDRESS_LIMIT are.list place = rw next at meet in
-        let there : owner_at j ≡ owner_at place = same_owner file.entries (slice_index tables.starts place - 1) (owner_at j)
+        let there : owner_at j ≡ owner_at place =
+            same_owner file.entries (slice_index tables.starts place - 1) (owner_at j)
         (owner_at place)
         (are.runs_are.owned j (slice_index tables.starts place - 1) (omega arith)
         (omega (arith, start, meets, proper), omega (arith, start, meets))) owned in
         are.runs_are.apart j (omega arith) (there ∙ ap owner_at (sym next))
 
     pub run_answer : (mode : Mode) (number : ℕ) → number ≡ run_number file (owner_at place) mode
-        → IsRunAnswer file mode byte (slice_index tables.starts place) (slice_index tables.starts (place + 1) - 1) number
+        → IsRunAnswer file mode byte (slice_index tables.starts place) (slice_index tables.starts (place + 1) - 1)
+        number
     run_answer mode number is = record {
       from = starts_at;
       to = omega (arith, at.here.1, are.runs_are.gapless place at.inside, next_start);
@@ -246,7 +250,8 @@ module _ (saved : SavedRegisters) where
       (owned : OwnsBytes (ranges_of of_saved.entries) start end owner) where
     pub stretch_rights : start + size ≤ end → (number : ℕ)
         → number ≡ (perms_of (owned_rights of_saved owner mode)).0 → AreRangeRights of_saved mode start size number
-    stretch_rights short number is = rights_by_owner of_saved (restored_legal saved).addresses mode start size full owner
+    stretch_rights short number is =
+        rights_by_owner of_saved (restored_legal saved).addresses mode start size full owner
         (λ byte from to. to_entries byte owner (owned byte from (omega arith))) number is
 
     pub stretch_mixed : end < start + size

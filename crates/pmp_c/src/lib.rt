@@ -58,8 +58,8 @@ pub extern "C" fn tilvenka_pmp_reset(unit: &mut Unit, entries: u64)
 }
 
 /// Writes a register (Volume II, 3.7.1 and Smepmp), by its CSR number. Answers 1 for an odd `pmpcfg` and 2 for what is
-/// no PMP register: these change nothing. Else it answers the sum of 4 where a register is another than before, and then
-/// the map is to be built again, and of 256 times the reasons why this one doesn't read the value, a bit for each.
+/// no PMP register: these change nothing. Else it answers the sum of 4 where a register is another than before, and
+/// then the map is to be built again, and of 256 times the reasons why this one doesn't read the value, a bit for each.
 #[unsafe(no_mangle)]
 pub extern "C" fn tilvenka_pmp_write(unit: &mut Unit, csr: u32, value: u64) -> u32
     ensures { MatchResult (numbered csr)

@@ -20,6 +20,9 @@ pub mod Spans
 pub mod StoredBytes
 pub mod Saved
 pub mod InPlace
+mod InPlaceAddresses
+mod InPlaceConfigurations
+mod InPlaceSecurity
 pub mod Reasons
 pub mod WordBytes
 pub mod AbsentBytes

@@ -100,8 +100,8 @@ fn round<R: Threads + Wait + Sync, G: Gate + Sync>(
     Ok(checkers_of(alloc, all)?)
 }
 
-/// A round of no more workers than there are rows: a checker for which there is no row gets no job, and where there is one
-/// row alone no thread is started.
+/// A round of no more workers than there are rows: a checker for which there is no row gets no job, and where there is
+/// one row alone no thread is started.
 fn round_of_busy<R: Threads + Wait + Sync, G: Gate + Sync>(
     rt: &R,
     alloc: Global,

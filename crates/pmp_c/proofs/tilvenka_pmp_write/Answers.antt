@@ -10,7 +10,8 @@ use Rattle.pmp_c.specs.Reasons.{reasons_number}
 use Rattle.pmp_c.proofs.Reasoning.{reads_value, without_reason}
 use Rattle.pmp_c.proofs.tilvenka_pmp_write.Goals as goal
 
-module _ (saved : SavedRegisters) (new : RegisterFile) (csr : Csr) (value number reasons low : ℕ) (small : value < 2 ^ 64)
+module _ (saved : SavedRegisters) (new : RegisterFile) (csr : Csr) (value number reasons low : ℕ)
+    (small : value < 2 ^ 64)
     (is : number ≡ low + 256 * reasons) (short : low < 256)
     (reasons_are : reasons ≡ reasons_number (restored_file saved) csr value)
     (new_is : new ≡ written (restored_file saved) csr value) where

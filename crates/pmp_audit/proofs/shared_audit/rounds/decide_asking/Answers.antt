@@ -16,4 +16,5 @@ returns-clause-asked g c =
     let some : asking c.args.after left ≡ [] → ⊥ =
     λ none. let empty : c.asking-next.result.now ≡ [] = rw whole at c.asking-next.ensures ∙ none in
     false≢true (sym c.if-is_empty.false ∙ rw empty at c.is_empty.ensures) in
-    IfErr-weaker c.round_of_busy.result _ _ (λ fault stops. some_asks c.args.after count rows some) c.round_of_busy.ensures.refused
+    IfErr-weaker c.round_of_busy.result _ _ (λ fault stops. some_asks c.args.after count rows some)
+    c.round_of_busy.ensures.refused

@@ -69,6 +69,7 @@ pub returns : goal.returns
 returns c =
     let loop = c.loop-first in
     let whole : loop.first ≡ ADDRESS_LIMIT = omega (arith, loop.invariant.bounded, c.loop-first-test.false) in
-    let swept : IsSweptTo (restored_file c.args.registers.now) loop.self.starts loop.self.rows ADDRESS_LIMIT loop.place =
+    let swept : IsSweptTo (restored_file c.args.registers.now) loop.self.starts loop.self.rows ADDRESS_LIMIT
+        loop.place =
     rw whole at loop.invariant in
     record { swept = swept; few = few_swept c.args.registers.now loop.self.starts loop.self.rows loop.place swept }

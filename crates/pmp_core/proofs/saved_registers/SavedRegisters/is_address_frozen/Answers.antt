@@ -9,9 +9,10 @@ use Rattle.pmp_core.specs.Mseccfg.{mseccfg_fields}
 use Rattle.pmp_core.specs.RegisterFile.{reset_entry}
 use Rattle.pmp_core.specs.RegisterWrite.{is_tor, is_address_frozen}
 use Rattle.pmp_core.specs.SavedRegisters.{restored_entry, restored_file}
-use Rattle.pmp_core.proofs.InPlace.{frozen_by, frozen_bypassed, frozen_is, after, after_is, after_none}
+use Rattle.pmp_core.proofs.InPlaceAddresses.{frozen_by, frozen_bypassed, frozen_is, after, after_is, after_none}
 use Rattle.pmp_core.proofs.saved_registers.SavedRegisters.is_address_frozen.Goals as goal
-use Rattle.pmp_core.proofs.saved_registers.SavedRegisters.is_address_frozen.Goals.{Else-fields, Else-configuration, Else-index-count}
+use Rattle.pmp_core.proofs.saved_registers.SavedRegisters.is_address_frozen.Goals.{Else-fields, Else-configuration}
+use Rattle.pmp_core.proofs.saved_registers.SavedRegisters.is_address_frozen.Goals.{Else-index-count}
 use Rattle.pmp_core.proofs.saved_registers.SavedRegisters.is_address_frozen.Goals.{After-configuration-next}
 
 is_tor_test : (m : AddressMatching) → sameb the_type m Tor ≡ is_tor m

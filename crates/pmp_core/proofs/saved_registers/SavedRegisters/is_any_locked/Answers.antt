@@ -4,7 +4,8 @@ use Rattle.pmp_core.specs.declared.entry.Entry.{Entry}
 use Rattle.pmp_core.specs.declared.configuration.Configuration.{Configuration}
 use Rattle.pmp_core.specs.RegisterFile.{reset_entry, entry_at}
 use Rattle.pmp_core.specs.SavedRegisters.{restored_file}
-use Rattle.pmp_core.proofs.InPlace.{entry_in, none_locked}
+use Rattle.pmp_core.proofs.InPlace.{entry_in}
+use Rattle.pmp_core.proofs.InPlaceSecurity.{none_locked}
 use Rattle.pmp_core.proofs.saved_registers.SavedRegisters.is_any_locked.Goals as goal
 
 pub returns-then-configuration : goal.returns-then-configuration

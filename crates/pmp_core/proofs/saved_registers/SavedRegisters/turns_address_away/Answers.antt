@@ -1,5 +1,5 @@
 use Rattle.std.proofs.Common.{◌∙◌, arith}
-use Rattle.pmp_core.proofs.InPlace.{turned_inside, turned_past}
+use Rattle.pmp_core.proofs.InPlaceAddresses.{turned_inside, turned_past}
 use Rattle.pmp_core.proofs.saved_registers.SavedRegisters.turns_address_away.Goals as goal
 
 pub returns-in_default : goal.returns-in_default

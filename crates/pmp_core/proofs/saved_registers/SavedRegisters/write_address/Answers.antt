@@ -1,5 +1,6 @@
 use Rattle.std.proofs.Common.{sym, ◌∙◌, arith}
-use Rattle.pmp_core.proofs.InPlace.{address_absent, address_kept, address_same, address_written_is, address_changed}
+use Rattle.pmp_core.proofs.InPlaceAddresses.{address_absent, address_kept, address_same, address_written_is}
+use Rattle.pmp_core.proofs.InPlaceAddresses.{address_changed}
 use Rattle.pmp_core.proofs.saved_registers.SavedRegisters.write_address.Goals as goal
 
 pub returns-then-index-count-clause-written : goal.returns-then-index-count-clause-written

@@ -6,7 +6,8 @@ use Rattle.pmp_core.specs.Configuration.{byte_of}
 use Rattle.pmp_core.specs.Mseccfg.{mseccfg_fields}
 use Rattle.pmp_core.specs.RegisterWrite.{stored_over}
 use Rattle.pmp_core.specs.SavedRegisters.{restored_entry, IsSetAt}
-use Rattle.pmp_core.proofs.InPlace.{configuration_set, with_byte, set_as_is, byte_once, stored_unreserved_in}
+use Rattle.pmp_core.proofs.InPlaceConfigurations.{configuration_set, with_byte, set_as_is, byte_once}
+use Rattle.pmp_core.proofs.InPlaceSecurity.{stored_unreserved_in}
 use Rattle.pmp_core.proofs.saved_registers.SavedRegisters.write_configuration.Goals as goal
 use Rattle.pmp_core.proofs.saved_registers.SavedRegisters.write_configuration.Goals.{After-byte, Else-new-byte}
 
@@ -23,7 +24,8 @@ module _ (c : After-byte) where
 
   is_set : IsSetAt c.args.self.now (with_byte c.args.self.now c.args.place c.byte-new.result stored_here c.requires
       (let told = c.told-self in told.1) (c.byte-new.ensures ∙ ap byte_of stored_is)
-      (stored_unreserved_in c.args.self.now c.args.place c.args.byte)) c.args.place (record (restored_entry c.args.self.now c.args.place) {
+      (stored_unreserved_in c.args.self.now c.args.place c.args.byte)) c.args.place
+      (record (restored_entry c.args.self.now c.args.place) {
         configuration = stored_here;
       })
   is_set = configuration_set c.args.self.now c.args.place c.byte-new.result stored_here c.requires

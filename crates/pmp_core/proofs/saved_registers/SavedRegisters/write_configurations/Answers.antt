@@ -1,6 +1,7 @@
 use Rattle.std.proofs.Common.{◌≡◌, arith}
-use Rattle.pmp_core.proofs.InPlace.{configured_start, configured_step, configurations_written_is, configurations_changed}
-use Rattle.pmp_core.proofs.InPlace.{configurations_odd, configurations_past}
+use Rattle.pmp_core.proofs.InPlaceConfigurations.{configured_start, configured_step, configurations_written_is}
+use Rattle.pmp_core.proofs.InPlaceConfigurations.{configurations_changed}
+use Rattle.pmp_core.proofs.InPlaceConfigurations.{configurations_odd, configurations_past}
 use Rattle.pmp_core.proofs.saved_registers.SavedRegisters.write_configurations.Goals as goal
 
 pub returns-then-register-eq1-clause-written : goal.returns-then-register-eq1-clause-written
@@ -35,5 +36,6 @@ returns c =
       written = configurations_written_is c.args.self.now loop.self c.args.register c.args.value loop.is_changed done;
       same = loop.invariant.same;
       changed = configurations_changed c.args.self.now loop.self c.args.register c.args.value loop.is_changed done
-          (omega (arith, c.if-register-eq1.false)) (omega (arith, c.if-first-count.false, c.count.ensures.count, c.from-first.ensures));
+          (omega (arith, c.if-register-eq1.false))
+          (omega (arith, c.if-first-count.false, c.count.ensures.count, c.from-first.ensures));
     }

@@ -1,4 +1,4 @@
-use Rattle.pmp_core.proofs.InPlace.{IsConfiguredTo}
+use Rattle.pmp_core.proofs.InPlaceConfigurations.{IsConfiguredTo}
 use Rattle.pmp_core.proofs.saved_registers.SavedRegisters.write_configurations.Given as goal
 
 abbrev pub invariant-loop-place : goal.invariant-loop-place

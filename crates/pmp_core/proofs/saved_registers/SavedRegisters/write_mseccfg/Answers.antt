@@ -6,7 +6,9 @@ use Rattle.pmp_core.specs.RegisterWrite.{is_any_locked}
 use Rattle.pmp_core.specs.SavedRegisters.{restored_file}
 use Rattle.std.proofs.lemmas.Bool.{not-false}
 use Rattle.pmp_core.proofs.Saved.{fields_back}
-use Rattle.pmp_core.proofs.InPlace.{mseccfg_in, fields_once, mseccfg_written_is, either_false}
+use Rattle.pmp_core.proofs.InPlace.{mseccfg_in}
+use Rattle.pmp_core.proofs.InPlaceSecurity.{fields_once, mseccfg_written_is}
+use Rattle.pmp_core.proofs.InPlaceConfigurations.{either_false}
 use Rattle.pmp_core.proofs.saved_registers.SavedRegisters.write_mseccfg.Goals as goal
 use Rattle.pmp_core.proofs.saved_registers.SavedRegisters.write_mseccfg.Goals.{After-written-new, Else-value}
 use Rattle.pmp_core.proofs.saved_registers.SavedRegisters.write_mseccfg.Goals.{
