@@ -122,19 +122,32 @@ static struct request read_access(char **at) {
     return request;
 }
 
-static void write_answer(FILE *report, size_t row, unsigned answer, uint8_t kind) {
-    static const int codes[3] = {1, 5, 7};
-    unsigned entry = answer & 255;
-    const char *cause = answer & SPLIT ? "split" : answer & NO_MATCH ? "none" : "rule";
-    fprintf(report, "%zu,", row);
-    if (answer & ALLOWED)
-        fprintf(report, "allow,,%s,", cause);
-    else
-        fprintf(report, "fault,%d,%s,", codes[kind], cause);
-    if (answer & NO_MATCH)
-        fputc('\n', report);
-    else
-        fprintf(report, "%u\n", entry);
+/* The report, which is written when it is whole, as the proved one is. */
+static char *report, *report_end;
+
+static void add_text(const char *text) {
+    while (*text != '\0')
+        *report_end++ = *text++;
+}
+
+static void add_number(uint64_t number) {
+    char digits[20], *at = digits + sizeof digits;
+    do {
+        *--at = '0' + number % 10;
+        number /= 10;
+    } while (number != 0);
+    while (at < digits + sizeof digits)
+        *report_end++ = *at++;
+}
+
+static void add_answer(size_t row, unsigned answer, uint8_t kind) {
+    static const char *const faults[3] = {",fault,1,", ",fault,5,", ",fault,7,"};
+    add_number(row);
+    add_text(answer & ALLOWED ? ",allow,," : faults[kind]);
+    add_text(answer & SPLIT ? "split," : answer & NO_MATCH ? "none," : "rule,");
+    if (!(answer & NO_MATCH))
+        add_number(answer & 255);
+    *report_end++ = '\n';
 }
 
 static void plain_audit(void) {
@@ -143,7 +156,8 @@ static void plain_audit(void) {
     struct unit unit;
     read_publications(read_all(SCRIPT, &size), publications);
     char *text = read_all(TRACE, &size), *end = text + size;
-    FILE *report = checked(fopen(PLAIN_REPORT, "w"), PLAIN_REPORT);
+    /* No row of a report is longer than twice its row of the trace. */
+    report = report_end = checked(malloc(2 * size), "malloc");
     reset(&unit);
     for (char *at = strchr(text, '\n') + 1; at < end;) {
         uint64_t after = read_number(&at);
@@ -151,9 +165,11 @@ static void plain_audit(void) {
         for (; done < after; done++)
             for (size_t i = 0; i < publications[done].count; i++)
                 write_register(&unit, &publications[done].writes[i]);
-        write_answer(report, ++row, decide(&unit, &request), request.kind);
+        add_answer(++row, decide(&unit, &request), request.kind);
     }
-    fclose(report);
+    FILE *file = checked(fopen(PLAIN_REPORT, "w"), PLAIN_REPORT);
+    fwrite(report, 1, report_end - report, file);
+    fclose(file);
 }
 
 /* The runs. */

@@ -87,12 +87,21 @@ impl<'a> Replay<'a> {
     {
         match &self.map {
             Some(map) => map.decide(&self.file, access),
-            None => {
-                let map = RunMap::build(&self.file);
-                let decision = map.decide(&self.file, access);
-                self.map = Some(map);
-                decision
-            }
+            None => self.decide_anew(access),
         }
+    }
+
+    /// Decides an access in that file, and builds its map. It stands alone since each decision would else clear the room
+    /// of a map.
+    #[cold]
+    #[inline(never)]
+    fn decide_anew(&mut self, access: &Access) -> Decision
+        ensures by_bytes { IsDecision (file_at self.old) access.now result }
+        ensures position { self.new ≡ self.old }
+    {
+        let map = RunMap::build(&self.file);
+        let decision = map.decide(&self.file, access);
+        self.map = Some(map);
+        decision
     }
 }

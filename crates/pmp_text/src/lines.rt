@@ -1,6 +1,7 @@
 //! Lines that join an output.
 
-ghost use Rattle.std.specs.Prelude.{◌≡◌, ◌++◌, IfSome, OnErr, OnOk};
+ghost use Rattle.std.specs.Prelude.{◌≡◌, ◌+◌, ◌≤◌, ◌++◌, IfSome, OnErr, OnOk, length};
+ghost use Rattle.std.specs.Prelude.{vec_capacity, vec_len};
 
 mod changes;
 mod effects;
@@ -31,6 +32,16 @@ use std::fmt::Display;
 /// The room that a line, or a part of one, takes at first. One of a picture has at most 107 bytes, and no other has
 /// more; a longer one would ask for memory again.
 const LINE: usize = 128;
+
+/// Appends a text for which there is room.
+pub(crate) fn append_reserved(out: &mut Vec<u8>, text: &[u8])
+    requires { vec_len out.old + length text.now ≤ vec_capacity out.old }
+    ensures text { out.new.items ≡ out.old.items ++ text.now }
+    ensures len { vec_len out.new ≡ vec_len out.old + length text.now }
+    ensures room { vec_capacity out.old ≤ vec_capacity out.new }
+{
+    let _ = out.extend_from_slice(text);
+}
 
 /// Appends a line, or nothing.
 pub fn append_line<L: Display + Drop>(out: &mut Vec<u8>, line: L) -> Result<(), AllocError>
