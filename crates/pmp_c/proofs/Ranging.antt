@@ -193,7 +193,7 @@ module _ (file : RegisterFile) (tables : Tables) (are : AreTables file tables) w
         let meet = are.runs_are.gapless j (omega arith) in
         let meets : (map_run are.list j).last + 1 ≡ start_at ADDRESS_LIMIT are.list place = rw next at meet in
         let there : owner_at j ≡ owner_at place =
-            same_owner file.entries (slice_index tables.starts place - 1) (owner_at j)
+        same_owner file.entries (slice_index tables.starts place - 1) (owner_at j)
         (owner_at place)
         (are.runs_are.owned j (slice_index tables.starts place - 1) (omega arith)
         (omega (arith, start, meets, proper), omega (arith, start, meets))) owned in

@@ -70,6 +70,6 @@ returns c =
     let loop = c.loop-first in
     let whole : loop.first ≡ ADDRESS_LIMIT = omega (arith, loop.invariant.bounded, c.loop-first-test.false) in
     let swept : IsSweptTo (restored_file c.args.registers.now) loop.self.starts loop.self.rows ADDRESS_LIMIT
-        loop.place =
+    loop.place =
     rw whole at loop.invariant in
     record { swept = swept; few = few_swept c.args.registers.now loop.self.starts loop.self.rows loop.place swept }

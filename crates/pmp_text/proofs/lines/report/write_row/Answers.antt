@@ -5,8 +5,19 @@ use Rattle.pmp_text.proofs.lines.report.write_row.Goals as goal
 pub returns-clause-ok : goal.returns-clause-ok
 unfolding report_row
 returns-clause-ok c =
-    rw (c.append_reserved-4.ensures.text, c.append_number-2.ensures.text, c.append_reserved-3.ensures.text,
-        c.append_number.ensures.text, c.append_reserved-2.ensures.text, c.append_reserved.ensures.text,
-        c.reserve.ensures.items, c.answer_field.ensures.text, c.cause_field.ensures.text, c.as_bytes.ensures.value,
-        c.format.ensures.text, c.fault_code.ensures, c.deciding_entry.ensures)
+    rw (
+      c.append_reserved-4.ensures.text,
+      c.append_number-2.ensures.text,
+      c.append_reserved-3.ensures.text,
+      c.append_number.ensures.text,
+      c.append_reserved-2.ensures.text,
+      c.append_reserved.ensures.text,
+      c.reserve.ensures.items,
+      c.answer_field.ensures.text,
+      c.cause_field.ensures.text,
+      c.as_bytes.ensures.value,
+      c.format.ensures.text,
+      c.fault_code.ensures,
+      c.deciding_entry.ensures,
+    )
     (simp append_assoc refl)
