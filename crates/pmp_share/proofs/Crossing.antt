@@ -1,4 +1,4 @@
--- Checkers, publishers, notices, the ends of their rings, batches and journals may move into threads.
+-- Checkers and notices may move into threads.
 use denote.Param.Send.{IsSend, IsSync, sendable}
 use denote.Param.SendFields.{declared_send, declared_sync, as_row_send, as_row_sync}
 use Rattle.std.proofs.Crossing.{crosses, send, sync, frees}
@@ -33,21 +33,6 @@ use Rattle.std.specs.contracts.alloc.Global as global
 use Rattle.pmp_share.specs.contracts.knowledge.Known as known
 use Rattle.pmp_share.specs.contracts.rule.OneHistory as one_history
 use Rattle.left_right.proofs.reader.Reader.TheSendSync as reader
-use Rattle.pmp_share.specs.contracts.notice_ring.OneUnit as one_unit
-use Rattle.pmp_share.specs.contracts.notice_ring.NoticeSender as sender
-use Rattle.pmp_share.specs.contracts.notice_ring.NoticeSender.TheInside as sender_inside
-use Rattle.pmp_share.specs.contracts.notice_ring.NoticeReceiver as receiver
-use Rattle.pmp_share.specs.contracts.notice_ring.NoticeReceiver.TheInside as receiver_inside
-use Rattle.pmp_share.specs.contracts.notice_ring.OneUnitProtocolNotice.TheImpl as one_unit_rule
-use Rattle.rtrb.specs.contracts.producer.Producer as producer_of
-use Rattle.rtrb.specs.contracts.consumer.Consumer as consumer_of
-use Rattle.rtrb.proofs.producer.Producer.TheSendSync as producer
-use Rattle.rtrb.proofs.consumer.Consumer.TheSendSync as consumer
-use Rattle.pmp_share.specs.contracts.batch.Batch as batch
-use Rattle.pmp_share.specs.contracts.batch.Batch.TheInside as batch_inside
-use Rattle.pmp_core.specs.contracts.event.Event as event
-use Rattle.arrayvec.proofs.array_vec.ArrayVec.TheSendSync as array_vec
-use Rattle.pmp_share.specs.contracts.logged_batch.LoggedBatch as logged
 
 entry_send : IsSend (entry.the_field).row
 entry_send = search (crosses, sendable) depth 14
@@ -61,7 +46,7 @@ mseccfg_send = search (crosses, sendable) depth 14
 file_fields_send : IsSend file_inside.the_row
 file_fields_send = search (entry_send, range_send, mseccfg_send, crosses, sendable) depth 14
 
-file_send : IsSend (file.the_field).row
+pub file_send : IsSend (file.the_field).row
 file_send = search (file_fields_send, sendable) depth 14
 
 entry_sync : IsSync (entry.the_field).row
@@ -100,7 +85,7 @@ map_inside_sync = declared_sync map_inside.the_type (
 map_sync : IsSync (run_map.the_field).row
 map_sync = search (map_inside_sync, sendable) depth 6
 
-version_sync : IsSync version.the_row
+pub version_sync : IsSync version.the_row
 version_sync = declared_sync version.the_type (
   as_row_sync journal.the_field journal_sync,
   (
@@ -150,40 +135,3 @@ notice_inside_send = declared_send notice_inside.the_type (reader_state_send, tt
 
 pub notice_send : IsSend notice.the_row
 notice_send = search (notice_inside_send, sendable) depth 6
-
-producer_send : IsSend (producer_of.the_field notice.the_row global.the_row one_unit.the_row heap.ghosts
-    one_unit_rule.ghosts).row
-producer_send = producer.the_field_send notice.the_row global.the_row one_unit.the_row heap.ghosts
-    one_unit_rule.ghosts notice_send send frees
-
-consumer_send : IsSend (consumer_of.the_field notice.the_row global.the_row one_unit.the_row heap.ghosts
-    one_unit_rule.ghosts).row
-consumer_send = consumer.the_field_send notice.the_row global.the_row one_unit.the_row heap.ghosts
-    one_unit_rule.ghosts notice_send send frees
-
-sender_inside_send : IsSend sender_inside.the_row
-sender_inside_send = search (producer_send, core.crosses, sendable) depth 12
-
-pub sender_send : IsSend sender.the_row
-sender_send = search (sender_inside_send, sendable) depth 6
-
-receiver_inside_send : IsSend receiver_inside.the_row
-receiver_inside_send = search (consumer_send, core.crosses, sendable) depth 12
-
-pub receiver_send : IsSend receiver.the_row
-receiver_send = search (receiver_inside_send, sendable) depth 6
-
-event_send : IsSend event.the_row
-event_send = search (crosses, sendable) depth 14
-
-batch_inside_send : IsSend batch_inside.the_row
-batch_inside_send = search (array_vec.the_send, event_send, core.crosses, crosses, sendable) depth 14
-
-pub batch_send : IsSend batch.the_row
-batch_send = search (batch_inside_send, sendable) depth 14
-
-pub journal_send : IsSend journal.the_row
-journal_send = search (crosses, sendable) depth 14
-
-logged_send : IsSend logged.the_row
-logged_send = search (seen.the_send, crosses, sendable) depth 14
