@@ -1,56 +1,99 @@
-//! What a hart does with its checker.
+//! A hart: its checker, and the TLB before it.
 
-ghost use Rattle.std.specs.Prelude.{◌≡◌, ◌≤◌, length};
-ghost use Rattle.std.specs.List.{AllZip};
-ghost use Rattle.pmp_share.specs.declared.group.TheConstants.{GROUP_ACCESSES};
-ghost use Rattle.pmp_share.specs.Batches.{StartsWith};
+ghost use Rattle.std.specs.Prelude.{◌≡◌, ◌<◌};
+ghost use Rattle.pmp_share.specs.Batches.{event_count};
 ghost use Rattle.pmp_share.specs.Looks.{latest};
-ghost use Rattle.pmp_share.specs.Object.{Decides};
 
-use arrayvec::ArrayVec;
-use pmp_core::{Access, AccessFault, Decision, Kind, Mode};
-use pmp_share::{Checker, GROUP_ACCESSES, Notice, ShareFault};
+use crate::shim::{count, rights};
+use crate::tlb::{Answer, Look, PAGE, Page};
+use pmp_core::Access;
+use pmp_share::{Checker, Notice};
 use std::snapshot::Snapshot;
-use std::thread::Promise;
 
-/// The decisions on a group, and how many events had been published.
-pub type Answers = (ArrayVec<Decision, GROUP_ACCESSES>, u64);
+/// How many pages a TLB has.
+const PLACES: u64 = 4;
 
-/// The checker that comes back from a thread is of the unit that it was of.
+/// A hart of an emulator.
 #[derive(Drop)]
-pub struct SameUnit(pub Snapshot<Checker>);
-
-impl Promise<Checker> for SameUnit {
-    ghost kept_by = { λ promise checker. checker.unit ≡ promise.0.value.unit };
+pub struct Hart {
+    pub checker: Checker,
+    tlb: [Option<Page>; 4],
 }
 
-/// Takes in a notice and then decides the accesses, all in one list of publications that begins with what was told.
-pub fn decide_after(checker: &mut Checker, notice: Notice, accesses: &[Access]) -> Answers
-    requires unit { notice.unit ≡ checker.old.unit }
-    requires limit { length accesses.now ≤ GROUP_ACCESSES }
-    ensures unit { checker.new.unit ≡ checker.old.unit }
-    ensures told { StartsWith (latest checker.new.held) notice.told }
-    ensures decided { AllZip (Decides checker.new.unit.entries (latest checker.new.held)) accesses.now result.0.items }
-{
-    checker.learn(notice);
-    checker.decide_group(accesses)
-}
+impl Hart {
+    /// A hart whose TLB is empty.
+    pub fn new(checker: Checker) -> Hart
+        ensures { result.checker ≡ checker }
+    {
+        Hart {
+            checker,
+            tlb: [None, None, None, None],
+        }
+    }
 
-/// Three loads by user mode, as of a page walk.
-fn page_walk() -> Result<[Access; 3], AccessFault> {
-    let first = Access::new(Mode::U, Kind::Load, 0x80000000, 8)?;
-    let second = Access::new(Mode::U, Kind::Load, 0x80000008, 8)?;
-    let third = Access::new(Mode::U, Kind::Load, 0x80000ff8, 8)?;
-    Ok([first, second, third])
-}
+    /// Takes in what another hart's firmware told: the remote fence of an emulator.
+    pub fn fence(&mut self, notice: Notice)
+        requires { notice.unit ≡ self.old.checker.unit }
+        ensures { self.new.checker.unit ≡ self.old.checker.unit }
+    {
+        self.checker.learn(notice);
+    }
 
-/// Takes in a notice and then walks the page.
-pub fn decide_walk(checker: &mut Checker, notice: Notice) -> Result<Answers, ShareFault>
-    requires { notice.unit ≡ checker.old.unit }
-    ensures { checker.new.unit ≡ checker.old.unit }
-{
-    match page_walk() {
-        Ok(accesses) => Ok(decide_after(checker, notice, &accesses)),
-        Err(_) => Err(ShareFault::NoPlace),
+    /// Makes an access: by the TLB, where that has the page of just the events that are published.
+    pub fn access(&mut self, access: &Access) -> Answer
+        ensures unit { self.new.checker.unit ≡ self.old.checker.unit }
+        ensures fresh { result.events ≡ event_count (latest self.new.checker.held) }
+    {
+        let events = count(&mut self.checker);
+        let place = (access.start / PAGE % PLACES) as usize;
+        if let Some(page) = &self.tlb[place] {
+            if page.holds(access, events) {
+                return page.answer(access, true);
+            }
+        }
+        self.fill(place, access)
+    }
+
+    /// Makes an access by the checker, and puts its page into the TLB where one entry has all of that.
+    fn fill(&mut self, place: usize, access: &Access) -> Answer
+        requires { place < 4 }
+        ensures unit { self.new.checker.unit ≡ self.old.checker.unit }
+        ensures fresh { result.events ≡ event_count (latest self.new.checker.held) }
+    {
+        let start = access.start - access.start % PAGE;
+        if access.start + access.length > start + PAGE {
+            return self.decide(access);
+        }
+        let (rights, events) = rights(&mut self.checker, access.mode, start, PAGE);
+        let Some(rights) = rights else {
+            return self.decide(access);
+        };
+        let look = Look {
+            events,
+            checker: Snapshot::of(&self.checker),
+        };
+        let page = Page::new(access.mode, start, rights, look);
+        let answer = page.answer(access, false);
+        self.tlb[place] = Some(page);
+        answer
+    }
+
+    /// Makes an access by the checker alone.
+    fn decide(&mut self, access: &Access) -> Answer
+        ensures unit { self.new.checker.unit ≡ self.old.checker.unit }
+        ensures fresh { result.events ≡ event_count (latest self.new.checker.held) }
+    {
+        let (decision, events) = self.checker.decide(access);
+        let look = Look {
+            events,
+            checker: Snapshot::of(&self.checker),
+        };
+        Answer {
+            access: *access,
+            allowed: decision.allowed,
+            events,
+            by_tlb: false,
+            look: Snapshot::of(&look),
+        }
     }
 }
