@@ -90,7 +90,10 @@ version_sync = declared_sync version.the_type (
   as_row_sync journal.the_field journal_sync,
   (
     as_row_sync file.the_field file_sync,
-    (as_row_sync run_map.the_field map_sync, (seen.the_sync _ _ _ law.ghosts, tt)),
+    (
+      as_row_sync run_map.the_field map_sync,
+      (seen.the_sync _ _ _ law.ghosts, (search (core.crosses, sendable) depth 12, tt)),
+    ),
   ),
 )
 

@@ -1,8 +1,8 @@
 //! A PMP unit that threads share: one publisher reprograms it by batches of events, and checkers decide accesses
 //! meanwhile, each in the register file that whole published batches give.
 //!
-//! `start` makes them, and `start_of` those of a unit of either size. The definitions that contracts cite are in
-//! `specs/`.
+//! `start` makes them, `start_of` those of a unit of either size, and `start_from` those of a unit that begins with saved
+//! registers. The definitions that contracts cite are in `specs/`.
 #![tactic(auto)]
 
 mod batch;
@@ -39,6 +39,6 @@ pub use group::GROUP_ACCESSES;
 pub use journal::Journal;
 pub use notice::Notice;
 pub use notice_ring::{NoticeReceiver, NoticeSender};
-pub use opening::{CHECKERS, start, start_of};
+pub use opening::{CHECKERS, start, start_from, start_of};
 pub use publisher::Publisher;
 pub use room::HISTORY_LIMIT;

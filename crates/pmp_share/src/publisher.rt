@@ -1,9 +1,9 @@
 //! The publisher: it alone adds batches to a unit's history.
 
 ghost use Rattle.std.specs.Prelude.{◌≡◌, ◌↔◌, [], ◌∷◌, ◌++◌, Err, ◌⊎◌, IfOk, IfErr, OnOk, OnErr, false, length, take};
-ghost use Rattle.pmp_core.specs.Size.{count_of};
+ghost use Rattle.pmp_core.specs.RegisterValue.{register_value};
 ghost use Rattle.pmp_share.specs.declared.fault.ShareFault.TheVariants.{Full, Memory};
-ghost use Rattle.pmp_share.specs.Batches.{event_count};
+ghost use Rattle.pmp_share.specs.Batches.{event_count, file_from};
 ghost use Rattle.pmp_share.specs.Object.{Publishes};
 ghost use Rattle.pmp_share.specs.Room.{has_room};
 
@@ -15,7 +15,7 @@ use crate::journal::Journal;
 use crate::notice::Notice;
 use crate::room::has_room;
 use crate::writer_state::WriterState;
-use pmp_core::Size;
+use pmp_core::{Csr, RegFile};
 use std::alloc::Global;
 use std::marker::Model;
 use std::sync::Wait;
@@ -48,15 +48,19 @@ impl Model for Publisher {
 }
 
 impl Publisher {
-    /// A publisher of a new unit of this size, after reset.
-    pub(crate) fn open<R: Wait>(rt: &R, alloc: Global, size: Size) -> Result<Publisher, ShareFault>
+    /// A publisher of a new unit, which begins with this register file.
+    pub(crate) fn open<R: Wait>(
+        rt: &R,
+        alloc: Global,
+        base: &RegFile,
+    ) -> Result<Publisher, ShareFault>
         ensures made { IfOk result (λ publisher. (publisher.published ≡ []) × (publisher.pending ≡ [])
             × (publisher.tried ≡ 0)) }
-        ensures entries { IfOk result (λ publisher. publisher.unit.entries ≡ count_of size) }
+        ensures base { IfOk result (λ publisher. publisher.unit.base ≡ base.now) }
         ensures refused { IfErr result (λ fault. fault ≡ Memory) }
     {
         Ok(Publisher {
-            state: WriterState::open(rt, alloc, size)?,
+            state: WriterState::open(rt, alloc, base)?,
             pending: Journal::new(alloc),
             handed: 0,
             tried: 0,
@@ -139,6 +143,17 @@ impl Publisher {
         ensures refused { IfErr result (λ fault. ¬ (fault ≡ Full)) }
     {
         Ok(Notice::new(self.state.reader_state()?))
+    }
+
+    /// What the register reads after what is published and what is pending, as firmware reads back what it wrote, be that
+    /// published yet or not.
+    pub fn read(&self, csr: Csr) -> u64
+        ensures { result
+            ≡ register_value (file_from self.now.unit.base (self.now.published ++ self.now.pending)) csr }
+    {
+        let mut file = *self.state.file();
+        file.run_events(self.pending.events());
+        file.read(csr)
     }
 
     /// How many events are published.
