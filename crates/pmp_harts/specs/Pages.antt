@@ -6,13 +6,13 @@ use Rattle.pmp_core.specs.declared.perms.Perms.{Perms}
 use Rattle.pmp_core.specs.RegisterFile.{RegisterFile}
 use Rattle.pmp_core.specs.Perms.{right_of}
 use Rattle.pmp_core.specs.Ranges.{decision_of}
-use Rattle.pmp_core.specs.Histories.{file_after}
+use Rattle.pmp_share.specs.Batches.{file_from}
 use Rattle.pmp_share.specs.Looks.{latest}
 use Rattle.pmp_share.specs.Tokens.{CheckerToken}
 
 -- the registers that the checker stands at
 abbrev pub file_at : CheckerToken → RegisterFile
-file_at checker = file_after checker.unit.entries (latest checker.held)
+file_at checker = file_from checker.unit.base (latest checker.held)
 
 -- an access of the mode in the range is allowed where the rights have the bit of its kind
 abbrev pub HasRights : RegisterFile → Mode → (start length : ℕ) → Perms → Type 0

@@ -5,7 +5,7 @@ ghost use Rattle.std.specs.Prelude.{◌≡◌, [], ◌∷◌, ◌++◌, OnOk};
 use crate::hart::Hart;
 use crate::running::{Answers, run, walk};
 use pmp_core::{Csr, Event};
-use pmp_share::{Batch, Checker, Journal, NoticeSender, Publisher, ShareFault};
+use pmp_share::{Batch, Checker, Journal, NoticeReceiver, NoticeSender, Publisher, ShareFault};
 use std::alloc::Global;
 use std::sync::atomic::{AtomicU64, Ordering};
 use std::sync::{Arc, Wait};

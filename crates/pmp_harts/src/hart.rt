@@ -4,7 +4,6 @@ ghost use Rattle.std.specs.Prelude.{◌≡◌, ◌<◌};
 ghost use Rattle.pmp_share.specs.Batches.{event_count};
 ghost use Rattle.pmp_share.specs.Looks.{latest};
 
-use crate::shim::{count, rights};
 use crate::tlb::{Answer, Look, PAGE, Page};
 use pmp_core::Access;
 use pmp_share::{Checker, Notice};
@@ -44,7 +43,7 @@ impl Hart {
         ensures unit { self.new.checker.unit ≡ self.old.checker.unit }
         ensures fresh { result.events ≡ event_count (latest self.new.checker.held) }
     {
-        let events = count(&mut self.checker);
+        let events = self.checker.count();
         let place = (access.start / PAGE % PLACES) as usize;
         if let Some(page) = &self.tlb[place] {
             if page.holds(access, events) {
@@ -64,7 +63,7 @@ impl Hart {
         if access.start + access.length > start + PAGE {
             return self.decide(access);
         }
-        let (rights, events) = rights(&mut self.checker, access.mode, start, PAGE);
+        let (rights, events) = self.checker.rights(access.mode, start, PAGE);
         let Some(rights) = rights else {
             return self.decide(access);
         };

@@ -7,7 +7,6 @@ ghost use Rattle.std.specs.Prelude.{◌≡◌};
 mod firmware;
 mod hart;
 mod running;
-mod shim;
 mod tlb;
 
 use firmware::{Ran, run_firmware};

@@ -74,7 +74,10 @@ version_send = declared_send version.the_type (
   as_row_send journal.the_field journal_field_send,
   (
     as_row_send file.the_field file_send,
-    (as_row_send run_map.the_field map_send, (seen.the_send _ _ _ law.ghosts, tt)),
+    (
+      as_row_send run_map.the_field map_send,
+      (seen.the_send _ _ _ law.ghosts, (search (core.crosses, sendable) depth 12, tt)),
+    ),
   ),
 )
 
