@@ -1,6 +1,8 @@
 -- Publishers, batches and journals may move into threads.
+use denote.RattleType.{RattleType}
 use denote.Param.Send.{IsSend, sendable}
 use denote.Param.SendFields.{declared_send, as_row_send}
+use denote.Struct.Field.{row_field}
 use Rattle.std.proofs.Crossing.{crosses, send, sync, frees}
 use Rattle.std.specs.contracts.impls.GlobalAllocator.TheImpl as heap
 use Rattle.std.specs.contracts.alloc.Global as global
@@ -25,6 +27,8 @@ use Rattle.pmp_share.specs.contracts.knowledge.Known as known
 use Rattle.pmp_share.specs.contracts.logged_batch.LoggedBatch as logged
 use Rattle.pmp_share.specs.contracts.publisher.Publisher as publisher
 use Rattle.pmp_share.specs.contracts.publisher.Publisher.TheInside as publisher_inside
+use Rattle.pmp_share.specs.contracts.publisher_guard.PublisherGuard as guard
+use Rattle.pmp_share.specs.contracts.publisher_guard.PublisherGuard.TheInside as guard_inside
 use Rattle.pmp_share.specs.contracts.recorder.Recorder as recorder
 use Rattle.pmp_share.specs.contracts.recorder.Recorder.TheInside as recorder_inside
 use Rattle.pmp_share.specs.contracts.rule.OneHistory as one_history
@@ -107,3 +111,10 @@ publisher_inside_send = search (writer_state_send, journal_send, sendable) depth
 
 pub publisher_send : IsSend publisher.the_row
 publisher_send = search (publisher_inside_send, sendable) depth 6
+
+guard_inside_send : (R : RattleType) → IsSend R → IsSend (guard_inside.the_row R)
+guard_inside_send R runtime_send = declared_send (guard_inside.the_type R)
+    (as_row_send (row_field R) runtime_send, (publisher_send, tt))
+
+pub guard_send : (R : RattleType) → IsSend R → IsSend (guard.the_row R)
+guard_send R runtime_send = search (guard_inside_send R runtime_send, sendable) depth 6
