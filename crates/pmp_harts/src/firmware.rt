@@ -5,7 +5,9 @@ ghost use Rattle.std.specs.Prelude.{◌≡◌, [], ◌∷◌, ◌++◌, OnOk};
 use crate::hart::Hart;
 use crate::running::{Answers, run, walk};
 use pmp_core::{Csr, Event};
-use pmp_share::{Batch, Checker, Journal, NoticeReceiver, NoticeSender, Publisher, ShareFault};
+use pmp_share::{
+    Batch, Checker, Journal, NoticeReceiver, NoticeSender, Publisher, PublisherGuard, ShareFault,
+};
 use std::alloc::Global;
 use std::sync::atomic::{AtomicU64, Ordering};
 use std::sync::{Arc, Wait};
@@ -131,13 +133,16 @@ fn send_out<R: Threads + Wait + Copy + Send + 'static>(
     requires { notices.unit ≡ checker.unit }
 {
     let runtime = *rt;
-    match thread::spawn(rt, move || run(&runtime, alloc, checker, notices, &fenced)) {
+    let hart = move || -> Result<Answers, ShareFault>
+        requires { notices.unit ≡ checker.unit }
+    { run(&runtime, alloc, checker, notices, &fenced) };
+    match thread::spawn(rt, hart) {
         Ok(thread) => Ok(thread),
         Err(unsent) => Err(no_place(unsent)),
     }
 }
 
-fn no_place<F: Drop>(_unsent: SpawnError<F>) -> ShareFault {
+pub fn no_place<F: Drop>(_unsent: SpawnError<F>) -> ShareFault {
     ShareFault::NoPlace
 }
 
@@ -145,12 +150,13 @@ fn no_place<F: Drop>(_unsent: SpawnError<F>) -> ShareFault {
 pub fn run_firmware<R: Threads + Wait + Copy + Send + 'static>(
     rt: &R,
     alloc: Global,
-    mut publisher: Publisher,
+    guard: PublisherGuard<R>,
     zero: Checker,
     one: Checker,
 ) -> Result<Ran, ShareFault>
-    requires { (zero.unit ≡ publisher.unit) × (one.unit ≡ publisher.unit) }
+    requires { (zero.unit ≡ guard.unit) × (one.unit ≡ guard.unit) }
 {
+    let mut publisher = guard.into_publisher();
     let answers = both_harts(rt, alloc, &mut publisher, zero, one);
     let journal = publisher.end(rt);
     let (zero, one) = answers?;

@@ -11,32 +11,52 @@ mod tlb;
 
 use firmware::{Ran, run_firmware};
 use pmp_core::{Event, RegFile};
-use pmp_share::{Checker, Publisher, ShareFault, start};
-use std::alloc::Global;
+use pmp_share::{PublisherGuard, start};
+use std::io;
 use std::process::ExitCode;
-use std::sync::Wait;
 use std::thread;
-use std::thread::Threads;
 use tlb::Answer;
 
+/// Starts a unit, and hart 0 on a thread of its own. The guard ends the publisher on every answer.
 fn main(rt: HostRuntime) -> ExitCode {
-    let Ok(ran) = share(&rt, rt.alloc()) else {
+    let alloc = rt.alloc();
+    let Ok((publisher, mut checkers)) = start(&rt, alloc, 2) else {
         return ExitCode::FAILURE;
     };
+    let guard = PublisherGuard::new(rt, publisher);
+    let (Some(one), Some(zero)) = (checkers.pop(), checkers.pop()) else {
+        return ExitCode::FAILURE;
+    };
+    let firmware = thread::spawn(&rt, move || run_firmware(&rt, alloc, guard, zero, one));
+    let Ok(thread) = firmware else {
+        return ExitCode::FAILURE;
+    };
+    match thread.join(&rt) {
+        Ok(ran) if show(&rt, &ran).is_ok() => ExitCode::SUCCESS,
+        _ => ExitCode::FAILURE,
+    }
+}
+
+/// The answers of both harts that the schedule doesn't change, and whether all are those of a replay.
+fn show(rt: &impl Print, ran: &Ran) -> io::Result<()> {
     let events = ran.journal.events();
-    let mut differ = 0u64;
+    let mut same = true;
     for (hart, answers) in [(0, &ran.zero), (1, &ran.one)] {
         for answer in answers.shown.as_slice() {
             let allowed = if answer.allowed { "allowed" } else { "refused" };
             let by = if answer.by_tlb { "TLB" } else { "unit" };
             let (start, count) = (answer.access.start, answer.events);
-            let _ = println!(rt; "hart {hart}, {count} events: load {start:#x} {allowed} by the {by}");
+            println!(rt; "hart {hart}, {count} events: load {start:#x} {allowed} by the {by}")?;
+            same = same && is_replayed(events, answer);
+        }
+        for answer in answers.between.as_slice() {
+            same = same && is_replayed(events, answer);
         }
     }
-    ExitCode::SUCCESS
+    println!(rt; "a replay answers the same: {same}")
 }
 
-/// Whether the answer is that of the registers after its events of the journal.
+/// Whether the registers after the answer's events of the journal give it.
 fn is_replayed(events: &[Event], answer: &Answer) -> bool {
     let Some(seen) = events.get(..answer.events as usize) else {
         return false;
@@ -44,35 +64,4 @@ fn is_replayed(events: &[Event], answer: &Answer) -> bool {
     let mut file = RegFile::reset();
     file.run_events(seen);
     file.decide(&answer.access).allowed == answer.allowed
-}
-
-/// Starts a unit, and hart 0 on a thread of its own.
-fn share<R: Threads + Wait + Copy + Send + 'static>(
-    rt: &R,
-    alloc: Global,
-) -> Result<Ran, ShareFault> {
-    let (publisher, mut checkers) = start(rt, alloc, 2)?;
-    let (Some(one), Some(zero)) = (checkers.pop(), checkers.pop()) else {
-        publisher.end(rt);
-        return Err(ShareFault::NoPlace);
-    };
-    send_firmware(rt, alloc, publisher, zero, one)
-}
-
-/// Where no thread can be made, hart 0 runs on this one.
-fn send_firmware<R: Threads + Wait + Copy + Send + 'static>(
-    rt: &R,
-    alloc: Global,
-    publisher: Publisher,
-    zero: Checker,
-    one: Checker,
-) -> Result<Ran, ShareFault>
-    requires { (zero.unit ≡ publisher.unit) × (one.unit ≡ publisher.unit) }
-{
-    let runtime = *rt;
-    let firmware = move || run_firmware(&runtime, alloc, publisher, zero, one);
-    match thread::spawn(rt, firmware) {
-        Ok(thread) => thread.join(rt),
-        Err(unsent) => (unsent.value)(),
-    }
 }

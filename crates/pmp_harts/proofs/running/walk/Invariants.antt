@@ -2,4 +2,4 @@ use Rattle.std.proofs.Common.{◌≡◌}
 use Rattle.pmp_harts.proofs.running.walk.Given as goal
 
 abbrev pub invariant-loop-start : goal.invariant-loop-start
-invariant-loop-start g l = l.hart.checker.unit ≡ l.initial.hart.checker.unit
+invariant-loop-start l = l.hart.checker.unit ≡ l.initial.hart.checker.unit
