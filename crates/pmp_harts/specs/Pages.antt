@@ -14,6 +14,11 @@ use Rattle.pmp_share.specs.Tokens.{CheckerToken}
 abbrev pub file_at : CheckerToken → RegisterFile
 file_at checker = file_from checker.unit.base (latest checker.held)
 
+-- an access of the mode, with all its bytes in the range
+abbrev pub IsInside : Access → Mode → (start length : ℕ) → Type 0
+IsInside access mode start length =
+    (access.mode ≡ mode) × (start ≤ access.start) × (access.start + access.length ≤ start + length)
+
 -- an access of the mode in the range is allowed where the rights have the bit of its kind
 abbrev pub HasRights : RegisterFile → Mode → (start length : ℕ) → Perms → Type 0
 HasRights file mode start length rights =

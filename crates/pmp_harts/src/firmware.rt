@@ -2,17 +2,15 @@
 
 ghost use Rattle.std.specs.Prelude.{◌≡◌, [], ◌∷◌, ◌++◌, OnOk};
 
-use crate::hart::Hart;
-use crate::running::{Answers, run, walk};
+use crate::hart::{Answer, Hart};
+use crate::running::{run, walk};
 use pmp_core::{Csr, Event};
-use pmp_share::{
-    Batch, Checker, Journal, NoticeReceiver, NoticeSender, Publisher, PublisherGuard, ShareFault,
-};
+use pmp_share::{Batch, Checker, Journal, NoticeSender, Publisher, PublisherGuard, ShareFault};
 use std::alloc::Global;
 use std::sync::atomic::{AtomicU64, Ordering};
 use std::sync::{Arc, Wait};
 use std::thread;
-use std::thread::{JoinHandle, SpawnError, Threads};
+use std::thread::Threads;
 
 /// Entries 0 and 1 have a page each. The first domain may use the one of entry 0.
 const SET_UP: [Event; 3] = [
@@ -21,33 +19,29 @@ const SET_UP: [Event; 3] = [
     Event::Write(Csr::Cfg(0), 0x181b),
 ];
 
-/// The second domain may use the page of entry 1 in its place. After the first write alone nobody may use either.
-const TO_SECOND: [Event; 2] = [
-    Event::Write(Csr::Cfg(0), 0x1818),
-    Event::Write(Csr::Cfg(0), 0x1b18),
+/// To the second domain, and back. After the first write of each nobody may use either page.
+const SWITCHES: [[Event; 2]; 2] = [
+    [
+        Event::Write(Csr::Cfg(0), 0x1818),
+        Event::Write(Csr::Cfg(0), 0x1b18),
+    ],
+    [
+        Event::Write(Csr::Cfg(0), 0x1818),
+        Event::Write(Csr::Cfg(0), 0x181b),
+    ],
 ];
 
-/// And the first domain again.
-const TO_FIRST: [Event; 2] = [
-    Event::Write(Csr::Cfg(0), 0x1818),
-    Event::Write(Csr::Cfg(0), 0x181b),
-];
-
-/// What both harts were answered, and what was published.
+/// The answers of both harts, and what was published.
 #[derive(Drop)]
 pub struct Ran {
-    pub zero: Answers,
-    pub one: Answers,
+    pub zero: Vec<Answer>,
+    pub one: Vec<Answer>,
     pub journal: Journal,
 }
 
 /// Publishes these writes in one step, behind what was pending: no hart decides between two of them. More writes than a
 /// batch holds are `Full`.
-pub fn program<R: Wait>(
-    rt: &R,
-    publisher: &mut Publisher,
-    writes: &[Event],
-) -> Result<u64, ShareFault>
+fn program<R: Wait>(rt: &R, publisher: &mut Publisher, writes: &[Event]) -> Result<u64, ShareFault>
     ensures unit { publisher.new.unit ≡ publisher.old.unit }
     ensures one_batch { OnOk result (publisher.new.published
         ≡ publisher.old.published ++ publisher.old.pending ++ writes.now ∷ []) }
@@ -57,96 +51,70 @@ pub fn program<R: Wait>(
     publisher.publish(rt)
 }
 
-/// A remote fence: has hart 1 learn of all that is published, and waits until it has, or is gone.
-fn fence_other<R: Wait>(
-    rt: &R,
-    publisher: &mut Publisher,
-    notices: &mut NoticeSender,
-    fenced: &AtomicU64,
-) -> Result<(), ShareFault>
-    requires { notices.old.unit ≡ publisher.old.unit }
-    ensures { (publisher.new.unit ≡ publisher.old.unit) × (notices.new.unit ≡ notices.old.unit) }
+/// Waits until hart 1 has learnt of so many events, or is gone.
+fn wait_for<R: Wait>(rt: &R, fenced: &AtomicU64, events: u64, notices: &mut NoticeSender)
+    ensures { notices.new.unit ≡ notices.old.unit }
 {
-    let notice = publisher.tell()?;
-    let events = notice.len();
-    if notices.send(notice).is_err() {
-        return Err(ShareFault::NoPlace);
-    }
     for _ in rt.forever() {
         if fenced.load(Ordering::SeqCst) >= events || notices.is_abandoned() {
             break;
         }
         thread::yield_now();
     }
-    Ok(())
 }
 
-/// Switches domains. After each both harts walk both pages.
+/// Switches domains, each time with a remote fence of hart 1 and a walk of its own.
 fn switch<R: Wait>(
     rt: &R,
     publisher: &mut Publisher,
     mut notices: NoticeSender,
     fenced: &AtomicU64,
     mut hart: Hart,
-    mut answers: Answers,
-) -> Result<Answers, ShareFault>
+    mut answers: Vec<Answer>,
+) -> Result<Vec<Answer>, ShareFault>
     requires { (notices.unit ≡ publisher.old.unit) × (hart.checker.unit ≡ publisher.old.unit) }
     ensures { publisher.new.unit ≡ publisher.old.unit }
 {
-    for writes in [TO_SECOND, TO_FIRST] {
-        program(rt, publisher, &writes)?;
-        fence_other(rt, publisher, &mut notices, fenced)?;
-        hart.fence(publisher.tell()?);
-        walk(&mut hart, &mut answers.shown)?;
+    for writes in SWITCHES {
+        let events = program(rt, publisher, &writes)?;
+        if notices.send(publisher.tell()?).is_err() {
+            return Err(ShareFault::NoPlace);
+        }
+        wait_for(rt, fenced, events, &mut notices);
+        hart.checker.learn(publisher.tell()?);
+        walk(&mut hart, &mut answers)?;
     }
     Ok(answers)
 }
 
-/// Starts hart 1 on a thread of its own, switches domains meanwhile, and answers what both harts were answered.
+/// Starts hart 1 on a thread of its own, and switches domains meanwhile.
 fn both_harts<R: Threads + Wait + Copy + Send + 'static>(
     rt: &R,
     alloc: Global,
     publisher: &mut Publisher,
     zero: Checker,
     one: Checker,
-) -> Result<(Answers, Answers), ShareFault>
+) -> Result<(Vec<Answer>, Vec<Answer>), ShareFault>
     requires { (zero.unit ≡ publisher.old.unit) × (one.unit ≡ publisher.old.unit) }
 {
     program(rt, publisher, &SET_UP)?;
     let (sender, receiver) = publisher.notice_ring(alloc, 1)?;
     let fenced = Arc::new(alloc, AtomicU64::new(0))?;
     let theirs = Arc::try_clone(&fenced)?;
-    let thread = send_out(rt, alloc, one, receiver, theirs)?;
-    let zero = switch(rt, publisher, sender, &fenced, Hart::new(zero), Answers::new(alloc));
-    let one = thread.join(rt);
-    Ok((zero?, one?))
-}
-
-/// A thread of its own for hart 1. Without one its checker is dropped.
-fn send_out<R: Threads + Wait + Copy + Send + 'static>(
-    rt: &R,
-    alloc: Global,
-    checker: Checker,
-    notices: NoticeReceiver,
-    fenced: Arc<AtomicU64, Global>,
-) -> Result<JoinHandle<Result<Answers, ShareFault>>, ShareFault>
-    requires { notices.unit ≡ checker.unit }
-{
     let runtime = *rt;
-    let hart = move || -> Result<Answers, ShareFault>
-        requires { notices.unit ≡ checker.unit }
-    { run(&runtime, alloc, checker, notices, &fenced) };
-    match thread::spawn(rt, hart) {
-        Ok(thread) => Ok(thread),
-        Err(unsent) => Err(no_place(unsent)),
-    }
+    let hart = move || -> Result<Vec<Answer>, ShareFault>
+        requires { receiver.unit ≡ one.unit }
+    { run(&runtime, alloc, one, receiver, &theirs) };
+    let Ok(thread) = thread::spawn(rt, hart) else {
+        return Err(ShareFault::NoPlace);
+    };
+    let hart = Hart::new(zero);
+    let zero = switch(rt, publisher, sender, &fenced, hart, Vec::new(alloc));
+    let one = thread.join(rt)?;
+    Ok((zero?, one))
 }
 
-pub fn no_place<F: Drop>(_unsent: SpawnError<F>) -> ShareFault {
-    ShareFault::NoPlace
-}
-
-/// What hart 0 does on any thread. It ends the publisher on every answer.
+/// What hart 0 does, on any thread.
 pub fn run_firmware<R: Threads + Wait + Copy + Send + 'static>(
     rt: &R,
     alloc: Global,

@@ -7,15 +7,14 @@ ghost use Rattle.std.specs.Prelude.{◌≡◌};
 mod firmware;
 mod hart;
 mod running;
-mod tlb;
 
 use firmware::{Ran, run_firmware};
+use hart::Answer;
 use pmp_core::{Event, RegFile};
 use pmp_share::{PublisherGuard, start};
-use std::io;
+use running::BETWEEN;
 use std::process::ExitCode;
-use std::thread;
-use tlb::Answer;
+use std::{io, thread};
 
 /// Starts a unit, and hart 0 on a thread of its own. The guard ends the publisher on every answer.
 fn main(rt: HostRuntime) -> ExitCode {
@@ -42,15 +41,14 @@ fn show(rt: &impl Print, ran: &Ran) -> io::Result<()> {
     let events = ran.journal.events();
     let mut same = true;
     for (hart, answers) in [(0, &ran.zero), (1, &ran.one)] {
-        for answer in answers.shown.as_slice() {
-            let allowed = if answer.allowed { "allowed" } else { "refused" };
-            let by = if answer.by_tlb { "TLB" } else { "unit" };
+        for answer in answers.as_slice() {
+            same = same && is_replayed(events, answer);
             let (start, count) = (answer.access.start, answer.events);
-            println!(rt; "hart {hart}, {count} events: load {start:#x} {allowed} by the {by}")?;
-            same = same && is_replayed(events, answer);
-        }
-        for answer in answers.between.as_slice() {
-            same = same && is_replayed(events, answer);
+            if start != BETWEEN {
+                let allowed = if answer.allowed { "allowed" } else { "refused" };
+                let by = if answer.by_tlb { "TLB" } else { "unit" };
+                println!(rt; "hart {hart}, {count} events: load {start:#x} {allowed} by the {by}")?;
+            }
         }
     }
     println!(rt; "a replay answers the same: {same}")
