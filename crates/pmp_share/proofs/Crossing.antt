@@ -20,6 +20,7 @@ use Rattle.pmp_share.specs.contracts.digest.Digest.TheInside as digest_inside
 use Rattle.pmp_share.specs.contracts.reader_state.ReaderState as reader_state
 use Rattle.pmp_share.specs.contracts.reader_state.ReaderState.TheInside as reader_state_inside
 use Rattle.pmp_share.specs.contracts.held_lists.HeldLists as held
+use Rattle.pmp_share.specs.contracts.bell.Listener as listener
 use Rattle.pmp_share.specs.contracts.checker.Checker as checker
 use Rattle.pmp_share.specs.contracts.checker.Checker.TheInside as checker_inside
 use Rattle.pmp_share.specs.contracts.notice.Notice as notice
@@ -127,8 +128,11 @@ reader_state_inside_send = declared_send reader_state_inside.the_type (
 reader_state_send : IsSend reader_state.the_row
 reader_state_send = search (reader_state_inside_send, sendable) depth 6
 
+listener_send : IsSend listener.the_row
+listener_send = search (crosses, sendable) depth 14
+
 checker_inside_send : IsSend checker_inside.the_row
-checker_inside_send = declared_send checker_inside.the_type (reader_state_send, (held_send, tt))
+checker_inside_send = declared_send checker_inside.the_type (reader_state_send, (held_send, (listener_send, tt)))
 
 pub checker_send : IsSend checker.the_row
 checker_send = search (checker_inside_send, sendable) depth 6

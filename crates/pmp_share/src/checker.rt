@@ -13,6 +13,7 @@ ghost use Rattle.pmp_share.specs.Batches.{event_count, file_from};
 ghost use Rattle.pmp_share.specs.Looks.{latest, Looked, KeepsBound, LearnsBound};
 ghost use Rattle.pmp_share.specs.Object.{Decides};
 
+use crate::bell::Listener;
 use crate::fault::ShareFault;
 use crate::group::GROUP_ACCESSES;
 use crate::held_lists::HeldLists;
@@ -37,6 +38,7 @@ pub struct Moved {
 pub struct Checker {
     state: ReaderState,
     held: HeldLists,
+    listener: Listener,
 }
 
 impl Model for Checker {
@@ -52,11 +54,15 @@ impl Model for Checker {
 
 impl Checker {
     /// A checker that holds what is known there.
-    pub(crate) fn new(state: ReaderState) -> Checker
+    pub(crate) fn new(state: ReaderState, listener: Listener) -> Checker
         ensures { result ≡ record { unit = state.unit; held = state.list ∷ [] } }
     {
         let held = HeldLists::alone(state.digest());
-        Checker { state, held }
+        Checker {
+            state,
+            held,
+            listener,
+        }
     }
 
     /// Takes in a notice of its own unit. From now on it decides in nothing less.
@@ -149,14 +155,15 @@ impl Checker {
     }
 
     /// How many events are published. What a TLB holds of an earlier count is to be forgotten where this is another. It
-    /// waits for nobody and takes no memory.
+    /// waits for nobody and takes no memory; where nothing was published since the last call it reads one word that
+    /// threads share, and enters nothing.
     pub fn count(&mut self) -> u64
         ensures unit { self.new.unit ≡ self.old.unit }
         ensures looked { Looked self.old.held self.new.held }
         ensures count { result ≡ event_count (latest self.new.held) }
         ensures bound { KeepsBound self.old.held self.new.held }
     {
-        self.state.catch_up();
+        self.listener.keep_up(&mut self.state);
         let digest = self.state.digest();
         self.held = HeldLists::alone(digest);
         digest.events()
@@ -171,7 +178,7 @@ impl Checker {
         ensures count { result.1 ≡ event_count (latest self.new.held) }
         ensures bound { KeepsBound self.old.held self.new.held }
     {
-        self.state.catch_up();
+        self.listener.keep_up(&mut self.state);
         let digest = self.state.digest();
         self.held = HeldLists::alone(digest);
         (digest.read(csr), digest.events())

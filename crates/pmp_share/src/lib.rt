@@ -6,6 +6,7 @@
 #![tactic(auto)]
 
 mod batch;
+mod bell;
 mod checker;
 mod decider;
 mod digest;

@@ -8,6 +8,7 @@ ghost use Rattle.pmp_share.specs.Object.{Publishes};
 ghost use Rattle.pmp_share.specs.Room.{has_room};
 
 use crate::batch::Batch;
+use crate::bell::Bell;
 use crate::checker::Checker;
 use crate::fault::ShareFault;
 use crate::handing::hand_over;
@@ -29,6 +30,7 @@ pub struct Publisher {
     handed: usize,
     /// How many pending batches the last publication left.
     tried: usize,
+    bell: Bell,
 }
 
 impl Model for Publisher {
@@ -59,11 +61,13 @@ impl Publisher {
         ensures base { IfOk result (λ publisher. publisher.unit.base ≡ base.now) }
         ensures refused { IfErr result (λ fault. fault ≡ Memory) }
     {
+        let bell = Bell::new(alloc)?;
         Ok(Publisher {
             state: WriterState::open(rt, alloc, base)?,
             pending: Journal::new(alloc),
             handed: 0,
             tried: 0,
+            bell,
         })
     }
 
@@ -74,7 +78,8 @@ impl Publisher {
             checker ≡ record { unit = self.old.unit; held = self.old.published ∷ [] }) }
         ensures refused { IfErr result (λ fault. ¬ (fault ≡ Full)) }
     {
-        Ok(Checker::new(self.state.reader_state()?))
+        let listener = self.bell.listener()?;
+        Ok(Checker::new(self.state.reader_state()?, listener))
     }
 
     /// Adds a copy of the batch to the pending list. An empty batch is a batch.
@@ -114,6 +119,7 @@ impl Publisher {
         self.tried = self.pending.batches();
         hand_over(&mut self.state, &self.pending, &mut self.handed)?;
         self.state.show(rt)?;
+        self.bell.ring();
         self.pending.clear();
         self.handed = 0;
         self.tried = 0;
@@ -130,6 +136,7 @@ impl Publisher {
             pending: _pending,
             handed: _,
             tried: _,
+            bell: _bell,
         } = self;
         state.end(rt)
     }

@@ -6,14 +6,14 @@ use Rattle.pmp_share.proofs.CheckFacts.{Look, latest_new, looked_checks, looked}
 use Rattle.pmp_share.proofs.checker.Checker.count.Goals as goal
 use Rattle.pmp_share.proofs.checker.Checker.count.Goals.{After-events}
 
-look : (c : After-events) → Look c.self.inside.state c.catch_up.new.self c.args.self.now.held
+look : (c : After-events) → Look c.self.inside.state c.keep_up.new.state c.args.self.now.held
     c.self.inside.held c.alone.result c.digest-digest.result.now.list
 look c = record {
   seen_is = ap (λ (token : CheckerToken). token.held) c.self.view_is;
   before = c.self.invariant;
   alone = c.alone.ensures;
   digest_is = c.digest-digest.ensures.list;
-  begins = c.catch_up.ensures.begins;
+  begins = c.keep_up.ensures.begins;
 }
 
 pub invariant_of-self : goal.invariant_of-self
