@@ -21,6 +21,7 @@ use Rattle.pmp_map.specs.contracts.run_map.RunMap as run_map
 use Rattle.pmp_map.specs.contracts.run_map.RunMap.TheInside as map_inside
 use Rattle.pmp_share.specs.contracts.batch.Batch as batch
 use Rattle.pmp_share.specs.contracts.batch.Batch.TheInside as batch_inside
+use Rattle.pmp_share.specs.contracts.bell.Bell as bell
 use Rattle.pmp_share.specs.contracts.history.LawRuleLinkedListEventU64.TheImpl as law
 use Rattle.pmp_share.specs.contracts.journal.Journal as journal
 use Rattle.pmp_share.specs.contracts.knowledge.Known as known
@@ -106,8 +107,11 @@ writer_state_inside_send = search (writer_send, recorder_send, crosses, sendable
 writer_state_send : IsSend writer_state.the_row
 writer_state_send = search (writer_state_inside_send, sendable) depth 6
 
+bell_send : IsSend bell.the_row
+bell_send = search (crosses, sendable) depth 14
+
 publisher_inside_send : IsSend publisher_inside.the_row
-publisher_inside_send = search (writer_state_send, journal_send, sendable) depth 12
+publisher_inside_send = search (writer_state_send, journal_send, bell_send, sendable) depth 12
 
 pub publisher_send : IsSend publisher.the_row
 publisher_send = search (publisher_inside_send, sendable) depth 6
