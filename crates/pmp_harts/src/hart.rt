@@ -30,7 +30,7 @@ pub fn decide_after(checker: &mut Checker, notice: Notice, accesses: &[Access]) 
     requires limit { length accesses.now ≤ GROUP_ACCESSES }
     ensures unit { checker.new.unit ≡ checker.old.unit }
     ensures told { StartsWith (latest checker.new.held) notice.told }
-    ensures decided { AllZip (Decides checker.new.unit.entries (latest checker.new.held)) accesses.now result.0.items }
+    ensures decided { AllZip (Decides checker.new.unit.base (latest checker.new.held)) accesses.now result.0.items }
 {
     checker.learn(notice);
     checker.decide_group(accesses)
