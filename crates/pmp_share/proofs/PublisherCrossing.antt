@@ -111,7 +111,13 @@ bell_send : IsSend bell.the_row
 bell_send = search (crosses, sendable) depth 14
 
 publisher_inside_send : IsSend publisher_inside.the_row
-publisher_inside_send = search (writer_state_send, journal_send, bell_send, sendable) depth 12
+publisher_inside_send = declared_send publisher_inside.the_type (
+  writer_state_send,
+  (
+    journal_send,
+    (search (as_row_send, sendable) depth 6, (search (as_row_send, sendable) depth 6, (bell_send, tt))),
+  ),
+)
 
 pub publisher_send : IsSend publisher.the_row
 publisher_send = search (publisher_inside_send, sendable) depth 6
