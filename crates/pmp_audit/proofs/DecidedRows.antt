@@ -12,12 +12,12 @@ use Rattle.pmp_core.specs.declared.decision.Decision.{Decision}
 use Rattle.pmp_core.specs.declared.event.Event.{Event}
 use Rattle.pmp_core.specs.Size.{count_of}
 use Rattle.pmp_core.specs.Decision.{IsDecision}
-use Rattle.pmp_core.specs.Histories.{file_after, joined}
+use Rattle.pmp_core.specs.Histories.{joined}
 use Rattle.pmp_core.specs.ReachableLaw.{LegalLaw}
 use Rattle.pmp_core.specs.Ranges.{decision_of}
-use Rattle.pmp_core.specs.RegisterFile.{HasAddresses, RegisterFile}
+use Rattle.pmp_core.specs.RegisterFile.{HasAddresses, RegisterFile, reset_file}
 use Rattle.pmp_share.specs.declared.room.TheConstants.{HISTORY_LIMIT}
-use Rattle.pmp_share.specs.Batches.{Batches, event_count}
+use Rattle.pmp_share.specs.Batches.{Batches, event_count, file_from}
 use Rattle.pmp_share.specs.Room.{has_room}
 use Rattle.pmp_text.specs.declared.trace.Row.{Row}
 use Rattle.pmp_text.specs.Contents.{ScriptContents}
@@ -79,12 +79,12 @@ module _ (script : ScriptContents) where
         ∙ ap (λ (l : List Row). l ++ drop n (take (n + m) rows)) (take-take n (n + m) rows (omega arith))
         ∙ ap (λ (l : List Row). take n rows ++ l) (drop-take n m rows)
 
-    pub decided_next : (after size : ℕ) (published : Batches) (decided new : List Decision)
-        → AreDecidedSoFar script rows after decided → size ≡ count_of script.size
+    pub decided_next : (after : ℕ) (base : RegisterFile) (published : Batches) (decided new : List Decision)
+        → AreDecidedSoFar script rows after decided → base ≡ reset_file (count_of script.size)
         → published ≡ take after script.batches
-        → new ≡ decided ++ decided_in (file_after size published) (asking after (drop (length decided) rows))
+        → new ≡ decided ++ decided_in (file_from base published) (asking after (drop (length decided) rows))
         → AreDecidedSoFar script rows (after + 1) new
-    decided_next after size published decided new so_far sized done added =
+    decided_next after base published decided new so_far based done added =
         let n = length decided in
         let left = drop n rows in
         let front = asking after left in
@@ -92,8 +92,8 @@ module _ (script : ScriptContents) where
         let next = asked after left so_far.order in
         let f = decision_for script in
         let now : new ≡ decided ++ map f front =
-        added ∙ ap (λ (k : ℕ). decided ++ decided_in (file_after k published) front) sized
-        ∙ ap (λ (p : Batches). decided ++ decided_in (file_after (count_of script.size) p) front) done
+        added ∙ ap (λ (f : RegisterFile). decided ++ decided_in (file_from f published) front) based
+        ∙ ap (λ (p : Batches). decided ++ decided_in (file_from (reset_file (count_of script.size)) p) front) done
         ∙ ap (λ (l : List Decision). decided ++ l) next.decisions in
         let many : length new ≡ n + m =
         ap (λ (l : List Decision). length l) now ∙ length-append decided (map f front)

@@ -11,9 +11,9 @@ use Rattle.std.proofs.lemmas.Bool.{cases_lt}
 use Rattle.std.proofs.lemmas.Option.{slice_get-map, slice_get_within, slice_get_cases, get_or_from_slice_get}
 use Rattle.std.proofs.lemmas.Option.{same_Some, some_pair_parts, slice_get_past, slice_get-get_or}
 use Rattle.pmp_core.specs.declared.decision.Decision.{Decision}
-use Rattle.pmp_core.specs.Histories.{file_after}
 use Rattle.pmp_core.specs.Ranges.{decision_of}
 use Rattle.pmp_core.specs.RegisterFile.{RegisterFile}
+use Rattle.pmp_share.specs.Batches.{file_from}
 use Rattle.pmp_share.specs.Tokens.{PublisherToken, CheckerToken, NoticeToken}
 use Rattle.pmp_text.specs.declared.trace.Row.{Row}
 use Rattle.pmp_audit.specs.declared.shared_audit.work_fault.WorkFault.{WorkFault}
@@ -168,7 +168,7 @@ done_at results all worker done same at =
 -- what a call of `work` says of its job
 abbrev pub IsDoneAs : (workers first : ℕ) → List Row → Job → Result Done WorkFault → Type 0
 IsDoneAs workers first rows job result =
-    IfOk result (IsDone job.checker.unit (file_after job.checker.unit.entries job.notice.told) job.worker workers first
+    IfOk result (IsDone job.checker.unit (file_from job.checker.unit.base job.notice.told) job.worker workers first
     rows)
 
 -- each of so many workers was given a job, and all brought back what `work` says of it
@@ -179,7 +179,7 @@ module _ (publisher : PublisherToken) (count workers first : ℕ) (rows : List R
     → (job : Job) × ((e : Job) → get_or jobs i e ≡ job) × IsDoneAs workers first rows job (get_or results i d))
     (length_is : length results ≡ count) where
   abbrev file : RegisterFile
-  file = file_after publisher.unit.entries publisher.published
+  file = file_from publisher.unit.base publisher.published
 
   all_many : length all ≡ count
   all_many = sym (length-map all Ok) ∙ sym (ap (λ (l : List (Result Done WorkFault)). length l) same) ∙ length_is
@@ -192,7 +192,7 @@ module _ (publisher : PublisherToken) (count workers first : ℕ) (rows : List R
       let within = slice_get_within all worker done at in omega (arith, all_many, are.many) in
       let (job, job_is, is) = each worker (Ok done) inside in
       let at_job : slice_get jobs worker ≡ Some job = slice_get-get_or jobs worker job inside ∙ ap Some (job_is job) in
-      let own : IsDone job.checker.unit (file_after job.checker.unit.entries job.notice.told) job.worker workers first
+      let own : IsDone job.checker.unit (file_from job.checker.unit.base job.notice.told) job.worker workers first
       rows done = subst (IsDoneAs workers first rows job) (done_at results all worker done same at) is in
       let j : IsJob publisher worker job = are.each worker job at_job in
       let told : job.notice.told ≡ publisher.published = ap (λ (n : NoticeToken). n.told) j.notice in

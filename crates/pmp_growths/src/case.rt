@@ -4,7 +4,7 @@ use crate::answering::{Answering, answers};
 use crate::deciding::Deciding;
 use crate::outcome::Tried;
 use crate::reading::{Reading, reads};
-use crate::sharing::{Sharing, shares, starts};
+use crate::sharing::{Sharing, shares, starts, starts_from};
 use crate::writing::{Writing, appends};
 use pmp_core::Access;
 use std::alloc::Global;
@@ -15,6 +15,7 @@ use std::thread::Threads;
 #[derive(Clone, Copy)]
 pub enum Case {
     Start,
+    StartFrom,
     Share(Sharing),
     Read(Reading),
     Append(Writing),
@@ -22,8 +23,9 @@ pub enum Case {
 }
 
 /// Each case once, with the word of the command line that stands for it.
-pub static CASES: [(&str, Case); 29] = [
+pub static CASES: [(&str, Case); 33] = [
     ("start", Case::Start),
+    ("start_from", Case::StartFrom),
     ("submit", Case::Share(Sharing::Submit)),
     ("publish", Case::Share(Sharing::Publish)),
     ("tell", Case::Share(Sharing::Tell)),
@@ -38,6 +40,9 @@ pub static CASES: [(&str, Case); 29] = [
         "decide_group",
         Case::Share(Sharing::Decide(Deciding::DecideGroup)),
     ),
+    ("rights", Case::Share(Sharing::Decide(Deciding::Rights))),
+    ("count", Case::Share(Sharing::Decide(Deciding::Count))),
+    ("read", Case::Share(Sharing::Decide(Deciding::Read))),
     ("read_bytes", Case::Read(Reading::Bytes)),
     ("read_script", Case::Read(Reading::Script)),
     ("read_trace", Case::Read(Reading::Trace)),
@@ -65,6 +70,7 @@ impl Case {
     pub fn try_once<R: Threads + Wait + Sync>(self, rt: &R, alloc: Global, page: &Access) -> Tried {
         match self {
             Case::Start => starts(rt, alloc),
+            Case::StartFrom => starts_from(rt, alloc),
             Case::Share(case) => shares(rt, alloc, case, page),
             Case::Read(case) => reads(alloc, case),
             Case::Append(case) => appends(alloc, case, page),

@@ -5,7 +5,7 @@ ghost use Rattle.std.specs.Prelude.{◌≡◌};
 use crate::count::{begin, end};
 use crate::outcome::{Tried, Wrong, answered_if};
 use crate::worked::{batch, decision_after, events};
-use pmp_core::Access;
+use pmp_core::{Access, Csr, Mode, Perms};
 use pmp_share::{Checker, Publisher};
 use std::alloc::Global;
 use std::sync::Wait;
@@ -17,6 +17,9 @@ pub enum Deciding {
     Decide,
     DecideAt,
     DecideGroup,
+    Rights,
+    Count,
+    Read,
 }
 
 fn publish_first<R: Wait>(rt: &R, publisher: &mut Publisher) -> Result<(), Wrong>
@@ -74,6 +77,28 @@ fn decides_at(
     answered_if(decided == Ok(decision_after(1)), "the decision")
 }
 
+/// The page that the first batch opens.
+fn has_rights(alloc: Global, checker: &mut Checker) -> Tried {
+    begin(alloc);
+    let rights = checker.rights(Mode::U, 0x80000000, 4096);
+    end(alloc);
+    answered_if(rights == (Some(Perms::R), events(1)), "the rights")
+}
+
+fn counts(alloc: Global, checker: &mut Checker) -> Tried {
+    begin(alloc);
+    let count = checker.count();
+    end(alloc);
+    answered_if(count == events(1), "the count")
+}
+
+fn reads(alloc: Global, checker: &mut Checker) -> Tried {
+    begin(alloc);
+    let read = checker.read(Csr::Cfg(0));
+    end(alloc);
+    answered_if(read == (0x19, events(1)), "the register")
+}
+
 /// After one publication it answers as with ample memory.
 pub fn answers_without_memory<R: Wait>(
     rt: &R,
@@ -91,5 +116,8 @@ pub fn answers_without_memory<R: Wait>(
         Deciding::Decide => decides(alloc, checker, page),
         Deciding::DecideAt => decides_at(alloc, publisher, checker, page),
         Deciding::DecideGroup => decides_group(alloc, checker, page),
+        Deciding::Rights => has_rights(alloc, checker),
+        Deciding::Count => counts(alloc, checker),
+        Deciding::Read => reads(alloc, checker),
     }
 }

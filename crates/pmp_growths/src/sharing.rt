@@ -7,7 +7,7 @@ use crate::deciding::{Deciding, answers_without_memory};
 use crate::outcome::{Outcome, Tried, Wrong, answered_if, refused_if};
 use crate::worked::{batch, decision_after, events, file_after, is_journal_of, writes};
 use pmp_core::Access;
-use pmp_share::{Checker, Notice, Publisher, ShareFault, start};
+use pmp_share::{Checker, Notice, Publisher, ShareFault, start, start_from};
 use std::alloc::Global;
 use std::sync::Wait;
 
@@ -238,14 +238,27 @@ fn is_new<R: Wait>(rt: &R, publisher: Publisher) -> bool {
 }
 
 /// A unit of two checkers, of which nothing is kept where it is refused.
-pub fn starts<R: Wait>(rt: &R, alloc: Global) -> Tried {
-    begin(alloc);
-    let answer = start(rt, alloc, 2);
-    end(alloc);
+fn started<R: Wait>(rt: &R, answer: Result<(Publisher, Vec<Checker>), ShareFault>) -> Tried {
     match answer {
         Ok((publisher, checkers)) => {
             answered_if(is_new(rt, publisher) && checkers.len() == 2, "the unit")
         }
         Err(fault) => by_memory_or_place(fault),
     }
+}
+
+pub fn starts<R: Wait>(rt: &R, alloc: Global) -> Tried {
+    begin(alloc);
+    let answer = start(rt, alloc, 2);
+    end(alloc);
+    started(rt, answer)
+}
+
+/// The same of one that begins with saved registers.
+pub fn starts_from<R: Wait>(rt: &R, alloc: Global) -> Tried {
+    let saved = file_after(1).save();
+    begin(alloc);
+    let answer = start_from(rt, alloc, &saved, 2);
+    end(alloc);
+    started(rt, answer)
 }

@@ -1,102 +1,65 @@
-//! An example to copy: two harts of an emulator share one PMP unit. Firmware on hart 0 moves a rule while hart 1
-//! decides on a thread of its own.
+//! An example to copy: an emulator of two harts that share one PMP unit, each with a TLB. Firmware on hart 0 switches
+//! domains while hart 1 runs on a thread of its own.
 #![tactic(auto)]
 
-ghost use Rattle.std.specs.Prelude.{◌≡◌, IfOk};
+ghost use Rattle.std.specs.Prelude.{◌≡◌};
 
 mod firmware;
 mod hart;
+mod running;
 
-use firmware::{MOVE_RULE, open_page, program};
-use hart::{Answers, SameUnit, decide_walk};
-use pmp_share::{Checker, Notice, Publisher, ShareFault, start};
-use std::alloc::Global;
+use firmware::{Ran, run_firmware};
+use hart::Answer;
+use pmp_core::{Event, RegFile};
+use pmp_share::{PublisherGuard, start};
+use running::BETWEEN;
 use std::process::ExitCode;
-use std::snapshot::Snapshot;
-use std::sync::Wait;
-use std::thread;
-use std::thread::{PromisedHandle, SpawnError, Threads};
+use std::{io, thread};
 
+/// Starts a unit, and hart 0 on a thread of its own. The guard ends the publisher on every answer.
 fn main(rt: HostRuntime) -> ExitCode {
-    let Ok((decisions, events)) = run(&rt, rt.alloc()) else {
+    let alloc = rt.alloc();
+    let Ok((publisher, mut checkers)) = start(&rt, alloc, 2) else {
         return ExitCode::FAILURE;
     };
-    for decision in decisions.as_slice() {
-        let _ = println!(rt; "{decision:?} after {events} events");
-    }
-    ExitCode::SUCCESS
-}
-
-/// Starts a unit with one checker, and ends it on every answer.
-fn run<R: Threads + Wait>(rt: &R, alloc: Global) -> Result<Answers, ShareFault> {
-    let (mut publisher, mut checkers) = start(rt, alloc, 1)?;
-    let answers = match checkers.pop() {
-        Some(checker) => both_harts(rt, &mut publisher, checker),
-        None => Err(ShareFault::NoPlace),
+    let guard = PublisherGuard::new(rt, publisher);
+    let (Some(one), Some(zero)) = (checkers.pop(), checkers.pop()) else {
+        return ExitCode::FAILURE;
     };
-    publisher.end(rt);
-    answers
-}
-
-/// Hart 0 opens a page and then moves its rule, while hart 1 walks it. Answers what hart 1 may do in the end.
-fn both_harts<R: Threads + Wait>(
-    rt: &R,
-    publisher: &mut Publisher,
-    checker: Checker,
-) -> Result<Answers, ShareFault>
-    requires { checker.unit ≡ publisher.old.unit }
-{
-    match open_page(rt, publisher) {
-        Ok(opened) => walk_meanwhile(rt, publisher, send_out(rt, checker, opened)?),
-        Err(fault) => Err(fault),
+    let firmware = thread::spawn(&rt, move || run_firmware(&rt, alloc, guard, zero, one));
+    let Ok(thread) = firmware else {
+        return ExitCode::FAILURE;
+    };
+    match thread.join(&rt) {
+        Ok(ran) if show(&rt, &ran).is_ok() => ExitCode::SUCCESS,
+        _ => ExitCode::FAILURE,
     }
 }
 
-/// A thread of its own for hart 1. Without one its checker is dropped.
-fn send_out<R: Threads>(
-    rt: &R,
-    checker: Checker,
-    opened: Notice,
-) -> Result<PromisedHandle<Checker, SameUnit>, ShareFault>
-    requires { opened.unit ≡ checker.unit }
-    ensures { IfOk result (λ hart. hart.promise.0.value ≡ checker) }
-{
-    let same_unit = SameUnit(Snapshot::of(&checker));
-    match thread::spawn_with(rt, same_unit, move || walk(checker, opened)) {
-        Ok(hart) => Ok(hart),
-        Err(unsent) => Err(no_place(unsent)),
+/// The answers of both harts that the schedule doesn't change, and whether all are those of a replay.
+fn show(rt: &impl Print, ran: &Ran) -> io::Result<()> {
+    let events = ran.journal.events();
+    let mut same = true;
+    for (hart, answers) in [(0, &ran.zero), (1, &ran.one)] {
+        for answer in answers.as_slice() {
+            same = same && is_replayed(events, answer);
+            let (start, count) = (answer.access.start, answer.events);
+            if start != BETWEEN {
+                let allowed = if answer.allowed { "allowed" } else { "refused" };
+                let by = if answer.by_tlb { "TLB" } else { "unit" };
+                println!(rt; "hart {hart}, {count} events: load {start:#x} {allowed} by the {by}")?;
+            }
+        }
     }
+    println!(rt; "a replay answers the same: {same}")
 }
 
-fn no_place<F: Drop>(_unsent: SpawnError<F>) -> ShareFault {
-    ShareFault::NoPlace
-}
-
-/// What hart 1 does in its thread.
-fn walk(mut checker: Checker, opened: Notice) -> Checker
-    requires { opened.unit ≡ checker.unit }
-    ensures { result.unit ≡ checker.unit }
-{
-    let _ = decide_walk(&mut checker, opened);
-    checker
-}
-
-/// Moves the rule while hart 1 walks the page.
-fn walk_meanwhile<R: Threads + Wait>(
-    rt: &R,
-    publisher: &mut Publisher,
-    hart: PromisedHandle<Checker, SameUnit>,
-) -> Result<Answers, ShareFault>
-    requires { hart.promise.0.value.unit ≡ publisher.old.unit }
-{
-    let moved = program(rt, publisher, &MOVE_RULE);
-    let mut checker = hart.join(rt);
-    moved.and(walk_again(publisher, &mut checker))
-}
-
-/// Walks once more, with all that is published.
-fn walk_again(publisher: &mut Publisher, checker: &mut Checker) -> Result<Answers, ShareFault>
-    requires { checker.old.unit ≡ publisher.old.unit }
-{
-    decide_walk(checker, publisher.tell()?)
+/// Whether the registers after the answer's events of the journal give it.
+fn is_replayed(events: &[Event], answer: &Answer) -> bool {
+    let Some(seen) = events.get(..answer.events as usize) else {
+        return false;
+    };
+    let mut file = RegFile::reset();
+    file.run_events(seen);
+    file.decide(&answer.access).allowed == answer.allowed
 }

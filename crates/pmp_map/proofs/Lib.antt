@@ -13,3 +13,4 @@ pub mod DecidedRuns
 pub mod Starts
 pub mod Lookups
 pub mod OpenBytes
+pub mod RangeRights

@@ -1,6 +1,7 @@
 -- What a reader has to believe.
 pub mod Runs
 pub mod Answers
+pub mod RangeRights
 pub mod RightsRuns
 pub mod OpenBytes
 pub mod Search

@@ -41,7 +41,8 @@ impl Answers {
         }
     }
 
-    fn rights(&self, mode: Mode) -> Perms
+    /// What the mode may do.
+    pub fn rights(&self, mode: Mode) -> Perms
         ensures { result ≡ kept_rights self.now mode }
     {
         if mode == Mode::M {

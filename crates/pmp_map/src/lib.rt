@@ -7,6 +7,7 @@
 mod answers;
 mod cuts;
 pub mod laws;
+mod range_rights;
 mod rights_run;
 mod run;
 mod run_map;
@@ -16,6 +17,7 @@ mod tables;
 
 pub use answers::owned_rights;
 pub use cuts::{Stretch, run_around, run_from, stretch_from};
+pub use range_rights::rights_in;
 pub use rights_run::{ModeRights, RightsRun, rights_runs};
 pub use run::{RUNS, Run};
 pub use run_map::RunMap;

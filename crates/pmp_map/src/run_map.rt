@@ -5,6 +5,7 @@ ghost use Rattle.pmp_core.specs.Decision.{IsOwner, IsDecision};
 ghost use Rattle.pmp_core.specs.Ranges.{decision_of};
 ghost use Rattle.pmp_map.specs.declared.run.Run.{Run};
 ghost use Rattle.pmp_map.specs.Owners.{IsLeft};
+ghost use Rattle.pmp_map.specs.RangeRights.{AreRangeRights};
 ghost use Rattle.pmp_map.specs.Runs.{AreRuns, HasOwnersBelow};
 ghost use Rattle.pmp_map.specs.Search.{AreStarts};
 ghost use Rattle.pmp_core.specs.declared.access.TheConstants.{ADDRESS_LIMIT};
@@ -15,7 +16,7 @@ use crate::search::{PLACES, place_of};
 use crate::straddling::refuse_straddling;
 use crate::tables::{answers_of, runs_of, starts_of};
 use arrayvec::ArrayVec;
-use pmp_core::{Access, Decision, RegFile};
+use pmp_core::{Access, Decision, Mode, Perms, RegFile};
 use std::marker::Model;
 use std::snapshot::Snapshot;
 
@@ -110,6 +111,21 @@ impl RunMap {
             self.answers[place].decision(access)
         } else {
             self.decide_straddling(place, access)
+        }
+    }
+
+    /// What the mode may do in the whole range of `length` bytes from this byte address on, as a page, or none where no
+    /// one owner has all of them.
+    pub fn rights(&self, mode: Mode, start: u64, length: u64) -> Option<Perms>
+        requires full { 0 < length }
+        requires inside { start + length ≤ ADDRESS_LIMIT }
+        ensures { AreRangeRights self.now mode start length result }
+    {
+        let place = place_of(&self.starts, self.runs.len(), start);
+        if start + length <= self.starts[place + 1] {
+            Some(self.answers[place].rights(mode))
+        } else {
+            None
         }
     }
 }

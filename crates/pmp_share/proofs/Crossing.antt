@@ -20,6 +20,7 @@ use Rattle.pmp_share.specs.contracts.digest.Digest.TheInside as digest_inside
 use Rattle.pmp_share.specs.contracts.reader_state.ReaderState as reader_state
 use Rattle.pmp_share.specs.contracts.reader_state.ReaderState.TheInside as reader_state_inside
 use Rattle.pmp_share.specs.contracts.held_lists.HeldLists as held
+use Rattle.pmp_share.specs.contracts.bell.Listener as listener
 use Rattle.pmp_share.specs.contracts.checker.Checker as checker
 use Rattle.pmp_share.specs.contracts.checker.Checker.TheInside as checker_inside
 use Rattle.pmp_share.specs.contracts.notice.Notice as notice
@@ -46,7 +47,7 @@ mseccfg_send = search (crosses, sendable) depth 14
 file_fields_send : IsSend file_inside.the_row
 file_fields_send = search (entry_send, range_send, mseccfg_send, crosses, sendable) depth 14
 
-file_send : IsSend (file.the_field).row
+pub file_send : IsSend (file.the_field).row
 file_send = search (file_fields_send, sendable) depth 14
 
 entry_sync : IsSync (entry.the_field).row
@@ -85,12 +86,15 @@ map_inside_sync = declared_sync map_inside.the_type (
 map_sync : IsSync (run_map.the_field).row
 map_sync = search (map_inside_sync, sendable) depth 6
 
-version_sync : IsSync version.the_row
+pub version_sync : IsSync version.the_row
 version_sync = declared_sync version.the_type (
   as_row_sync journal.the_field journal_sync,
   (
     as_row_sync file.the_field file_sync,
-    (as_row_sync run_map.the_field map_sync, (seen.the_sync _ _ _ law.ghosts, tt)),
+    (
+      as_row_sync run_map.the_field map_sync,
+      (seen.the_sync _ _ _ law.ghosts, (search (core.crosses, sendable) depth 12, tt)),
+    ),
   ),
 )
 
@@ -124,8 +128,11 @@ reader_state_inside_send = declared_send reader_state_inside.the_type (
 reader_state_send : IsSend reader_state.the_row
 reader_state_send = search (reader_state_inside_send, sendable) depth 6
 
+listener_send : IsSend listener.the_row
+listener_send = search (crosses, sendable) depth 14
+
 checker_inside_send : IsSend checker_inside.the_row
-checker_inside_send = declared_send checker_inside.the_type (reader_state_send, (held_send, tt))
+checker_inside_send = declared_send checker_inside.the_type (reader_state_send, (held_send, (listener_send, tt)))
 
 pub checker_send : IsSend checker.the_row
 checker_send = search (checker_inside_send, sendable) depth 6

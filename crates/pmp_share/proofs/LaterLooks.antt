@@ -2,11 +2,10 @@
 use Rattle.std.proofs.Common.{◌≡◌, ◌++◌, drop, fold, sym, ap, ◌∙◌}
 use Rattle.std.proofs.lemmas.Grind.{fold-append}
 use Rattle.std.proofs.Math.Seq.{drop-append_seam}
-use Rattle.pmp_core.specs.RegisterFile.{reset_file}
 use Rattle.pmp_core.specs.RegisterWrite.{step}
-use Rattle.pmp_core.specs.Histories.{joined, file_after}
+use Rattle.pmp_core.specs.Histories.{joined}
 use Rattle.pmp_core.specs.LockLaw.{LockLaw}
-use Rattle.pmp_share.specs.Batches.{Batches, StartsWith, event_count}
+use Rattle.pmp_share.specs.Batches.{Batches, StartsWith, event_count, file_from}
 use Rattle.pmp_share.specs.Looks.{latest}
 use Rattle.pmp_share.specs.Laws.{further_events, FurtherEventsLaw, LaterLookLaw}
 use Rattle.pmp_share.proofs.JournalFacts.{joined-append}
@@ -19,13 +18,13 @@ further batches front rest e =
     ∙ drop-append_seam (joined front) (joined rest)
 
 pub further_events_law : FurtherEventsLaw
-further_events_law n batches front (rest, e) =
-    ap (file_after n) e ∙ ap (fold step (reset_file n)) (joined-append front rest)
-    ∙ fold-append step (reset_file n) (joined front) (joined rest)
-    ∙ ap (fold step (file_after n front)) (sym (further batches front rest e))
+further_events_law base batches front (rest, e) =
+    ap (file_from base) e ∙ ap (fold step base) (joined-append front rest)
+    ∙ fold-append step base (joined front) (joined rest)
+    ∙ ap (fold step (file_from base front)) (sym (further batches front rest e))
 
 pub later_look_law : LockLaw → LaterLookLaw
-later_look_law locks n held later earlier bound looked i frozen writes =
+later_look_law locks base held later earlier bound looked i frozen writes =
     let starts : StartsWith (latest later) earlier = (keeps_bound held later looked earlier bound).0 in
-    rw (further_events_law n (latest later) earlier starts)
-    (locks (file_after n earlier) i (further_events (latest later) earlier) frozen writes)
+    rw (further_events_law base (latest later) earlier starts)
+    (locks (file_from base earlier) i (further_events (latest later) earlier) frozen writes)

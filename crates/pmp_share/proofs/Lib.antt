@@ -8,3 +8,5 @@ pub mod WriterFacts
 pub mod CheckFacts
 pub mod GroupFacts
 pub mod Crossing
+pub mod PublisherCrossing
+pub mod RingCrossing

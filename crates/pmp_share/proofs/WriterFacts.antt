@@ -51,7 +51,7 @@ turned_or_not (Err _) recorder ahead view after_view shown next entries rest was
 pub handed_more : (recorder : Known) (ahead : Bool) (view : Option Known) (shown : Version)
     (entries rest : List LoggedBatch) (logged : LoggedBatch)
     → IsWriterState recorder ahead view shown (after shown entries) → rest ≡ entries ++ logged ∷ []
-    → logged.history.log ≡ recorder.list → unit_with logged.history.book recorder.unit.entries ≡ recorder.unit
+    → logged.history.log ≡ recorder.list → unit_with logged.history.book recorder.unit.base ≡ recorder.unit
     → recorder.list ≡ (after shown entries).batches ++ logged.events.items ∷ []
     → IsWriterState recorder false view shown (after shown rest)
 handed_more recorder ahead view shown entries rest logged was more noted unit list =
@@ -62,7 +62,7 @@ handed_more recorder ahead view shown entries rest logged was more noted unit li
       seated = was.seated;
       unit = was.unit;
       noted = was.noted;
-      next_unit = ap (λ u. unit_with logged.history.book u.entries) was.next_unit ∙ unit;
+      next_unit = ap (λ u. unit_with logged.history.book u.base) was.next_unit ∙ unit;
       next_noted = noted ∙ list;
       begins = starts_on (next.batches ++ logged.events.items ∷ []) next.batches shown.journal
           (logged.events.items ∷ [], refl) was.begins;

@@ -1,7 +1,9 @@
 -- Lists of batches. `joined` of pmp_core puts the batches of one one after another.
-use Rattle.std.specs.Prelude.{◌≡◌, ℕ, List, ◌++◌, All, length}
+use Rattle.std.specs.Prelude.{◌≡◌, ℕ, List, ◌++◌, All, fold, length}
 use Rattle.pmp_core.specs.declared.event.Event.{Event}
 use Rattle.pmp_core.specs.Histories.{joined}
+use Rattle.pmp_core.specs.RegisterFile.{RegisterFile}
+use Rattle.pmp_core.specs.RegisterWrite.{step}
 
 abbrev pub Batches : Type 0
 Batches = List (List Event)
@@ -17,3 +19,8 @@ AllBegin batches fronts = All (StartsWith batches) fronts
 -- how many events stand in the batches
 abbrev pub event_count : Batches → ℕ
 event_count batches = length (joined batches)
+
+-- the register file that all events of the batches leave of the base. Where that is the file of reset, it is
+-- `file_after` of pmp_core
+abbrev pub file_from : (base : RegisterFile) → Batches → RegisterFile
+file_from base batches = fold step base (joined batches)

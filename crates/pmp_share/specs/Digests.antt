@@ -1,16 +1,15 @@
 -- What batches come to.
 use Rattle.std.specs.Prelude.{◌≡◌, ℕ, length}
 use Rattle.pmp_core.specs.RegisterFile.{RegisterFile}
-use Rattle.pmp_core.specs.Histories.{file_after}
-use Rattle.pmp_share.specs.Batches.{Batches, event_count}
+use Rattle.pmp_share.specs.Batches.{Batches, event_count, file_from}
 
--- batches, and how many entries the file has that they give
+-- batches, and the register file that the first of them found
 pub record Digested : Type 0 where
-  pub entries : ℕ
+  pub base : RegisterFile
   pub list : Batches
 
 -- the file that they give, how many events they hold, and how many they are
-pub record IsDigest (file : RegisterFile) (events count : ℕ) (batches : Batches) : Type 0 where
-  pub replayed : file ≡ file_after (length file.entries) batches
+pub record IsDigest (base file : RegisterFile) (events count : ℕ) (batches : Batches) : Type 0 where
+  pub replayed : file ≡ file_from base batches
   pub events_is : events ≡ event_count batches
   pub count_is : count ≡ length batches

@@ -2,14 +2,14 @@
 use Rattle.std.specs.Prelude.{◌≡◌, ◌*◌, ◌≤◌, ℕ, true, List, fold, drop}
 use Rattle.std.specs.List.{list_all}
 use Rattle.pmp_core.specs.declared.event.Event.{Event}
-use Rattle.pmp_core.specs.RegisterFile.{is_frozen}
+use Rattle.pmp_core.specs.RegisterFile.{RegisterFile, is_frozen}
 use Rattle.pmp_core.specs.RegisterWrite.{step}
-use Rattle.pmp_core.specs.Histories.{joined, file_after}
+use Rattle.pmp_core.specs.Histories.{joined}
 use Rattle.pmp_core.specs.LockLaw.{StaysFrozen}
 use Rattle.pmp_core.specs.Histories.{is_write}
 use Rattle.pmp_share.specs.declared.opening.TheConstants.{CHECKERS}
 use Rattle.pmp_share.specs.declared.writer_state.TheConstants.{PLACES}
-use Rattle.pmp_share.specs.Batches.{Batches, StartsWith, event_count}
+use Rattle.pmp_share.specs.Batches.{Batches, StartsWith, event_count, file_from}
 use Rattle.pmp_share.specs.Journals.{ends_of, batches_of}
 use Rattle.pmp_share.specs.Looks.{Bound, Looked, latest}
 
@@ -28,16 +28,16 @@ further_events batches front = drop (event_count front) (joined batches)
 
 -- where batches begin with others, the file of them is that of the others after the further events
 abbrev pub FurtherEventsLaw : Type 0
-FurtherEventsLaw = (n : ℕ) (batches front : Batches) → StartsWith batches front
-    → file_after n batches ≡ fold step (file_after n front) (further_events batches front)
+FurtherEventsLaw = (base : RegisterFile) (batches front : Batches) → StartsWith batches front
+    → file_from base batches ≡ fold step (file_from base front) (further_events batches front)
 
 -- an entry that is frozen in the file of batches that a checker is bound to, as it is to all that it looked at, stays
 -- as it is in what it looks at later, if the further events are writes alone (3.7.1.2 and Smepmp)
 abbrev pub LaterLookLaw : Type 0
-LaterLookLaw = (n : ℕ) (held later : List Batches) (earlier : Batches) → Bound held earlier → Looked held later
-    → (i : ℕ) → is_frozen (file_after n earlier) i ≡ true
+LaterLookLaw = (base : RegisterFile) (held later : List Batches) (earlier : Batches) → Bound held earlier → Looked held later
+    → (i : ℕ) → is_frozen (file_from base earlier) i ≡ true
     → list_all is_write (further_events (latest later) earlier) ≡ true
-    → StaysFrozen (file_after n earlier) (file_after n (latest later)) i
+    → StaysFrozen (file_from base earlier) (file_from base (latest later)) i
 
 -- a unit has a place for each of its checkers, and one for a notice to each
 abbrev pub PlacesLaw : Type 0

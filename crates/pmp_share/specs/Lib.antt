@@ -5,6 +5,7 @@ pub mod Tokens
 pub mod Looks
 pub mod Room
 pub mod Journals
+pub mod NoticeRings
 -- Laws of these definitions, which are proved.
 pub mod Laws
 -- How the crate keeps them.

@@ -1,11 +1,11 @@
 -- The sequential object, whose state is the list of published batches, empty at first.
 -- Each step of the running rule (docs/ARCHITECTURE.md) is one event of it or none.
-use Rattle.std.specs.Prelude.{◌≡◌, ℕ, [], ◌++◌}
+use Rattle.std.specs.Prelude.{◌≡◌, [], ◌++◌}
 use Rattle.pmp_core.specs.declared.access.Access.{Access}
 use Rattle.pmp_core.specs.declared.decision.Decision.{Decision}
 use Rattle.pmp_core.specs.Decision.{IsDecision}
-use Rattle.pmp_core.specs.Histories.{file_after}
-use Rattle.pmp_share.specs.Batches.{Batches}
+use Rattle.pmp_core.specs.RegisterFile.{RegisterFile}
+use Rattle.pmp_share.specs.Batches.{Batches, file_from}
 
 -- at first
 abbrev pub no_batches : Batches
@@ -15,6 +15,6 @@ no_batches = []
 abbrev pub Publishes : Batches → Batches → Batches → Type 0
 Publishes state batches after = after ≡ state ++ batches
 
--- a decision changes nothing, and is the manual's in the file of so many entries that reset and the batches give
-abbrev pub Decides : (entries : ℕ) → Batches → Access → Decision → Type 0
-Decides entries state access = IsDecision (file_after entries state) access
+-- a decision changes nothing, and is the manual's in the file that the base and the batches give
+abbrev pub Decides : (base : RegisterFile) → Batches → Access → Decision → Type 0
+Decides base state access = IsDecision (file_from base state) access

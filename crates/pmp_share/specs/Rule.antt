@@ -1,7 +1,8 @@
 -- The running rule over the published version.
-use Rattle.std.specs.Prelude.{◌≡◌, ℕ, List, length, Option, Some, None}
+use Rattle.std.specs.Prelude.{◌≡◌, ℕ, List, Option, Some, None}
 use mathlib.Core.Option.{some}
 use lib.ListN.{get_elem?}
+use Rattle.pmp_core.specs.RegisterFile.{RegisterFile}
 use Rattle.pmp_share.specs.declared.knowledge.Known.{Known}
 use Rattle.pmp_share.specs.declared.version.Version.{Version}
 use Rattle.pmp_share.specs.Batches.{Batches, StartsWith}
@@ -11,13 +12,13 @@ use Rattle.pmp_share.specs.Tokens.{UnitId, unit_with}
 abbrev pub known : UnitId → Batches → Known
 known unit list = record { list = list; unit = unit }
 
--- how many entries the version's unit has
-abbrev pub entries_of : Version → ℕ
-entries_of version = length version.file.entries
+-- the register file that the version's unit began with
+abbrev pub base_of : Version → RegisterFile
+base_of version = version.base.value
 
 -- whose version it is
 abbrev pub unit_of : Version → UnitId
-unit_of version = unit_with version.history.book (entries_of version)
+unit_of version = unit_with version.history.book (base_of version)
 
 -- all that a version has
 abbrev pub known_of : Version → Known

@@ -4,10 +4,10 @@ use Rattle.pmp_share.specs.declared.logged_batch.LoggedBatch.{LoggedBatch}
 use Rattle.pmp_share.specs.declared.version_state.VersionState.{VersionState}
 use Rattle.pmp_share.specs.Tokens.{unit_with}
 
--- its batch comes behind the others, and its history in the place of the old one. The number of entries stays
+-- its batch comes behind the others, and its history in the place of the old one. The base stays
 abbrev pub applied : VersionState → LoggedBatch → VersionState
 applied told logged = record {
   batches = told.batches ++ logged.events.items ∷ [];
   log = logged.history.log;
-  unit = unit_with logged.history.book told.unit.entries;
+  unit = unit_with logged.history.book told.unit.base;
 }

@@ -1,15 +1,19 @@
 //! Checkers: they decide accesses while the publisher publishes.
 
-ghost use Rattle.std.specs.Prelude.{◌≡◌, ◌<◌, ◌≤◌, [], ◌∷◌, ◌++◌, length, map, IfOk, IfErr, OnOk};
+ghost use Rattle.std.specs.Prelude.{◌≡◌, ◌+◌, ◌<◌, ◌≤◌, [], ◌∷◌, ◌++◌, length, map, IfOk, IfErr, OnOk};
 ghost use Rattle.std.specs.List.{AllZip};
-ghost use Rattle.pmp_core.specs.Histories.{joined, file_after};
+ghost use Rattle.pmp_core.specs.declared.access.TheConstants.{ADDRESS_LIMIT};
+ghost use Rattle.pmp_core.specs.Histories.{joined};
 ghost use Rattle.pmp_core.specs.Ranges.{decision_of};
+ghost use Rattle.pmp_core.specs.RegisterValue.{register_value};
+ghost use Rattle.pmp_map.specs.RangeRights.{AreRangeRights};
 ghost use Rattle.pmp_share.specs.declared.fault.ShareFault.TheVariants.{Full};
 ghost use Rattle.pmp_share.specs.declared.group.TheConstants.{GROUP_ACCESSES};
-ghost use Rattle.pmp_share.specs.Batches.{event_count};
+ghost use Rattle.pmp_share.specs.Batches.{event_count, file_from};
 ghost use Rattle.pmp_share.specs.Looks.{latest, Looked, KeepsBound, LearnsBound};
 ghost use Rattle.pmp_share.specs.Object.{Decides};
 
+use crate::bell::Listener;
 use crate::fault::ShareFault;
 use crate::group::GROUP_ACCESSES;
 use crate::held_lists::HeldLists;
@@ -17,8 +21,8 @@ use crate::journal::Journal;
 use crate::notice::Notice;
 use crate::reader_state::ReaderState;
 use arrayvec::ArrayVec;
-use pmp_core::laws::{law_decided_by_ranges, law_legal};
-use pmp_core::{Access, Decision};
+use pmp_core::laws::law_decided_by_ranges;
+use pmp_core::{Access, Csr, Decision, Mode, Perms};
 use std::marker::Model;
 
 /// More events are published than were asked for.
@@ -34,6 +38,7 @@ pub struct Moved {
 pub struct Checker {
     state: ReaderState,
     held: HeldLists,
+    listener: Listener,
 }
 
 impl Model for Checker {
@@ -49,11 +54,15 @@ impl Model for Checker {
 
 impl Checker {
     /// A checker that holds what is known there.
-    pub(crate) fn new(state: ReaderState) -> Checker
+    pub(crate) fn new(state: ReaderState, listener: Listener) -> Checker
         ensures { result ≡ record { unit = state.unit; held = state.list ∷ [] } }
     {
         let held = HeldLists::alone(state.digest());
-        Checker { state, held }
+        Checker {
+            state,
+            held,
+            listener,
+        }
     }
 
     /// Takes in a notice of its own unit. From now on it decides in nothing less.
@@ -76,8 +85,8 @@ impl Checker {
     pub fn decide(&mut self, access: &Access) -> (Decision, u64)
         ensures unit { self.new.unit ≡ self.old.unit }
         ensures looked { Looked self.old.held self.new.held }
-        ensures decided { Decides self.new.unit.entries (latest self.new.held) access.now result.0 }
-        ensures computed { result.0 ≡ decision_of (file_after self.new.unit.entries (latest self.new.held)) access.now }
+        ensures decided { Decides self.new.unit.base (latest self.new.held) access.now result.0 }
+        ensures computed { result.0 ≡ decision_of (file_from self.new.unit.base (latest self.new.held)) access.now }
         ensures count { result.1 ≡ event_count (latest self.new.held) }
         ensures bound { KeepsBound self.old.held self.new.held }
     {
@@ -94,9 +103,9 @@ impl Checker {
         ensures at_len { OnOk result ((event_count (latest self.new.held) ≡ len)
             × (joined (latest self.new.held) ≡ joined (latest self.old.held))) }
         ensures decided { IfOk result (λ decision.
-            Decides self.new.unit.entries (latest self.new.held) access.now decision) }
+            Decides self.new.unit.base (latest self.new.held) access.now decision) }
         ensures computed { IfOk result (λ decision.
-            decision ≡ decision_of (file_after self.new.unit.entries (latest self.new.held)) access.now) }
+            decision ≡ decision_of (file_from self.new.unit.base (latest self.new.held)) access.now) }
         ensures moved { IfErr result (λ moved. (moved.seen ≡ event_count (latest self.new.held)) × (len < moved.seen)) }
         ensures bound { KeepsBound self.old.held self.new.held }
     {
@@ -114,17 +123,65 @@ impl Checker {
         requires { length accesses.now ≤ GROUP_ACCESSES }
         ensures unit { self.new.unit ≡ self.old.unit }
         ensures looked { Looked self.old.held self.new.held }
-        ensures decided { AllZip (Decides self.new.unit.entries (latest self.new.held)) accesses.now result.0.items }
+        ensures decided { AllZip (Decides self.new.unit.base (latest self.new.held)) accesses.now result.0.items }
         ensures computed { result.0.items
-            ≡ map (decision_of (file_after self.new.unit.entries (latest self.new.held))) accesses.now }
+            ≡ map (decision_of (file_from self.new.unit.base (latest self.new.held))) accesses.now }
         ensures count { result.1 ≡ event_count (latest self.new.held) }
         ensures bound { KeepsBound self.old.held self.new.held }
     {
-        law_legal();
         law_decided_by_ranges();
         let decided = self.state.look_at_group(accesses);
-        self.held = HeldLists::alone(self.state.digest());
+        let digest = self.state.digest();
+        digest.is_legal();
+        self.held = HeldLists::alone(digest);
         decided
+    }
+
+    /// What the mode may do in the whole range of `length` bytes from byte address `start` on, as a page, in what is
+    /// published, and how many events that is. It is none where no one owner has all bytes of the range: then each access
+    /// is decided by itself. It waits for nobody and takes no memory. An emulator fills its TLB by it.
+    pub fn rights(&mut self, mode: Mode, start: u64, length: u64) -> (Option<Perms>, u64)
+        requires full { 0 < length }
+        requires inside { start + length ≤ ADDRESS_LIMIT }
+        ensures unit { self.new.unit ≡ self.old.unit }
+        ensures looked { Looked self.old.held self.new.held }
+        ensures rights { AreRangeRights (file_from self.new.unit.base (latest self.new.held)) mode start length result.0 }
+        ensures count { result.1 ≡ event_count (latest self.new.held) }
+        ensures bound { KeepsBound self.old.held self.new.held }
+    {
+        let answer = self.state.look_at_range(mode, start, length);
+        self.held = HeldLists::alone(self.state.digest());
+        answer
+    }
+
+    /// How many events are published. What a TLB holds of an earlier count is to be forgotten where this is another. It
+    /// waits for nobody and takes no memory; where nothing was published since the last call it reads one word that
+    /// threads share, and enters nothing.
+    pub fn count(&mut self) -> u64
+        ensures unit { self.new.unit ≡ self.old.unit }
+        ensures looked { Looked self.old.held self.new.held }
+        ensures count { result ≡ event_count (latest self.new.held) }
+        ensures bound { KeepsBound self.old.held self.new.held }
+    {
+        self.listener.keep_up(&mut self.state);
+        let digest = self.state.digest();
+        self.held = HeldLists::alone(digest);
+        digest.events()
+    }
+
+    /// What the register reads in what is published, and how many events that is. It waits for nobody and takes no
+    /// memory.
+    pub fn read(&mut self, csr: Csr) -> (u64, u64)
+        ensures unit { self.new.unit ≡ self.old.unit }
+        ensures looked { Looked self.old.held self.new.held }
+        ensures value { result.0 ≡ register_value (file_from self.new.unit.base (latest self.new.held)) csr }
+        ensures count { result.1 ≡ event_count (latest self.new.held) }
+        ensures bound { KeepsBound self.old.held self.new.held }
+    {
+        self.listener.keep_up(&mut self.state);
+        let digest = self.state.digest();
+        self.held = HeldLists::alone(digest);
+        (digest.read(csr), digest.events())
     }
 
     /// A copy of what is published, which waits for nobody. It answers `Memory` where memory is refused, and `NoPlace`

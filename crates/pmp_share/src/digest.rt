@@ -1,38 +1,38 @@
 //! What a list of batches comes to.
 
 ghost use Rattle.std.specs.Prelude.{◌≡◌, length};
-ghost use Rattle.pmp_core.specs.Histories.{file_after};
-ghost use Rattle.pmp_share.specs.Batches.{event_count};
+ghost use Rattle.pmp_core.specs.RegisterFile.{IsLegal};
+ghost use Rattle.pmp_core.specs.RegisterValue.{register_value};
+ghost use Rattle.pmp_share.specs.Batches.{event_count, file_from};
 ghost use Rattle.pmp_share.specs.Looks.{is_as_late};
-ghost use Rattle.pmp_share.specs.Rule.{entries_of};
+ghost use Rattle.pmp_share.specs.Rule.{base_of};
 
 use crate::decider::Decider;
-use crate::journal::Journal;
 use crate::version::Version;
-use pmp_core::{Access, Decision, RegFile};
+use pmp_core::{Access, Csr, Decision, Mode, Perms, RegFile};
+use pmp_map::rights_in;
 use std::marker::Model;
 use std::snapshot::Snapshot;
 
-/// The register file that batches give, and how many they are. A contract sees the batches, and how many entries the
-/// file has.
+/// The register file that batches give, and how many they are. A contract sees the batches, and what the first of them
+/// found.
 #[derive(Drop)]
 pub struct Digest {
     file: RegFile,
     events: u64,
     batches: usize,
-    of: Snapshot<Journal>,
+    of: Snapshot<Version>,
 }
 
 impl Model for Digest {
-    ghost use Rattle.std.specs.Prelude.{length};
     ghost use Rattle.pmp_share.specs.Digests.{Digested, IsDigest};
 
     ghost Value = { Digested };
 
-    ghost view = { λ digest. record { entries = length digest.file.entries; list = digest.of.value } };
+    ghost view = { λ digest. record { base = digest.of.value.base.value; list = digest.of.value.journal } };
 
     ghost invariant = { λ digest.
-        IsDigest digest.file digest.events digest.batches digest.of.value };
+        IsDigest digest.of.value.base.value digest.file digest.events digest.batches digest.of.value.journal };
 }
 
 impl Digest {
@@ -40,14 +40,14 @@ impl Digest {
 
     /// The digest of a version's batches.
     pub fn of(version: &Version) -> Digest
-        ensures { result ≡ record { entries = entries_of version.now; list = version.now.journal } }
+        ensures { result ≡ record { base = base_of version.now; list = version.now.journal } }
     {
         let journal = version.journal();
         Digest {
             file: *version.file(),
             events: journal.event_count(),
             batches: journal.batches(),
-            of: Snapshot::of(journal),
+            of: Snapshot::of(version),
         }
     }
 
@@ -55,16 +55,30 @@ impl Digest {
     #[cold]
     #[inline(never)]
     pub fn refresh(&mut self, version: &Version)
-        ensures { self.new ≡ record { entries = entries_of version.now; list = version.now.journal } }
+        ensures { self.new ≡ record { base = base_of version.now; list = version.now.journal } }
     {
         *self = Digest::of(version);
     }
 
     /// The register file.
     pub fn file(&self) -> RegFile
-        ensures { result ≡ file_after self.now.entries self.now.list }
+        ensures { result ≡ file_from self.now.base self.now.list }
     {
         self.file
+    }
+
+    /// The value of a register.
+    pub fn read(&self, csr: Csr) -> u64
+        ensures { result ≡ register_value (file_from self.now.base self.now.list) csr }
+    {
+        self.file.read(csr)
+    }
+
+    /// The register file is legal. It does nothing.
+    pub fn is_legal(&self)
+        ensures { IsLegal (file_from self.now.base self.now.list) }
+    {
+        let _ranges = self.file.ranges();
     }
 
     /// How many events they hold.
@@ -91,11 +105,15 @@ impl Digest {
 
 /// It decides without a map.
 impl Decider for Digest {
-    ghost use Rattle.pmp_core.specs.Histories.{file_after};
+    ghost use Rattle.pmp_share.specs.Batches.{file_from};
 
-    ghost file = { λ digest. file_after digest.entries digest.list };
+    ghost file = { λ digest. file_from digest.base digest.list };
 
     fn decide(&self, access: &Access) -> Decision {
         self.file.decide(access)
+    }
+
+    fn rights(&self, mode: Mode, start: u64, length: u64) -> Option<Perms> {
+        rights_in(&self.file, mode, start, length)
     }
 }

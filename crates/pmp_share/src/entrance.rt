@@ -2,7 +2,7 @@
 
 ghost use Rattle.std.specs.Prelude.{◌≡◌};
 ghost use Rattle.pmp_share.specs.Batches.{StartsWith};
-ghost use Rattle.pmp_share.specs.Rule.{entries_of, known_of};
+ghost use Rattle.pmp_share.specs.Rule.{base_of, known_of};
 
 use crate::digest::Digest;
 use crate::reader_state::{ReaderState, UnitReading};
@@ -38,7 +38,7 @@ impl Entrance {
     pub fn new(reading: UnitReading, digest: Box<Digest>) -> Entrance
         requires seat { view reading.place ≡ Some (known_of reading.part.value) }
         requires noted { reading.part.value.history.log ≡ reading.part.value.journal }
-        requires entries { digest.value.entries ≡ entries_of reading.part.value }
+        requires base { digest.value.base ≡ base_of reading.part.value }
         requires begins { StartsWith reading.part.value.journal digest.value.list }
         ensures { result ≡ known_of reading.part.value }
     {

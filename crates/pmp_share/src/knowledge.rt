@@ -1,27 +1,25 @@
 //! What is known of a unit's history.
 
-use pmp_core::Event;
+use pmp_core::{Event, RegFile};
 use std::collections::LinkedList;
 use std::marker::Model;
 
-/// Whose history it is: a contract sees the book that keeps it, and how many entries the unit has. No value of it is
-/// made.
+/// Whose history it is: a contract sees the book that keeps it, and the register file that the unit began with. No
+/// value of it is made.
 pub struct Unit {
     number: u64,
     log: u64,
     cells: u64,
-    entries: u8,
+    base: RegFile,
 }
 
 impl Model for Unit {
-    ghost use Rattle.pmp_share.specs.Tokens.{UnitId, unit_with, unit_coded};
+    ghost use Rattle.pmp_share.specs.Tokens.{UnitId, unit_with};
 
     ghost Value = { UnitId };
 
-    ghost coded = { unit_coded };
-
     ghost view = { λ unit.
-        unit_with (record { number = unit.number; log_name = unit.log; cells_name = unit.cells }) unit.entries };
+        unit_with (record { number = unit.number; log_name = unit.log; cells_name = unit.cells }) unit.base };
 }
 
 /// A beginning of one history. No value of it is made.

@@ -1,11 +1,12 @@
 //! A PMP unit that threads share: one publisher reprograms it by batches of events, and checkers decide accesses
 //! meanwhile, each in the register file that whole published batches give.
 //!
-//! `start` makes them, and `start_of` those of a unit of either size. The definitions that contracts cite are in
-//! `specs/`.
+//! `start` makes them, `start_of` those of a unit of either size, and `start_from` those of a unit that begins with saved
+//! registers. The definitions that contracts cite are in `specs/`.
 #![tactic(auto)]
 
 mod batch;
+mod bell;
 mod checker;
 mod decider;
 mod digest;
@@ -21,8 +22,10 @@ mod knowledge;
 pub mod laws;
 mod logged_batch;
 mod notice;
+mod notice_ring;
 mod opening;
 mod publisher;
+mod publisher_guard;
 mod reader_state;
 mod recorder;
 mod room;
@@ -37,6 +40,8 @@ pub use fault::ShareFault;
 pub use group::GROUP_ACCESSES;
 pub use journal::Journal;
 pub use notice::Notice;
-pub use opening::{CHECKERS, start, start_of};
+pub use notice_ring::{NoticeReceiver, NoticeSender};
+pub use opening::{CHECKERS, start, start_from, start_of};
 pub use publisher::Publisher;
+pub use publisher_guard::PublisherGuard;
 pub use room::HISTORY_LIMIT;

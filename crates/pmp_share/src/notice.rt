@@ -1,8 +1,7 @@
 //! Notices: what a publisher tells checkers.
 
 ghost use Rattle.std.specs.Prelude.{◌≡◌};
-ghost use Rattle.pmp_core.specs.Histories.{file_after};
-ghost use Rattle.pmp_share.specs.Batches.{event_count};
+ghost use Rattle.pmp_share.specs.Batches.{event_count, file_from};
 
 use crate::reader_state::ReaderState;
 use pmp_core::RegFile;
@@ -46,7 +45,7 @@ impl Notice {
 
     /// The register file that these events give.
     pub fn file(&self) -> RegFile
-        ensures { result ≡ file_after self.now.unit.entries self.now.told }
+        ensures { result ≡ file_from self.now.unit.base self.now.told }
     {
         self.state.digest().file()
     }

@@ -2,6 +2,8 @@
 
 ghost use Rattle.std.specs.Prelude.{◌≡◌, ◌≤◌, [], ◌∷◌, IfOk, IfErr, replicate};
 ghost use Rattle.pmp_core.specs.declared.register_file.TheConstants.{ENTRIES};
+ghost use Rattle.pmp_core.specs.RegisterFile.{reset_file};
+ghost use Rattle.pmp_core.specs.SavedRegisters.{restored_file};
 ghost use Rattle.pmp_core.specs.Size.{count_of};
 ghost use Rattle.pmp_share.specs.declared.fault.ShareFault.TheVariants.{Full};
 ghost use Rattle.pmp_share.specs.declared.opening.TheConstants.{CHECKERS};
@@ -10,7 +12,7 @@ ghost use Rattle.pmp_share.specs.Object.{no_batches};
 use crate::checker::Checker;
 use crate::fault::ShareFault;
 use crate::publisher::Publisher;
-use pmp_core::Size;
+use pmp_core::{RegFile, SavedRegisters, Size};
 use std::alloc::Global;
 use std::sync::Wait;
 
@@ -35,8 +37,51 @@ fn seat_checkers(
     Ok(checkers)
 }
 
-/// One publisher and `k` checkers of one unit of this size, in the register file of reset and with nothing published.
-/// The unit keeps its size.
+/// One publisher and `k` checkers of one unit that begins with this register file.
+fn start_with<R: Wait>(
+    rt: &R,
+    alloc: Global,
+    base: &RegFile,
+    k: u8,
+) -> Result<(Publisher, Vec<Checker>), ShareFault>
+    ensures publisher { IfOk result (λ started. (started.0.published ≡ no_batches) × (started.0.pending ≡ [])
+        × (started.0.tried ≡ 0)) }
+    ensures checkers { IfOk result (λ started. started.1.items
+        ≡ replicate k (record { unit = started.0.unit; held = no_batches ∷ [] })) }
+    ensures base { IfOk result (λ started. started.0.unit.base ≡ base.now) }
+    ensures refused { IfErr result (λ fault. ¬ (fault ≡ Full)) }
+{
+    let mut publisher = Publisher::open(rt, alloc, base)?;
+    match seat_checkers(alloc, &mut publisher, k) {
+        Ok(checkers) => Ok((publisher, checkers)),
+        Err(fault) => {
+            publisher.end(rt);
+            Err(fault)
+        }
+    }
+}
+
+/// One publisher and `k` checkers of one unit, with nothing published, which begins with the register file that these
+/// numbers stand for: a snapshot's, or the last one of a unit whose history is full. The numbers are taken as
+/// `RegFile::restore` takes them. The unit keeps its size, and a reset goes to the file of reset.
+pub fn start_from<R: Wait>(
+    rt: &R,
+    alloc: Global,
+    saved: &SavedRegisters,
+    k: u8,
+) -> Result<(Publisher, Vec<Checker>), ShareFault>
+    requires { (1 ≤ k) × (k ≤ CHECKERS) }
+    ensures publisher { IfOk result (λ started. (started.0.published ≡ no_batches) × (started.0.pending ≡ [])
+        × (started.0.tried ≡ 0)) }
+    ensures checkers { IfOk result (λ started. started.1.items
+        ≡ replicate k (record { unit = started.0.unit; held = no_batches ∷ [] })) }
+    ensures base { IfOk result (λ started. started.0.unit.base ≡ restored_file saved.now) }
+    ensures refused { IfErr result (λ fault. ¬ (fault ≡ Full)) }
+{
+    start_with(rt, alloc, &RegFile::restore(saved), k)
+}
+
+/// As `start_from`, of a unit of this size, which begins with the register file of reset.
 pub fn start_of<R: Wait>(
     rt: &R,
     alloc: Global,
@@ -48,17 +93,10 @@ pub fn start_of<R: Wait>(
         × (started.0.tried ≡ 0)) }
     ensures checkers { IfOk result (λ started. started.1.items
         ≡ replicate k (record { unit = started.0.unit; held = no_batches ∷ [] })) }
-    ensures entries { IfOk result (λ started. started.0.unit.entries ≡ count_of size) }
+    ensures base { IfOk result (λ started. started.0.unit.base ≡ reset_file (count_of size)) }
     ensures refused { IfErr result (λ fault. ¬ (fault ≡ Full)) }
 {
-    let mut publisher = Publisher::open(rt, alloc, size)?;
-    match seat_checkers(alloc, &mut publisher, k) {
-        Ok(checkers) => Ok((publisher, checkers)),
-        Err(fault) => {
-            publisher.end(rt);
-            Err(fault)
-        }
-    }
+    start_with(rt, alloc, &RegFile::reset_of(size), k)
 }
 
 /// As `start_of`, of a unit of sixteen entries.
@@ -68,7 +106,7 @@ pub fn start<R: Wait>(rt: &R, alloc: Global, k: u8) -> Result<(Publisher, Vec<Ch
         × (started.0.tried ≡ 0)) }
     ensures checkers { IfOk result (λ started. started.1.items
         ≡ replicate k (record { unit = started.0.unit; held = no_batches ∷ [] })) }
-    ensures entries { IfOk result (λ started. started.0.unit.entries ≡ ENTRIES) }
+    ensures base { IfOk result (λ started. started.0.unit.base ≡ reset_file ENTRIES) }
     ensures refused { IfErr result (λ fault. ¬ (fault ≡ Full)) }
 {
     start_of(rt, alloc, Size::Sixteen, k)

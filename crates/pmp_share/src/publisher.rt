@@ -1,13 +1,14 @@
 //! The publisher: it alone adds batches to a unit's history.
 
 ghost use Rattle.std.specs.Prelude.{◌≡◌, ◌↔◌, [], ◌∷◌, ◌++◌, Err, ◌⊎◌, IfOk, IfErr, OnOk, OnErr, false, length, take};
-ghost use Rattle.pmp_core.specs.Size.{count_of};
+ghost use Rattle.pmp_core.specs.RegisterValue.{register_value};
 ghost use Rattle.pmp_share.specs.declared.fault.ShareFault.TheVariants.{Full, Memory};
-ghost use Rattle.pmp_share.specs.Batches.{event_count};
+ghost use Rattle.pmp_share.specs.Batches.{event_count, file_from};
 ghost use Rattle.pmp_share.specs.Object.{Publishes};
 ghost use Rattle.pmp_share.specs.Room.{has_room};
 
 use crate::batch::Batch;
+use crate::bell::Bell;
 use crate::checker::Checker;
 use crate::fault::ShareFault;
 use crate::handing::hand_over;
@@ -15,7 +16,7 @@ use crate::journal::Journal;
 use crate::notice::Notice;
 use crate::room::has_room;
 use crate::writer_state::WriterState;
-use pmp_core::Size;
+use pmp_core::{Csr, RegFile};
 use std::alloc::Global;
 use std::marker::Model;
 use std::sync::Wait;
@@ -29,6 +30,7 @@ pub struct Publisher {
     handed: usize,
     /// How many pending batches the last publication left.
     tried: usize,
+    bell: Bell,
 }
 
 impl Model for Publisher {
@@ -48,18 +50,24 @@ impl Model for Publisher {
 }
 
 impl Publisher {
-    /// A publisher of a new unit of this size, after reset.
-    pub(crate) fn open<R: Wait>(rt: &R, alloc: Global, size: Size) -> Result<Publisher, ShareFault>
+    /// A publisher of a new unit, which begins with this register file.
+    pub(crate) fn open<R: Wait>(
+        rt: &R,
+        alloc: Global,
+        base: &RegFile,
+    ) -> Result<Publisher, ShareFault>
         ensures made { IfOk result (λ publisher. (publisher.published ≡ []) × (publisher.pending ≡ [])
             × (publisher.tried ≡ 0)) }
-        ensures entries { IfOk result (λ publisher. publisher.unit.entries ≡ count_of size) }
+        ensures base { IfOk result (λ publisher. publisher.unit.base ≡ base.now) }
         ensures refused { IfErr result (λ fault. fault ≡ Memory) }
     {
+        let bell = Bell::new(alloc)?;
         Ok(Publisher {
-            state: WriterState::open(rt, alloc, size)?,
+            state: WriterState::open(rt, alloc, base)?,
             pending: Journal::new(alloc),
             handed: 0,
             tried: 0,
+            bell,
         })
     }
 
@@ -70,7 +78,8 @@ impl Publisher {
             checker ≡ record { unit = self.old.unit; held = self.old.published ∷ [] }) }
         ensures refused { IfErr result (λ fault. ¬ (fault ≡ Full)) }
     {
-        Ok(Checker::new(self.state.reader_state()?))
+        let listener = self.bell.listener()?;
+        Ok(Checker::new(self.state.reader_state()?, listener))
     }
 
     /// Adds a copy of the batch to the pending list. An empty batch is a batch.
@@ -110,6 +119,7 @@ impl Publisher {
         self.tried = self.pending.batches();
         hand_over(&mut self.state, &self.pending, &mut self.handed)?;
         self.state.show(rt)?;
+        self.bell.ring();
         self.pending.clear();
         self.handed = 0;
         self.tried = 0;
@@ -126,6 +136,7 @@ impl Publisher {
             pending: _pending,
             handed: _,
             tried: _,
+            bell: _bell,
         } = self;
         state.end(rt)
     }
@@ -139,6 +150,17 @@ impl Publisher {
         ensures refused { IfErr result (λ fault. ¬ (fault ≡ Full)) }
     {
         Ok(Notice::new(self.state.reader_state()?))
+    }
+
+    /// What the register reads after what is published and what is pending, as firmware reads back what it wrote, be that
+    /// published yet or not.
+    pub fn read(&self, csr: Csr) -> u64
+        ensures { result
+            ≡ register_value (file_from self.now.unit.base (self.now.published ++ self.now.pending)) csr }
+    {
+        let mut file = *self.state.file();
+        file.run_events(self.pending.events());
+        file.read(csr)
     }
 
     /// How many events are published.

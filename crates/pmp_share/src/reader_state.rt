@@ -1,11 +1,12 @@
 //! What a checker or a notice is of: a reader of the two copies, and what it knows.
 
-ghost use Rattle.std.specs.Prelude.{◌≡◌, ◌≤◌, length, map, MatchBool, IfOk, IfErr};
-ghost use Rattle.pmp_core.specs.Histories.{file_after};
+ghost use Rattle.std.specs.Prelude.{◌≡◌, ◌+◌, ◌<◌, ◌≤◌, length, map, MatchBool, IfOk, IfErr};
+ghost use Rattle.pmp_core.specs.declared.access.TheConstants.{ADDRESS_LIMIT};
 ghost use Rattle.pmp_core.specs.Ranges.{decision_of};
+ghost use Rattle.pmp_map.specs.RangeRights.{AreRangeRights};
 ghost use Rattle.pmp_share.specs.declared.fault.ShareFault.TheVariants.{Full};
 ghost use Rattle.pmp_share.specs.declared.group.TheConstants.{GROUP_ACCESSES};
-ghost use Rattle.pmp_share.specs.Batches.{StartsWith, event_count};
+ghost use Rattle.pmp_share.specs.Batches.{StartsWith, event_count, file_from};
 ghost use Rattle.pmp_share.specs.Checking.{DecidesIn};
 ghost use Rattle.pmp_share.specs.Looks.{is_as_late};
 
@@ -21,7 +22,7 @@ use crate::rule::{Looks, OneHistory};
 use crate::version::Version;
 use core::mem::replace_with;
 use left_right::reader::{Reader, Reading};
-use pmp_core::{Access, Decision};
+use pmp_core::{Access, Decision, Mode, Perms};
 use std::marker::Model;
 
 pub type UnitReader = Reader<Version, Knowledge, OneHistory>;
@@ -45,10 +46,10 @@ impl Model for ReaderState {
 
     ghost Value = { Known };
 
-    ghost view = { λ state. known (unit_with state.history.book state.digest.value.entries) state.history.log };
+    ghost view = { λ state. known (unit_with state.history.book state.digest.value.base) state.history.log };
 
     ghost invariant = { λ state. (state.reader.place.me.0.client
-        ≡ Some (known (unit_with state.history.book state.digest.value.entries) state.history.log))
+        ≡ Some (known (unit_with state.history.book state.digest.value.base) state.history.log))
         × (state.digest.value.list ≡ state.history.log) };
 }
 
@@ -60,9 +61,9 @@ impl ReaderState {
 
     /// The state of a reader that knows just what the digest is of.
     pub fn new(reader: UnitReader, digest: Box<Digest>, history: History) -> ReaderState
-        requires seat { view reader.place ≡ Some (known (unit_with history.book digest.value.entries) history.log) }
+        requires seat { view reader.place ≡ Some (known (unit_with history.book digest.value.base) history.log) }
         requires digest { digest.value.list ≡ history.log }
-        ensures { result ≡ known (unit_with history.book digest.value.entries) history.log }
+        ensures { result ≡ known (unit_with history.book digest.value.base) history.log }
     {
         ReaderState {
             reader,
@@ -90,7 +91,7 @@ impl ReaderState {
 
     /// The digest of the batches.
     pub fn digest(&self) -> &Digest
-        ensures entries { result.now.entries ≡ self.now.unit.entries }
+        ensures base { result.now.base ≡ self.now.unit.base }
         ensures list { result.now.list ≡ self.now.list }
     {
         &self.digest
@@ -114,8 +115,8 @@ impl ReaderState {
     pub fn look(&mut self, access: &Access) -> (Decision, u64)
         ensures unit { self.new.unit ≡ self.old.unit }
         ensures begins { StartsWith self.new.list self.old.list }
-        ensures decided { DecidesIn self.new.unit.entries self.new.list access.now result.0 }
-        ensures computed { result.0 ≡ decision_of (file_after self.new.unit.entries self.new.list) access.now }
+        ensures decided { DecidesIn self.new.unit.base self.new.list access.now result.0 }
+        ensures computed { result.0 ≡ decision_of (file_from self.new.unit.base self.new.list) access.now }
         ensures count { result.1 ≡ event_count self.new.list }
     {
         replace_with(self, access, |state, access| state.with_decision(access))
@@ -125,8 +126,8 @@ impl ReaderState {
     fn with_decision(self, access: &Access) -> (ReaderState, (Decision, u64))
         ensures unit { result.0.unit ≡ self.unit }
         ensures begins { StartsWith result.0.list self.list }
-        ensures decided { DecidesIn result.0.unit.entries result.0.list access.now result.1.0 }
-        ensures computed { result.1.0 ≡ decision_of (file_after result.0.unit.entries result.0.list) access.now }
+        ensures decided { DecidesIn result.0.unit.base result.0.list access.now result.1.0 }
+        ensures computed { result.1.0 ≡ decision_of (file_from result.0.unit.base result.0.list) access.now }
         ensures count { result.1.1 ≡ event_count result.0.list }
     {
         match self.enter() {
@@ -148,7 +149,7 @@ impl ReaderState {
         ensures unit { self.new.unit ≡ self.old.unit }
         ensures begins { StartsWith self.new.list self.old.list }
         ensures computed { result.0.items
-            ≡ map (decision_of (file_after self.new.unit.entries self.new.list)) group.now }
+            ≡ map (decision_of (file_from self.new.unit.base self.new.list)) group.now }
         ensures count { result.1 ≡ event_count self.new.list }
     {
         replace_with(self, group, |state, group| state.with_decisions(group))
@@ -160,7 +161,7 @@ impl ReaderState {
         ensures unit { result.0.unit ≡ self.unit }
         ensures begins { StartsWith result.0.list self.list }
         ensures computed { result.1.0.items
-            ≡ map (decision_of (file_after result.0.unit.entries result.0.list)) group.now }
+            ≡ map (decision_of (file_from result.0.unit.base result.0.list)) group.now }
         ensures count { result.1.1 ≡ event_count result.0.list }
     {
         match self.enter() {
@@ -176,6 +177,69 @@ impl ReaderState {
                 let answer = (decide_group(state.digest(), group), state.digest.events());
                 (state, answer)
             }
+        }
+    }
+
+    /// As `look`, for the rights of a range.
+    pub fn look_at_range(&mut self, mode: Mode, start: u64, length: u64) -> (Option<Perms>, u64)
+        requires full { 0 < length }
+        requires inside { start + length ≤ ADDRESS_LIMIT }
+        ensures unit { self.new.unit ≡ self.old.unit }
+        ensures begins { StartsWith self.new.list self.old.list }
+        ensures rights { AreRangeRights (file_from self.new.unit.base self.new.list) mode start length result.0 }
+        ensures count { result.1 ≡ event_count self.new.list }
+    {
+        replace_with(
+            self,
+            (mode, start, length),
+            |state, (mode, start, length)| { state.with_rights(mode, start, length) },
+        )
+    }
+
+    /// The state after that look, and its answer.
+    fn with_rights(self, mode: Mode, start: u64, length: u64) -> (ReaderState, (Option<Perms>, u64))
+        requires full { 0 < length }
+        requires inside { start + length ≤ ADDRESS_LIMIT }
+        ensures unit { result.0.unit ≡ self.unit }
+        ensures begins { StartsWith result.0.list self.list }
+        ensures rights { AreRangeRights (file_from result.0.unit.base result.0.list) mode start length result.1.0 }
+        ensures count { result.1.1 ≡ event_count result.0.list }
+    {
+        match self.enter() {
+            Ok(entrance) => {
+                let version = entrance.version();
+                let answer = (
+                    version.rights(mode, start, length),
+                    version.journal().event_count(),
+                );
+                (entrance.leave(), answer)
+            }
+            Err(state) => {
+                let answer = (
+                    state.digest.rights(mode, start, length),
+                    state.digest.events(),
+                );
+                (state, answer)
+            }
+        }
+    }
+
+    /// Enters the published version and leaves it, where an entrance is given. The digest is of its batches then.
+    pub fn catch_up(&mut self)
+        ensures unit { self.new.unit ≡ self.old.unit }
+        ensures begins { StartsWith self.new.list self.old.list }
+    {
+        replace_with(self, (), |state, ()| (state.caught_up(), ()));
+    }
+
+    /// The state after that.
+    fn caught_up(self) -> ReaderState
+        ensures unit { result.unit ≡ self.unit }
+        ensures begins { StartsWith result.list self.list }
+    {
+        match self.enter() {
+            Ok(entrance) => entrance.leave(),
+            Err(state) => state,
         }
     }
 

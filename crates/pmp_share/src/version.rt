@@ -1,8 +1,7 @@
 //! Versions of a unit: what a checker enters.
 
-ghost use Rattle.std.specs.Prelude.{◌≡◌, [], length};
-ghost use Rattle.pmp_core.specs.Histories.{file_after};
-ghost use Rattle.pmp_core.specs.Size.{count_of};
+ghost use Rattle.std.specs.Prelude.{◌≡◌, []};
+ghost use Rattle.pmp_share.specs.Batches.{file_from};
 
 use crate::decider::Decider;
 use crate::growth::grow;
@@ -11,9 +10,10 @@ use crate::journal::Journal;
 use crate::logged_batch::LoggedBatch;
 use crate::version_state::VersionState;
 use left_right::Absorb;
-use pmp_core::{Access, Decision, RegFile, Size};
+use pmp_core::{Access, Decision, Mode, Perms, RegFile};
 use pmp_map::RunMap;
 use std::alloc::{AllocError, Global};
+use std::snapshot::Snapshot;
 
 /// The published batches, the register file that they give, and its map.
 #[derive(Drop)]
@@ -22,12 +22,13 @@ pub struct Version {
     file: RegFile,
     map: RunMap,
     history: History,
-    ghost replayed: { file ≡ file_after (length file.entries) journal },
+    /// What the unit began with, for contracts alone.
+    base: Snapshot<RegFile>,
+    ghost replayed: { file ≡ file_from base.value journal },
     ghost mapped: { map ≡ file },
 }
 
 impl Absorb<LoggedBatch> for Version {
-    ghost use Rattle.std.specs.Prelude.{length};
     ghost use Rattle.pmp_share.specs.Tokens.{unit_with};
     ghost use Rattle.pmp_share.specs.Versions.{applied};
 
@@ -36,7 +37,7 @@ impl Absorb<LoggedBatch> for Version {
     ghost state = { λ version. record {
       batches = version.journal;
       log = version.history.log;
-      unit = unit_with version.history.book (length version.file.entries);
+      unit = unit_with version.history.book version.base.value;
     } };
 
     ghost applied = { applied };
@@ -55,18 +56,18 @@ impl Absorb<LoggedBatch> for Version {
 }
 
 impl Version {
-    /// The version after reset, of a unit of this size.
-    pub fn new(alloc: Global, size: Size, history: History) -> Version
+    /// The version without batches, of a unit that begins with this register file.
+    pub fn new(alloc: Global, base: &RegFile, history: History) -> Version
         ensures journal { result.journal ≡ [] }
-        ensures entries { length result.file.entries ≡ count_of size }
+        ensures base { result.base.value ≡ base.now }
         ensures history { result.history ≡ history }
     {
-        let file = RegFile::reset_of(size);
         Version {
             journal: Journal::new(alloc),
-            file,
-            map: RunMap::build(&file),
+            file: *base,
+            map: RunMap::build(base),
             history,
+            base: Snapshot::of(base),
         }
     }
 
@@ -87,7 +88,7 @@ impl Version {
     /// What its events give.
     pub fn file(&self) -> &RegFile
         ensures same { result.now ≡ self.now.file }
-        ensures replayed { result.now ≡ file_after (length self.now.file.entries) self.now.journal }
+        ensures replayed { result.now ≡ file_from self.now.base.value self.now.journal }
     {
         &self.file
     }
@@ -102,12 +103,15 @@ impl Version {
 
 /// It decides by the map.
 impl Decider for Version {
-    ghost use Rattle.std.specs.Prelude.{length};
-    ghost use Rattle.pmp_core.specs.Histories.{file_after};
+    ghost use Rattle.pmp_share.specs.Batches.{file_from};
 
-    ghost file = { λ version. file_after (length version.file.entries) version.journal };
+    ghost file = { λ version. file_from version.base.value version.journal };
 
     fn decide(&self, access: &Access) -> Decision {
         self.map.decide(&self.file, access)
+    }
+
+    fn rights(&self, mode: Mode, start: u64, length: u64) -> Option<Perms> {
+        self.map.rights(mode, start, length)
     }
 }

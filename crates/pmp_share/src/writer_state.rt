@@ -1,8 +1,8 @@
 //! The two copies of a version, as the publisher has them.
 
 ghost use Rattle.std.specs.Prelude.{◌≡◌, true, false, [], ◌∷◌, ◌++◌, IfOk, IfErr, OnOk, OnErr};
-ghost use Rattle.pmp_core.specs.Size.{count_of};
 ghost use Rattle.pmp_share.specs.declared.fault.ShareFault.TheVariants.{Full, Memory};
+ghost use Rattle.pmp_share.specs.Batches.{file_from};
 
 use crate::digest::Digest;
 use crate::fault::ShareFault;
@@ -15,9 +15,10 @@ use crate::rule::{Hears, OneHistory, Shows, Tells};
 use crate::version::Version;
 use core::mem::replace_with;
 use left_right::writer::Writer;
-use pmp_core::{Event, Size};
+use pmp_core::{Event, RegFile};
 use std::alloc::{AllocError, Global};
 use std::marker::Model;
+use std::snapshot::Snapshot;
 use std::sync::Wait;
 
 /// How many checkers and notices of one unit there may be at once.
@@ -29,8 +30,8 @@ type UnitWriter = Writer<Version, LoggedBatch, Knowledge, OneHistory>;
 /// next publication shows, and the history.
 pub struct WriterState {
     alloc: Global,
-    /// How many the unit has.
-    entries: u8,
+    /// What the unit began with, for contracts alone.
+    base: Snapshot<RegFile>,
     writer: UnitWriter,
     recorder: Recorder,
     /// The history has one batch that isn't handed over.
@@ -46,7 +47,7 @@ impl Model for WriterState {
     ghost Value = { WriterProgress };
 
     ghost view = { λ state. record {
-      unit = unit_with state.recorder.book state.entries;
+      unit = unit_with state.recorder.book state.base.value;
       shown = state.writer.desk.shown.value.journal;
       handed = (after state.writer.desk.shown.value (drop state.writer.behind state.writer.log.items)).batches;
       noted = state.recorder.list;
@@ -54,27 +55,27 @@ impl Model for WriterState {
     } };
 
     ghost invariant = { λ state.
-        IsWriterState (known (unit_with state.recorder.book state.entries) state.recorder.list) state.ahead
+        IsWriterState (known (unit_with state.recorder.book state.base.value) state.recorder.list) state.ahead
         state.writer.desk.place.me.0.client state.writer.desk.shown.value
         (after state.writer.desk.shown.value (drop state.writer.behind state.writer.log.items)) };
 }
 
 impl WriterState {
-    /// Two versions after reset, of a unit of this size.
-    pub fn open<R: Wait>(rt: &R, alloc: Global, size: Size) -> Result<WriterState, ShareFault>
+    /// Two versions without batches, of a unit that begins with this register file.
+    pub fn open<R: Wait>(rt: &R, alloc: Global, base: &RegFile) -> Result<WriterState, ShareFault>
         ensures made { IfOk result (λ state. (state.shown ≡ []) × (state.handed ≡ []) × (state.ahead ≡ false)) }
-        ensures entries { IfOk result (λ state. state.unit.entries ≡ count_of size) }
+        ensures base { IfOk result (λ state. state.unit.base ≡ base.now) }
         ensures refused { IfErr result (λ fault. fault ≡ Memory) }
     {
         let recorder = Recorder::open();
-        let first = Version::new(alloc, size, recorder.history());
-        let second = Version::new(alloc, size, recorder.history());
+        let first = Version::new(alloc, base, recorder.history());
+        let second = Version::new(alloc, base, recorder.history());
         let writer = Writer::new(alloc, first, second, PLACES)?;
         let (writer, learnt) = writer.publish_as::<Shows, R>(rt);
         match learnt {
             Ok(()) => Ok(WriterState {
                 alloc,
-                entries: size.entries(),
+                base: Snapshot::of(base),
                 writer,
                 recorder,
                 ahead: false,
@@ -91,6 +92,13 @@ impl WriterState {
         ensures { result.now ≡ self.now.shown }
     {
         self.writer.published().journal()
+    }
+
+    /// The register file that it gives.
+    pub fn file(&self) -> &RegFile
+        ensures { result.now ≡ file_from self.now.unit.base self.now.shown }
+    {
+        self.writer.published().file()
     }
 
     /// Notes a batch in the history, if it isn't noted yet.
@@ -158,7 +166,7 @@ impl WriterState {
     {
         let WriterState {
             alloc,
-            entries,
+            base,
             writer,
             recorder,
             ahead,
@@ -166,7 +174,7 @@ impl WriterState {
         let (writer, shown) = writer.publish_as::<Shows, R>(rt);
         let state = WriterState {
             alloc,
-            entries,
+            base,
             writer,
             recorder,
             ahead,
@@ -195,7 +203,7 @@ impl WriterState {
     {
         let WriterState {
             alloc: _,
-            entries: _,
+            base: _base,
             writer,
             recorder: _recorder,
             ahead: _,

@@ -1,12 +1,13 @@
 //! What one thread can do with a unit, and how long that takes.
 
-ghost use Rattle.std.specs.Prelude.{◌≡◌};
+ghost use Rattle.std.specs.Prelude.{◌≡◌, ◌+◌, ◌≤◌};
+ghost use Rattle.pmp_core.specs.declared.access.TheConstants.{ADDRESS_LIMIT};
 
 use crate::failure::Failure;
 use crate::filling::{Pace, publish_many};
 use crate::time::{Moment, Time};
 use crate::unit::{Loads, WRITE, file, loads, publish_regions};
-use pmp_core::{Access, RegFile};
+use pmp_core::{Access, Csr, Mode, Perms, RegFile};
 use pmp_map::RunMap;
 use pmp_share::{Batch, Checker, Publisher, ShareFault, start};
 use std::alloc::Global;
@@ -31,6 +32,12 @@ pub enum Alone {
     Checker,
     /// Decisions in groups of sixteen, each in one look.
     Groups,
+    /// The rights of pages by a checker.
+    Rights,
+    /// A checker's counts of events.
+    Counts,
+    /// A register, read by a checker.
+    Registers,
     /// Publications of one event, while no checker decides.
     Publications,
     /// `tell` and `learn` of what the checker knows already.
@@ -91,6 +98,57 @@ fn allowed_in_groups(checker: &mut Checker, group: &Loads) -> u32 {
     allowed
 }
 
+/// Not inlined either.
+#[inline(never)]
+fn rights_of_page(checker: &mut Checker, start: u64) -> Option<Perms>
+    requires { start + 4096 ≤ ADDRESS_LIMIT }
+{
+    checker.rights(Mode::U, start, 4096).0
+}
+
+/// How many of many pages user mode may read and write.
+fn pages_with_rights(checker: &mut Checker, loads: &Loads) -> u32 {
+    let mut allowed = 0u32;
+    for index in 0..DECISIONS {
+        let page = loads[index as usize % 16].start % (1 << 55);
+        let rights = rights_of_page(checker, page);
+        allowed = allowed.wrapping_add(u32::from(rights == Some(Perms::RW)));
+    }
+    allowed
+}
+
+/// Not inlined either.
+#[inline(never)]
+fn count_of(checker: &mut Checker) -> u64 {
+    checker.count()
+}
+
+/// How many of many counts are as the first.
+fn same_counts(checker: &mut Checker) -> u32 {
+    let first = count_of(checker);
+    let mut same = 0u32;
+    for _ in 0..DECISIONS {
+        same = same.wrapping_add(u32::from(count_of(checker) == first));
+    }
+    same
+}
+
+/// Not inlined either.
+#[inline(never)]
+fn value_of(checker: &mut Checker, csr: Csr) -> u64 {
+    checker.read(csr).0
+}
+
+/// How many of many reads are as the first.
+fn same_reads(checker: &mut Checker) -> u32 {
+    let first = value_of(checker, Csr::Cfg(0));
+    let mut same = 0u32;
+    for _ in 0..DECISIONS {
+        same = same.wrapping_add(u32::from(value_of(checker, Csr::Cfg(0)) == first));
+    }
+    same
+}
+
 fn learn_notices(publisher: &mut Publisher, checker: &mut Checker) -> Result<u32, ShareFault>
     requires { checker.old.unit ≡ publisher.old.unit }
 {
@@ -104,9 +162,9 @@ impl Alone {
     /// How many of it a round has.
     fn count(self) -> u32 {
         match self {
-            Alone::Map | Alone::Checker | Alone::Groups => DECISIONS,
             Alone::Publications => PUBLICATIONS,
             Alone::Notices => NOTICES,
+            _ => DECISIONS,
         }
     }
 
@@ -125,6 +183,9 @@ impl Alone {
             Alone::Map => Ok(allowed_by_map(loads)),
             Alone::Checker => Ok(allowed_loads(checker, loads)),
             Alone::Groups => Ok(allowed_in_groups(checker, loads)),
+            Alone::Rights => Ok(pages_with_rights(checker, loads)),
+            Alone::Counts => Ok(same_counts(checker)),
+            Alone::Registers => Ok(same_reads(checker)),
             Alone::Publications => {
                 publish_many(rt, publisher, write, PUBLICATIONS, Pace::OneByOne)
             }

@@ -13,10 +13,13 @@ use std::thread::Threads;
 use std::time::Clock;
 
 /// What is timed on one thread.
-const ALONE: [(&str, Alone); 5] = [
+const ALONE: [(&str, Alone); 8] = [
     ("a decision by a map", Alone::Map),
     ("a decision by a checker", Alone::Checker),
     ("a decision of a group of 16", Alone::Groups),
+    ("the rights of a page by a checker", Alone::Rights),
+    ("a checker's count of events", Alone::Counts),
+    ("a register read by a checker", Alone::Registers),
     ("a publication", Alone::Publications),
     ("tell and learn", Alone::Notices),
 ];

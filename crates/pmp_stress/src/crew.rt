@@ -7,7 +7,7 @@ use crate::failure::Failure;
 use crate::meeting::Meeting;
 use crate::random::Random;
 use crate::unit::loads;
-use pmp_core::{Access, Decision};
+use pmp_core::{Access, Csr, Decision, Perms};
 use pmp_share::{Checker, Notice, Publisher};
 use std::alloc::Global;
 use std::sync::Arc;
@@ -26,12 +26,48 @@ pub enum Duty {
     Random,
 }
 
-/// A decision, and in how many events.
+/// What a checker said of an access.
+#[derive(Clone, Copy)]
+pub enum Said {
+    Decision(Decision),
+    /// What the access's mode may do in its bytes.
+    Rights(Option<Perms>),
+    /// What `pmpcfg0` reads, whatever the access is.
+    Register(u64),
+    /// No more than the count.
+    Nothing,
+}
+
+/// What it said, and in how many events.
 #[derive(Clone, Copy)]
 pub struct Answer {
     pub access: Access,
-    pub decision: Decision,
+    pub said: Said,
     pub count: u64,
+}
+
+/// Mostly a decision; else what else a checker answers.
+fn ask(checker: &mut Checker, turn: u32, access: Access) -> Answer {
+    let (said, count) = match turn {
+        0 => {
+            let (rights, count) = checker.rights(access.mode, access.start, access.length);
+            (Said::Rights(rights), count)
+        }
+        1 => {
+            let (value, count) = checker.read(Csr::Cfg(0));
+            (Said::Register(value), count)
+        }
+        2 => (Said::Nothing, checker.count()),
+        _ => {
+            let (decision, count) = checker.decide(&access);
+            (Said::Decision(decision), count)
+        }
+    };
+    Answer {
+        access,
+        said,
+        count,
+    }
 }
 
 /// What a checker did after a notice of so many events.
@@ -58,12 +94,7 @@ fn decide_random(
 ) -> Result<(), Failure> {
     for _ in 0..=random.below(MOST_DECISIONS) {
         let access = random.access()?;
-        let (decision, count) = checker.decide(&access);
-        answers.push(Answer {
-            access,
-            decision,
-            count,
-        })?;
+        answers.push(ask(checker, random.below(16), access))?;
     }
     Ok(())
 }

@@ -1,7 +1,8 @@
 //! What was published, replayed after the joins.
 
-use crate::crew::{Answer, Done};
-use pmp_core::{Event, RegFile};
+use crate::crew::{Answer, Done, Said};
+use pmp_core::{Access, Csr, Event, RegFile};
+use pmp_map::rights_in;
 use pmp_share::{Batch, Checker};
 use std::alloc::{AllocError, Global};
 
@@ -97,6 +98,18 @@ impl<'a> Replay<'a> {
 
     /// Whether the answer is that of the events that it counts.
     fn fits(&mut self, answer: &Answer) -> bool {
-        self.goes_to(answer.count as usize) && self.file.decide(&answer.access) == answer.decision
+        self.goes_to(answer.count as usize) && self.says(&answer.access, answer.said)
+    }
+
+    /// Whether the register file says the same.
+    fn says(&self, access: &Access, said: Said) -> bool {
+        match said {
+            Said::Decision(decision) => self.file.decide(access) == decision,
+            Said::Rights(rights) => {
+                rights_in(&self.file, access.mode, access.start, access.length) == rights
+            }
+            Said::Register(value) => self.file.read(Csr::Cfg(0)) == value,
+            Said::Nothing => true,
+        }
     }
 }

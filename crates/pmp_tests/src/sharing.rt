@@ -5,6 +5,8 @@ mod copying;
 mod ending;
 mod groups;
 mod limits;
+mod reading;
+mod starting;
 mod swapping;
 mod unit;
 

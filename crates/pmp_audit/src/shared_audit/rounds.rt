@@ -1,9 +1,9 @@
 //! One round: the rows that ask for just what is published, decided by all workers.
 
 ghost use Rattle.std.specs.Prelude.{◌≡◌, ◌+◌, ◌^◌, ◌<◌, ◌≤◌, ◌++◌, IfOk, IfErr, OnOk, All, Any, length, drop};
-ghost use Rattle.pmp_core.specs.Histories.{file_after};
 ghost use Rattle.pmp_share.specs.declared.fault.ShareFault.TheVariants.{Full};
 ghost use Rattle.pmp_share.specs.declared.opening.TheConstants.{CHECKERS};
+ghost use Rattle.pmp_share.specs.Batches.{file_from};
 ghost use Rattle.pmp_audit.specs.Rounds.{AreCheckersOf, AreJobs, StopsRound, decided_in, asking};
 ghost use Rattle.pmp_audit.specs.Working.{IsDone, StopsWork};
 
@@ -66,7 +66,7 @@ fn round<R: Threads + Wait + Sync, G: Gate + Sync>(
     ensures same { publisher.new ≡ publisher.old }
     ensures checkers { IfOk result (λ all. AreCheckersOf publisher.old.unit (length checkers.items) all.items) }
     ensures decided { OnOk result (decided.new.items
-        ≡ decided.old.items ++ decided_in (file_after publisher.old.unit.entries publisher.old.published) rows.now) }
+        ≡ decided.old.items ++ decided_in (file_from publisher.old.unit.base publisher.old.published) rows.now) }
     ensures refused { IfErr result (StopsRound publisher.old.published) }
 {
     let first = decided.len() as u64 + 1;
@@ -77,7 +77,7 @@ fn round<R: Threads + Wait + Sync, G: Gate + Sync>(
         jobs,
         &|job: Job| -> Result<Done, WorkFault>
             requires { (0 < workers) × (first + length rows.now ≤ 2 ^ 64) }
-            ensures done { IfOk result (IsDone job.checker.unit (file_after job.checker.unit.entries job.notice.told)
+            ensures done { IfOk result (IsDone job.checker.unit (file_from job.checker.unit.base job.notice.told)
                 job.worker workers first rows.entry.now) }
             ensures refused { IfErr result (StopsWork job.notice.told) }
         {
@@ -119,7 +119,7 @@ fn round_of_busy<R: Threads + Wait + Sync, G: Gate + Sync>(
     ensures same { publisher.new ≡ publisher.old }
     ensures checkers { IfOk result (λ all. AreCheckersOf publisher.old.unit (length checkers.items) all.items) }
     ensures decided { OnOk result (decided.new.items
-        ≡ decided.old.items ++ decided_in (file_after publisher.old.unit.entries publisher.old.published) rows.now) }
+        ≡ decided.old.items ++ decided_in (file_from publisher.old.unit.base publisher.old.published) rows.now) }
     ensures refused { IfErr result (StopsRound publisher.old.published) }
 {
     let mut idle = checkers.split_off(rows.len().min(checkers.len()))?;
@@ -147,7 +147,7 @@ pub(crate) fn decide_asking<R: Threads + Wait + Sync, G: Gate + Sync>(
     ensures same { publisher.new ≡ publisher.old }
     ensures checkers { IfOk result (λ all. AreCheckersOf publisher.old.unit (length checkers.items) all.items) }
     ensures decided { OnOk result (decided.new.items ≡ decided.old.items
-        ++ decided_in (file_after publisher.old.unit.entries publisher.old.published)
+        ++ decided_in (file_from publisher.old.unit.base publisher.old.published)
         (asking after (drop (length decided.old.items) rows.now))) }
     ensures refused { IfErr result (StopsRound publisher.old.published) }
     ensures asked { IfErr result (λ _. Any (λ row. row.after ≡ after) rows.now) }

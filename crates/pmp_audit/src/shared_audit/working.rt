@@ -1,9 +1,8 @@
 //! A worker: it decides its rows of one round, in just what its notice tells of.
 
 ghost use Rattle.std.specs.Prelude.{◌≡◌, ◌<◌, OnOk, IfOk, IfErr, length};
-ghost use Rattle.pmp_core.specs.Histories.{file_after};
 ghost use Rattle.pmp_audit.specs.Working.{HasLearnt, IsDone, StopsWork, row_of};
-ghost use Rattle.pmp_share.specs.Batches.{event_count};
+ghost use Rattle.pmp_share.specs.Batches.{event_count, file_from};
 ghost use Rattle.pmp_share.specs.Looks.{latest};
 
 use super::hand::Hand;
@@ -27,9 +26,9 @@ fn ask(
     number: u64,
     row: &Row,
 ) -> Result<RowDecision, Moved>
-    requires { HasLearnt checker.old.unit.entries checker.old.held count file.now }
+    requires { HasLearnt checker.old.unit.base checker.old.held count file.now }
     ensures unit { checker.new.unit ≡ checker.old.unit }
-    ensures learnt { OnOk result (HasLearnt checker.new.unit.entries checker.new.held count file.now) }
+    ensures learnt { OnOk result (HasLearnt checker.new.unit.base checker.new.held count file.now) }
     ensures asked { OnOk result (event_count (latest checker.new.held) ≡ count) }
     ensures row { IfOk result (λ decision. row_of decision ≡ (number, row.now)) }
     ensures file { IfOk result (λ decision. decision.file.value ≡ file.now) }
@@ -56,7 +55,7 @@ pub(crate) fn work<G: Gate>(
     gate: &G,
 ) -> Result<Done, WorkFault>
     requires { notice.unit ≡ checker.unit }
-    ensures done { IfOk result (IsDone checker.unit (file_after checker.unit.entries notice.told)
+    ensures done { IfOk result (IsDone checker.unit (file_from checker.unit.base notice.told)
         hand.entry.worker hand.entry.workers hand.entry.first hand.entry.rows.now) }
     ensures asked { IfOk result (λ done. 0 < length done.decisions.items →
         event_count (latest done.checker.held) ≡ event_count notice.told) }

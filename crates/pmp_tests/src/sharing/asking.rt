@@ -1,8 +1,8 @@
 //! Workers that learn notices and decide in just what these tell of, proved from the public contracts alone.
 
 ghost use Rattle.std.specs.Prelude.{◌≡◌, IfOk};
-ghost use Rattle.pmp_core.specs.Histories.{file_after};
 ghost use Rattle.pmp_core.specs.Ranges.{decision_of};
+ghost use Rattle.pmp_share.specs.Batches.{file_from};
 ghost use Rattle.pmp_share.specs.Object.{Decides};
 
 use super::unit::{Unit, by_entry};
@@ -15,9 +15,9 @@ use pmp_share::{Checker, Moved, Notice};
 fn ask(checker: &mut Checker, notice: Notice, access: &Access) -> Result<Decision, Moved>
     requires { notice.unit ≡ checker.old.unit }
     ensures unit { checker.new.unit ≡ checker.old.unit }
-    ensures decided { IfOk result (λ decision. Decides notice.unit.entries notice.told access.now decision) }
+    ensures decided { IfOk result (λ decision. Decides notice.unit.base notice.told access.now decision) }
     ensures computed { IfOk result (λ decision.
-        decision ≡ decision_of (file_after notice.unit.entries notice.told) access.now) }
+        decision ≡ decision_of (file_from notice.unit.base notice.told) access.now) }
 {
     let len = notice.len();
     checker.learn(notice);
@@ -25,8 +25,8 @@ fn ask(checker: &mut Checker, notice: Notice, access: &Access) -> Result<Decisio
     checker.decide_at(len, access)
 }
 
-/// Both decide an access in just the batches that both were told of, in units of as many entries: alike, where neither
-/// has moved on.
+/// Both decide an access in just the batches that both were told of, in units that began with the same register file:
+/// alike, where neither has moved on.
 pub fn ask_both(
     first: &mut Checker,
     second: &mut Checker,
@@ -35,7 +35,7 @@ pub fn ask_both(
     access: &Access,
 ) -> (Result<Decision, Moved>, Result<Decision, Moved>)
     requires units { (to_first.unit ≡ first.old.unit) × (to_second.unit ≡ second.old.unit) }
-    requires entries { to_second.unit.entries ≡ to_first.unit.entries }
+    requires base { to_second.unit.base ≡ to_first.unit.base }
     requires told { to_second.told ≡ to_first.told }
     ensures units { (first.new.unit ≡ first.old.unit) × (second.new.unit ≡ second.old.unit) }
     ensures alike { IfOk result.0 (λ one. IfOk result.1 (λ other. other ≡ one)) }

@@ -5,7 +5,7 @@ ghost use Rattle.pmp_share.specs.declared.opening.TheConstants.{CHECKERS};
 
 use super::unit::{page_load, publish, publish_apart, submit, tell};
 use super::{ENTRY_ONE, ENTRY_ZERO};
-use pmp_core::{Cause, Csr, Decision, Event, Size};
+use pmp_core::{Cause, Csr, Decision, Event, Mode, Perms, Size};
 use pmp_share::{CHECKERS, Checker, GROUP_ACCESSES, Notice, Publisher, start_of};
 use std::alloc::Global;
 use std::ops::Range;
@@ -104,13 +104,49 @@ fn look_at_group_in_round(rt: &impl Abort, first: u8, checker: &mut Checker, lea
     count
 }
 
-/// Decides so often, in no fewer events than `least`: each tenth time a group.
+/// What the register with both configurations reads after so many events, if these are whole publications.
+fn configurations(first: u8, count: u64) -> Option<u64> {
+    let shift = u32::from(first % 8) * 8;
+    match count.wrapping_sub(2) % 5 {
+        0 => Some(0x19u64.wrapping_shl(shift)),
+        2 => Some(0x1900u64.wrapping_shl(shift)),
+        _ => None,
+    }
+}
+
+/// Counts events, and asserts that whole publications have so many, which are no fewer than `least`.
+fn count_in_round(rt: &impl Abort, first: u8, checker: &mut Checker, least: u64) -> u64 {
+    let count = checker.count();
+    assert!(rt; least <= count, "the count went back");
+    assert!(rt; configurations(first, count).is_some(), "a part of a publication");
+    count
+}
+
+/// Reads the configurations, and asserts that these are of the events that are counted beside them.
+fn read_in_round(rt: &impl Abort, first: u8, checker: &mut Checker, least: u64) -> u64 {
+    let (value, count) = checker.read(Csr::Cfg(first / 8 * 2));
+    assert!(rt; least <= count, "the list went back");
+    assert!(rt; configurations(first, count) == Some(value), "another value");
+    count
+}
+
+/// The page may be read after every publication.
+fn ask_rights_in_round(rt: &impl Abort, first: u8, checker: &mut Checker, least: u64) -> u64 {
+    let (rights, count) = checker.rights(Mode::U, 0x80000000, 4096);
+    assert!(rt; least <= count, "the list went back");
+    assert!(rt; configurations(first, count).is_some() && rights == Some(Perms::R), "other rights");
+    count
+}
+
+/// Asks so often, in no fewer events than `least`, each time what is next in turn.
 fn watch(rt: &impl Abort, first: u8, mut checker: Checker, mut least: u64, times: u32) -> Checker {
     for time in 0..times {
-        least = if time % 10 == 0 {
-            look_at_group_in_round(rt, first, &mut checker, least)
-        } else {
-            look_in_round(rt, first, &mut checker, least)
+        least = match time % 10 {
+            0 => count_in_round(rt, first, &mut checker, least),
+            1 => look_at_group_in_round(rt, first, &mut checker, least),
+            2 => ask_rights_in_round(rt, first, &mut checker, least),
+            3 => read_in_round(rt, first, &mut checker, least),
+            _ => look_in_round(rt, first, &mut checker, least),
         };
     }
     checker

@@ -19,8 +19,8 @@ loop-index-init g c =
       pending = ap (λ (p : PublisherToken). p.pending) same ∙ c.requires.pending;
       unit = ap (λ (p : PublisherToken). p.unit) same;
       checkers = c.in_ok-checkers.ensures.checkers;
-      decided = decided_next script rows 0 c.args.publisher.now.unit.entries c.args.publisher.now.published []
-          c.decide_asking.new.decided.items start c.requires.entries c.requires.published
+      decided = decided_next script rows 0 c.args.publisher.now.unit.base c.args.publisher.now.published []
+          c.decide_asking.new.decided.items start c.requires.base c.requires.published
           (rw c.new-decided.ensures.items at c.in_ok-checkers.ensures.decided);
     }
 
@@ -47,9 +47,9 @@ loop-index-preserved g c =
       pending = ap (λ (p : PublisherToken). p.pending) same ∙ c.in_ok-publish.ensures.alone;
       unit = ap (λ (p : PublisherToken). p.unit) same ∙ unit;
       checkers = rw (unit, at.invariant.checkers.many) at checkers;
-      decided = decided_next script rows (at.index + 1) c.publish.new.publisher.unit.entries
+      decided = decided_next script rows (at.index + 1) c.publish.new.publisher.unit.base
           c.publish.new.publisher.published at.decided.items c.decide_asking-in-loop-index.new.decided.items
-          at.invariant.decided (ap (λ (u : UnitId). u.entries) unit ∙ c.requires.entries) done
+          at.invariant.decided (ap (λ (u : UnitId). u.base) unit ∙ c.requires.base) done
           c.in_ok-checkers-2.ensures.decided;
     }
 

@@ -1,6 +1,6 @@
 use Rattle.std.proofs.Common.{◌≡◌, ◌∙◌, sym, ap, arith}
-use Rattle.pmp_core.specs.Histories.{joined, file_after}
-use Rattle.pmp_share.specs.Batches.{StartsWith, event_count}
+use Rattle.pmp_core.specs.Histories.{joined}
+use Rattle.pmp_share.specs.Batches.{StartsWith, event_count, file_from}
 use Rattle.pmp_share.specs.Looks.{latest}
 use Rattle.pmp_share.specs.Tokens.{UnitId}
 use Rattle.pmp_audit.proofs.shared_audit.working.ask.Goals as goal
@@ -23,6 +23,6 @@ returns-clause-learnt c = record {
   bound = (c.decide_at.ensures.bound c.requires.told c.requires.bound).1;
   counted = c.requires.counted;
   replayed = c.requires.replayed
-      ∙ ap (λ (unit : UnitId). file_after unit.entries c.requires.told) (sym c.decide_at.ensures.unit);
+      ∙ ap (λ (unit : UnitId). file_from unit.base c.requires.told) (sym c.decide_at.ensures.unit);
   reached = omega (arith, c.in_ok-decision.ensures.at_len.0);
 }

@@ -1,7 +1,6 @@
 use Rattle.std.proofs.Common.{◌≡◌, ◌<◌, All, map, length}
 use Rattle.std.specs.List.{enumerate_from}
-use Rattle.pmp_core.specs.Histories.{file_after}
-use Rattle.pmp_share.specs.Batches.{event_count}
+use Rattle.pmp_share.specs.Batches.{event_count, file_from}
 use Rattle.pmp_share.specs.Looks.{latest}
 use Rattle.pmp_audit.specs.Working.{HasLearnt, row_of}
 use Rattle.pmp_audit.proofs.Dealing.{IsDealtSoFar}
@@ -11,8 +10,8 @@ use Rattle.pmp_audit.proofs.shared_audit.working.work.Given as goal
 abbrev pub invariant-loop-turn : goal.invariant-loop-turn
 invariant-loop-turn g l = record {
   same_unit : l.checker.unit ≡ l.fn.checker.unit;
-  learnt : HasLearnt l.checker.unit.entries l.checker.held l.count l.file;
-  file_is : l.file ≡ file_after l.fn.checker.unit.entries l.fn.notice.told;
+  learnt : HasLearnt l.checker.unit.base l.checker.held l.count l.file;
+  file_is : l.file ≡ file_from l.fn.checker.unit.base l.fn.notice.told;
   dealt : IsDealtSoFar l.hand.worker l.hand.workers (enumerate_from l.hand.first l.hand.rows.now) l.turn
       (map row_of l.decisions.items);
   in_file : All (λ decision. decision.file.value ≡ l.file) l.decisions.items;

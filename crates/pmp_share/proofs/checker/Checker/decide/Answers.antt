@@ -1,7 +1,6 @@
 use Rattle.std.proofs.Common.{subst, sym, ap, ◌∙◌}
-use Rattle.pmp_core.specs.Histories.{file_after}
 use Rattle.pmp_core.specs.Ranges.{decision_of}
-use Rattle.pmp_share.specs.Batches.{Batches, event_count}
+use Rattle.pmp_share.specs.Batches.{Batches, event_count, file_from}
 use Rattle.pmp_share.specs.Checking.{DecidesIn}
 use Rattle.pmp_share.specs.Object.{Decides}
 use Rattle.pmp_share.specs.Tokens.{CheckerToken}
@@ -29,15 +28,15 @@ returns-clause-looked c = looked (look c)
 pub returns-clause-decided : goal.returns-clause-decided
 unfolding DecidesIn
 returns-clause-decided c =
-    let entries = c.look-answer.new.self.unit.entries in
-    subst (λ (b : Batches). Decides entries b c.args.access.now c.look-answer.result.0) (sym (latest_new (look c)))
+    let base = c.look-answer.new.self.unit.base in
+    subst (λ (b : Batches). Decides base b c.args.access.now c.look-answer.result.0) (sym (latest_new (look c)))
     c.look-answer.ensures.decided
 
 pub returns-clause-computed : goal.returns-clause-computed
 returns-clause-computed c =
-    let entries = c.look-answer.new.self.unit.entries in
+    let base = c.look-answer.new.self.unit.base in
     c.look-answer.ensures.computed
-    ∙ ap (λ (b : Batches). decision_of (file_after entries b) c.args.access.now) (sym (latest_new (look c)))
+    ∙ ap (λ (b : Batches). decision_of (file_from base b) c.args.access.now) (sym (latest_new (look c)))
 
 pub returns-clause-count : goal.returns-clause-count
 returns-clause-count c = c.look-answer.ensures.count ∙ ap event_count (sym (latest_new (look c)))

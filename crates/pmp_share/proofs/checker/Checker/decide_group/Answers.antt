@@ -1,7 +1,7 @@
-use Rattle.std.proofs.Common.{◌≡◌, ℕ, map, sym, ap, ◌∙◌}
-use Rattle.pmp_core.specs.Histories.{file_after}
+use Rattle.std.proofs.Common.{◌≡◌, map, sym, ap, ◌∙◌}
+use Rattle.pmp_core.specs.RegisterFile.{RegisterFile, IsLegal}
 use Rattle.pmp_core.specs.Ranges.{decision_of}
-use Rattle.pmp_share.specs.Batches.{Batches, event_count}
+use Rattle.pmp_share.specs.Batches.{Batches, event_count, file_from}
 use Rattle.pmp_share.specs.Looks.{latest}
 use Rattle.pmp_share.specs.Tokens.{CheckerToken}
 use Rattle.pmp_share.proofs.GroupFacts.{decided_each}
@@ -11,12 +11,12 @@ use Rattle.pmp_share.proofs.checker.Checker.decide_group.Goals as goal
 use Rattle.pmp_share.proofs.checker.Checker.decide_group.Goals.{After-drop-self-inside}
 
 look : (c : After-drop-self-inside) → Look c.self.inside.state c.look_at_group-decided.new.self c.args.self.now.held
-    c.self.inside.held c.alone.result c.digest.result.now.list
+    c.self.inside.held c.alone.result c.digest-digest.result.now.list
 look c = record {
   seen_is = ap (λ (token : CheckerToken). token.held) c.self.view_is;
   before = c.self.invariant;
   alone = c.alone.ensures;
-  digest_is = c.digest.ensures.list;
+  digest_is = c.digest-digest.ensures.list;
   begins = c.look_at_group-decided.ensures.begins;
 }
 
@@ -26,18 +26,21 @@ invariant_of-self c = looked_checks (look c)
 pub returns-clause-looked : goal.returns-clause-looked
 returns-clause-looked c = looked (look c)
 
-abbrev entries_of : After-drop-self-inside → ℕ
-entries_of c = c.look_at_group-decided.new.self.unit.entries
+abbrev base_of : After-drop-self-inside → RegisterFile
+base_of c = c.look_at_group-decided.new.self.unit.base
 
 computed : (c : After-drop-self-inside) → c.look_at_group-decided.result.0.items
-    ≡ map (decision_of (file_after (entries_of c) (latest c.alone.result))) c.args.accesses.now
+    ≡ map (decision_of (file_from (base_of c) (latest c.alone.result))) c.args.accesses.now
 computed c = c.look_at_group-decided.ensures.computed
-    ∙ ap (λ (b : Batches). map (decision_of (file_after (entries_of c) b)) c.args.accesses.now)
+    ∙ ap (λ (b : Batches). map (decision_of (file_from (base_of c) b)) c.args.accesses.now)
     (sym (latest_new (look c)))
 
 pub returns-clause-decided : goal.returns-clause-decided
-returns-clause-decided c = decided_each c.law_decided_by_ranges.ensures c.law_legal.ensures
-    (entries_of c) (latest c.alone.result) c.args.accesses.now c.look_at_group-decided.result.0.items (computed c)
+returns-clause-decided c =
+    let legal : IsLegal (file_from (base_of c) (latest c.alone.result)) =
+    rw (latest_new (look c), ← c.digest-digest.ensures.base, ← c.digest-digest.ensures.list) c.is_legal.ensures in
+    decided_each c.law_decided_by_ranges.ensures (base_of c) (latest c.alone.result) legal c.args.accesses.now
+    c.look_at_group-decided.result.0.items (computed c)
 
 pub returns-clause-computed : goal.returns-clause-computed
 returns-clause-computed c = computed c

@@ -15,6 +15,6 @@ invariant_of-self c =
     ∙ ap (λ (b : Batches). b ++ c.extend_from_slice.new.self.items ∷ [])
     (sym (ap (λ (s : WriterProgress). s.handed) state)) in
     rw c.append.ensures.desk
-    (handed_more (known (unit_with inside.recorder.book inside.entries) inside.recorder.list) _ _ _
+    (handed_more (known (unit_with inside.recorder.book inside.base.value) inside.recorder.list) _ _ _
     (drop inside.writer.behind inside.writer.log.items) _ _ c.self-2.invariant c.in-Ok.ensures.pending
-    c.history-history.ensures.1 (ap (λ book. unit_with book inside.entries) c.history-history.ensures.0) list)
+    c.history-history.ensures.1 (ap (λ book. unit_with book inside.base.value) c.history-history.ensures.0) list)

@@ -1,7 +1,6 @@
 use Rattle.std.proofs.Common.{◌≡◌, [], ap, sym, ◌∙◌}
 use Rattle.pmp_share.specs.declared.version.Version.{Version}
-use Rattle.pmp_core.specs.Size.{count_of}
-use Rattle.pmp_share.specs.Rule.{entries_of, known, unit_of}
+use Rattle.pmp_share.specs.Rule.{base_of, known, unit_of}
 use Rattle.pmp_share.specs.WriterStates.{after, state_of}
 use Rattle.pmp_share.specs.Tokens.{unit_with}
 use Rattle.pmp_share.proofs.RuleFacts.{shows_none}
@@ -30,12 +29,11 @@ module _ (g : Over) (c : In_ok-writer g) where
       ∙ ap (λ history. history.book) c.new-first.ensures.history
       ∙ c.history.ensures.0
 
-  entries : entries_of c.in_ok-writer.writer.desk.shown.value ≡ count_of c.args.size
-  entries =
-      ap (λ (version : Version). entries_of version) c.in_ok-writer.ensures.0 ∙ c.new-first.ensures.entries
+  base : base_of c.in_ok-writer.writer.desk.shown.value ≡ c.args.base.now
+  base = ap (λ (version : Version). base_of version) c.in_ok-writer.ensures.0 ∙ c.new-first.ensures.base
 
-  unit : unit_of c.in_ok-writer.writer.desk.shown.value ≡ unit_with c.open-recorder.result.book (count_of c.args.size)
-  unit = λ i. unit_with (book i) (entries i)
+  unit : unit_of c.in_ok-writer.writer.desk.shown.value ≡ unit_with c.open-recorder.result.book c.args.base.now
+  unit = λ i. unit_with (book i) (base i)
 
 pub publish_as-writer-requires : goal.publish_as-writer-requires
 publish_as-writer-requires g c next is =
@@ -47,8 +45,8 @@ invariant_of-result g c =
     let made = (goal.at.invariant_of-result g c).In_ok-writer in
     let values = match_ok c.publish_as-writer.result.1 _ _ _ c.in-Ok.is c.publish_as-writer.ensures.values in
     let recorder = c.open-recorder.result in
-    turned (known (unit_with recorder.book c.entries.result) recorder.list) _ _ _ (state_of shown) _
+    turned (known (unit_with recorder.book c.of.result.value) recorder.list) _ _ _ (state_of shown) _
     (values.0 ∙ ap (after shown) c.in_ok-writer.ensures.1) values.1
     (match_ok c.publish_as-writer.result.1 _ _ _ c.in-Ok.is c.publish_as-writer.ensures.rule)
-    (unit g made ∙ ap (unit_with recorder.book) (sym c.entries.ensures)) (noted g made)
+    (unit g made ∙ ap (unit_with recorder.book) (sym c.of.ensures)) (noted g made)
     (λ _. c.open-recorder.ensures ∙ sym (journal_is g made))

@@ -18,7 +18,7 @@ invariant_of-state g c =
     let writer = c.self.inside.writer in
     let next = c.publish_as-writer.result.0 in
     let recorder = c.self.inside.recorder in
-    turned_or_not c.publish_as-writer.result.1 (known (unit_with recorder.book c.self.inside.entries) recorder.list)
+    turned_or_not c.publish_as-writer.result.1 (known (unit_with recorder.book c.self.inside.base.value) recorder.list)
     c.self.inside.ahead _ _ writer.desk.shown.value _ (drop writer.behind writer.log.items)
     (drop next.behind next.log.items) c.self.invariant c.publish_as-writer.ensures.values
     c.publish_as-writer.ensures.rule

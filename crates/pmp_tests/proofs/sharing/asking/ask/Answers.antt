@@ -1,14 +1,15 @@
-use Rattle.std.proofs.Common.{◌≡◌, ◌∙◌, ℕ, List, [], ◌∷◌, ◌++◌, length, Result, Ok, Err, OnOk, IfOk, subst, sym, refl}
+use Rattle.std.proofs.Common.{◌≡◌, ◌∙◌, ℕ, List, [], ◌∷◌, ◌++◌, length, Result, Ok, Err, OnOk, IfOk, subst, sym, refl, fold}
 use Rattle.std.proofs.Common.{arith}
 use Rattle.std.proofs.Common.{length-append}
 use Rattle.std.proofs.lemmas.List.{get_or_push}
 use Rattle.pmp_core.specs.declared.decision.Decision.{Decision}
 use Rattle.pmp_core.specs.declared.event.Event.{Event}
 use Rattle.pmp_core.specs.Decision.{IsDecision}
-use Rattle.pmp_core.specs.Histories.{joined, file_after, replay}
+use Rattle.pmp_core.specs.Histories.{joined}
 use Rattle.pmp_core.specs.Ranges.{decision_of}
+use Rattle.pmp_core.specs.RegisterWrite.{step}
 use Rattle.pmp_share.specs.declared.checker.Moved.{Moved}
-use Rattle.pmp_share.specs.Batches.{Batches, StartsWith, event_count}
+use Rattle.pmp_share.specs.Batches.{Batches, StartsWith, event_count, file_from}
 use Rattle.pmp_share.specs.Laws.{SameEventsLaw}
 use Rattle.pmp_share.specs.Looks.{latest, Looked}
 use Rattle.pmp_share.specs.Tokens.{UnitId}
@@ -44,22 +45,22 @@ pub returns-clause-decided : goal.returns-clause-decided
 returns-clause-decided c =
     let looked = subst (λ (held : List Batches). Looked held c.decide_at.new.self.held) c.learn.ensures.held
     c.decide_at.ensures.looked in
-    let entries = c.decide_at.new.self.unit.entries in
-    let decided = in_told (λ decision events. IsDecision (replay entries events) c.args.access.now decision)
+    let base = c.decide_at.new.self.unit.base in
+    let decided = in_told (λ decision events. IsDecision (fold step base events) c.args.access.now decision)
     c.args.checker.now.held c.decide_at.new.self.held c.args.notice.told c.len-len.result c.decide_at.result _
     c.law_same_events.ensures looked c.len-len.ensures c.decide_at.ensures.at_len c.decide_at.ensures.decided in
     subst (λ (unit : UnitId). IfOk c.decide_at.result
-    (λ decision. IsDecision (file_after unit.entries c.args.notice.told) c.args.access.now decision))
+    (λ decision. IsDecision (file_from unit.base c.args.notice.told) c.args.access.now decision))
     (unit_is (goal.at.returns-clause-decided c).After-decide_at) decided
 
 pub returns-clause-computed : goal.returns-clause-computed
 returns-clause-computed c =
     let looked = subst (λ (held : List Batches). Looked held c.decide_at.new.self.held) c.learn.ensures.held
     c.decide_at.ensures.looked in
-    let entries = c.decide_at.new.self.unit.entries in
-    let computed = in_told (λ decision events. decision ≡ decision_of (replay entries events) c.args.access.now)
+    let base = c.decide_at.new.self.unit.base in
+    let computed = in_told (λ decision events. decision ≡ decision_of (fold step base events) c.args.access.now)
     c.args.checker.now.held c.decide_at.new.self.held c.args.notice.told c.len-len.result c.decide_at.result _
     c.law_same_events.ensures looked c.len-len.ensures c.decide_at.ensures.at_len c.decide_at.ensures.computed in
     subst (λ (unit : UnitId). IfOk c.decide_at.result
-    (λ decision. decision ≡ decision_of (file_after unit.entries c.args.notice.told) c.args.access.now))
+    (λ decision. decision ≡ decision_of (file_from unit.base c.args.notice.told) c.args.access.now))
     (unit_is (goal.at.returns-clause-computed c).After-decide_at) computed

@@ -1,0 +1,2 @@
+-- What a hart of the example keeps.
+pub mod Pages

@@ -1,0 +1,154 @@
+-- What a mode may do in a whole range.
+use Rattle.std.proofs.Common.{◌≡◌, ◌≢◌, ℕ, List, ◌+◌, ◌*◌, ◌/◌, ◌%◌, ◌<◌, ◌≤◌, ◌==◌, Bool, true, false, length}
+use Rattle.std.proofs.Common.{slice_index, Option, Some, None, refl, sym, ap, ◌∙◌, arith, inl, inr}
+use Rattle.std.proofs.lemmas.Bool.{cases_lt}
+use Rattle.pmp_core.specs.declared.access.Access.{Access}
+use Rattle.pmp_core.specs.declared.access.Mode.{Mode}
+use Rattle.pmp_core.specs.declared.access.Kind.{Kind}
+use Rattle.pmp_core.specs.declared.access.Kind.TheVariants.{Fetch, Load, Store}
+use Rattle.pmp_core.specs.declared.access.TheConstants.{ADDRESS_LIMIT}
+use Rattle.pmp_core.specs.declared.decision.Decision.{Decision}
+use Rattle.pmp_core.specs.declared.entry.Entry.{Entry}
+use Rattle.pmp_core.specs.declared.perms.Perms.{Perms}
+use Rattle.pmp_core.specs.RegisterFile.{RegisterFile, HasAddresses}
+use Rattle.pmp_core.specs.Configuration.{bit_of}
+use Rattle.pmp_core.specs.Decision.{IsOwner}
+use Rattle.pmp_core.specs.Matching.{Matches}
+use Rattle.pmp_core.specs.Perms.{right_of}
+use Rattle.pmp_core.specs.Ranges.{decision_of}
+use Rattle.pmp_core.specs.Rights.{perms_of, allows}
+use Rattle.pmp_core.proofs.Decisions.{decided_by_ranges, least_once, one_decision}
+use Rattle.pmp_map.specs.declared.run_map.RunMap.TheInside.{Inside}
+use Rattle.pmp_map.specs.Answers.{owned_rights, decision_by}
+use Rattle.pmp_map.specs.RangeRights.{IsOwnedBy, AreRangeRights}
+use Rattle.pmp_map.specs.Runs.{map_run}
+use Rattle.pmp_map.specs.Tables.{IsMapOf}
+use Rattle.pmp_map.proofs.Order.{start_at, start_past, in_run}
+use Rattle.pmp_map.proofs.Starts.{IsPlaceOf}
+use Rattle.pmp_map.proofs.Decided.{decided_whole}
+
+-- ---- bits
+
+right_bit : (read write execute : Bool) (kind : Kind)
+    → allows (record { read = read; write = write; execute = execute }) kind
+    ≡ ((bit_of read + 2 * bit_of write + 4 * bit_of execute) / (right_of kind).0 % 2 == 1)
+right_bit true true true Fetch = refl
+right_bit true true true Load = refl
+right_bit true true true Store = refl
+right_bit true true false Fetch = refl
+right_bit true true false Load = refl
+right_bit true true false Store = refl
+right_bit true false true Fetch = refl
+right_bit true false true Load = refl
+right_bit true false true Store = refl
+right_bit true false false Fetch = refl
+right_bit true false false Load = refl
+right_bit true false false Store = refl
+right_bit false true true Fetch = refl
+right_bit false true true Load = refl
+right_bit false true true Store = refl
+right_bit false true false Fetch = refl
+right_bit false true false Load = refl
+right_bit false true false Store = refl
+right_bit false false true Fetch = refl
+right_bit false false true Load = refl
+right_bit false false true Store = refl
+right_bit false false false Fetch = refl
+right_bit false false false Load = refl
+right_bit false false false Store = refl
+
+-- ---- by the owners of bytes
+
+pub same_owner : (entries : List Entry) (byte : ℕ) (one other : Option ℕ) → IsOwner entries byte one
+    → IsOwner entries byte other → one ≡ other
+same_owner entries byte one other p q = least_once (λ i. Matches entries i byte) one other p q
+
+module _ (file : RegisterFile) (addresses : HasAddresses file.entries) (mode : Mode) (start size : ℕ)
+    (full : 0 < size) where
+  module _ (owner : Option ℕ) (owned : IsOwnedBy file.entries start size owner) where
+    -- each access in the range is allowed where the bit of its kind is set
+    pub allowed_inside : (number : ℕ) → number ≡ (perms_of (owned_rights file owner mode)).0 → (access : Access)
+        → access.mode ≡ mode → start ≤ access.start → access.start + access.length ≤ start + size
+        → (decision_of file access).allowed ≡ (number / (right_of access.kind).0 % 2 == 1)
+    allowed_inside number is access mode_is from to =
+        let rights = owned_rights file owner mode in
+        let decided = one_decision file access (decision_by file owner access) (decision_of file access)
+        (decided_whole file access owner
+        (λ byte inside. owned byte (omega (arith, inside.0)) (omega (arith, inside.1))))
+        (decided_by_ranges file access addresses) in
+        sym (ap (λ (d : Decision). d.allowed) decided)
+        ∙ ap (λ (m : Mode). allows (owned_rights file owner m) access.kind) mode_is
+        ∙ right_bit rights.read rights.write rights.execute access.kind
+        ∙ ap (λ (n : ℕ). n / (right_of access.kind).0 % 2 == 1) (sym is)
+
+    -- it has no other owner
+    pub one_owner : (other : Option ℕ) → IsOwnedBy file.entries start size other → owner ≡ other
+    one_owner other all = same_owner file.entries start owner other (owned start (omega arith) (omega arith))
+        (all start (omega arith) (omega arith))
+
+    pub rights_by_owner : AreRangeRights file mode start size (Some (perms_of (owned_rights file owner mode)))
+    rights_by_owner = record {
+      owned = λ other all. ap (λ (o : Option ℕ). Some (perms_of (owned_rights file o mode))) (one_owner other all);
+      mixed = λ none. absurd (none owner owned);
+      accesses = λ perms is. allowed_inside perms.0 (sym (ap (λ (p : Perms). p.0) (cc is)));
+    }
+
+  -- the first byte has an owner that a later one hasn't
+  module _ (owner : Option ℕ) (byte : ℕ) (first : IsOwner file.entries start owner) (from : start ≤ byte)
+      (to : byte < start + size) (apart : (other : Option ℕ) → IsOwner file.entries byte other → owner ≢ other) where
+    pub two_owners : (other : Option ℕ) → ¬ (IsOwnedBy file.entries start size other)
+    two_owners other all = apart other (all byte from to)
+        (same_owner file.entries start owner other first (all start (omega arith) (omega arith)))
+
+    pub rights_of_two : AreRangeRights file mode start size None
+    rights_of_two = record {
+      owned = λ other all. absurd (two_owners other all);
+      mixed = λ none. refl;
+      accesses = λ perms is. absurd cc;
+    }
+
+-- ---- by a map
+
+module _ (m : Inside) (map : IsMapOf m.file.value m.runs.items m.starts m.answers) (byte place : ℕ)
+    (at : IsPlaceOf m.runs.items byte place) where
+  abbrev owner_at : ℕ → Option ℕ
+  owner_at k = (map_run m.runs.items k).owner
+
+  next_start : slice_index m.starts (place + 1) ≡ start_at ADDRESS_LIMIT m.runs.items (place + 1)
+  next_start = map.starts_are (place + 1) (omega (arith, at.inside, map.few))
+
+  owned_here : (other : ℕ) → byte ≤ other → other < slice_index m.starts (place + 1)
+      → IsOwner m.file.value.entries other (owner_at place)
+  owned_here other from to = map.runs_are.owned place other at.inside
+      (in_run ADDRESS_LIMIT (IsOwner m.file.value.entries) m.runs.items map.runs_are place other at.inside
+      (omega (arith, at.here.0, from)) (omega (arith, to, next_start)))
+
+  past_here : byte < slice_index m.starts (place + 1)
+  past_here = omega (arith, at.here.1, map.runs_are.gapless place at.inside, next_start)
+
+  next_owned : slice_index m.starts (place + 1) < ADDRESS_LIMIT → (other : Option ℕ)
+      → IsOwner m.file.value.entries (slice_index m.starts (place + 1)) other → owner_at place ≢ other
+  next_owned more other owned =
+      let next = start_at ADDRESS_LIMIT m.runs.items (place + 1) in
+      let inside_next : place + 1 < length m.runs.items = elim (cases_lt (place + 1) (length m.runs.items)) [
+        | inl lt ↦ lt
+        | inr past ↦ absurd (omega (arith, next_start, start_past ADDRESS_LIMIT m.runs.items (place + 1) past, more))
+      ] in
+      let proper = map.runs_are.proper (place + 1) inside_next in
+      let there : owner_at (place + 1) ≡ other = same_owner m.file.value.entries next (owner_at (place + 1)) other
+      (map.runs_are.owned (place + 1) next inside_next (omega arith, proper)) (rw next_start at owned) in
+      λ same. map.runs_are.apart place inside_next (same ∙ sym there)
+
+  module _ (mode : Mode) (size : ℕ) (full : 0 < size) (ends : byte + size ≤ ADDRESS_LIMIT) where
+    pub whole_rights : byte + size ≤ slice_index m.starts (place + 1)
+        → AreRangeRights m.file.value mode byte size (Some (perms_of (owned_rights m.file.value (owner_at place) mode)))
+    whole_rights short = rights_by_owner m.file.value map.addresses mode byte size full (owner_at place)
+        (λ other from to. owned_here other from (omega arith))
+
+    pub mixed_rights : slice_index m.starts (place + 1) < byte + size
+        → AreRangeRights m.file.value mode byte size None
+    mixed_rights long =
+        let past = past_here in
+        rights_of_two m.file.value map.addresses mode byte size full (owner_at place)
+        (slice_index m.starts (place + 1)) (owned_here byte (omega arith) past_here) (omega arith) long
+        (next_owned (omega arith))
