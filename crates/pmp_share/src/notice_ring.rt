@@ -74,8 +74,9 @@ impl Publisher {
     {
         let first = self.tell()?;
         let (sent, received) = (Snapshot::of(&first), Snapshot::of(&first));
-        let (mut producer, mut consumer) =
-            RingBuffer::with_protocol::<Global, OneUnit>(alloc, room)?;
+        let (mut producer, mut consumer) = RingBuffer::with_protocol::<Global, OneUnit>(
+            alloc, room,
+        )?;
         producer.push_reserved(first);
         consumer.slots_beside(&mut producer);
         let _ = consumer.pop_known();
