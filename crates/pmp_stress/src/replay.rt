@@ -74,6 +74,18 @@ impl Published {
     }
 }
 
+/// Whether the register file says the same of the access.
+fn is_so(file: &RegFile, access: &Access, said: Said) -> bool {
+    match said {
+        Said::Decision(decision) => file.decide(access) == decision,
+        Said::Rights(rights) => {
+            rights_in(file, access.mode, access.start, access.length) == rights
+        }
+        Said::Register(value) => file.read(Csr::Cfg(0)) == value,
+        Said::Nothing => true,
+    }
+}
+
 /// The register file after so many published events.
 #[derive(Drop)]
 struct Replay<'a> {
@@ -98,18 +110,6 @@ impl<'a> Replay<'a> {
 
     /// Whether the answer is that of the events that it counts.
     fn fits(&mut self, answer: &Answer) -> bool {
-        self.goes_to(answer.count as usize) && self.says(&answer.access, answer.said)
-    }
-
-    /// Whether the register file says the same.
-    fn says(&self, access: &Access, said: Said) -> bool {
-        match said {
-            Said::Decision(decision) => self.file.decide(access) == decision,
-            Said::Rights(rights) => {
-                rights_in(&self.file, access.mode, access.start, access.length) == rights
-            }
-            Said::Register(value) => self.file.read(Csr::Cfg(0)) == value,
-            Said::Nothing => true,
-        }
+        self.goes_to(answer.count as usize) && is_so(&self.file, &answer.access, answer.said)
     }
 }
