@@ -1,5 +1,5 @@
 -- The records of a text that is cut at a line end.
-use Rattle.std.proofs.Common.{◌≡◌, ℕ, ◌&&◌, ◌⊎◌, Bool, true, false, cond, List, [], ◌∷◌, ◌++◌, Option, Some, None}
+use Rattle.std.proofs.Common.{◌≡◌, ℕ, ◌+◌, ◌*◌, ◌≤◌, length, arith, ◌&&◌, ◌⊎◌, Bool, true, false, cond, List, [], ◌∷◌, ◌++◌, Option, Some, None}
 use Rattle.std.proofs.Common.{refl, sym, ap, ◌∙◌, inl, inr, append_assoc, append-nil}
 use Rattle.std.specs.Prelude.{◌==◌}
 use Rattle.csv.specs.declared.parser.State.{State}
@@ -156,3 +156,44 @@ module _ (bytes : List ℕ) (e : ℕ) where
                 let (one, rest, are, is_broken) = broken.1 more in (one, rest, whole front is more ∙ are, is_broken),
           )
         ]
+
+-- ---- how many
+
+few_at_end : (ends : Bool) (one : List (List ℕ)) → length (cond ends (one ∷ []) []) ≤ 2 * 0 + 1
+few_at_end true one = omega arith
+few_at_end false one = omega arith
+
+few_split : (bytes : List ℕ) (s : State) (fields : List (List ℕ)) (field : List ℕ)
+    → length (split s fields field bytes) ≤ 2 * length bytes + 1
+unfolding split
+few_split [] s fields field = few_at_end (ends_at_end s) (fields ++ (field ∷ []))
+few_split (c ∷ rest) s fields field =
+    few_on c rest (is_end (turn s c).1) (fields_after (turn s c).1 fields field)
+    (split (turn s c).0 [] [] rest)
+    (split (turn s c).0 (fields_after (turn s c).1 fields field) (field_after (turn s c).1 c field) rest)
+    (few_split rest (turn s c).0 [] [])
+    (few_split rest (turn s c).0 (fields_after (turn s c).1 fields field) (field_after (turn s c).1 c field))
+  where
+    few_on : (c : ℕ) (rest : List ℕ) (ends : Bool) (one : List (List ℕ)) (anew on : Records)
+        → length anew ≤ 2 * length rest + 1 → length on ≤ 2 * length rest + 1
+        → length (cond ends (one ∷ anew) on) ≤ 2 * length (c ∷ rest) + 1
+    few_on c rest true one anew on less more = omega arith
+    few_on c rest false one anew on less more = omega arith
+
+few_bytes : (text : List ℕ) → length (strip_bom text) ≤ length text
+unfolding strip_bom
+few_bytes [] = omega arith
+few_bytes (a ∷ []) = omega arith
+few_bytes (a ∷ b ∷ []) = omega arith
+few_bytes (a ∷ b ∷ c ∷ rest) = by (is_bom a b c)
+  where
+    by : (mark : Bool) → length (cond mark rest (a ∷ b ∷ c ∷ rest)) ≤ length (a ∷ b ∷ c ∷ rest)
+    by true = omega arith
+    by false = omega arith
+
+-- a text has few records
+pub few_records : (text : List ℕ) → length (records_of text) ≤ 2 * length text + 1
+few_records text =
+    let split_few = few_split (strip_bom text) st.StartRecord [] [] in
+    let less = few_bytes text in
+    rw (by_split (strip_bom text)) (omega arith)

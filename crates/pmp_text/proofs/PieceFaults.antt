@@ -29,7 +29,7 @@ module _ (publications : ℕ) where
   rows_from_none last next rows e = from_none (least_of publications last) (afters (filter_map row_of_record rows))
       (rows_in_order publications rows last next e)
 
-  behind : (named : Bool) (last : Option ℕ) (next : ℕ) (rows : Records)
+  pub behind : (named : Bool) (last : Option ℕ) (next : ℕ) (rows : Records)
       → cond named (first_row_fault publications last next rows) (Some (at_row 0 BadHeader)) ≡ None
       → first_row_fault publications last next rows ≡ None
   behind true last next rows e = e

@@ -1,5 +1,5 @@
 -- What a trace of any length means, what a piece of it means where it stands, and how both are reported.
-use Rattle.std.specs.Prelude.{◌≡◌, ◌⊎◌, ℕ, ◌+◌, ◌^◌, ◌≤◌, List, [], ◌∷◌, ◌++◌, length, map, filter_map, Bool, true, false}
+use Rattle.std.specs.Prelude.{◌≡◌, ◌⊎◌, ℕ, ◌+◌, ◌^◌, ◌<◌, ◌≤◌, List, [], ◌∷◌, ◌++◌, length, map, filter_map, Bool, true, false}
 use Rattle.std.specs.Prelude.{◌==◌, ◌||◌, Option, Some, None, Result, Ok, Err, if◌then◌else◌}
 use Rattle.std.specs.List.{zip, enumerate_from, flat_map, list_any}
 use Rattle.pmp_core.specs.declared.decision.Decision.{Decision}
@@ -110,5 +110,6 @@ abbrev pub IsReadAs : (first_fault : Option TraceFault) → (rows : Records) →
     → Type 0
 IsReadAs first_fault rows behind (Ok piece) = (first_fault ≡ None)
     × (map row_fields piece.rows.items ≡ filter_map row_of_record rows) × (piece.place ≡ behind)
+    × (behind.next < 2 ^ 64)
 IsReadAs first_fault rows behind (Err fault) = (first_fault ≡ Some fault) ⊎ (fault ≡ no_memory_for_rows)
     ⊎ (fault ≡ no_input_for_rows) ⊎ ((fault ≡ too_long_for_rows) × (2 ^ 64 ≤ behind.next))

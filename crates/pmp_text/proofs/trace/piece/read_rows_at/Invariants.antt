@@ -1,4 +1,4 @@
-use Rattle.std.proofs.Common.{◌≡◌, ◌+◌, ◌++◌, true, length, map}
+use Rattle.std.proofs.Common.{◌≡◌, ◌+◌, ◌^◌, ◌<◌, ◌++◌, true, length, map}
 use Rattle.std.specs.Prelude.{filter_map}
 use Rattle.pmp_text.specs.LongTraces.{last_after}
 use Rattle.pmp_text.specs.Steps.Records.{IsReading, records_left}
@@ -10,7 +10,7 @@ abbrev pub invariant-loop-rows : goal.invariant-loop-rows
 invariant-loop-rows l =
     let all = records_left l.fn.reader in
     let left = records_left l.reader in
-    IsReading l.reader × (l.place.begun ≡ true)
+    IsReading l.reader × (l.place.begun ≡ true) × (l.place.next < 2 ^ 64)
     × (first_row_fault l.publications l.fn.start.last l.fn.start.next all
     ≡ first_row_fault l.publications l.place.last l.place.next left)
     × (filter_map row_of_record all ≡ map row_fields l.rows.items ++ filter_map row_of_record left)
