@@ -1,5 +1,5 @@
 -- The first fault of a policy's rows is that of the least faulty row.
-use Rattle.std.proofs.Common.{◌≡◌, ℕ, suc, ◌+◌, ◌≤◌, true, List, [], ◌∷◌, length, Option, Some, Err, refl, ap, ◌∙◌}
+use Rattle.std.proofs.Common.{◌≡◌, ℕ, suc, ◌+◌, ◌≤◌, true, List, [], ◌∷◌, length, Option, Err, refl, ap, ◌∙◌}
 use Rattle.std.proofs.Common.{arith}
 use Rattle.std.specs.Prelude.{filter_map, option_map, option_and_then, slice_get}
 use Rattle.pmp_text.specs.declared.trace.TraceFault.{TraceFault}

@@ -21,7 +21,7 @@ use Rattle.pmp_text.specs.declared.trace.reader.TheConstants.{MAX_TRACE}
 use Rattle.pmp_text.proofs.LeastFaults.{Judges, judged_here, judged_as, the_first}
 use Rattle.pmp_text.proofs.Rows.{by_records, this_header, trace_is}
 
-abbrev Records : Type 0
+abbrev pub Records : Type 0
 Records = List (List (List ℕ))
 
 module _ (publications : ℕ) where
@@ -86,7 +86,7 @@ module _ (publications : ℕ) where
 
   -- ---- order
 
-  abbrev least_of : Option ℕ → ℕ
+  abbrev pub least_of : Option ℕ → ℕ
   least_of last = unwrap_or last 0
 
   not_behind : (last : Option ℕ) (after : ℕ) → falls_behind last after ≡ false → least_of last ≤ after
@@ -109,7 +109,7 @@ module _ (publications : ℕ) where
     in_time false true e f fine = absurd cc
     in_time false false e f fine = (not_behind last row.after f, ltb-false publications row.after e)
 
-  rows_in_order : (rows : Records) (last : Option ℕ) (number : ℕ) → first_row_fault publications last number rows ≡ None
+  pub rows_in_order : (rows : Records) (last : Option ℕ) (number : ℕ) → first_row_fault publications last number rows ≡ None
       → IsInOrder publications (least_of last) (afters (filter_map row_of_record rows))
   rows_in_order [] = λ last number e. tt
   rows_in_order (row ∷ more) = λ last number e. by (row_of_record row) refl last number e (rows_in_order more)

@@ -3,12 +3,14 @@ pub mod AccessWords
 pub mod Bytes
 pub mod Changes
 pub mod Contents
+pub mod Cutting
 pub mod Dumps
 pub mod Effects
 pub mod EntryRows
 pub mod Hexadecimal
 pub mod Inputs
 pub mod Lines
+pub mod LongTraces
 pub mod Names
 pub mod Numbers
 pub mod Outcomes

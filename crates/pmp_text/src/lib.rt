@@ -3,6 +3,7 @@
 #![tactic(auto)]
 
 mod access_words;
+mod cutter;
 mod input;
 pub mod laws;
 mod lines;
@@ -14,6 +15,7 @@ mod script;
 mod trace;
 
 pub use access_words::{read_kind, read_mode};
+pub use cutter::{Cut, cut_piece};
 pub use input::{InputFault, MAX_LIMIT, read_bytes, read_script_bytes, read_trace_bytes};
 pub use lines::{
     Breach, Change, EventPlace, NoMemory, Only, Since, write_changes, write_effect, write_entries,
@@ -23,4 +25,4 @@ pub use numbers::read_word_number;
 pub use output::{OutputFault, write_out};
 pub use policy::{Demand, Kinds, Modes, PolicyRow, read_policy};
 pub use script::{MAX_SCRIPT, Script, ScriptFault, ScriptKind, read_script};
-pub use trace::{MAX_TRACE, Row, TraceFault, TraceKind, read_trace};
+pub use trace::{MAX_TRACE, Piece, Place, Row, TraceFault, TraceKind, read_piece, read_trace};

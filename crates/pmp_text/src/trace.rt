@@ -6,10 +6,12 @@ ghost use Rattle.pmp_text.specs.Outcomes.{no_memory_for_rows, csv_fault};
 ghost use Rattle.pmp_text.specs.Tables.{at_row};
 ghost use Rattle.pmp_text.specs.Traces.{access_kind};
 
+mod piece;
 mod reader;
 mod records;
 mod row_fields;
 
+pub use piece::{Piece, Place, read_piece};
 use pmp_core::{Access, AccessFault};
 pub use reader::{MAX_TRACE, read_trace};
 pub(crate) use records::{open_records, read_record};

@@ -1,0 +1,188 @@
+-- A record that has a line end in a field is neither a row nor a header.
+use Rattle.std.proofs.Common.{◌≡◌, ℕ, Bool, true, false, cond, List, [], ◌∷◌, ◌++◌, Option}
+use Rattle.std.proofs.Common.{Some, None, refl, sym, ap, ◌∙◌, inl, inr}
+use Rattle.std.specs.Prelude.{◌&&◌, ◌||◌, bytes_eq, codes, drop, take, length, nat_lt, nat_le, ◌^◌}
+use Rattle.std.specs.Str.Parse.{digits_value}
+use Rattle.std.specs.Char.{is_digit}
+use Rattle.std.specs.List.{list_all, list_any}
+use Rattle.std.proofs.lemmas.List.{take-append-drop}
+use Rattle.std.proofs.lemmas.List.Folds.{list_any-append}
+use Rattle.std.proofs.lemmas.Slice.Eq.{bytes_eq-Decides}
+use Rattle.pmp_core.specs.declared.access.Kind.{Kind}
+use Rattle.pmp_core.specs.declared.access.Mode.{Mode}
+use Rattle.pmp_text.specs.AccessWords.{kind_named, mode_named}
+use Rattle.pmp_text.specs.LongTraces.{is_line_end}
+use Rattle.pmp_text.specs.Numbers.{is_numeral, numeral, word_number}
+use Rattle.pmp_text.specs.Traces.{five_fields, is_header, row_of_record, row_of_values}
+use Rattle.pmp_text.specs.declared.trace.row_fields.RowFields.{RowFields}
+use Rattle.pmp_text.proofs.LineCuts.{is_broken, line_ends}
+
+abbrev has_end : List ℕ → Bool
+has_end word = list_any is_line_end word
+
+module _ (passes : ℕ → Bool) (not_cr : passes 13 ≡ false) (not_lf : passes 10 ≡ false) where
+  fails : (e : ℕ) → is_line_end e ≡ true → passes e ≡ false
+  fails e ends = elim (line_ends e ends) [ inl cr ↦ rw cr not_cr | inr lf ↦ rw lf not_lf ]
+
+  and_later : (b c : Bool) → c ≡ false → (b && c) ≡ false
+  and_later true c e = e
+  and_later false c e = refl
+
+  and_here : (b c : Bool) → b ≡ false → (b && c) ≡ false
+  and_here true c e = absurd cc
+  and_here false c e = refl
+
+  not_all_of : (byte : ℕ) (rest : List ℕ) (ends : Bool) → is_line_end byte ≡ ends → (ends || has_end rest) ≡ true
+      → (has_end rest ≡ true → list_all passes rest ≡ false) → list_all passes (byte ∷ rest) ≡ false
+  not_all_of byte rest true is e later = and_here (passes byte) (list_all passes rest) (fails byte is)
+  not_all_of byte rest false is e later = and_later (passes byte) (list_all passes rest) (later e)
+
+  not_all : (word : List ℕ) → has_end word ≡ true → list_all passes word ≡ false
+  not_all [] e = absurd cc
+  not_all (byte ∷ rest) e = not_all_of byte rest (is_line_end byte) refl e (not_all rest)
+
+no_numeral : (a b c d : Bool) (value : ℕ) → c ≡ false → cond ((a && b && c) && d) (Some value) None ≡ None
+no_numeral true true c d value e = rw e refl
+no_numeral true false c d value e = refl
+no_numeral false b c d value e = refl
+
+no_decimal : (word : List ℕ) → has_end word ≡ true → numeral 10 20 word ≡ None
+unfolding numeral is_numeral
+no_decimal word e = no_numeral (nat_lt 0 (length word)) (nat_le (length word) 20)
+    (list_all (λ byte. is_digit byte 10) word) (nat_lt (digits_value 10 word) (2 ^ 64)) (digits_value 10 word)
+    (not_all (λ byte. is_digit byte 10) refl refl word e)
+
+no_hexadecimal : (word : List ℕ) → has_end word ≡ true → numeral 16 16 word ≡ None
+unfolding numeral is_numeral
+no_hexadecimal word e = no_numeral (nat_lt 0 (length word)) (nat_le (length word) 16)
+    (list_all (λ byte. is_digit byte 16) word) (nat_lt (digits_value 16 word) (2 ^ 64)) (digits_value 16 word)
+    (not_all (λ byte. is_digit byte 16) refl refl word e)
+
+other_word : (word known : List ℕ) → has_end word ≡ true → has_end known ≡ false → bytes_eq word known ≡ false
+other_word word known ends none = by (bytes_eq word known) refl
+  where
+    by : (same : Bool) → bytes_eq word known ≡ same → bytes_eq word known ≡ false
+    by true e =
+        let equal : word ≡ known = (bytes_eq-Decides word known).0 e in
+        let both : true ≡ false = sym ends ∙ ap has_end equal ∙ none in
+        absurd cc
+    by false e = e
+
+no_number : (word : List ℕ) → has_end word ≡ true → word_number word ≡ None
+no_number word ends = by (bytes_eq (take 2 word) (codes "0x")) refl
+  where
+    by : (hexadecimal : Bool) → bytes_eq (take 2 word) (codes "0x") ≡ hexadecimal
+        → cond hexadecimal (numeral 16 16 (drop 2 word)) (numeral 10 20 word) ≡ None
+    by true e =
+        let front : has_end (take 2 word) ≡ false = ap has_end ((bytes_eq-Decides (take 2 word) (codes "0x")).0 e) in
+        let both : has_end (take 2 word ++ drop 2 word) ≡ true = ap has_end (take-append-drop 2 word) ∙ ends in
+        let split : (has_end (take 2 word) || has_end (drop 2 word)) ≡ true =
+        sym (list_any-append is_line_end (take 2 word) (drop 2 word)) ∙ both in
+        no_hexadecimal (drop 2 word) (rw front at split)
+    by false e = no_decimal word ends
+
+no_mode : (word : List ℕ) → has_end word ≡ true → mode_named word ≡ None
+no_mode word ends = rw (
+  other_word word (codes "M") ends refl,
+  other_word word (codes "S") ends refl,
+  other_word word (codes "U") ends refl,
+) refl
+
+no_kind : (word : List ℕ) → has_end word ≡ true → kind_named word ≡ None
+no_kind word ends = rw (
+  other_word word (codes "fetch") ends refl,
+  other_word word (codes "load") ends refl,
+  other_word word (codes "store") ends refl,
+) refl
+
+-- ---- five words
+
+module _ (after : Option ℕ) (mode : Option Mode) (kind : Option Kind) (start length : Option ℕ) where
+  without_after : after ≡ None → row_of_values after mode kind start length ≡ None
+  without_after e = rw e refl
+
+without_mode : (after : Option ℕ) (mode : Option Mode) (kind : Option Kind) (start length : Option ℕ) → mode ≡ None
+    → row_of_values after mode kind start length ≡ None
+without_mode None mode kind start length e = refl
+without_mode (Some after) mode kind start length e = rw e refl
+
+without_kind : (after : Option ℕ) (mode : Option Mode) (kind : Option Kind) (start length : Option ℕ) → kind ≡ None
+    → row_of_values after mode kind start length ≡ None
+without_kind None mode kind start length e = refl
+without_kind (Some after) None kind start length e = refl
+without_kind (Some after) (Some mode) kind start length e = rw e refl
+
+without_start : (after : Option ℕ) (mode : Option Mode) (kind : Option Kind) (start length : Option ℕ) → start ≡ None
+    → row_of_values after mode kind start length ≡ None
+without_start None mode kind start length e = refl
+without_start (Some after) None kind start length e = refl
+without_start (Some after) (Some mode) None start length e = refl
+without_start (Some after) (Some mode) (Some kind) start length e = rw e refl
+
+without_length : (after : Option ℕ) (mode : Option Mode) (kind : Option Kind) (start length : Option ℕ)
+    → length ≡ None → row_of_values after mode kind start length ≡ None
+without_length None mode kind start length e = refl
+without_length (Some after) None kind start length e = refl
+without_length (Some after) (Some mode) None start length e = refl
+without_length (Some after) (Some mode) (Some kind) None length e = refl
+without_length (Some after) (Some mode) (Some kind) (Some start) length e = rw e refl
+
+module _ (after mode kind start length : List ℕ) where
+  abbrev values : Option RowFields
+  values = row_of_values (word_number after) (mode_named mode) (kind_named kind) (word_number start)
+      (word_number length)
+
+  no_values : (a m k s l : Bool) → has_end after ≡ a → has_end mode ≡ m → has_end kind ≡ k → has_end start ≡ s
+      → has_end length ≡ l → (a || (m || (k || (s || (l || false))))) ≡ true → values ≡ None
+  no_values true m k s l ea em ek es el e = without_after _ _ _ _ _ (no_number after ea)
+  no_values false true k s l ea em ek es el e = without_mode _ _ _ _ _ (no_mode mode em)
+  no_values false false true s l ea em ek es el e = without_kind _ _ _ _ _ (no_kind kind ek)
+  no_values false false false true l ea em ek es el e = without_start _ _ _ _ _ (no_number start es)
+  no_values false false false false true ea em ek es el e = without_length _ _ _ _ _ (no_number length el)
+  no_values false false false false false ea em ek es el e = absurd cc
+
+pub no_row : (fields : List (List ℕ)) → is_broken fields ≡ true → row_of_record fields ≡ None
+unfolding five_fields
+no_row [] e = refl
+no_row (after ∷ []) e = refl
+no_row (after ∷ mode ∷ []) e = refl
+no_row (after ∷ mode ∷ kind ∷ []) e = refl
+no_row (after ∷ mode ∷ kind ∷ start ∷ []) e = refl
+no_row (after ∷ mode ∷ kind ∷ start ∷ length ∷ []) e = no_values after mode kind start length
+    (has_end after) (has_end mode) (has_end kind) (has_end start) (has_end length) refl refl refl refl refl e
+no_row (after ∷ mode ∷ kind ∷ start ∷ length ∷ other ∷ more) e = refl
+
+-- ---- a header
+
+later : (here rest : Bool) → rest ≡ false → (here && rest) ≡ false
+later true rest e = e
+later false rest e = refl
+
+module _ (after mode kind start length : List ℕ) where
+  no_names : (a m k s l : Bool) → has_end after ≡ a → has_end mode ≡ m → has_end kind ≡ k → has_end start ≡ s
+      → has_end length ≡ l → (a || (m || (k || (s || (l || false))))) ≡ true
+      → is_header (after ∷ mode ∷ kind ∷ start ∷ length ∷ []) ≡ false
+  unfolding five_fields
+  no_names true m k s l ea em ek es el e = rw (other_word after (codes "after") ea refl) refl
+  no_names false true k s l ea em ek es el e =
+      later (bytes_eq after (codes "after")) _ (rw (other_word mode (codes "mode") em refl) refl)
+  no_names false false true s l ea em ek es el e = later (bytes_eq after (codes "after")) _
+      (later (bytes_eq mode (codes "mode")) _ (rw (other_word kind (codes "kind") ek refl) refl))
+  no_names false false false true l ea em ek es el e = later (bytes_eq after (codes "after")) _
+      (later (bytes_eq mode (codes "mode")) _ (later (bytes_eq kind (codes "kind")) _
+      (rw (other_word start (codes "start") es refl) refl)))
+  no_names false false false false true ea em ek es el e = later (bytes_eq after (codes "after")) _
+      (later (bytes_eq mode (codes "mode")) _ (later (bytes_eq kind (codes "kind")) _
+      (later (bytes_eq start (codes "start")) _ (other_word length (codes "length") el refl))))
+  no_names false false false false false ea em ek es el e = absurd cc
+
+pub no_header : (fields : List (List ℕ)) → is_broken fields ≡ true → is_header fields ≡ false
+unfolding five_fields
+no_header [] e = refl
+no_header (after ∷ []) e = refl
+no_header (after ∷ mode ∷ []) e = refl
+no_header (after ∷ mode ∷ kind ∷ []) e = refl
+no_header (after ∷ mode ∷ kind ∷ start ∷ []) e = refl
+no_header (after ∷ mode ∷ kind ∷ start ∷ length ∷ []) e = no_names after mode kind start length
+    (has_end after) (has_end mode) (has_end kind) (has_end start) (has_end length) refl refl refl refl refl e
+no_header (after ∷ mode ∷ kind ∷ start ∷ length ∷ other ∷ more) e = refl

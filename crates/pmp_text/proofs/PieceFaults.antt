@@ -1,0 +1,196 @@
+-- The first fault of records, part by part.
+use Rattle.std.proofs.Common.{◌≡◌, ℕ, suc, ◌+◌, Bool, true, false, cond, List, [], ◌∷◌, ◌++◌, length, map, Option, Some}
+use Rattle.std.proofs.Common.{None, Ok, Err, IfOk, Result, refl, sym, ap, ◌∙◌, inl, inr, arith}
+use Rattle.std.specs.Prelude.{filter_map, option_map}
+use Rattle.std.specs.Option.{option_or}
+use Rattle.std.proofs.lemmas.List.{length-append}
+use Rattle.std.proofs.lemmas.List.Elements.{filter_map-append}
+use Rattle.pmp_text.specs.declared.trace.TraceFault.{TraceFault}
+use Rattle.pmp_text.specs.declared.trace.TraceKind.TheVariants.{BadHeader, BadRow}
+use Rattle.pmp_text.specs.declared.trace.piece.Piece.{Piece}
+use Rattle.pmp_text.specs.declared.trace.piece.Place.{Place}
+use Rattle.pmp_text.specs.LongTraces.{IsReadAs, Records, first_fault_at, has_begun, is_line_end, last_after}
+use Rattle.pmp_text.specs.LongTraces.{piece_fault, place_behind, row_records}
+use Rattle.pmp_text.specs.Tables.{at_row, records_of}
+use Rattle.pmp_text.specs.TraceFaults.{IsInOrder, afters}
+use Rattle.pmp_text.specs.Traces.{after_of, first_row_fault, is_header, row_fault, row_fields, row_of_record}
+use Rattle.pmp_text.proofs.BrokenRows.{no_row, no_header}
+use Rattle.pmp_text.proofs.CutTexts.{IsApart, cut_in_two}
+use Rattle.pmp_text.proofs.LineCuts.{is_broken}
+use Rattle.pmp_text.proofs.LeastRows.{least_of, rows_in_order}
+
+module _ (publications : ℕ) where
+  from_none : (least : ℕ) (order : List ℕ) → IsInOrder publications least order → IsInOrder publications 0 order
+  from_none least [] in_order = tt
+  from_none least (after ∷ more) in_order = (omega arith, in_order.1, in_order.2)
+
+  rows_from_none : (last : Option ℕ) (next : ℕ) (rows : Records) → first_row_fault publications last next rows ≡ None
+      → IsInOrder publications 0 (afters (filter_map row_of_record rows))
+  rows_from_none last next rows e = from_none (least_of publications last) (afters (filter_map row_of_record rows))
+      (rows_in_order publications rows last next e)
+
+  pub behind : (named : Bool) (last : Option ℕ) (next : ℕ) (rows : Records)
+      → cond named (first_row_fault publications last next rows) (Some (at_row 0 BadHeader)) ≡ None
+      → first_row_fault publications last next rows ≡ None
+  behind true last next rows e = e
+  behind false last next rows e = absurd cc
+
+  piece_in_order : (begun : Bool) (last : Option ℕ) (next : ℕ) (records : Records)
+      → first_fault_at publications begun last next records ≡ None
+      → IsInOrder publications 0 (afters (filter_map row_of_record (row_records begun records)))
+  piece_in_order true last next records e = rows_from_none last next records e
+  piece_in_order false last next [] e = tt
+  piece_in_order false last next (header ∷ rows) e =
+      rows_from_none last next rows (behind (is_header header) last next rows e)
+
+  pub read_in_order : (place behind : Place) (records : Records) (result : Result Piece TraceFault)
+      → IsReadAs (piece_fault publications place records) (row_records place.begun records) behind result
+      → IfOk result (λ piece. IsInOrder publications 0 (afters (map row_fields piece.rows.items)))
+  read_in_order place behind records (Ok piece) read =
+      rw (read.1) (piece_in_order place.begun place.last place.next records read.0)
+  read_in_order place behind records (Err fault) read = tt
+
+  -- ---- records after records
+
+  or_assoc : (x y z : Option TraceFault) → option_or x (option_or y z) ≡ option_or (option_or x y) z
+  or_assoc None y z = refl
+  or_assoc (Some fault) y z = refl
+
+  from_next : (rows : Records) (last : Option ℕ) (next : ℕ)
+      → first_row_fault publications last next rows ≡ first_row_fault publications last (next + 0) rows
+  from_next rows last next = let same : next ≡ next + 0 = omega arith in
+      ap (λ (n : ℕ). first_row_fault publications last n rows) same
+
+  pub rows_in_turn : (rows more : Records) (last : Option ℕ) (next : ℕ)
+      → first_row_fault publications last next (rows ++ more)
+      ≡ option_or (first_row_fault publications last next rows)
+      (first_row_fault publications (last_after last rows) (next + length rows) more)
+  rows_in_turn [] more last next = from_next more last next
+  rows_in_turn (row ∷ rows) more last next =
+      let here = option_map (at_row next) (row_fault publications last (row_of_record row)) in
+      let after = after_of (row_of_record row) in
+      let number : next + 1 + length rows ≡ next + suc (length rows) = omega arith in
+      ap (option_or here) (rows_in_turn rows more after (next + 1))
+      ∙ or_assoc here (first_row_fault publications after (next + 1) rows)
+      (first_row_fault publications (last_after after rows) (next + 1 + length rows) more)
+      ∙ ap (λ (n : ℕ). option_or (option_or here (first_row_fault publications after (next + 1) rows))
+      (first_row_fault publications (last_after after rows) n more)) number
+
+  module _ (last : Option ℕ) (next : ℕ) where
+    abbrev next_fault : Bool → Records → Records → Option TraceFault
+    next_fault begun records more = first_fault_at publications (has_begun begun records)
+        (last_after last (row_records begun records)) (next + length (row_records begun records)) more
+
+    by_header : (named : Bool) (rows more : Records)
+        → cond named (first_row_fault publications last next (rows ++ more)) (Some (at_row 0 BadHeader))
+        ≡ option_or (cond named (first_row_fault publications last next rows) (Some (at_row 0 BadHeader)))
+        (first_row_fault publications (last_after last rows) (next + length rows) more)
+    by_header true rows more = rows_in_turn rows more last next
+    by_header false rows more = refl
+
+    pub in_turn : (begun : Bool) (records more : Records)
+        → first_fault_at publications begun last next (records ++ more)
+        ≡ option_or (first_fault_at publications begun last next records) (next_fault begun records more)
+    in_turn true records more = rows_in_turn records more last next
+    in_turn false [] more = let same : next ≡ next + 0 = omega arith in
+        ap (λ (n : ℕ). first_fault_at publications false last n more) same
+    in_turn false (header ∷ rows) more = by_header (is_header header) rows more
+
+  -- ---- a broken record
+
+  abbrev broken_fault : Bool → ℕ → TraceFault
+  broken_fault begun next = cond begun (at_row next BadRow) (at_row 0 BadHeader)
+
+  broken_here : (begun : Bool) (last : Option ℕ) (next : ℕ) (one : List (List ℕ)) (rest : Records)
+      → is_broken one ≡ true
+      → first_fault_at publications begun last next (one ∷ rest) ≡ Some (broken_fault begun next)
+  broken_here true last next one rest e = rw (no_row one e) refl
+  broken_here false last next one rest e = rw (no_header one e) refl
+
+  abbrev fault_with : Place → Records → Option TraceFault
+  fault_with place front = option_or (piece_fault publications place front)
+      (Some (broken_fault (has_begun place.begun front) (place.next + length (row_records place.begun front))))
+
+  -- a broken record has the same fault, however it goes on
+  pub broken_in_turn : (place : Place) (front : Records) (one : List (List ℕ)) (rest : Records)
+      → is_broken one ≡ true → piece_fault publications place (front ++ one ∷ rest) ≡ fault_with place front
+  broken_in_turn place front one rest e = in_turn place.last place.next place.begun front (one ∷ rest)
+      ∙ ap (option_or (piece_fault publications place front)) (broken_here (has_begun place.begun front)
+      (last_after place.last (row_records place.begun front))
+      (place.next + length (row_records place.begun front)) one rest e)
+
+  some_or : (x : Option TraceFault) (fault : TraceFault) → option_or x (Some fault) ≡ None → ⊥
+  some_or None fault e = absurd cc
+  some_or (Some other) fault e = absurd cc
+
+  -- ---- a piece that ends at a line's end
+
+  module _ (place : Place) (bytes : List ℕ) (e : ℕ) (ends : is_line_end e ≡ true) where
+    pub apart : piece_fault publications place (records_of (bytes ++ e ∷ [])) ≡ None → IsApart bytes e
+    apart fine = elim (cut_in_two bytes e ends) [
+      | inl in_two ↦ in_two
+      | inr (front, goes_on) ↦
+          let (one, rest, are, broken) = goes_on [] in
+          absurd (some_or (piece_fault publications place front) _
+          (sym (ap (piece_fault publications place) are ∙ broken_in_turn place front one rest broken) ∙ fine))
+    ]
+
+    pub fault_stays : (fault : TraceFault) → piece_fault publications place (records_of (bytes ++ e ∷ [])) ≡ Some fault
+        → (more : List ℕ) → piece_fault publications place (records_of (bytes ++ e ∷ more)) ≡ Some fault
+    fault_stays fault found more = elim (cut_in_two bytes e ends) [
+      | inl in_two ↦ ap (piece_fault publications place) (in_two more)
+          ∙ in_turn place.last place.next place.begun (records_of (bytes ++ e ∷ [])) (records_of (e ∷ more))
+          ∙ ap (λ (x : Option TraceFault). option_or x (next_fault place.last place.next place.begun
+          (records_of (bytes ++ e ∷ [])) (records_of (e ∷ more)))) found
+      | inr (front, goes_on) ↦
+          let (one, rest, are, broken) = goes_on [] in
+          let (other, others, are_now, is_broken) = goes_on more in
+          ap (piece_fault publications place) are_now ∙ broken_in_turn place front other others is_broken
+          ∙ sym (ap (piece_fault publications place) are ∙ broken_in_turn place front one rest broken) ∙ found
+    ]
+
+-- ---- places
+
+rows_apart : (begun : Bool) (records more : Records)
+    → row_records begun (records ++ more) ≡ row_records begun records ++ row_records (has_begun begun records) more
+rows_apart true records more = refl
+rows_apart false [] more = refl
+rows_apart false (header ∷ rows) more = refl
+
+begun_apart : (begun : Bool) (records more : Records)
+    → has_begun begun (records ++ more) ≡ has_begun (has_begun begun records) more
+begun_apart true records more = refl
+begun_apart false [] more = refl
+begun_apart false (header ∷ rows) more = refl
+
+last_apart : (rows more : Records) (last : Option ℕ) → last_after last (rows ++ more) ≡ last_after (last_after last rows) more
+last_apart [] more last = refl
+last_apart (row ∷ rows) more last = last_apart rows more (after_of (row_of_record row))
+
+-- where records stand that follow on records
+pub places_in_turn : (place : Place) (records more : Records)
+    → place_behind place (records ++ more) ≡ place_behind (place_behind place records) more
+places_in_turn place records more =
+    let begun = has_begun place.begun records in
+    let rows = row_records place.begun records in
+    let later = row_records begun more in
+    let all : row_records place.begun (records ++ more) ≡ rows ++ later = rows_apart place.begun records more in
+    let number : place.next + length (rows ++ later) ≡ place.next + length rows + length later =
+    let many = length-append rows later in omega arith in
+    (λ i. record {
+      begun = begun_apart place.begun records more i;
+      last = last_after place.last (all i);
+      next = place.next + length (all i);
+    })
+    ∙ (λ i. record {
+      begun = has_begun begun more;
+      last = last_apart rows later place.last i;
+      next = number i;
+    })
+
+pub rows_in_two : (begun : Bool) (records more : Records)
+    → filter_map row_of_record (row_records begun (records ++ more))
+    ≡ filter_map row_of_record (row_records begun records)
+    ++ filter_map row_of_record (row_records (has_begun begun records) more)
+rows_in_two begun records more = ap (filter_map row_of_record) (rows_apart begun records more)
+    ∙ filter_map-append row_of_record (row_records begun records) (row_records (has_begun begun records) more)

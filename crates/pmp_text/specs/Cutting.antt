@@ -1,0 +1,52 @@
+-- Cutting what a reader gives into pieces.
+use Rattle.std.specs.Prelude.{◌≡◌, ℕ, ◌-◌, ◌<◌, ◌≤◌, List, [], ◌∷◌, ◌++◌, length, Bool, true, false, Option, Result, Ok, Err, ⊤}
+use Rattle.std.specs.Io.KnownBytes.{Consumes, IsAtEnd}
+use Rattle.pmp_text.specs.declared.cutter.Cut.{Cut}
+use Rattle.pmp_text.specs.declared.cutter.Cut.TheVariants.{Front, Last}
+use Rattle.pmp_text.specs.declared.input.InputFault.{InputFault}
+use Rattle.pmp_text.specs.declared.input.InputFault.TheVariants.{TooLong, Input, Memory}
+use Rattle.pmp_text.specs.LongTraces.{HasLongLine, is_line_end}
+
+-- bytes were taken, behind which `limit` are held, or none is left
+pub record IsFilled (limit : ℕ) (held : List ℕ) (old new : Option (List ℕ)) (filled : List ℕ) (at_end : Bool)
+    : Type 0 where
+  pub taken : List ℕ
+  pub consumed : Consumes old new taken
+  pub joined : filled ≡ held ++ taken
+  pub within : length filled ≤ limit
+  pub ended : at_end ≡ true → IsAtEnd new
+  pub full : at_end ≡ false → length filled ≡ limit
+
+-- a piece ends at a line's end, which what is held behind it begins with
+pub record IsFront (limit : ℕ) (held : List ℕ) (old new : Option (List ℕ)) (left piece : List ℕ) : Type 0 where
+  pub taken : List ℕ
+  pub consumed : Consumes old new taken
+  pub before : List ℕ
+  pub some : 0 < length before
+  pub line_end : ℕ
+  pub behind : List ℕ
+  pub ends : is_line_end line_end ≡ true
+  pub split : held ++ taken ≡ before ++ line_end ∷ behind
+  pub piece_is : piece ≡ before ++ line_end ∷ []
+  pub left_is : left ≡ line_end ∷ behind
+  pub within : length left ≤ limit
+
+-- a piece is all that was held and taken, and no byte is left
+pub record IsLast (held : List ℕ) (old new : Option (List ℕ)) (piece : List ℕ) : Type 0 where
+  pub taken : List ℕ
+  pub consumed : Consumes old new taken
+  pub piece_is : piece ≡ held ++ taken
+  pub ended : IsAtEnd new
+
+-- as many bytes as are held, but one, have no line end
+pub record IsUncut (limit : ℕ) (held : List ℕ) (old new : Option (List ℕ)) : Type 0 where
+  pub taken : List ℕ
+  pub consumed : Consumes old new taken
+  pub line : HasLongLine (held ++ taken) (limit - 1)
+
+abbrev pub IsCut : (limit : ℕ) (held : List ℕ) (old new : Option (List ℕ)) (left : List ℕ) → Result Cut InputFault → Type 0
+IsCut limit held old new left (Ok (Front piece)) = IsFront limit held old new left piece.items
+IsCut limit held old new left (Ok (Last piece)) = IsLast held old new piece.items
+IsCut limit held old new left (Err TooLong) = IsUncut limit held old new
+IsCut limit held old new left (Err Input) = ⊤
+IsCut limit held old new left (Err Memory) = ⊤

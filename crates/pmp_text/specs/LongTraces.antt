@@ -1,0 +1,115 @@
+-- What a trace of any length means, what a piece of it means where it stands, and how both are reported.
+use Rattle.std.specs.Prelude.{◌≡◌, ◌⊎◌, ℕ, ◌+◌, ◌^◌, ◌<◌, ◌≤◌, List, [], ◌∷◌, ◌++◌, length, map, filter_map, Bool, true, false}
+use Rattle.std.specs.Prelude.{◌==◌, ◌||◌, Option, Some, None, Result, Ok, Err, if◌then◌else◌}
+use Rattle.std.specs.List.{zip, enumerate_from, flat_map, list_any}
+use Rattle.pmp_core.specs.declared.decision.Decision.{Decision}
+use Rattle.pmp_text.specs.declared.trace.Row.{Row}
+use Rattle.pmp_text.specs.declared.trace.TraceFault.{TraceFault}
+use Rattle.pmp_text.specs.declared.trace.TraceKind.TheVariants.{BadHeader, TooLong}
+use Rattle.pmp_text.specs.declared.trace.piece.Piece.{Piece}
+use Rattle.pmp_text.specs.declared.trace.piece.Place.{Place}
+use Rattle.pmp_text.specs.declared.trace.row_fields.RowFields.{RowFields}
+use Rattle.pmp_text.specs.Contents.{ScriptContents}
+use Rattle.pmp_text.specs.Outcomes.{no_input_for_rows, no_memory_for_rows}
+use Rattle.pmp_text.specs.Reports.{AreDecided, report_row}
+use Rattle.pmp_text.specs.Tables.{at_row, behind_header, fault_or_rows}
+use Rattle.pmp_text.specs.Traces.{after_of, first_row_fault, is_header, row_fields, row_of_record}
+
+abbrev pub Records : Type 0
+Records = List (List (List ℕ))
+
+-- ---- the whole
+
+-- what the rows of a trace mean, numbered from `first`
+abbrev pub long_rows_meaning : (publications first : ℕ) → Records → Result (List RowFields) TraceFault
+long_rows_meaning publications first rows =
+    fault_or_rows (first_row_fault publications None first rows) (filter_map row_of_record rows)
+
+-- what the records of a trace mean, of any number of bytes: as those of a text within the limit, numbered from 1
+abbrev pub long_meaning : (publications first : ℕ) → Records → Result (List RowFields) TraceFault
+long_meaning publications first = behind_header is_header (long_rows_meaning publications first)
+
+-- a report row for each decision, numbered from `first`
+unfoldable pub report_text_from : (first : ℕ) → List Row → List Decision → List ℕ
+report_text_from first rows decisions = flat_map (λ (number, (row, decision)). report_row number row.access decision)
+    (enumerate_from first (zip rows decisions))
+
+-- the records are those of a header and of these rows, and the text reports their decisions
+pub record IsReportOf (script : ScriptContents) (first : ℕ) (records : Records) (text : List ℕ) : Type 0 where
+  pub rows : List Row
+  pub decisions : List Decision
+  pub records_mean : long_meaning (length script.batches) first records ≡ Ok (map row_fields rows)
+  pub decided : AreDecided script rows decisions
+  pub report : text ≡ report_text_from first rows decisions
+
+-- ---- where a line ends
+
+-- CR and LF
+abbrev pub is_line_end : ℕ → Bool
+is_line_end byte = (byte == 13) || (byte == 10)
+
+-- so many bytes in a row have no line end
+abbrev pub HasLongLine : (text : List ℕ) → (most : ℕ) → Type 0
+HasLongLine text most = (front line behind : List ℕ) × (text ≡ front ++ (line ++ behind))
+    × (list_any is_line_end line ≡ false) × (most ≤ length line)
+
+-- ---- a piece
+
+-- the records of rows: all but the header
+abbrev pub row_records : (begun : Bool) → Records → Records
+row_records true records = records
+row_records false [] = []
+row_records false (header ∷ rows) = rows
+
+-- the first record of a trace is its header
+abbrev pub has_begun : (begun : Bool) → Records → Bool
+has_begun true records = true
+has_begun false [] = false
+has_begun false (header ∷ rows) = true
+
+-- how many publications the last of these rows asks for; where there is none, that is `last`
+abbrev pub last_after : (last : Option ℕ) → Records → Option ℕ
+last_after last [] = last
+last_after last (row ∷ more) = last_after (after_of (row_of_record row)) more
+
+-- where the records stand that follow on rows
+abbrev pub rows_behind : Place → Records → Place
+rows_behind place rows =
+    record { begun = true; last = last_after place.last rows; next = place.next + length rows }
+
+-- where the records stand that follow on these
+abbrev pub place_behind : Place → Records → Place
+place_behind place records = record {
+  begun = has_begun place.begun records;
+  last = last_after place.last (row_records place.begun records);
+  next = place.next + length (row_records place.begun records);
+}
+
+-- the first fault of records that stand there; of no header only the end of a trace tells
+abbrev pub first_fault_at : (publications : ℕ) → (begun : Bool) → (last : Option ℕ) → (next : ℕ) → Records
+    → Option TraceFault
+first_fault_at publications true last next rows = first_row_fault publications last next rows
+first_fault_at publications false last next [] = None
+first_fault_at publications false last next (header ∷ rows) =
+    if is_header header then first_row_fault publications last next rows else Some (at_row 0 BadHeader)
+
+abbrev pub piece_fault : (publications : ℕ) → Place → Records → Option TraceFault
+piece_fault publications place = first_fault_at publications place.begun place.last place.next
+
+-- where a trace begins whose first row has this number
+abbrev pub beginning : (first : ℕ) → Place
+beginning first = record { begun = false; last = None; next = first }
+
+-- a row or a line is too long, which is the fault of no row
+abbrev pub too_long_for_rows : TraceFault
+too_long_for_rows = at_row 0 TooLong
+
+-- the records have this first fault, or they are those of the piece and the next one stands there; else memory ran out,
+-- the input failed, or the number of a row is 2^64 or more
+abbrev pub IsReadAs : (first_fault : Option TraceFault) → (rows : Records) → (behind : Place) → Result Piece TraceFault
+    → Type 0
+IsReadAs first_fault rows behind (Ok piece) = (first_fault ≡ None)
+    × (map row_fields piece.rows.items ≡ filter_map row_of_record rows) × (piece.place ≡ behind)
+    × (behind.next < 2 ^ 64)
+IsReadAs first_fault rows behind (Err fault) = (first_fault ≡ Some fault) ⊎ (fault ≡ no_memory_for_rows)
+    ⊎ (fault ≡ no_input_for_rows) ⊎ ((fault ≡ too_long_for_rows) × (2 ^ 64 ≤ behind.next))
