@@ -118,7 +118,10 @@ fn configurations(first: u8, count: u64) -> Option<u64> {
 fn count_in_round(rt: &impl Abort, first: u8, checker: &mut Checker, least: u64) -> u64 {
     let count = checker.count();
     assert!(rt; least <= count, "the count went back");
-    assert!(rt; configurations(first, count).is_some(), "a part of a publication");
+    assert!(rt;
+        configurations(first, count).is_some(),
+        "a part of a publication"
+    );
     count
 }
 
@@ -126,7 +129,10 @@ fn count_in_round(rt: &impl Abort, first: u8, checker: &mut Checker, least: u64)
 fn read_in_round(rt: &impl Abort, first: u8, checker: &mut Checker, least: u64) -> u64 {
     let (value, count) = checker.read(Csr::Cfg(first / 8 * 2));
     assert!(rt; least <= count, "the list went back");
-    assert!(rt; configurations(first, count) == Some(value), "another value");
+    assert!(rt;
+        configurations(first, count) == Some(value),
+        "another value"
+    );
     count
 }
 
@@ -134,7 +140,10 @@ fn read_in_round(rt: &impl Abort, first: u8, checker: &mut Checker, least: u64) 
 fn ask_rights_in_round(rt: &impl Abort, first: u8, checker: &mut Checker, least: u64) -> u64 {
     let (rights, count) = checker.rights(Mode::U, 0x80000000, 4096);
     assert!(rt; least <= count, "the list went back");
-    assert!(rt; configurations(first, count).is_some() && rights == Some(Perms::R), "other rights");
+    assert!(rt;
+        configurations(first, count).is_some() && rights == Some(Perms::R),
+        "other rights"
+    );
     count
 }
 
