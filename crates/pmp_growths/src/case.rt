@@ -23,12 +23,13 @@ pub enum Case {
 }
 
 /// Each case once, with the word of the command line that stands for it.
-pub static CASES: [(&str, Case); 33] = [
+pub static CASES: [(&str, Case); 34] = [
     ("start", Case::Start),
     ("start_from", Case::StartFrom),
     ("submit", Case::Share(Sharing::Submit)),
     ("publish", Case::Share(Sharing::Publish)),
     ("tell", Case::Share(Sharing::Tell)),
+    ("notice_ring", Case::Share(Sharing::NoticeRing)),
     ("copy_journal", Case::Share(Sharing::CopyJournal)),
     ("learn", Case::Share(Sharing::Decide(Deciding::Learn))),
     ("decide", Case::Share(Sharing::Decide(Deciding::Decide))),

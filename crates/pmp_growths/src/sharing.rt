@@ -17,6 +17,7 @@ pub enum Sharing {
     Submit,
     Publish,
     Tell,
+    NoticeRing,
     CopyJournal,
     /// One that takes no memory.
     Decide(Deciding),
@@ -137,6 +138,23 @@ fn tells(alloc: Global, publisher: &mut Publisher) -> Tried {
     }
 }
 
+/// A ring, by which a notice comes.
+fn makes_ring(alloc: Global, publisher: &mut Publisher) -> Tried {
+    begin(alloc);
+    let answer = publisher.notice_ring(alloc, 1);
+    end(alloc);
+    match answer {
+        Ok((mut sender, mut receiver)) => {
+            let sent = sender.send(publisher.tell()?).is_ok();
+            let came = receiver
+                .receive()
+                .is_some_and(|notice| is_notice_of(&notice, 2));
+            answered_if(sent && came, "the notice")
+        }
+        Err(fault) => by_memory_or_place(fault),
+    }
+}
+
 fn copies_journal(alloc: Global, checker: &mut Checker) -> Tried {
     begin(alloc);
     let answer = checker.copy_journal();
@@ -170,7 +188,7 @@ impl Sharing {
             (Sharing::Submit, Outcome::Refused) => (0, 4),
             (Sharing::Publish, Outcome::Answered) => (2, 0),
             (Sharing::Publish, Outcome::Refused) => (0, 2),
-            (Sharing::Tell | Sharing::CopyJournal, _) => (2, 1),
+            (Sharing::Tell | Sharing::NoticeRing | Sharing::CopyJournal, _) => (2, 1),
             (Sharing::Decide(_), _) => (1, 0),
         }
     }
@@ -191,6 +209,10 @@ impl Sharing {
             Sharing::Tell => {
                 set_up(rt, publisher, checker, page)?;
                 tells(alloc, publisher)
+            }
+            Sharing::NoticeRing => {
+                set_up(rt, publisher, checker, page)?;
+                makes_ring(alloc, publisher)
             }
             Sharing::CopyJournal => {
                 set_up(rt, publisher, checker, page)?;

@@ -6,6 +6,7 @@ mod ending;
 mod groups;
 mod limits;
 mod reading;
+mod rings;
 mod starting;
 mod swapping;
 mod unit;

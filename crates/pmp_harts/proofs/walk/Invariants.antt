@@ -1,5 +1,5 @@
 use Rattle.std.proofs.Common.{◌≡◌}
-use Rattle.pmp_harts.proofs.running.walk.Given as goal
+use Rattle.pmp_harts.proofs.walk.Given as goal
 
 abbrev pub invariant-loop-start : goal.invariant-loop-start
 invariant-loop-start l = l.hart.checker.unit ≡ l.initial.hart.checker.unit

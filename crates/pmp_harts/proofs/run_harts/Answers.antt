@@ -3,7 +3,7 @@ use denote.Param.Send.{sendable}
 use Rattle.pmp_share.proofs.Crossing.{checker_send}
 use Rattle.pmp_share.proofs.RingCrossing.{receiver_send}
 use Rattle.pmp_harts.proofs.Crossing.{answer_send}
-use Rattle.pmp_harts.proofs.firmware.both_harts.Goals as goal
+use Rattle.pmp_harts.proofs.run_harts.Goals as goal
 
 pub spawn-requires-send-F : goal.spawn-requires-send-F
 spawn-requires-send-F g c κs within = search (checker_send, receiver_send, crosses, sendable) depth 20
