@@ -91,8 +91,8 @@ impl<'a> Replay<'a> {
         }
     }
 
-    /// Decides an access in that file, and builds its map. It stands alone since each decision would else clear the room
-    /// of a map.
+    /// Decides an access in that file, and builds its map. It stands alone since each decision would else clear the
+    /// room of a map.
     #[cold]
     #[inline(never)]
     fn decide_anew(&mut self, access: &Access) -> Decision

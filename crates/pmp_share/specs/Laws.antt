@@ -34,7 +34,8 @@ FurtherEventsLaw = (base : RegisterFile) (batches front : Batches) → StartsWit
 -- an entry that is frozen in the file of batches that a checker is bound to, as it is to all that it looked at, stays
 -- as it is in what it looks at later, if the further events are writes alone (3.7.1.2 and Smepmp)
 abbrev pub LaterLookLaw : Type 0
-LaterLookLaw = (base : RegisterFile) (held later : List Batches) (earlier : Batches) → Bound held earlier → Looked held later
+LaterLookLaw = (base : RegisterFile) (held later : List Batches) (earlier : Batches) → Bound held earlier
+    → Looked held later
     → (i : ℕ) → is_frozen (file_from base earlier) i ≡ true
     → list_all is_write (further_events (latest later) earlier) ≡ true
     → StaysFrozen (file_from base earlier) (file_from base (latest later)) i

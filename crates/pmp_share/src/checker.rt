@@ -138,14 +138,15 @@ impl Checker {
     }
 
     /// What the mode may do in the whole range of `length` bytes from byte address `start` on, as a page, in what is
-    /// published, and how many events that is. It is none where no one owner has all bytes of the range: then each access
-    /// is decided by itself. It waits for nobody and takes no memory. An emulator fills its TLB by it.
+    /// published, and how many events that is. It is none where no one owner has all bytes of the range: then each
+    /// access is decided by itself. It waits for nobody and takes no memory. An emulator fills its TLB by it.
     pub fn rights(&mut self, mode: Mode, start: u64, length: u64) -> (Option<Perms>, u64)
         requires full { 0 < length }
         requires inside { start + length ≤ ADDRESS_LIMIT }
         ensures unit { self.new.unit ≡ self.old.unit }
         ensures looked { Looked self.old.held self.new.held }
-        ensures rights { AreRangeRights (file_from self.new.unit.base (latest self.new.held)) mode start length result.0 }
+        ensures rights { AreRangeRights (file_from self.new.unit.base (latest self.new.held))
+            mode start length result.0 }
         ensures count { result.1 ≡ event_count (latest self.new.held) }
         ensures bound { KeepsBound self.old.held self.new.held }
     {

@@ -152,8 +152,8 @@ impl Publisher {
         Ok(Notice::new(self.state.reader_state()?))
     }
 
-    /// What the register reads after what is published and what is pending, as firmware reads back what it wrote, be that
-    /// published yet or not.
+    /// What the register reads after what is published and what is pending, as firmware reads back what it wrote, be
+    /// that published yet or not.
     pub fn read(&self, csr: Csr) -> u64
         ensures { result
             ≡ register_value (file_from self.now.unit.base (self.now.published ++ self.now.pending)) csr }

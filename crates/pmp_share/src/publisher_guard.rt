@@ -6,8 +6,8 @@ use crate::publisher::Publisher;
 use std::marker::Model;
 use std::sync::Wait;
 
-/// A publisher, and the handle by which it is ended where it is dropped, which may wait for checkers. A closure may hold
-/// it, and so take it to a thread: what a closure holds may be dropped. A contract sees the publisher.
+/// A publisher, and the handle by which it is ended where it is dropped, which may wait for checkers. A closure may
+/// hold it, and so take it to a thread: what a closure holds may be dropped. A contract sees the publisher.
 pub struct PublisherGuard<R: Wait + Drop> {
     rt: R,
     publisher: Publisher,

@@ -109,7 +109,8 @@ module _ (publications : ℕ) where
     in_time false true e f fine = absurd cc
     in_time false false e f fine = (not_behind last row.after f, ltb-false publications row.after e)
 
-  pub rows_in_order : (rows : Records) (last : Option ℕ) (number : ℕ) → first_row_fault publications last number rows ≡ None
+  pub rows_in_order : (rows : Records) (last : Option ℕ) (number : ℕ)
+      → first_row_fault publications last number rows ≡ None
       → IsInOrder publications (least_of last) (afters (filter_map row_of_record rows))
   rows_in_order [] = λ last number e. tt
   rows_in_order (row ∷ more) = λ last number e. by (row_of_record row) refl last number e (rows_in_order more)

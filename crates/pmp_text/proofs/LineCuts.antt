@@ -100,7 +100,8 @@ module _ (fields : List (List ℕ)) (field : List ℕ) (c : ℕ) (has : HasEnd f
   in_a_field false true after = tt
   in_a_field false false after = (tt, field_grows fields field (c ∷ []) has)
 
-  at_a_field : (quote : Bool) → StaysOpen fields field c (cond quote (st.InQuoted, act.Skip) (in_field default_config c))
+  at_a_field : (quote : Bool)
+      → StaysOpen fields field c (cond quote (st.InQuoted, act.Skip) (in_field default_config c))
   at_a_field true = (tt, has)
   at_a_field false = in_a_field (nat_eq c 44) (is_line_end c) (after_end default_config.terminator c)
 

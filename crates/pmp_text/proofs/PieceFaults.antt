@@ -163,7 +163,8 @@ begun_apart true records more = refl
 begun_apart false [] more = refl
 begun_apart false (header ∷ rows) more = refl
 
-last_apart : (rows more : Records) (last : Option ℕ) → last_after last (rows ++ more) ≡ last_after (last_after last rows) more
+last_apart : (rows more : Records) (last : Option ℕ)
+    → last_after last (rows ++ more) ≡ last_after (last_after last rows) more
 last_apart [] more last = refl
 last_apart (row ∷ rows) more last = last_apart rows more (after_of (row_of_record row))
 

@@ -89,7 +89,8 @@ one_more s bytes read e =
       | inr all ↦ rw (all.0, all.1) (none_at_end default_config (length bytes) ∙ sym (none_at_end default_config 1))
     ])
 
-pub no_more : (s : State) (bytes : List ℕ) → next_record default_config s [] [] bytes ≡ None → records_behind s bytes ≡ []
+pub no_more : (s : State) (bytes : List ℕ) → next_record default_config s [] [] bytes ≡ None
+    → records_behind s bytes ≡ []
 no_more s bytes e = one_turn_more s bytes ∙ ap (records_next (records_from default_config (length bytes))) e
 
 taken_from : (s : State) (bytes : List ℕ) (fields : List (List ℕ)) (after : State) (known : Option (List ℕ))

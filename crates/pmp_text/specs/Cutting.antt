@@ -1,5 +1,6 @@
 -- Cutting what a reader gives into pieces.
-use Rattle.std.specs.Prelude.{◌≡◌, ℕ, ◌-◌, ◌<◌, ◌≤◌, List, [], ◌∷◌, ◌++◌, length, Bool, true, false, Option, Result, Ok, Err, ⊤}
+use Rattle.std.specs.Prelude.{◌≡◌, ℕ, ◌-◌, ◌<◌, ◌≤◌, List, [], ◌∷◌, ◌++◌, length, Bool, true, false, Option, Result}
+use Rattle.std.specs.Prelude.{Ok, Err, ⊤}
 use Rattle.std.specs.Io.KnownBytes.{Consumes, IsAtEnd}
 use Rattle.pmp_text.specs.declared.cutter.Cut.{Cut}
 use Rattle.pmp_text.specs.declared.cutter.Cut.TheVariants.{Front, Last}
@@ -44,7 +45,8 @@ pub record IsUncut (limit : ℕ) (held : List ℕ) (old new : Option (List ℕ))
   pub consumed : Consumes old new taken
   pub line : HasLongLine (held ++ taken) (limit - 1)
 
-abbrev pub IsCut : (limit : ℕ) (held : List ℕ) (old new : Option (List ℕ)) (left : List ℕ) → Result Cut InputFault → Type 0
+abbrev pub IsCut : (limit : ℕ) (held : List ℕ) (old new : Option (List ℕ)) (left : List ℕ)
+    → Result Cut InputFault → Type 0
 IsCut limit held old new left (Ok (Front piece)) = IsFront limit held old new left piece.items
 IsCut limit held old new left (Ok (Last piece)) = IsLast held old new piece.items
 IsCut limit held old new left (Err TooLong) = IsUncut limit held old new

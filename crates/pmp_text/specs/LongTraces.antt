@@ -1,5 +1,6 @@
 -- What a trace of any length means, what a piece of it means where it stands, and how both are reported.
-use Rattle.std.specs.Prelude.{◌≡◌, ◌⊎◌, ℕ, ◌+◌, ◌^◌, ◌<◌, ◌≤◌, List, [], ◌∷◌, ◌++◌, length, map, filter_map, Bool, true, false}
+use Rattle.std.specs.Prelude.{◌≡◌, ◌⊎◌, ℕ, ◌+◌, ◌^◌, ◌<◌, ◌≤◌, List, [], ◌∷◌, ◌++◌, length, map, filter_map, Bool}
+use Rattle.std.specs.Prelude.{true, false}
 use Rattle.std.specs.Prelude.{◌==◌, ◌||◌, Option, Some, None, Result, Ok, Err, if◌then◌else◌}
 use Rattle.std.specs.List.{zip, enumerate_from, flat_map, list_any}
 use Rattle.pmp_core.specs.declared.decision.Decision.{Decision}

@@ -1,6 +1,7 @@
 //! What a reader gives, in pieces that end at a line's end.
 
-ghost use Rattle.std.specs.Prelude.{◌≡◌, ◌≢◌, ◌<◌, ◌≤◌, IfErr, IfOk, MatchOption, drop, false, length, slice_index, true, vec_len};
+ghost use Rattle.std.specs.Prelude.{◌≡◌, ◌≢◌, ◌<◌, ◌≤◌, IfErr, IfOk, MatchOption, drop, false, length, slice_index};
+ghost use Rattle.std.specs.Prelude.{true, vec_len};
 ghost use Rattle.std.specs.List.{list_any};
 ghost use Rattle.pmp_text.specs.Cutting.{IsCut, IsFilled};
 ghost use Rattle.pmp_text.specs.LongTraces.{is_line_end};
