@@ -1,5 +1,5 @@
-//! An example to copy: an emulator of two harts that share one PMP unit. Firmware on hart 0 switches a domain while
-//! hart 1, which has a TLB, runs on a thread of its own.
+//! An example to copy: an emulator of two harts that share one PMP unit, each with a TLB. Firmware on hart 0 switches a
+//! domain while hart 1 runs on a thread of its own.
 #![tactic(auto)]
 
 ghost use Rattle.std.specs.Prelude.{◌≡◌};
@@ -7,7 +7,7 @@ ghost use Rattle.std.specs.Prelude.{◌≡◌};
 mod hart;
 
 use hart::{Answer, Hart};
-use pmp_core::{Access, Csr, Event, Kind, Mode};
+use pmp_core::{Access, Csr, Event, Kind, Mode, RegFile};
 use pmp_share::{Batch, Checker, NoticeReceiver, NoticeSender, Publisher, ShareFault, start};
 use std::alloc::Global;
 use std::process::ExitCode;
@@ -23,77 +23,111 @@ const SET_UP: [Event; 3] = [
     Event::Write(Csr::Cfg(0), 0x181b),
 ];
 
-/// The second domain may use that of entry 1.
-const SWITCH: [Event; 1] = [Event::Write(Csr::Cfg(0), 0x1b18)];
+/// Nobody may use either page, and then the second domain that of entry 1.
+const SWITCH: [Event; 2] = [
+    Event::Write(Csr::Cfg(0), 0x1818),
+    Event::Write(Csr::Cfg(0), 0x1b18),
+];
 
-/// Where hart 1 loads: twice in the first page, across into the second, and twice there.
-const WALK: [u64; 5] = [0x80000000, 0x80000800, 0x80000ffc, 0x80001000, 0x80001800];
+/// Where hart 1 loads between notices. How often, and before which of them, is for the schedule to say.
+const BETWEEN: u64 = 0x80002000;
 
 /// Starts a unit, which it ends on every answer.
 fn main(rt: HostRuntime) -> ExitCode {
-    let Ok((mut publisher, mut checkers)) = start(&rt, rt.alloc(), 1) else {
+    let Ok((mut publisher, mut checkers)) = start(&rt, rt.alloc(), 2) else {
         return ExitCode::FAILURE;
     };
-    let answers = match checkers.pop() {
-        Some(checker) => run_harts(&rt, rt.alloc(), &mut publisher, checker),
-        None => Err(ShareFault::NoPlace),
+    let answers = match (checkers.pop(), checkers.pop()) {
+        (Some(one), Some(zero)) => run_harts(&rt, rt.alloc(), &mut publisher, zero, one),
+        _ => Err(ShareFault::NoPlace),
     };
-    publisher.end(&rt);
-    match answers {
-        Ok(answers) if show(&rt, &answers).is_ok() => ExitCode::SUCCESS,
-        _ => ExitCode::FAILURE,
-    }
+    let journal = publisher.end(&rt);
+    let Ok(answers) = answers else {
+        return ExitCode::FAILURE;
+    };
+    ExitCode::from(u8::from(show(&rt, journal.events(), &answers).is_err()))
 }
 
-fn show(rt: &impl Print, answers: &Vec<Answer>) -> io::Result<()> {
-    for answer in answers.as_slice() {
-        let (start, events) = (answer.access.start, answer.events);
-        let allowed = if answer.allowed { "allowed" } else { "refused" };
-        let by = if answer.by_tlb { "TLB" } else { "unit" };
-        println!(rt; "{events} events: load {start:#x} {allowed} by the {by}")?;
+/// Shows the answers that the schedule doesn't change, and whether a replay of what was published gives all of them.
+fn show(rt: &impl Print, events: &[Event], both: &(Vec<Answer>, Vec<Answer>)) -> io::Result<()> {
+    let mut same = true;
+    for (hart, answers) in [(0, &both.0), (1, &both.1)] {
+        for answer in answers.as_slice() {
+            let mut file = RegFile::reset();
+            file.run_events(events.get(..answer.events as usize).unwrap_or(&[]));
+            same = same && file.decide(&answer.access).allowed == answer.allowed;
+            let (start, count) = (answer.access.start, answer.events);
+            if start != BETWEEN {
+                let allowed = if answer.allowed { "allowed" } else { "refused" };
+                let by = if answer.by_tlb { "TLB" } else { "unit" };
+                println!(rt; "hart {hart}, {count} events: load {start:#x} {allowed} by the {by}")?;
+            }
+        }
     }
-    Ok(())
+    println!(rt; "a replay answers the same: {same}")
 }
 
-/// Runs hart 1 on a thread of its own, and hart 0 meanwhile.
+/// Sets the unit up, and runs hart 1 on a thread of its own and hart 0 meanwhile.
 fn run_harts<R: Threads + Wait + Copy + Send + 'static>(
     rt: &R,
     alloc: Global,
     publisher: &mut Publisher,
-    checker: Checker,
-) -> Result<Vec<Answer>, ShareFault>
-    requires { checker.unit ≡ publisher.old.unit }
+    zero: Checker,
+    one: Checker,
+) -> Result<(Vec<Answer>, Vec<Answer>), ShareFault>
+    requires { (zero.unit ≡ publisher.old.unit) × (one.unit ≡ publisher.old.unit) }
 {
-    let (sender, receiver) = publisher.notice_ring(alloc, 1)?;
+    let (mut sender, receiver) = publisher.notice_ring(alloc, 1)?;
+    program(rt, publisher, &mut sender, &SET_UP)?;
     let fenced = Arc::new(alloc, AtomicU64::new(0))?;
     let (runtime, theirs) = (*rt, Arc::try_clone(&fenced)?);
     let hart = move || -> Result<Vec<Answer>, ShareFault>
-        requires { receiver.unit ≡ checker.unit }
-    { run_one(&runtime, alloc, checker, receiver, &theirs) };
+        requires { receiver.unit ≡ one.unit }
+    { run_one(&runtime, alloc, one, receiver, &theirs) };
     let thread = thread::spawn(rt, hart).map_err(|_| ShareFault::NoPlace)?;
-    let zero = run_zero(rt, publisher, sender, &fenced);
+    let zero = run_zero(rt, alloc, zero, publisher, sender, &fenced);
     let one = thread.join(rt);
-    zero?;
-    one
+    Ok((zero?, one?))
 }
 
-/// What the firmware of hart 0 does: each domain in one step, and a remote fence behind it.
+/// Publishes these writes in one step, tells hart 1 of it, and answers how many events are published.
+fn program<R: Wait>(
+    rt: &R,
+    publisher: &mut Publisher,
+    notices: &mut NoticeSender,
+    writes: &[Event],
+) -> Result<u64, ShareFault>
+    requires { notices.old.unit ≡ publisher.old.unit }
+    ensures publisher { publisher.new.unit ≡ publisher.old.unit }
+    ensures notices { notices.new.unit ≡ notices.old.unit }
+{
+    publisher.submit(&Batch::of(writes).map_err(|_| ShareFault::Full)?)?;
+    let events = publisher.publish(rt)?;
+    let sent = notices.send(publisher.tell()?);
+    sent.map_err(|_| ShareFault::NoPlace)?;
+    Ok(events)
+}
+
+/// Hart 0 walks, switches to the second domain once hart 1 walked in the first, and walks again behind a remote fence.
 fn run_zero<R: Wait>(
     rt: &R,
+    alloc: Global,
+    checker: Checker,
     publisher: &mut Publisher,
     mut notices: NoticeSender,
     fenced: &AtomicU64,
-) -> Result<(), ShareFault>
-    requires { notices.unit ≡ publisher.old.unit }
+) -> Result<Vec<Answer>, ShareFault>
+    requires { (notices.unit ≡ publisher.old.unit) × (checker.unit ≡ publisher.old.unit) }
 {
-    for writes in [SET_UP.as_slice(), SWITCH.as_slice()] {
-        publisher.submit(&Batch::of(writes).map_err(|_| ShareFault::Full)?)?;
-        let events = publisher.publish(rt)?;
-        let sent = notices.send(publisher.tell()?);
-        sent.map_err(|_| ShareFault::NoPlace)?;
-        wait_for(rt, fenced, events, &mut notices);
-    }
-    Ok(())
+    let (mut hart, mut answers) = (Hart::new(checker), Vec::new(alloc));
+    hart.checker.learn(publisher.tell()?);
+    walk(&mut hart, &mut answers)?;
+    wait_for(rt, fenced, SET_UP.len() as u64, &mut notices);
+    let events = program(rt, publisher, &mut notices, &SWITCH)?;
+    wait_for(rt, fenced, events, &mut notices);
+    hart.checker.learn(publisher.tell()?);
+    walk(&mut hart, &mut answers)?;
+    Ok(answers)
 }
 
 /// Waits until hart 1 has learnt of so many events, or is gone.
@@ -118,27 +152,39 @@ fn run_one<R: Wait>(
 ) -> Result<Vec<Answer>, ShareFault>
     requires { notices.unit ≡ checker.unit }
 {
-    let mut hart = Hart::new(checker);
-    let mut answers = Vec::new(alloc);
+    let (mut hart, mut answers) = (Hart::new(checker), Vec::new(alloc));
     for _ in rt.forever() {
+        let is_last = notices.is_abandoned();
         if let Some(notice) = notices.receive() {
             hart.checker.learn(notice);
             walk(&mut hart, &mut answers)?;
             fenced.store(hart.checker.count(), Ordering::SeqCst);
-        } else if notices.is_abandoned() {
+        } else if is_last {
             break;
+        } else if answers.len() < 1000 {
+            load(&mut hart, BETWEEN, &mut answers)?;
+        } else {
+            thread::yield_now();
         }
     }
     Ok(answers)
 }
 
-/// Makes the loads of `WALK` in user mode, eight bytes each.
+/// Loads eight bytes in user mode.
+fn load(hart: &mut Hart, start: u64, answers: &mut Vec<Answer>) -> Result<(), ShareFault>
+    ensures { hart.new.checker.unit ≡ hart.old.checker.unit }
+{
+    let load = Access::new(Mode::U, Kind::Load, start, 8).map_err(|_| ShareFault::NoPlace)?;
+    answers.push(hart.answer(&load))?;
+    Ok(())
+}
+
+/// Loads twice in the first page, across into the second, and twice there.
 fn walk(hart: &mut Hart, answers: &mut Vec<Answer>) -> Result<(), ShareFault>
     ensures { hart.new.checker.unit ≡ hart.old.checker.unit }
 {
-    for start in WALK {
-        let load = Access::new(Mode::U, Kind::Load, start, 8).map_err(|_| ShareFault::NoPlace)?;
-        answers.push(hart.answer(&load))?;
+    for start in [0x80000000, 0x80000800, 0x80000ffc, 0x80001000, 0x80001800] {
+        load(hart, start, answers)?;
     }
     Ok(())
 }

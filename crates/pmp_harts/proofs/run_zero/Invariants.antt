@@ -1,5 +1,0 @@
-use Rattle.std.proofs.Common.{◌≡◌}
-use Rattle.pmp_harts.proofs.run_zero.Given as goal
-
-abbrev pub invariant-loop-writes : goal.invariant-loop-writes
-invariant-loop-writes g l = l.notices.unit ≡ l.publisher.unit
