@@ -1,5 +1,5 @@
 -- What an audit says of a trace of any length, and what it has written where it stops.
-use Rattle.std.specs.Prelude.{◌≡◌, ◌⊎◌, ◌×◌, ℕ, ◌+◌, ◌-◌, ◌^◌, ◌≤◌, List, ◌++◌, length, map, filter_map, count_by, false, not}
+use Rattle.std.specs.Prelude.{◌≡◌, ◌⊎◌, ℕ, ◌+◌, ◌-◌, ◌*◌, ◌^◌, ◌≤◌, List, ◌++◌, length, map, filter_map, count_by, false, not}
 use Rattle.std.specs.Prelude.{Option, None, Ok, Err}
 use Rattle.std.specs.Io.KnownBytes.{Appends, Keeps}
 use Rattle.pmp_core.specs.declared.decision.Decision.{Decision}
@@ -48,10 +48,9 @@ pub record IsFrontOf (script : List ℕ) (first : ℕ) (trace text : List ℕ) :
   pub trace_has : records_of trace ≡ front ++ behind
   pub report : IsFrontReport contents first front text
 
--- a line is too long for a piece of `limit` bytes, or there are more rows or pieces than numbers for them
+-- a line is too long for a piece of `limit` bytes, or there are so many bytes that numbers may not do for rows
 abbrev pub IsTooLong : (limit first : ℕ) (trace : List ℕ) → Type 0
-IsTooLong limit first trace = HasLongLine trace (limit - 1) ⊎ (2 ^ 64 ≤ first + length (records_of trace))
-    ⊎ (2 ^ 64 ≤ length trace + 1)
+IsTooLong limit first trace = HasLongLine trace (limit - 1) ⊎ (2 ^ 64 ≤ first + 4 * (length trace + 1))
 
 -- the trace has this first fault, or its input failed, or it is too long
 pub record IsFaultyLong (limit : ℕ) (script : List ℕ) (first : ℕ) (trace : List ℕ) (fault : TraceFault) : Type 0 where

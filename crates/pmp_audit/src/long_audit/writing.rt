@@ -1,6 +1,6 @@
 //! The report of a piece, written where it stands.
 
-ghost use Rattle.std.specs.Prelude.{◌≡◌, ◌+◌, ◌^◌, ◌<◌, ◌≤◌, IfErr, IfOk, length, map};
+ghost use Rattle.std.specs.Prelude.{◌≡◌, ◌+◌, ◌^◌, ◌<◌, ◌≤◌, IfErr, IfOk, length, map, if◌then◌else◌};
 ghost use Rattle.pmp_text.specs.Tables.{records_of};
 ghost use Rattle.pmp_text.specs.TraceFaults.{IsInOrder, afters};
 ghost use Rattle.pmp_text.specs.Traces.{row_fields};
@@ -9,6 +9,7 @@ ghost use Rattle.pmp_audit.specs.LongPieces.{IsListed, IsPieceWritten, PieceStop
 use crate::fault::AuditFault;
 use crate::long_audit::standing::Standing;
 use crate::replay::Replay;
+use pmp_core::Decision;
 use pmp_text::{Row, Script, read_piece, write_out, write_row};
 use std::alloc::{AllocError, Global};
 use std::io::Write;
@@ -59,9 +60,14 @@ fn list_rows(
         let decision = replay.decide(&row.access);
         write_row(report, number, &row.access, &decision)?;
         number += 1;
-        if !decision.allowed {
-            faults += 1;
-        }
+        faults += refusals(decision);
     }
     Ok(faults)
+}
+
+/// How many accesses one decision refuses.
+fn refusals(decision: Decision) -> u64
+    ensures { result ≡ if decision.allowed then 0 else 1 }
+{
+    if decision.allowed { 0 } else { 1 }
 }
