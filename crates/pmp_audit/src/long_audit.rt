@@ -37,16 +37,16 @@ pub fn audit_long<R: Read, W: Write>(
     ensures err { IfErr result (λ fault. (trace : List ℕ) × IfSome (R.remaining reader.old) (λ those. trace ≡ those)
         × StopsLong limit script.now first trace (W.contents writer.old) (W.contents writer.new) fault) }
 {
-    let script = read_script(alloc, script)?;
+    let contents = read_script(alloc, script)?;
     let mut held = Vec::new(alloc);
     let mut standing = Standing::beginning(first);
     for _count in 0..u64::MAX {
         match cut_piece(alloc, reader, &mut held, limit).map_err(AuditFault::of_cut)? {
             Cut::Front(text) => {
-                standing = write_piece(alloc, &script, &text, standing, writer)?;
+                standing = write_piece(alloc, &contents, &text, standing, writer)?;
             }
             Cut::Last(text) => {
-                return write_piece(alloc, &script, &text, standing, writer)?.end(first);
+                return write_piece(alloc, &contents, &text, standing, writer)?.end(first);
             }
         }
     }
