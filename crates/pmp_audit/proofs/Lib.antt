@@ -8,6 +8,9 @@ pub mod Lists
 pub mod LongReports
 pub mod LongAudits
 pub mod LongSteps
+pub mod LongPieces
+pub mod LongStops
+pub mod LongTurns
 pub mod OneEntryList
 pub mod OneReport
 pub mod Reports

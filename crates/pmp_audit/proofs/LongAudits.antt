@@ -6,7 +6,7 @@ use Rattle.std.specs.Prelude.{count_by, filter_map, not, option_map}
 use Rattle.std.specs.List.{AllZip}
 use Rattle.std.specs.Option.{option_or}
 use Rattle.std.proofs.lemmas.List.{length-append, length-map, map-append}
-use Rattle.std.proofs.lemmas.List.Sums.{sum_by-append}
+use Rattle.std.proofs.lemmas.List.Sums.{count_by-le-length, sum_by-append}
 use Rattle.std.proofs.lemmas.Slice.Zip.{AllZip-long}
 use Rattle.pmp_core.specs.declared.decision.Decision.{Decision}
 use Rattle.pmp_text.specs.declared.trace.Row.{Row}
@@ -103,6 +103,25 @@ module _ (script : ScriptContents) (first : ℕ) (records : Records) (old : Stan
       let said = all_rows_say publications records None first stands.report.fine in
       let same : length stands.report.rows ≡ length (filter_map row_of_record (row_records false records)) =
       sym (length-map stands.report.rows row_fields) ∙ ap (λ (l : List RowFields). length l) stands.report.said in
+      omega arith
+
+  -- rows are numbered from the first one on, and no more were refused than there are
+  pub not_before : first ≤ old.place.next
+  not_before = let next = numbered in omega arith
+
+  pub few_refused : old.faults ≤ old.place.next
+  few_refused =
+      let next = numbered in
+      let one_each = AllZip-long (Decides script) stands.report.rows stands.report.decisions stands.report.decided in
+      let few = count_by-le-length (λ (d : Decision). not d.allowed) stands.report.decisions in
+      let counted = stands.counted in
+      omega arith
+
+  -- the count of what was reported
+  pub summed : old.place.next - first ≡ length stands.report.decisions
+  summed =
+      let next = numbered in
+      let one_each = AllZip-long (Decides script) stands.report.rows stands.report.decisions stands.report.decided in
       omega arith
 
   pub one_piece : (more : Records) (new : Standing) (faults : ℕ) (piece : List ℕ)

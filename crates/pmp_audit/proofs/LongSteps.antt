@@ -5,7 +5,7 @@ use Rattle.std.proofs.Common.{append_assoc, append-nil, arith}
 use Rattle.std.specs.Prelude.{IfSome, cond, filter_map}
 use Rattle.std.specs.Io.KnownBytes.{Appends, Consumes, IsAtEnd, Keeps}
 use Rattle.std.specs.Option.{option_or}
-use Rattle.std.proofs.KnownBytes.{Appends-trans, Consumes-trans}
+use Rattle.std.proofs.KnownBytes.{Appends-nil, Appends-trans, Consumes-nil, Consumes-trans}
 use Rattle.std.proofs.lemmas.List.{length-append}
 use Rattle.pmp_text.specs.Contents.{ScriptContents}
 use Rattle.pmp_text.specs.Cutting.{IsFront, IsLast}
@@ -33,6 +33,20 @@ pub record Going (script : ScriptContents) (first count : ℕ) (in_old in_new : 
   pub stands : Stands script first records standing text
   pub written : Appends out_old out_new text
   pub many : count ≤ length done
+
+pub going_begins : (script : ScriptContents) (first : ℕ) (bytes_in : Option (List ℕ)) (held : List ℕ)
+    (bytes_out : Option (List ℕ)) (standing : Standing) → held ≡ [] → standing.place ≡ beginning first
+    → standing.faults ≡ 0 → Going script first 0 bytes_in bytes_in held bytes_out bytes_out standing
+going_begins script first bytes_in held bytes_out standing none place faults = record {
+  done = [];
+  records = [];
+  text = [];
+  consumed = rw none (Consumes-nil bytes_in);
+  apart = λ more. refl;
+  stands = begins script first standing place faults;
+  written = Appends-nil bytes_out;
+  many = omega arith;
+}
 
 module _ (script : ScriptContents) (first count limit : ℕ) (in_old in_mid in_new : Option (List ℕ)) (held left : List ℕ)
     (out_old out_mid out_new : Option (List ℕ)) (old new : Standing)
@@ -88,7 +102,7 @@ whole_trace None new bytes taken = tt
 whole_trace (Some xs) None bytes taken = absurd taken
 whole_trace (Some xs) (Some ys) bytes taken = sym taken
 
-none_left : (new : Option (List ℕ)) → IsAtEnd new → unwrap_or new [] ≡ []
+pub none_left : (new : Option (List ℕ)) → IsAtEnd new → unwrap_or new [] ≡ []
 none_left None e = refl
 none_left (Some xs) e = e
 

@@ -36,7 +36,7 @@ report_text-push rows decisions row decision same =
     ∙ sym (flat_map_more line [] (enumerate_from 1 pairs) (1 + length pairs, (row, decision)))
     ∙ ap (λ (n : ℕ). report_text rows decisions ++ report_row n row.access decision) number
 
-same_summary : (one other : Summary) → one.rows ≡ other.rows → one.faults ≡ other.faults → one ≡ other
+pub same_summary : (one other : Summary) → one.rows ≡ other.rows → one.faults ≡ other.faults → one ≡ other
 same_summary one other rows faults =
     ap (λ (n : ℕ). record { rows = n; faults = one.faults }) rows
     ∙ ap (λ (n : ℕ). record { rows = other.rows; faults = n }) faults
