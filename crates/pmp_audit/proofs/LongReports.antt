@@ -46,31 +46,31 @@ module _ (script : ScriptContents) (first : ℕ) where
   none_listed held = record { decisions = []; decided = tt; report = sym (append-nil held); counted = refl }
 
   module _ (rows : List Row) (before held : List ℕ) (faults : ℕ) (so_far : IsListed script rows first before held faults)
-      where
-    pub few_refused : faults ≤ length rows
-    few_refused = let same = AllZip-long (Decides script) rows so_far.decisions so_far.decided in
-        let few = count_by-le-length (λ (d : Decision). not d.allowed) so_far.decisions in
-        let counted = so_far.counted in omega arith
+    where
+      pub few_refused : faults ≤ length rows
+      few_refused = let same = AllZip-long (Decides script) rows so_far.decisions so_far.decided in
+          let few = count_by-le-length (λ (d : Decision). not d.allowed) so_far.decisions in
+          let counted = so_far.counted in omega arith
 
-    pub one_listed_more : (row : Row) (decision : Decision) (after : List ℕ) (number more : ℕ)
-        → Decides script row decision → after ≡ held ++ report_row number row.access decision
-        → number ≡ first + length rows → more ≡ faults + cond decision.allowed 0 1
-        → IsListed script (rows ++ row ∷ []) first before after more
-    unfolding report_text_from
-    one_listed_more row decision after number more by_bytes written number_is refused =
-        let same = AllZip-long (Decides script) rows so_far.decisions so_far.decided in
-        let last = report_row (first + length rows) row.access decision in
-        let text = report_text_from first rows so_far.decisions in record {
-          decisions = so_far.decisions ++ decision ∷ [];
-          decided = all_zipped_more (Decides script) rows so_far.decisions row decision so_far.decided by_bytes;
-          report = written ∙ ap (λ (n : ℕ). held ++ report_row n row.access decision) number_is
-              ∙ ap (λ (l : List ℕ). l ++ last) so_far.report ∙ append_assoc before text last
-              ∙ ap (λ (l : List ℕ). before ++ (text ++ l)) (sym (append-nil last))
-              ∙ ap (λ (l : List ℕ). before ++ l)
-              (sym (report_goes_on rows (row ∷ []) so_far.decisions (decision ∷ []) first same));
-          counted = refused ∙ ap (λ (n : ℕ). n + cond decision.allowed 0 1) so_far.counted
-              ∙ sym (refused-push so_far.decisions decision);
-        }
+      pub one_listed_more : (row : Row) (decision : Decision) (after : List ℕ) (number more : ℕ)
+          → Decides script row decision → after ≡ held ++ report_row number row.access decision
+          → number ≡ first + length rows → more ≡ faults + cond decision.allowed 0 1
+          → IsListed script (rows ++ row ∷ []) first before after more
+      unfolding report_text_from
+      one_listed_more row decision after number more by_bytes written number_is refused =
+          let same = AllZip-long (Decides script) rows so_far.decisions so_far.decided in
+          let last = report_row (first + length rows) row.access decision in
+          let text = report_text_from first rows so_far.decisions in record {
+            decisions = so_far.decisions ++ decision ∷ [];
+            decided = all_zipped_more (Decides script) rows so_far.decisions row decision so_far.decided by_bytes;
+            report = written ∙ ap (λ (n : ℕ). held ++ report_row n row.access decision) number_is
+                ∙ ap (λ (l : List ℕ). l ++ last) so_far.report ∙ append_assoc before text last
+                ∙ ap (λ (l : List ℕ). before ++ (text ++ l)) (sym (append-nil last))
+                ∙ ap (λ (l : List ℕ). before ++ l)
+                (sym (report_goes_on rows (row ∷ []) so_far.decisions (decision ∷ []) first same));
+            counted = refused ∙ ap (λ (n : ℕ). n + cond decision.allowed 0 1) so_far.counted
+                ∙ sym (refused-push so_far.decisions decision);
+          }
 
 -- ---- how many rows a piece has
 

@@ -118,8 +118,7 @@ module _ (script : List ℕ) (contents : ScriptContents) (means : script_meaning
         let later = one_piece contents first records old text stands (records_of piece) new faults more says refl refl in
         let (behind, tail_is) = here.apart says.fine in
         let are : records_of trace ≡ (records ++ records_of piece) ++ behind =
-        here.are ∙ ap (λ (l : Records). records ++ l) tail_is ∙ sym (append_assoc records (records_of piece) behind) in
-        (
+        here.are ∙ ap (λ (l : Records). records ++ l) tail_is ∙ sym (append_assoc records (records_of piece) behind) in (
           text ++ more,
           front_of script contents means first (records ++ records_of piece) new (text ++ more) later trace behind are,
           (

@@ -159,8 +159,7 @@ module _ (script : ScriptContents) (first count limit : ℕ) (in_old in_mid in_n
     ends_badly (Err fault) (begun, is) text means =
         let trace = trace_all script first count limit in_old in_mid in_new held out_old out_mid old going piece cut in
         let are = all_are script first count limit in_old in_mid in_new held out_old out_mid old going piece cut in
-        let all = going.records ++ records_of piece in
-        (
+        let all = going.records ++ records_of piece in (
           trace,
           all_known script first count limit in_old in_mid in_new held out_old out_mid old going piece cut,
           rw is (

@@ -25,8 +25,7 @@ loop-count-preserved g c =
     let cut = rw c.in-Ok-Front.field-0-is at c.in-Ok-Front.ensures in
     let wrote = rw c.deref.ensures.value at c.in_ok-standing-in-Ok-Front.ensures.ok in
     let within = cut.within in
-    let size = c.cut_piece.new.held.ok in
-    (
+    let size = c.cut_piece.new.held.ok in (
       omega arith,
       goes_on _ _ _ _ _ _ _ _ _ _ _ _ _ _ c.loop-count.invariant.1 c.in-Ok-Front.text.items cut wrote,
     )
