@@ -1,14 +1,14 @@
 -- A piece of a long audit, in the whole trace.
-use Rattle.std.proofs.Common.{◌≡◌, ℕ, ◌+◌, ◌-◌, ◌≤◌, List, [], ◌∷◌, ◌++◌, length, unwrap_or, Option, Some, None}
+use Rattle.std.proofs.Common.{◌≡◌, ℕ, ◌≤◌, List, [], ◌∷◌, ◌++◌, length, unwrap_or, Option, Some, None}
 use Rattle.std.proofs.Common.{sym, ap, ◌∙◌, append_assoc, append-nil, arith}
 use Rattle.std.specs.Prelude.{IfSome}
-use Rattle.std.specs.Io.KnownBytes.{Consumes, IsAtEnd}
+use Rattle.std.specs.Io.KnownBytes.{Consumes}
 use Rattle.std.proofs.KnownBytes.{Consumes-trans}
 use Rattle.std.proofs.lemmas.List.{length-append}
 use Rattle.pmp_text.specs.declared.trace.TraceFault.{TraceFault}
 use Rattle.pmp_text.specs.declared.trace.piece.Place.{Place}
 use Rattle.pmp_text.specs.Contents.{ScriptContents}
-use Rattle.pmp_text.specs.Cutting.{IsFront, IsLast, IsUncut}
+use Rattle.pmp_text.specs.Cutting.{IsFront, IsLast}
 use Rattle.pmp_text.specs.LongTraces.{HasLongLine, Records, piece_fault}
 use Rattle.pmp_text.specs.Tables.{records_of}
 use Rattle.pmp_text.proofs.PieceFaults as pieces

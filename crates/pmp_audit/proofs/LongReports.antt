@@ -1,11 +1,10 @@
 -- Reports with numbers from any one on, one behind the other.
-use Rattle.std.proofs.Common.{◌≡◌, ℕ, suc, ◌+◌, ◌^◌, ◌<◌, ◌≤◌, cond, List, [], ◌∷◌, ◌++◌, length, map, take, get_or, refl, sym, ap}
+use Rattle.std.proofs.Common.{◌≡◌, ℕ, suc, ◌+◌, ◌^◌, ◌<◌, ◌≤◌, cond, List, [], ◌∷◌, ◌++◌, length, refl, sym, ap}
 use Rattle.std.proofs.Common.{◌∙◌, append_assoc, append-nil, arith}
 use Rattle.std.proofs.Common.{Option, Some, None, Ok}
-use Rattle.std.specs.Prelude.{count_by, filter_map, not}
+use Rattle.std.specs.Prelude.{filter_map, not}
 use Rattle.std.proofs.lemmas.List.{length-map}
-use Rattle.std.specs.List.{enumerate_from, flat_map, zip}
-use Rattle.std.proofs.lemmas.List.Sums.{count_by-le-length, sum_by-append}
+use Rattle.std.proofs.lemmas.List.Sums.{count_by-le-length}
 use Rattle.std.proofs.lemmas.Slice.Zip.{AllZip-long, all_zipped_more}
 use Rattle.pmp_core.specs.declared.decision.Decision.{Decision}
 use Rattle.pmp_text.specs.declared.trace.Row.{Row}
@@ -16,8 +15,8 @@ use Rattle.pmp_text.specs.declared.trace.row_fields.RowFields.{RowFields}
 use Rattle.pmp_text.specs.Contents.{ScriptContents}
 use Rattle.pmp_text.specs.LongTraces.{IsReadAs, Records, piece_fault, place_behind, report_text_from, row_records}
 use Rattle.pmp_text.specs.Traces.{row_fields, row_of_record}
-use Rattle.pmp_text.specs.Reports.{AreDecided, report_row}
-use Rattle.pmp_audit.specs.LongPieces.{IsListed, IsPieceText, refused_count}
+use Rattle.pmp_text.specs.Reports.{report_row}
+use Rattle.pmp_audit.specs.LongPieces.{IsListed, IsPieceText}
 use Rattle.pmp_audit.specs.declared.long_audit.standing.Standing.{Standing}
 use Rattle.pmp_audit.proofs.Reports.{Decides, refused-push}
 

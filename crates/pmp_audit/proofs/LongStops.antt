@@ -1,18 +1,14 @@
 -- Where a long audit stops, and where it ends.
-use Rattle.std.proofs.Common.{◌≡◌, ◌⊎◌, ℕ, ◌+◌, ◌*◌, ◌-◌, ◌^◌, ◌≤◌, Bool, true, false, List, [], ◌∷◌, ◌++◌, length, unwrap_or}
-use Rattle.std.proofs.Common.{Option, Some, None, Result, Ok, Err, IfOk, IfErr, refl, sym, ap, ◌∙◌, inl, inr}
+use Rattle.std.proofs.Common.{◌≡◌, ◌⊎◌, ℕ, ◌+◌, ◌*◌, ◌-◌, ◌^◌, ◌≤◌, Bool, true, false, List, [], ◌∷◌, ◌++◌, length}
+use Rattle.std.proofs.Common.{Option, Some, None, Ok, Err, refl, sym, ap, ◌∙◌, inl, inr}
 use Rattle.std.proofs.Common.{append_assoc, arith}
-use Rattle.std.specs.Prelude.{IfSome, MatchResult}
 use Rattle.std.specs.Io.KnownBytes.{Appends, Keeps}
 use Rattle.std.proofs.KnownBytes.{Appends-trans}
 use Rattle.std.proofs.lemmas.List.{length-append}
-use Rattle.pmp_text.specs.declared.input.InputFault.{InputFault}
-use Rattle.pmp_text.specs.declared.input.InputFault.TheVariants as input
 use Rattle.pmp_text.specs.declared.trace.TraceFault.{TraceFault}
 use Rattle.pmp_text.specs.declared.trace.TraceKind.TheVariants.{BadHeader}
 use Rattle.pmp_text.specs.declared.trace.piece.Place.{Place}
 use Rattle.pmp_text.specs.Contents.{ScriptContents}
-use Rattle.pmp_text.specs.Cutting.{IsCut}
 use Rattle.pmp_text.specs.LongTraces.{Records, beginning, long_meaning, piece_fault, place_behind, row_records}
 use Rattle.pmp_text.specs.LongTraces.{too_long_for_rows}
 use Rattle.pmp_text.specs.Outcomes.{no_input_for_rows}
@@ -25,10 +21,10 @@ use Rattle.pmp_audit.specs.declared.fault.AuditFault.TheVariants.{Output, Script
 use Rattle.pmp_audit.specs.declared.long_audit.standing.Standing.{Standing}
 use Rattle.pmp_audit.specs.declared.trace_audit.Summary.{Summary}
 use Rattle.pmp_audit.specs.LongAudit.{IsTooLong, LongAuditSays, StopsLong, WroteFront}
-use Rattle.pmp_audit.specs.LongPieces.{PieceStops, fault_of_cut}
+use Rattle.pmp_audit.specs.LongPieces.{PieceStops}
 use Rattle.pmp_audit.proofs.LongAudits.{Stands, fault_behind, one_piece, summed}
-use Rattle.pmp_audit.proofs.LongPieces.{IsPieceOf, held_known, long_in_all, taken_known, trace_held, trace_taken}
-use Rattle.pmp_audit.proofs.LongSteps.{Going, faulty_records, fine_records, front_of, no_records}
+use Rattle.pmp_audit.proofs.LongPieces.{IsPieceOf}
+use Rattle.pmp_audit.proofs.LongSteps.{faulty_records, fine_records, front_of, no_records}
 use Rattle.pmp_audit.proofs.Reports.{same_summary}
 
 appends_kept : (old mid new : Option (List ℕ)) (text : List ℕ) → Appends old mid text → Keeps mid new

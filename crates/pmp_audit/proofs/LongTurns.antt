@@ -1,8 +1,8 @@
 -- What one turn of a long audit comes to, where it is the last one.
-use Rattle.std.proofs.Common.{◌≡◌, ◌⊎◌, Some, None, ℕ, ◌+◌, ◌*◌, ◌-◌, ◌^◌, ◌≤◌, true, false, List, ◌++◌, length, unwrap_or, Option, Result, Ok, Err}
-use Rattle.std.proofs.Common.{IfOk, IfErr, refl, sym, ap, ◌∙◌, inl, inr, append-nil, arith, []}
+use Rattle.std.proofs.Common.{◌≡◌, ◌⊎◌, Some, None, ℕ, ◌-◌, ◌^◌, ◌≤◌}
+use Rattle.std.proofs.Common.{true, false, List, ◌++◌, unwrap_or, Option, Result, Ok, Err}
+use Rattle.std.proofs.Common.{IfOk, IfErr, refl, sym, ◌∙◌, inl, inr, append-nil, arith, []}
 use Rattle.std.specs.Prelude.{IfSome, MatchResult}
-use Rattle.std.specs.Io.KnownBytes.{Appends, Keeps}
 use Rattle.std.proofs.KnownBytes.{Appends-trans, Keeps-refl}
 use Rattle.std.proofs.lemmas.List.{length-append}
 use Rattle.pmp_text.specs.declared.script.ScriptFault.{ScriptFault}

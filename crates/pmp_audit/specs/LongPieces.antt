@@ -1,12 +1,11 @@
 -- A piece of a long audit: what is written of it, and why it isn't.
 use Rattle.std.specs.Prelude.{◌≡◌, ◌⊎◌, ℕ, ◌+◌, ◌^◌, ◌≤◌, List, ◌++◌, length, map, filter_map, count_by, not}
-use Rattle.std.specs.Prelude.{Option, None, Some, if◌then◌else◌}
+use Rattle.std.specs.Prelude.{Option, None, Some}
 use Rattle.std.specs.Io.KnownBytes.{Appends, Keeps}
 use Rattle.pmp_core.specs.declared.decision.Decision.{Decision}
 use Rattle.pmp_text.specs.declared.input.InputFault.{InputFault}
 use Rattle.pmp_text.specs.declared.input.InputFault.TheVariants as input
 use Rattle.pmp_text.specs.declared.trace.Row.{Row}
-use Rattle.pmp_text.specs.declared.trace.TraceFault.{TraceFault}
 use Rattle.pmp_text.specs.Bytes.{AppendsBeginning}
 use Rattle.pmp_text.specs.Contents.{ScriptContents}
 use Rattle.pmp_text.specs.LongTraces.{Records, piece_fault, place_behind, report_text_from, row_records}

@@ -1,4 +1,4 @@
-use Rattle.std.proofs.Common.{rules, ◌≡◌, ◌≤◌, [], Err, arith}
+use Rattle.std.proofs.Common.{rules, ◌≡◌, [], Err, arith}
 use Rattle.pmp_audit.proofs.LongAudits.{few_refused}
 use Rattle.pmp_audit.proofs.LongSteps.{goes_on, going_begins}
 use Rattle.pmp_audit.proofs.LongTurns.{cut_stops, ends_badly, ends_well, front_stops, last_stops, no_turn}

@@ -1,4 +1,4 @@
-use Rattle.std.proofs.Common.{rules, Err, ◌≡◌, ◌+◌, ◌<◌, ◌≤◌, ◌^◌, ap, length, arith}
+use Rattle.std.proofs.Common.{rules, Err, ◌≡◌, arith}
 use Rattle.pmp_text.specs.Tables.{records_of}
 use Rattle.pmp_audit.specs.declared.fault.AuditFault.TheVariants.{Output}
 use Rattle.pmp_audit.proofs.LongReports.{piece_says, rows_fit, rows_small}
