@@ -5,6 +5,12 @@ pub mod Merging
 pub mod Asking
 pub mod Dealing
 pub mod Lists
+pub mod LongReports
+pub mod LongAudits
+pub mod LongSteps
+pub mod LongPieces
+pub mod LongStops
+pub mod LongTurns
 pub mod OneEntryList
 pub mod OneReport
 pub mod Reports

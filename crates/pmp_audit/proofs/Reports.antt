@@ -36,12 +36,12 @@ report_text-push rows decisions row decision same =
     ∙ sym (flat_map_more line [] (enumerate_from 1 pairs) (1 + length pairs, (row, decision)))
     ∙ ap (λ (n : ℕ). report_text rows decisions ++ report_row n row.access decision) number
 
-same_summary : (one other : Summary) → one.rows ≡ other.rows → one.faults ≡ other.faults → one ≡ other
+pub same_summary : (one other : Summary) → one.rows ≡ other.rows → one.faults ≡ other.faults → one ≡ other
 same_summary one other rows faults =
     ap (λ (n : ℕ). record { rows = n; faults = one.faults }) rows
     ∙ ap (λ (n : ℕ). record { rows = other.rows; faults = n }) faults
 
-abbrev is_refused : Decision → Bool
+abbrev pub is_refused : Decision → Bool
 is_refused decision = not decision.allowed
 
 one_refused : (decision : Decision) (allowed : Bool)
@@ -49,7 +49,7 @@ one_refused : (decision : Decision) (allowed : Bool)
 one_refused decision true e = rw e refl
 one_refused decision false e = rw e refl
 
-refused-push : (decisions : List Decision) (decision : Decision)
+pub refused-push : (decisions : List Decision) (decision : Decision)
     → count_by is_refused (decisions ++ decision ∷ []) ≡ count_by is_refused decisions + cond decision.allowed 0 1
 refused-push decisions decision =
     sum_by-append (λ (d : Decision). cond (is_refused d) 1 0) decisions (decision ∷ [])
@@ -66,7 +66,7 @@ module _ (script : ScriptContents) where
     counted = same_summary summary (summary_of []) rows faults;
   }
 
-  abbrev Decides : Row → Decision → Type 0
+  abbrev pub Decides : Row → Decision → Type 0
   Decides row decision = IsDecision (file_of_script script row.after) row.access decision
 
   module _ (rows : List Row) (before held : List ℕ) (summary : Summary)

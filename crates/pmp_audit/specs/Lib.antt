@@ -3,6 +3,7 @@ pub mod Answers
 pub mod AccessCheck
 pub mod TraceAudit
 pub mod SharedAudit
+pub mod LongAudit
 pub mod AskedFile
 pub mod View
 pub mod RightsDiff
@@ -21,5 +22,6 @@ pub mod EventRows
 pub mod SinceStep
 pub mod Working
 pub mod Rounds
+pub mod LongPieces
 pub mod PolicyQuestions
 pub mod PolicyRows

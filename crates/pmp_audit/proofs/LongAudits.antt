@@ -1,0 +1,151 @@
+-- A long audit, piece by piece.
+use Rattle.std.proofs.Common.{◌≡◌, ℕ, ◌+◌, ◌-◌, ◌≤◌, false, cond, List, [], ◌∷◌, ◌++◌}
+use Rattle.std.proofs.Common.{length, map, Option, Some, None, refl, sym, ap, ◌∙◌}
+use Rattle.std.proofs.Common.{arith}
+use Rattle.std.specs.Prelude.{filter_map, not, option_map}
+use Rattle.std.specs.List.{AllZip}
+use Rattle.std.specs.Option.{option_or}
+use Rattle.std.proofs.lemmas.List.{length-map, map-append}
+use Rattle.std.proofs.lemmas.List.Sums.{count_by-le-length, sum_by-append}
+use Rattle.std.proofs.lemmas.Slice.Zip.{AllZip-long}
+use Rattle.pmp_core.specs.declared.decision.Decision.{Decision}
+use Rattle.pmp_text.specs.declared.trace.TraceFault.{TraceFault}
+use Rattle.pmp_text.specs.declared.trace.TraceKind.TheVariants.{BadRow}
+use Rattle.pmp_text.specs.declared.trace.piece.Place.{Place}
+use Rattle.pmp_text.specs.declared.trace.row_fields.RowFields.{RowFields}
+use Rattle.pmp_text.specs.Contents.{ScriptContents}
+use Rattle.pmp_text.specs.LongTraces.{Records, beginning, first_fault_at, piece_fault, place_behind, report_text_from}
+use Rattle.pmp_text.specs.LongTraces.{row_records}
+use Rattle.pmp_text.specs.Tables.{at_row}
+use Rattle.pmp_text.specs.Traces.{after_of, first_row_fault, is_header, row_fault, row_fields, row_of_record}
+use Rattle.pmp_text.proofs.PieceFaults.{behind, in_turn, places_in_turn, rows_in_two}
+use Rattle.pmp_audit.specs.declared.long_audit.standing.Standing.{Standing}
+use Rattle.pmp_audit.specs.LongAudit.{IsFrontReport}
+use Rattle.pmp_audit.specs.LongPieces.{IsPieceText, refused_count}
+use Rattle.pmp_audit.proofs.LongReports.{report_goes_on}
+use Rattle.pmp_audit.proofs.Reports.{Decides}
+
+-- what was read so far is reported so, and the next piece stands there
+pub record Stands (script : ScriptContents) (first : ℕ) (records : Records) (standing : Standing) (text : List ℕ) : Type 0
+  where
+    pub report : IsFrontReport script first records text
+    pub place : standing.place ≡ place_behind (beginning first) records
+    pub counted : standing.faults ≡ refused_count report.decisions
+
+module _ (script : ScriptContents) (first : ℕ) where
+  pub begins : (standing : Standing) → standing.place ≡ beginning first → standing.faults ≡ 0
+      → Stands script first [] standing []
+  unfolding report_text_from
+  begins standing place faults =
+      let number : first ≡ first + 0 = omega arith in record {
+        report = record { fine = refl; rows = []; decisions = []; said = refl; decided = tt; report = refl };
+        place = place ∙ ap (λ (n : ℕ). record { begun = false; last = None; next = n }) number;
+        counted = faults;
+      }
+
+module _ (publications : ℕ) where
+  neither : (own later : Option TraceFault) → option_or own later ≡ None → (own ≡ None) × (later ≡ None)
+  neither None later e = (refl, e)
+  neither (Some fault) later e = absurd cc
+
+  all_say : (rows : Records) (last : Option ℕ) (next : ℕ) → first_row_fault publications last next rows ≡ None
+      → length (filter_map row_of_record rows) ≡ length rows
+  all_say [] last next fine = refl
+  all_say (row ∷ more) last next fine = by (row_of_record row) refl (all_say more)
+    where
+      by : (said : Option RowFields) → row_of_record row ≡ said
+          → ((last : Option ℕ) (next : ℕ) → first_row_fault publications last next more ≡ None
+          → length (filter_map row_of_record more) ≡ length more)
+          → length (filter_map row_of_record (row ∷ more)) ≡ length (row ∷ more)
+      by None is later =
+          let own : Some (at_row next BadRow) ≡ None = (neither (Some (at_row next BadRow))
+          (first_row_fault publications None (next + 1) more) (rw is at fine)).0 in
+          absurd cc
+      by (Some fields) is later =
+          let rest = (neither (option_map (at_row next) (row_fault publications last (row_of_record row)))
+          (first_row_fault publications (after_of (row_of_record row)) (next + 1) more) fine).1 in
+          let count = later (after_of (row_of_record row)) (next + 1) rest in
+          rw is (omega arith)
+
+  all_rows_say : (records : Records) (last : Option ℕ) (next : ℕ)
+      → first_fault_at publications false last next records ≡ None
+      → length (filter_map row_of_record (row_records false records)) ≡ length (row_records false records)
+  all_rows_say [] last next fine = refl
+  all_rows_say (header ∷ rows) last next fine =
+      all_say rows last next (behind publications (is_header header) last next rows fine)
+
+zipped_apart : {A B : Type 0} (R : A → B → Type 0) (xs more : List A) (ys others : List B) → AllZip R xs ys
+    → AllZip R more others → AllZip R (xs ++ more) (ys ++ others)
+zipped_apart R [] more [] others here there = there
+zipped_apart R [] more (y ∷ ys) others here there = absurd here
+zipped_apart R (x ∷ xs) more [] others here there = absurd here
+zipped_apart R (x ∷ xs) more (y ∷ ys) others here there = (here.0, zipped_apart R xs more ys others here.1 there)
+
+module _ (script : ScriptContents) (first : ℕ) (records : Records) (old : Standing) (text : List ℕ)
+    (stands : Stands script first records old text) where
+  abbrev publications : ℕ
+  publications = length script.batches
+
+  -- the fault of records behind these is theirs, where they stand
+  pub fault_behind : (more : Records) → piece_fault publications (beginning first) (records ++ more)
+      ≡ piece_fault publications old.place more
+  fault_behind more = in_turn publications None first false records more
+      ∙ ap (λ (x : Option TraceFault). option_or x
+      (piece_fault publications (place_behind (beginning first) records) more)) stands.report.fine
+      ∙ ap (λ (p : Place). piece_fault publications p more) (sym stands.place)
+
+  numbered : old.place.next ≡ first + length stands.report.rows
+  numbered =
+      let next : old.place.next ≡ first + length (row_records false records) = ap (λ (p : Place). p.next) stands.place in
+      let said = all_rows_say publications records None first stands.report.fine in
+      let same : length stands.report.rows ≡ length (filter_map row_of_record (row_records false records)) =
+      sym (length-map stands.report.rows row_fields) ∙ ap (λ (l : List RowFields). length l) stands.report.said in
+      omega arith
+
+  -- rows are numbered from the first one on, and no more were refused than there are
+  pub not_before : first ≤ old.place.next
+  not_before = let next = numbered in omega arith
+
+  pub few_refused : old.faults ≤ old.place.next
+  few_refused =
+      let next = numbered in
+      let one_each = AllZip-long (Decides script) stands.report.rows stands.report.decisions stands.report.decided in
+      let few = count_by-le-length (λ (d : Decision). not d.allowed) stands.report.decisions in
+      let counted = stands.counted in
+      omega arith
+
+  -- the count of what was reported
+  pub summed : old.place.next - first ≡ length stands.report.decisions
+  summed =
+      let next = numbered in
+      let one_each = AllZip-long (Decides script) stands.report.rows stands.report.decisions stands.report.decided in
+      omega arith
+
+  pub one_piece : (more : Records) (new : Standing) (faults : ℕ) (piece : List ℕ)
+      → IsPieceText script more old faults piece → new.place ≡ place_behind old.place more
+      → new.faults ≡ old.faults + faults → Stands script first (records ++ more) new (text ++ piece)
+  one_piece more new faults piece says place refused =
+      let front = stands.report in
+      let one_each = AllZip-long (Decides script) front.rows front.decisions front.decided in record {
+        report = record {
+          fine = fault_behind more ∙ says.fine;
+          rows = front.rows ++ says.rows;
+          decisions = front.decisions ++ says.decisions;
+          said = map-append row_fields front.rows says.rows
+              ∙ ap (λ (l : List RowFields). l ++ map row_fields says.rows) front.said
+              ∙ ap (λ (l : List RowFields). filter_map row_of_record (row_records false records) ++ l)
+              (says.said ∙ ap (λ (p : Place). filter_map row_of_record (row_records p.begun more)) stands.place)
+              ∙ sym (rows_in_two false records more);
+          decided = zipped_apart (Decides script) front.rows says.rows front.decisions says.decisions front.decided
+              says.decided;
+          report = ap (λ (l : List ℕ). l ++ piece) front.report
+              ∙ ap (λ (l : List ℕ). report_text_from first front.rows front.decisions ++ l) (says.report
+              ∙ ap (λ (n : ℕ). report_text_from n says.rows says.decisions) numbered)
+              ∙ sym (report_goes_on front.rows says.rows front.decisions says.decisions first one_each);
+        };
+        place = place ∙ ap (λ (p : Place). place_behind p more) stands.place
+            ∙ sym (places_in_turn (beginning first) records more);
+        counted = refused ∙ ap (λ (n : ℕ). n + faults) stands.counted
+            ∙ ap (λ (n : ℕ). refused_count front.decisions + n) says.counted
+            ∙ sym (sum_by-append (λ (d : Decision). cond (not d.allowed) 1 0) front.decisions says.decisions);
+      }

@@ -1,0 +1,122 @@
+-- Reports with numbers from any one on, one behind the other.
+use Rattle.std.proofs.Common.{◌≡◌, ℕ, suc, ◌+◌, ◌^◌, ◌<◌, ◌≤◌, cond, List, [], ◌∷◌, ◌++◌, length, refl, sym, ap}
+use Rattle.std.proofs.Common.{◌∙◌, append_assoc, append-nil, arith}
+use Rattle.std.proofs.Common.{Option, Some, None, Ok}
+use Rattle.std.specs.Prelude.{filter_map, not}
+use Rattle.std.proofs.lemmas.List.{length-map}
+use Rattle.std.proofs.lemmas.List.Sums.{count_by-le-length}
+use Rattle.std.proofs.lemmas.Slice.Zip.{AllZip-long, all_zipped_more}
+use Rattle.pmp_core.specs.declared.decision.Decision.{Decision}
+use Rattle.pmp_text.specs.declared.trace.Row.{Row}
+use Rattle.pmp_text.specs.declared.trace.TraceFault.{TraceFault}
+use Rattle.pmp_text.specs.declared.trace.piece.Piece.{Piece}
+use Rattle.pmp_text.specs.declared.trace.piece.Place.{Place}
+use Rattle.pmp_text.specs.declared.trace.row_fields.RowFields.{RowFields}
+use Rattle.pmp_text.specs.Contents.{ScriptContents}
+use Rattle.pmp_text.specs.LongTraces.{IsReadAs, Records, piece_fault, place_behind, report_text_from, row_records}
+use Rattle.pmp_text.specs.Traces.{row_fields, row_of_record}
+use Rattle.pmp_text.specs.Reports.{report_row}
+use Rattle.pmp_audit.specs.LongPieces.{IsListed, IsPieceText}
+use Rattle.pmp_audit.specs.declared.long_audit.standing.Standing.{Standing}
+use Rattle.pmp_audit.proofs.Reports.{Decides, refused-push}
+
+-- a report behind another one goes on with its numbers
+pub report_goes_on : (rows more : List Row) (decisions others : List Decision) (first : ℕ)
+    → length decisions ≡ length rows
+    → report_text_from first (rows ++ more) (decisions ++ others)
+    ≡ report_text_from first rows decisions ++ report_text_from (first + length rows) more others
+unfolding report_text_from
+report_goes_on [] more [] others first same =
+    let number : first ≡ first + 0 = omega arith in
+    ap (λ (n : ℕ). report_text_from n more others) number
+report_goes_on [] more (decision ∷ decisions) others first same = absurd (omega arith)
+report_goes_on (row ∷ rows) more [] others first same = absurd (omega arith)
+report_goes_on (row ∷ rows) more (decision ∷ decisions) others first same =
+    let line = report_row first row.access decision in
+    let number : first + 1 + length rows ≡ first + suc (length rows) = omega arith in
+    ap (λ (l : List ℕ). line ++ l) (report_goes_on rows more decisions others (first + 1) (omega arith))
+    ∙ sym (append_assoc line (report_text_from (first + 1) rows decisions)
+    (report_text_from (first + 1 + length rows) more others))
+    ∙ ap (λ (n : ℕ). (line ++ report_text_from (first + 1) rows decisions) ++ report_text_from n more others) number
+
+module _ (script : ScriptContents) (first : ℕ) where
+  pub none_listed : (held : List ℕ) → IsListed script [] first held held 0
+  unfolding report_text_from
+  none_listed held = record { decisions = []; decided = tt; report = sym (append-nil held); counted = refl }
+
+  module _ (rows : List Row) (before held : List ℕ) (faults : ℕ) (so_far : IsListed script rows first before held faults)
+    where
+      pub few_refused : faults ≤ length rows
+      few_refused = let same = AllZip-long (Decides script) rows so_far.decisions so_far.decided in
+          let few = count_by-le-length (λ (d : Decision). not d.allowed) so_far.decisions in
+          let counted = so_far.counted in omega arith
+
+      pub one_listed_more : (row : Row) (decision : Decision) (after : List ℕ) (number more : ℕ)
+          → Decides script row decision → after ≡ held ++ report_row number row.access decision
+          → number ≡ first + length rows → more ≡ faults + cond decision.allowed 0 1
+          → IsListed script (rows ++ row ∷ []) first before after more
+      unfolding report_text_from
+      one_listed_more row decision after number more by_bytes written number_is refused =
+          let same = AllZip-long (Decides script) rows so_far.decisions so_far.decided in
+          let last = report_row (first + length rows) row.access decision in
+          let text = report_text_from first rows so_far.decisions in record {
+            decisions = so_far.decisions ++ decision ∷ [];
+            decided = all_zipped_more (Decides script) rows so_far.decisions row decision so_far.decided by_bytes;
+            report = written ∙ ap (λ (n : ℕ). held ++ report_row n row.access decision) number_is
+                ∙ ap (λ (l : List ℕ). l ++ last) so_far.report ∙ append_assoc before text last
+                ∙ ap (λ (l : List ℕ). before ++ (text ++ l)) (sym (append-nil last))
+                ∙ ap (λ (l : List ℕ). before ++ l)
+                (sym (report_goes_on rows (row ∷ []) so_far.decisions (decision ∷ []) first same));
+            counted = refused ∙ ap (λ (n : ℕ). n + cond decision.allowed 0 1) so_far.counted
+                ∙ sym (refused-push so_far.decisions decision);
+          }
+
+-- ---- how many rows a piece has
+
+few_said : (records : Records) → length (filter_map row_of_record records) ≤ length records
+few_said [] = omega arith
+few_said (one ∷ more) = by (row_of_record one) refl (few_said more)
+  where
+    by : (said : Option RowFields) → row_of_record one ≡ said
+        → length (filter_map row_of_record more) ≤ length more
+        → length (filter_map row_of_record (one ∷ more)) ≤ length (one ∷ more)
+    by None is few = rw is (omega arith)
+    by (Some row) is few = rw is (omega arith)
+
+-- the rows of a piece are numbered before those of the next one
+pub rows_fit : (fault : Option TraceFault) (place : Place) (records : Records) (piece : Piece)
+    → IsReadAs fault (row_records place.begun records) (place_behind place records) (Ok piece)
+    → place.next + length piece.rows.items ≤ piece.place.next
+rows_fit fault place records piece read =
+    let rows = row_records place.begun records in
+    let few = few_said rows in
+    let many : length piece.rows.items ≡ length (filter_map row_of_record rows) =
+    sym (length-map piece.rows.items row_fields) ∙ ap (λ (l : List RowFields). length l) read.1 in
+    let next : piece.place.next ≡ place.next + length rows = ap (λ (p : Place). p.next) read.2 in
+    omega arith
+
+pub rows_small : (fault : Option TraceFault) (place : Place) (records : Records) (piece : Piece)
+    → IsReadAs fault (row_records place.begun records) (place_behind place records) (Ok piece)
+    → piece.place.next < 2 ^ 64
+rows_small fault place records piece read =
+    let next : piece.place.next ≡ (place_behind place records).next = ap (λ (p : Place). p.next) read.2 in
+    let small = read.3 in
+    omega arith
+
+-- the text that a piece comes to
+pub piece_says : (script : ScriptContents) (records : Records) (standing : Standing) (piece : Piece)
+    (before after text : List ℕ) (faults : ℕ)
+    → IsReadAs (piece_fault (length script.batches) standing.place records) (row_records standing.place.begun records)
+    (place_behind standing.place records) (Ok piece)
+    → IsListed script piece.rows.items standing.place.next before after faults → before ≡ [] → text ≡ after
+    → IsPieceText script records standing faults text
+piece_says script records standing piece before after text faults read listed empty same = record {
+  fine = read.0;
+  rows = piece.rows.items;
+  decisions = listed.decisions;
+  said = read.1;
+  decided = listed.decided;
+  report = same ∙ listed.report
+      ∙ ap (λ (l : List ℕ). l ++ report_text_from standing.place.next piece.rows.items listed.decisions) empty;
+  counted = listed.counted;
+}

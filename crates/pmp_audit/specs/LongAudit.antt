@@ -1,0 +1,73 @@
+-- What an audit says of a trace of any length, and what it has written where it stops.
+use Rattle.std.specs.Prelude.{◌≡◌, ◌⊎◌, ℕ, ◌+◌, ◌-◌, ◌*◌, ◌^◌, ◌≤◌, List, ◌++◌, length, map, filter_map, false}
+use Rattle.std.specs.Prelude.{Option, None, Ok, Err}
+use Rattle.std.specs.Io.KnownBytes.{Appends, Keeps}
+use Rattle.pmp_core.specs.declared.decision.Decision.{Decision}
+use Rattle.pmp_text.specs.declared.trace.Row.{Row}
+use Rattle.pmp_text.specs.declared.trace.TraceFault.{TraceFault}
+use Rattle.pmp_text.specs.Bytes.{AppendsBeginning}
+use Rattle.pmp_text.specs.Contents.{ScriptContents}
+use Rattle.pmp_text.specs.LongTraces.{HasLongLine, IsReportOf, Records, beginning, long_meaning, piece_fault}
+use Rattle.pmp_text.specs.LongTraces.{report_text_from, row_records, too_long_for_rows}
+use Rattle.pmp_text.specs.Outcomes.{no_input_for_rows}
+use Rattle.pmp_text.specs.Reports.{AreDecided}
+use Rattle.pmp_text.specs.Scripts.{script_meaning}
+use Rattle.pmp_text.specs.Tables.{records_of}
+use Rattle.pmp_text.specs.Traces.{row_fields, row_of_record}
+use Rattle.pmp_audit.specs.declared.fault.AuditFault.{AuditFault}
+use Rattle.pmp_audit.specs.declared.fault.AuditFault.TheVariants.{Script, Trace, Memory, Output}
+use Rattle.pmp_audit.specs.declared.trace_audit.Summary.{Summary}
+use Rattle.pmp_audit.specs.TraceAudit.{summary_of}
+
+-- the script means this, the text is its report with the trace, whose first row has this number, and its decisions are
+-- counted
+pub record LongAuditSays (script : List ℕ) (first : ℕ) (trace : List ℕ) (summary : Summary) (text : List ℕ) : Type 0
+  where
+    pub contents : ScriptContents
+    pub script_means : script_meaning script ≡ Ok contents
+    pub report : IsReportOf contents first (records_of trace) text
+    pub counted : summary ≡ summary_of report.decisions
+
+-- ---- an audit that stops
+
+-- the records have no fault, and the text reports the decisions of their rows
+pub record IsFrontReport (script : ScriptContents) (first : ℕ) (records : Records) (text : List ℕ) : Type 0 where
+  pub fine : piece_fault (length script.batches) (beginning first) records ≡ None
+  pub rows : List Row
+  pub decisions : List Decision
+  pub said : map row_fields rows ≡ filter_map row_of_record (row_records false records)
+  pub decided : AreDecided script rows decisions
+  pub report : text ≡ report_text_from first rows decisions
+
+-- the text reports whole rows, the first ones of the trace
+pub record IsFrontOf (script : List ℕ) (first : ℕ) (trace text : List ℕ) : Type 0 where
+  pub contents : ScriptContents
+  pub script_means : script_meaning script ≡ Ok contents
+  pub front : Records
+  pub behind : Records
+  pub trace_has : records_of trace ≡ front ++ behind
+  pub report : IsFrontReport contents first front text
+
+-- a line is too long for a piece of `limit` bytes, or there are so many bytes that numbers may not do for rows
+abbrev pub IsTooLong : (limit first : ℕ) (trace : List ℕ) → Type 0
+IsTooLong limit first trace = HasLongLine trace (limit - 1) ⊎ (2 ^ 64 ≤ first + 4 * (length trace + 1))
+
+-- the trace has this first fault, or its input failed, or it is too long
+pub record IsFaultyLong (limit : ℕ) (script : List ℕ) (first : ℕ) (trace : List ℕ) (fault : TraceFault) : Type 0 where
+  pub contents : ScriptContents
+  pub script_means : script_meaning script ≡ Ok contents
+  pub why : (long_meaning (length contents.batches) first (records_of trace) ≡ Err fault)
+      ⊎ (fault ≡ no_input_for_rows) ⊎ ((fault ≡ too_long_for_rows) × IsTooLong limit first trace)
+
+module _ (limit : ℕ) (script : List ℕ) (first : ℕ) (trace : List ℕ) (before after : Option (List ℕ)) where
+  -- whole rows were written, the first ones of the trace
+  abbrev pub WroteFront : Type 0
+  WroteFront = (text : List ℕ) × IsFrontOf script first trace text × Appends before after text
+
+  -- what was written is whole rows, but where the output failed; nothing, where the script has a fault
+  abbrev pub StopsLong : AuditFault → Type 0
+  StopsLong (Script fault) = (script_meaning script ≡ Err fault) × Keeps before after
+  StopsLong (Trace fault) = IsFaultyLong limit script first trace fault × WroteFront
+  StopsLong Memory = Keeps before after ⊎ WroteFront
+  StopsLong Output = (text : List ℕ) × IsFrontOf script first trace text × AppendsBeginning before after text
+  StopsLong _ = ⊥

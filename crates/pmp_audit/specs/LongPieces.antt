@@ -1,0 +1,68 @@
+-- A piece of a long audit: what is written of it, and why it isn't.
+use Rattle.std.specs.Prelude.{◌≡◌, ◌⊎◌, ℕ, ◌+◌, ◌^◌, ◌≤◌, List, ◌++◌, length, map, filter_map, count_by, not}
+use Rattle.std.specs.Prelude.{Option, None, Some}
+use Rattle.std.specs.Io.KnownBytes.{Appends, Keeps}
+use Rattle.pmp_core.specs.declared.decision.Decision.{Decision}
+use Rattle.pmp_text.specs.declared.input.InputFault.{InputFault}
+use Rattle.pmp_text.specs.declared.input.InputFault.TheVariants as input
+use Rattle.pmp_text.specs.declared.trace.Row.{Row}
+use Rattle.pmp_text.specs.Bytes.{AppendsBeginning}
+use Rattle.pmp_text.specs.Contents.{ScriptContents}
+use Rattle.pmp_text.specs.LongTraces.{Records, piece_fault, place_behind, report_text_from, row_records}
+use Rattle.pmp_text.specs.LongTraces.{too_long_for_rows}
+use Rattle.pmp_text.specs.Outcomes.{no_input_for_rows}
+use Rattle.pmp_text.specs.Reports.{AreDecided}
+use Rattle.pmp_text.specs.Traces.{row_fields, row_of_record}
+use Rattle.pmp_audit.specs.declared.fault.AuditFault.{AuditFault}
+use Rattle.pmp_audit.specs.declared.fault.AuditFault.TheVariants.{Trace, Memory, Output}
+use Rattle.pmp_audit.specs.declared.long_audit.standing.Standing.{Standing}
+
+-- how many of the accesses were refused
+abbrev pub refused_count : List Decision → ℕ
+refused_count decisions = count_by (λ decision. not decision.allowed) decisions
+
+-- these rows were decided, and reported behind what stood there, the first with this number
+pub record IsListed (script : ScriptContents) (rows : List Row) (first : ℕ) (before after : List ℕ) (faults : ℕ) : Type 0
+  where
+    pub decisions : List Decision
+    pub decided : AreDecided script rows decisions
+    pub report : after ≡ before ++ report_text_from first rows decisions
+    pub counted : faults ≡ refused_count decisions
+
+-- the records have no fault where they stand, and this text reports their rows
+pub record IsPieceText (script : ScriptContents) (records : Records) (old : Standing) (faults : ℕ) (text : List ℕ) : Type 0
+  where
+    pub fine : piece_fault (length script.batches) old.place records ≡ None
+    pub rows : List Row
+    pub decisions : List Decision
+    pub said : map row_fields rows ≡ filter_map row_of_record (row_records old.place.begun records)
+    pub decided : AreDecided script rows decisions
+    pub report : text ≡ report_text_from old.place.next rows decisions
+    pub counted : faults ≡ refused_count decisions
+
+-- the text was written, and the next piece stands there
+pub record IsPieceWritten (script : ScriptContents) (records : Records) (old : Standing) (before after : Option (List ℕ))
+    (new : Standing) : Type 0 where
+  pub text : List ℕ
+  pub faults : ℕ
+  pub says : IsPieceText script records old faults text
+  pub written : Appends before after text
+  pub place : new.place ≡ place_behind old.place records
+  pub refused : new.faults ≡ old.faults + faults
+
+-- why nothing, or not all, was written of records that stand there
+abbrev pub PieceStops : (script : ScriptContents) (records : Records) (old : Standing) (before after : Option (List ℕ))
+    → AuditFault → Type 0
+PieceStops script records old before after (Trace fault) =
+    ((piece_fault (length script.batches) old.place records ≡ Some fault) ⊎ (fault ≡ no_input_for_rows)
+    ⊎ ((fault ≡ too_long_for_rows) × (2 ^ 64 ≤ (place_behind old.place records).next))) × Keeps before after
+PieceStops script records old before after Memory = Keeps before after
+PieceStops script records old before after Output =
+    (faults : ℕ) × (text : List ℕ) × IsPieceText script records old faults text × AppendsBeginning before after text
+PieceStops script records old before after _ = ⊥
+
+-- an input that gives no piece is a fault of the trace
+abbrev pub fault_of_cut : InputFault → AuditFault
+fault_of_cut input.TooLong = Trace too_long_for_rows
+fault_of_cut input.Input = Trace no_input_for_rows
+fault_of_cut input.Memory = Memory

@@ -1,0 +1,75 @@
+//! The accesses of a trace of any length, decided and reported piece by piece.
+
+ghost use Rattle.std.specs.Prelude.{◌≡◌, ℕ, List, IfErr, IfOk, IfSome, Ok};
+ghost use Rattle.pmp_text.specs.Scripts.{script_meaning};
+ghost use Rattle.pmp_audit.specs.Answers.{IsWritten};
+ghost use Rattle.pmp_audit.specs.LongAudit.{LongAuditSays, StopsLong};
+
+mod standing;
+mod writing;
+
+use crate::fault::AuditFault;
+use crate::long_audit::standing::Standing;
+use crate::long_audit::writing::write_piece;
+use crate::trace_audit::Summary;
+use pmp_text::{Cut, InputFault, Script, cut_piece, read_script};
+use std::alloc::Global;
+use std::io::{Read, Write};
+
+/// The most bytes of a piece that the program takes at a time.
+pub const PIECE: usize = 1 << 20;
+
+/// Answers as [`audit`](crate::audit) does, but of a trace of any length, whose first row has the number `first`, and in
+/// memory for a piece of at most `limit` bytes.
+///
+/// The trace is cut at line ends. Each piece is read, decided and reported before the next one is taken, so a refusal
+/// but `Script` may come behind rows that are written. `TooLong` is answered where as many bytes as a piece has, but
+/// one, have no line's end.
+pub fn audit_long<R: Read, W: Write>(
+    alloc: Global,
+    script: &[u8],
+    first: u64,
+    limit: usize,
+    reader: &mut R,
+    writer: &mut W,
+) -> Result<Summary, AuditFault>
+    ensures ok { IfOk result (λ summary. (trace : List ℕ) × IfSome (R.remaining reader.old) (λ those. trace ≡ those)
+        × IsWritten (LongAuditSays script.now first trace) (W.contents writer.old) (W.contents writer.new) summary) }
+    ensures err { IfErr result (λ fault. (trace : List ℕ) × IfSome (R.remaining reader.old) (λ those. trace ≡ those)
+        × StopsLong limit script.now first trace (W.contents writer.old) (W.contents writer.new) fault) }
+{
+    let parsed = read_script(alloc, script)?;
+    audit_pieces(alloc, &parsed, first, limit, reader, writer)
+}
+
+/// Reads, decides and reports piece by piece, whatever text the script was read from.
+fn audit_pieces<R: Read, W: Write>(
+    alloc: Global,
+    script: &Script,
+    first: u64,
+    limit: usize,
+    reader: &mut R,
+    writer: &mut W,
+) -> Result<Summary, AuditFault>
+    ensures ok { (text : List ℕ) → script_meaning text ≡ Ok script.now → IfOk result (λ summary.
+        (trace : List ℕ) × IfSome (R.remaining reader.old) (λ those. trace ≡ those)
+        × IsWritten (LongAuditSays text first trace) (W.contents writer.old) (W.contents writer.new) summary) }
+    ensures err { (text : List ℕ) → script_meaning text ≡ Ok script.now → IfErr result (λ fault.
+        (trace : List ℕ) × IfSome (R.remaining reader.old) (λ those. trace ≡ those)
+        × StopsLong limit text first trace (W.contents writer.old) (W.contents writer.new) fault) }
+{
+    let mut held = Vec::new(alloc);
+    let mut standing = Standing::beginning(first);
+    for _count in 0..u64::MAX {
+        match cut_piece(alloc, reader, &mut held, limit) {
+            Ok(Cut::Front(text)) => {
+                standing = write_piece(alloc, script, &text, standing, writer)?;
+            }
+            Ok(Cut::Last(text)) => {
+                return write_piece(alloc, script, &text, standing, writer)?.end(first);
+            }
+            Err(fault) => return Err(AuditFault::of_cut(fault)),
+        }
+    }
+    Err(AuditFault::of_cut(InputFault::TooLong))
+}

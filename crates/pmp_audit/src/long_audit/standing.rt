@@ -1,0 +1,64 @@
+//! How far a long audit has come.
+
+ghost use Rattle.std.specs.Prelude.{◌≡◌, ◌-◌, ◌≤◌, MatchResult, false, true};
+ghost use Rattle.pmp_text.specs.LongTraces.{beginning};
+ghost use Rattle.pmp_text.specs.Tables.{at_row};
+ghost use Rattle.pmp_text.specs.declared.trace.TraceKind.TheVariants.{BadHeader};
+ghost use Rattle.pmp_audit.specs.LongPieces.{fault_of_cut};
+ghost use Rattle.pmp_audit.specs.declared.fault.AuditFault.TheVariants.{Trace};
+
+use crate::fault::AuditFault;
+use crate::trace_audit::Summary;
+use pmp_text::{InputFault, Place, TraceFault, TraceKind};
+
+/// Where the next piece stands, and how many accesses were refused before it.
+#[derive(Clone, Copy)]
+pub struct Standing {
+    pub place: Place,
+    pub faults: u64,
+}
+
+impl Standing {
+    /// Before the first piece of a trace whose first row has this number.
+    pub fn beginning(first: u64) -> Standing
+        ensures place { result.place ≡ beginning first }
+        ensures faults { result.faults ≡ 0 }
+    {
+        Standing {
+            place: Place::beginning(first),
+            faults: 0,
+        }
+    }
+
+    /// Behind the last piece: how many accesses were decided and refused. A trace without a record has no header.
+    pub fn end(self, first: u64) -> Result<Summary, AuditFault>
+        requires { first ≤ self.place.next }
+        ensures { MatchResult result
+            (λ summary. (self.place.begun ≡ true)
+            × (summary ≡ record { rows = self.place.next - first; faults = self.faults }))
+            (λ fault. (self.place.begun ≡ false) × (fault ≡ Trace (at_row 0 BadHeader))) }
+    {
+        if !self.place.begun {
+            let kind = TraceKind::BadHeader;
+            return Err(AuditFault::Trace(TraceFault { kind, row: 0 }));
+        }
+        Ok(Summary {
+            rows: self.place.next - first,
+            faults: self.faults,
+        })
+    }
+}
+
+impl AuditFault {
+    /// No piece can be cut off for this.
+    pub(crate) fn of_cut(fault: InputFault) -> AuditFault
+        ensures { result ≡ fault_of_cut fault }
+    {
+        let kind = match fault {
+            InputFault::TooLong => TraceKind::TooLong,
+            InputFault::Input => TraceKind::Input,
+            InputFault::Memory => return AuditFault::Memory,
+        };
+        AuditFault::Trace(TraceFault { kind, row: 0 })
+    }
+}
