@@ -25,7 +25,8 @@ use Rattle.pmp_audit.specs.Fault.{fault_of_script, script_fault_as}
 use Rattle.pmp_audit.specs.LongAudit.{LongAuditSays, StopsLong}
 use Rattle.pmp_audit.specs.LongPieces.{IsPieceWritten, PieceStops, fault_of_cut}
 use Rattle.pmp_audit.proofs.LongAudits.{Stands, not_before, one_piece}
-use Rattle.pmp_audit.proofs.LongPieces.{all_are, all_known, front_piece, held_known, last_piece, long_in_all, taken_known}
+use Rattle.pmp_audit.proofs.LongPieces.{all_are, all_known, front_piece, held_known, last_piece, long_in_all}
+use Rattle.pmp_audit.proofs.LongPieces.{taken_known}
 use Rattle.pmp_audit.proofs.LongPieces.{trace_all, trace_held, trace_taken}
 use Rattle.pmp_audit.proofs.LongSteps.{Going}
 use Rattle.pmp_audit.proofs.LongStops.{no_header, no_input, piece_stops, says_all, too_long, wrote_front}

@@ -19,8 +19,8 @@ use std::io::{Read, Write};
 /// The most bytes of a piece that the program takes at a time.
 pub const PIECE: usize = 1 << 20;
 
-/// Answers as [`audit`](crate::audit) does, but of a trace of any length, whose first row has the number `first`, and in
-/// memory for a piece of at most `limit` bytes.
+/// Answers as [`audit`](crate::audit) does, but of a trace of any length, whose first row has the number `first`, and
+/// in memory for a piece of at most `limit` bytes.
 ///
 /// The trace is cut at line ends. Each piece is read, decided and reported before the next one is taken, so a refusal
 /// but `Script` may come behind rows that are written. `TooLong` is answered where as many bytes as a piece has, but
