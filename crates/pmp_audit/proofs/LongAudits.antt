@@ -26,7 +26,8 @@ use Rattle.pmp_audit.proofs.LongReports.{report_goes_on}
 use Rattle.pmp_audit.proofs.Reports.{Decides}
 
 -- what was read so far is reported so, and the next piece stands there
-pub record Stands (script : ScriptContents) (first : ℕ) (records : Records) (standing : Standing) (text : List ℕ) : Type 0
+pub record Stands (script : ScriptContents) (first : ℕ) (records : Records) (standing : Standing) (text : List ℕ)
+    : Type 0
   where
     pub report : IsFrontReport script first records text
     pub place : standing.place ≡ place_behind (beginning first) records
@@ -96,7 +97,8 @@ module _ (script : ScriptContents) (first : ℕ) (records : Records) (old : Stan
 
   numbered : old.place.next ≡ first + length stands.report.rows
   numbered =
-      let next : old.place.next ≡ first + length (row_records false records) = ap (λ (p : Place). p.next) stands.place in
+      let next : old.place.next ≡ first + length (row_records false records) =
+      ap (λ (p : Place). p.next) stands.place in
       let said = all_rows_say publications records None first stands.report.fine in
       let same : length stands.report.rows ≡ length (filter_map row_of_record (row_records false records)) =
       sym (length-map stands.report.rows row_fields) ∙ ap (λ (l : List RowFields). length l) stands.report.said in

@@ -44,7 +44,8 @@ module _ (script : ScriptContents) (first : ℕ) where
   unfolding report_text_from
   none_listed held = record { decisions = []; decided = tt; report = sym (append-nil held); counted = refl }
 
-  module _ (rows : List Row) (before held : List ℕ) (faults : ℕ) (so_far : IsListed script rows first before held faults)
+  module _ (rows : List Row) (before held : List ℕ) (faults : ℕ)
+      (so_far : IsListed script rows first before held faults)
     where
       pub few_refused : faults ≤ length rows
       few_refused = let same = AllZip-long (Decides script) rows so_far.decisions so_far.decided in

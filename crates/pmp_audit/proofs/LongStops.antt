@@ -110,11 +110,14 @@ module _ (script : List ℕ) (contents : ScriptContents) (means : script_meaning
     )
     piece_stops Memory kept = inr (wrote_front trace here.tail here.are kept)
     piece_stops Output (faults, more, says, (front, rest, split, wrote)) =
-        let new : Standing = record { place = place_behind old.place (records_of piece); faults = old.faults + faults } in
-        let later = one_piece contents first records old text stands (records_of piece) new faults more says refl refl in
+        let new : Standing =
+        record { place = place_behind old.place (records_of piece); faults = old.faults + faults } in
+        let later =
+        one_piece contents first records old text stands (records_of piece) new faults more says refl refl in
         let (behind, tail_is) = here.apart says.fine in
         let are : records_of trace ≡ (records ++ records_of piece) ++ behind =
-        here.are ∙ ap (λ (l : Records). records ++ l) tail_is ∙ sym (append_assoc records (records_of piece) behind) in (
+        here.are ∙ ap (λ (l : Records). records ++ l) tail_is ∙ sym (append_assoc records (records_of piece) behind)
+        in (
           text ++ more,
           front_of script contents means first (records ++ records_of piece) new (text ++ more) later trace behind are,
           (

@@ -127,11 +127,13 @@ module _ (script : ScriptContents) (first count limit : ℕ) (in_old in_mid in_n
         wrote.text wrote.says wrote.place wrote.refused
 
     pub last_not_before : first ≤ new.place.next
-    last_not_before = not_before script first (going.records ++ records_of piece) new (going.text ++ wrote.text) all_read
+    last_not_before =
+        not_before script first (going.records ++ records_of piece) new (going.text ++ wrote.text) all_read
 
     abbrev pub Ends : Result Summary AuditFault → Type 0
     Ends result = MatchResult result
-        (λ summary. (new.place.begun ≡ true) × (summary ≡ record { rows = new.place.next - first; faults = new.faults }))
+        (λ summary. (new.place.begun ≡ true)
+        × (summary ≡ record { rows = new.place.next - first; faults = new.faults }))
         (λ fault. (new.place.begun ≡ false) × (fault ≡ Trace (at_row 0 BadHeader)))
 
     pub ends_well : (result : Result Summary AuditFault) → Ends result → (text : List ℕ)
@@ -139,7 +141,8 @@ module _ (script : ScriptContents) (first count limit : ℕ) (in_old in_mid in_n
         × IfSome in_old (λ those. trace ≡ those) × IsWritten (LongAuditSays text first trace) out_old out_new summary)
     ends_well (Err fault) ends text means = tt
     ends_well (Ok summary) (begun, is) text means =
-        let trace = trace_all script first count limit in_old in_mid in_new held out_old out_mid old going piece cut in (
+        let trace =
+        trace_all script first count limit in_old in_mid in_new held out_old out_mid old going piece cut in (
           trace,
           all_known script first count limit in_old in_mid in_new held out_old out_mid old going piece cut,
           record {

@@ -22,7 +22,8 @@ abbrev pub refused_count : List Decision → ℕ
 refused_count decisions = count_by (λ decision. not decision.allowed) decisions
 
 -- these rows were decided, and reported behind what stood there, the first with this number
-pub record IsListed (script : ScriptContents) (rows : List Row) (first : ℕ) (before after : List ℕ) (faults : ℕ) : Type 0
+pub record IsListed (script : ScriptContents) (rows : List Row) (first : ℕ) (before after : List ℕ) (faults : ℕ)
+    : Type 0
   where
     pub decisions : List Decision
     pub decided : AreDecided script rows decisions
@@ -30,7 +31,8 @@ pub record IsListed (script : ScriptContents) (rows : List Row) (first : ℕ) (b
     pub counted : faults ≡ refused_count decisions
 
 -- the records have no fault where they stand, and this text reports their rows
-pub record IsPieceText (script : ScriptContents) (records : Records) (old : Standing) (faults : ℕ) (text : List ℕ) : Type 0
+pub record IsPieceText (script : ScriptContents) (records : Records) (old : Standing) (faults : ℕ) (text : List ℕ)
+    : Type 0
   where
     pub fine : piece_fault (length script.batches) old.place records ≡ None
     pub rows : List Row
@@ -41,7 +43,8 @@ pub record IsPieceText (script : ScriptContents) (records : Records) (old : Stan
     pub counted : faults ≡ refused_count decisions
 
 -- the text was written, and the next piece stands there
-pub record IsPieceWritten (script : ScriptContents) (records : Records) (old : Standing) (before after : Option (List ℕ))
+pub record IsPieceWritten (script : ScriptContents) (records : Records) (old : Standing)
+    (before after : Option (List ℕ))
     (new : Standing) : Type 0 where
   pub text : List ℕ
   pub faults : ℕ

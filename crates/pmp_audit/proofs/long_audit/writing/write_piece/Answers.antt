@@ -6,14 +6,16 @@ use Rattle.pmp_audit.proofs.long_audit.writing.write_piece.Goals as goal
 
 pub list_rows-requires-clause-room : goal.list_rows-requires-clause-room
 list_rows-requires-clause-room g c =
-    let fit = rows_fit _ c.args.standing.place (records_of c.args.text.now) c.in_ok-piece.piece c.in_ok-piece.ensures.given in
+    let fit =
+    rows_fit _ c.args.standing.place (records_of c.args.text.now) c.in_ok-piece.piece c.in_ok-piece.ensures.given in
     let small = rows_small _ c.args.standing.place (records_of c.args.text.now) c.in_ok-piece.piece
     c.in_ok-piece.ensures.given in
     rw c.deref.ensures.value (omega arith)
 
 pub overflow_add-result : goal.overflow_add-result
 overflow_add-result g c =
-    let fit = rows_fit _ c.args.standing.place (records_of c.args.text.now) c.in_ok-piece.piece c.in_ok-piece.ensures.given in
+    let fit =
+    rows_fit _ c.args.standing.place (records_of c.args.text.now) c.in_ok-piece.piece c.in_ok-piece.ensures.given in
     let few = rw c.deref.ensures.value at c.in_ok-faults.ensures.few in
     let small = rows_small _ c.args.standing.place (records_of c.args.text.now) c.in_ok-piece.piece
     c.in_ok-piece.ensures.given in
@@ -22,7 +24,8 @@ overflow_add-result g c =
 
 pub returns-clause-within : goal.returns-clause-within
 returns-clause-within g c =
-    let fit = rows_fit _ c.args.standing.place (records_of c.args.text.now) c.in_ok-piece.piece c.in_ok-piece.ensures.given in
+    let fit =
+    rows_fit _ c.args.standing.place (records_of c.args.text.now) c.in_ok-piece.piece c.in_ok-piece.ensures.given in
     let few = rw c.deref.ensures.value at c.in_ok-faults.ensures.few in
     let within = c.requires in
     omega arith
