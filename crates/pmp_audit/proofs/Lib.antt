@@ -6,6 +6,8 @@ pub mod Asking
 pub mod Dealing
 pub mod Lists
 pub mod LongReports
+pub mod LongParts
+pub mod LongListings
 pub mod LongAudits
 pub mod LongSteps
 pub mod LongPieces

@@ -5,7 +5,7 @@ use Rattle.pmp_core.specs.declared.access.Access.{Access}
 use Rattle.pmp_core.specs.declared.access.Mode.{Mode}
 use Rattle.pmp_core.specs.declared.access.Kind.{Kind}
 use Rattle.pmp_core.specs.declared.decision.Decision.{Decision}
-use Rattle.pmp_core.specs.declared.access.TheConstants.{ADDRESS_LIMIT}
+use Rattle.pmp_core.specs.declared.access.TheConstants.{ADDRESS_LIMIT, MAX_LENGTH}
 use Rattle.pmp_core.specs.Decision.{IsDecision}
 use Rattle.pmp_core.specs.RegisterFile.{RegisterFile}
 use Rattle.pmp_text.specs.declared.trace.Row.{Row}
@@ -24,7 +24,7 @@ one_list_of_decisions one_decision script rows one other decided too =
 -- ---- a row is what a trace says of it
 
 access_of : (mode : Mode) (kind : Kind) (start length : ℕ)
-    → 0 < length → length ≤ 4096 → start + length ≤ ADDRESS_LIMIT → Access
+    → 0 < length → length ≤ MAX_LENGTH → start + length ≤ ADDRESS_LIMIT → Access
 access_of mode kind start length not_empty not_long inside = record {
   mode = mode;
   kind = kind;
@@ -44,7 +44,7 @@ module _ (one other : Access) where
       let of : Mode → Kind → Access = λ m k.
       access_of m k other.start other.length other.not_empty other.not_long other.inside in
       let here = access_of one.mode one.kind one.start one.length in
-      let From : ℕ → ℕ → Type 0 = λ s l. (full : 0 < l) (short : l ≤ 4096) (inside : s + l ≤ ADDRESS_LIMIT)
+      let From : ℕ → ℕ → Type 0 = λ s l. (full : 0 < l) (short : l ≤ MAX_LENGTH) (inside : s + l ≤ ADDRESS_LIMIT)
       → one ≡ access_of one.mode one.kind s l full short inside in
       let from_own : From one.start one.length = λ full short inside.
       ap (λ f. here f one.not_long one.inside) (le_prop one.not_empty full)

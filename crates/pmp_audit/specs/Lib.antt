@@ -23,5 +23,6 @@ pub mod SinceStep
 pub mod Working
 pub mod Rounds
 pub mod LongPieces
+pub mod LongParts
 pub mod PolicyQuestions
 pub mod PolicyRows

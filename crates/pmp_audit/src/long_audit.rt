@@ -5,6 +5,8 @@ ghost use Rattle.pmp_text.specs.Scripts.{script_meaning};
 ghost use Rattle.pmp_audit.specs.Answers.{IsWritten};
 ghost use Rattle.pmp_audit.specs.LongAudit.{LongAuditSays, StopsLong};
 
+mod listing;
+mod reading;
 mod standing;
 mod writing;
 
@@ -15,9 +17,10 @@ use crate::trace_audit::Summary;
 use pmp_text::{Cut, InputFault, Script, cut_piece, read_script};
 use std::alloc::Global;
 use std::io::{Read, Write};
+use std::thread::Threads;
 
 /// The most bytes of a piece that the program takes at a time.
-pub const PIECE: usize = 1 << 20;
+pub const PIECE: usize = 1 << 23;
 
 /// Answers as [`audit`](crate::audit) does, but of a trace of any length, whose first row has the number `first`, and
 /// in memory for a piece of at most `limit` bytes.
@@ -25,8 +28,13 @@ pub const PIECE: usize = 1 << 20;
 /// The trace is cut at line ends. Each piece is read, decided and reported before the next one is taken, so a refusal
 /// but `Script` may come behind rows that are written. `TooLong` is answered where as many bytes as a piece has, but
 /// one, have no line's end.
-pub fn audit_long<R: Read, W: Write>(
+///
+/// The rows of a piece are read, and then decided, in `jobs` parts at a time, each on a thread of its own where one can
+/// be made; all have ended when the call answers. None is started for a `jobs` of 0 or 1.
+pub fn audit_long<T: Threads + Sync, R: Read, W: Write>(
+    rt: &T,
     alloc: Global,
+    jobs: usize,
     script: &[u8],
     first: u64,
     limit: usize,
@@ -39,12 +47,14 @@ pub fn audit_long<R: Read, W: Write>(
         × StopsLong limit script.now first trace (W.contents writer.old) (W.contents writer.new) fault) }
 {
     let parsed = read_script(alloc, script)?;
-    audit_pieces(alloc, &parsed, first, limit, reader, writer)
+    audit_pieces(rt, alloc, jobs, &parsed, first, limit, reader, writer)
 }
 
 /// Reads, decides and reports piece by piece, whatever text the script was read from.
-fn audit_pieces<R: Read, W: Write>(
+fn audit_pieces<T: Threads + Sync, R: Read, W: Write>(
+    rt: &T,
     alloc: Global,
+    jobs: usize,
     script: &Script,
     first: u64,
     limit: usize,
@@ -63,10 +73,10 @@ fn audit_pieces<R: Read, W: Write>(
     for _count in 0..u64::MAX {
         match cut_piece(alloc, reader, &mut held, limit) {
             Ok(Cut::Front(text)) => {
-                standing = write_piece(alloc, script, &text, standing, writer)?;
+                standing = write_piece(rt, alloc, jobs, script, &text, standing, writer)?;
             }
             Ok(Cut::Last(text)) => {
-                return write_piece(alloc, script, &text, standing, writer)?.end(first);
+                return write_piece(rt, alloc, jobs, script, &text, standing, writer)?.end(first);
             }
             Err(fault) => return Err(AuditFault::of_cut(fault)),
         }

@@ -5,6 +5,8 @@
 #[cfg(test)]
 mod auditing;
 #[cfg(test)]
+mod cuts;
+#[cfg(test)]
 mod inputs;
 #[cfg(test)]
 mod outputs;

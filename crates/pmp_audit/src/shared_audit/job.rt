@@ -8,7 +8,7 @@ use pmp_share::{Checker, Notice};
 /// A worker's checker, and a notice of what is published.
 #[derive(Drop)]
 pub(crate) struct Job {
-    /// From 0.
+    /// The worker's number, from 0.
     pub worker: u8,
     pub checker: Checker,
     pub notice: Notice,

@@ -15,10 +15,10 @@ pub cut_piece-requires : goal.cut_piece-requires
 cut_piece-requires g c = c.loop-count.invariant.0
 
 pub write_piece-requires : goal.write_piece-requires
-write_piece-requires g c = few_refused _ _ _ _ _ c.loop-count.invariant.1.stands
+write_piece-requires g c = (search rules, few_refused _ _ _ _ _ c.loop-count.invariant.1.stands)
 
 pub write_piece-requires-in-Ok-Last : goal.write_piece-requires-in-Ok-Last
-write_piece-requires-in-Ok-Last g c = few_refused _ _ _ _ _ c.loop-count.invariant.1.stands
+write_piece-requires-in-Ok-Last g c = (search rules, few_refused _ _ _ _ _ c.loop-count.invariant.1.stands)
 
 pub loop-count-preserved : goal.loop-count-preserved
 loop-count-preserved g c =

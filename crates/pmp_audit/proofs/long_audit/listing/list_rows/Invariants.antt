@@ -2,7 +2,7 @@ use Rattle.std.proofs.Common.{◌≡◌, ◌+◌, ◌≤◌, drop, length, map, 
 use Rattle.pmp_text.specs.TraceFaults.{IsInOrder, afters}
 use Rattle.pmp_text.specs.Traces.{row_fields}
 use Rattle.pmp_audit.specs.LongPieces.{IsListed}
-use Rattle.pmp_audit.proofs.long_audit.writing.list_rows.Given as goal
+use Rattle.pmp_audit.proofs.long_audit.listing.list_rows.Given as goal
 
 -- the rows so far are reported, and those that follow ask for no fewer publications than are done
 abbrev pub invariant-loop-row : goal.invariant-loop-row

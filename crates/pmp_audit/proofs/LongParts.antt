@@ -1,0 +1,185 @@
+-- Two parts of a piece, of which each was read apart, are the piece.
+use Rattle.std.proofs.Common.{◌≡◌, ℕ, zero, suc, ◌+◌, ◌^◌, ◌<◌, Bool, true, false, cond, List, [], ◌∷◌, ◌++◌, length}
+use Rattle.std.proofs.Common.{map, Option, Some, None, Result, Ok, Err, refl, sym, ap, ◌∙◌, arith, take, drop}
+use Rattle.std.proofs.Common.{get_or}
+use Rattle.std.specs.Prelude.{◌==◌, filter_map, option_map}
+use Rattle.std.specs.Option.{option_or}
+use Rattle.std.proofs.lemmas.Bool.{ne_eqb}
+use Rattle.std.proofs.lemmas.List.{drop_more, map-append, take-append-drop, take_more}
+use Rattle.pmp_text.specs.declared.trace.Row.{Row}
+use Rattle.pmp_text.specs.declared.trace.TraceFault.{TraceFault}
+use Rattle.pmp_text.specs.declared.trace.TraceKind.{TraceKind}
+use Rattle.pmp_text.specs.declared.trace.TraceKind.TheVariants.{BadRow}
+use Rattle.pmp_text.specs.declared.trace.piece.Piece.{Piece}
+use Rattle.pmp_text.specs.declared.trace.piece.Place.{Place}
+use Rattle.pmp_text.specs.declared.trace.row_fields.RowFields.{RowFields}
+use Rattle.pmp_text.specs.LongTraces.{IsReadAs, Records, has_begun, is_line_end, last_after, piece_fault}
+use Rattle.pmp_text.specs.LongTraces.{place_behind, row_records}
+use Rattle.pmp_text.specs.Tables.{at_row, records_of}
+use Rattle.pmp_text.specs.Traces.{after_of, falls_behind, fields_fault, first_row_fault, row_fault, row_fields}
+use Rattle.pmp_text.specs.Traces.{row_of_record}
+use Rattle.pmp_text.proofs.PieceFaults.{apart, in_turn, places_in_turn, rows_in_two}
+use Rattle.pmp_audit.specs.LongParts.{AreJoined, Follows, place_of_both, within_trace}
+
+no_fault : (number other : ℕ) (kind : Option TraceKind) → option_map (at_row number) kind ≡ None
+    → option_map (at_row other) kind ≡ None
+no_fault number other None e = refl
+no_fault number other (Some kind) e = absurd cc
+
+first_none : (x y : Option TraceFault) → option_or x y ≡ None → x ≡ None
+first_none None y e = refl
+first_none (Some fault) y e = absurd cc
+
+then_none : (x y : Option TraceFault) → option_or x y ≡ None → y ≡ None
+then_none None y e = e
+then_none (Some fault) y e = absurd cc
+
+none_then : (x y : Option TraceFault) → x ≡ None → y ≡ None → option_or x y ≡ None
+none_then None y none e = e
+none_then (Some fault) y none e = absurd cc
+
+pub no_kind : (number : ℕ) (kind : Option TraceKind) → option_map (at_row number) kind ≡ None → kind ≡ None
+no_kind number None e = refl
+no_kind number (Some kind) e = absurd cc
+
+module _ (publications : ℕ) where
+  -- rows without a fault have none with other numbers
+  renumbered : (rows : Records) (last : Option ℕ) (number other : ℕ)
+      → first_row_fault publications last number rows ≡ None → first_row_fault publications last other rows ≡ None
+  renumbered [] last number other fine = refl
+  renumbered (row ∷ more) last number other fine =
+      let kind = row_fault publications last (row_of_record row) in
+      let after = after_of (row_of_record row) in
+      let rest = first_row_fault publications after (number + 1) more in
+      none_then (option_map (at_row other) kind) (first_row_fault publications after (other + 1) more)
+      (no_fault number other kind (first_none (option_map (at_row number) kind) rest fine))
+      (renumbered more after (number + 1) (other + 1) (then_none (option_map (at_row number) kind) rest fine))
+
+  -- ---- the first row behind another one
+
+  in_bounds : (last : Option ℕ) (fields : RowFields) → fields_fault publications None fields ≡ None
+      → falls_behind last fields.after ≡ false → fields_fault publications last fields ≡ None
+  in_bounds last fields fine follows = rw follows fine
+
+  first_follows : (last : Option ℕ) (rows : List Row) (fields : RowFields) (more : List RowFields)
+      → map row_fields rows ≡ fields ∷ more → Follows last rows → falls_behind last fields.after ≡ false
+  first_follows last [] fields more e follows = absurd cc
+  first_follows last (row ∷ rest) fields more e follows =
+      let same : row_fields row ≡ fields = cc in
+      ap (λ (f : RowFields). falls_behind last f.after) (sym same) ∙ follows
+
+  -- rows that were read within a trace have no fault behind a row that asks for no more publications
+  goes_on : (last : Option ℕ) (next : ℕ) (records : Records) (rows : List Row)
+      → first_row_fault publications None 0 records ≡ None → map row_fields rows ≡ filter_map row_of_record records
+      → Follows last rows → first_row_fault publications last next records ≡ None
+  goes_on last next [] rows fine said follows = refl
+  goes_on last next (one ∷ more) rows fine said follows = by (row_of_record one) refl
+    where
+      by : (says : Option RowFields) → row_of_record one ≡ says
+          → first_row_fault publications last next (one ∷ more) ≡ None
+      by None is =
+          let own : Some BadRow ≡ None = no_kind 0 (Some BadRow)
+          (first_none (Some (at_row 0 BadRow)) (first_row_fault publications None 1 more) (rw is at fine)) in
+          absurd cc
+      by (Some fields) is =
+          let kind = fields_fault publications None fields in
+          let rest = first_row_fault publications (Some fields.after) 1 more in
+          let fine_one : option_or (option_map (at_row 0) kind) rest ≡ None = rw is at fine in
+          let none = no_kind 0 kind (first_none (option_map (at_row 0) kind) rest fine_one) in
+          let begins : map row_fields rows ≡ fields ∷ filter_map row_of_record more = rw is at said in
+          let here = in_bounds last fields none (first_follows last rows fields (filter_map row_of_record more) begins
+          follows) in
+          rw is (none_then (option_map (at_row next) (fields_fault publications last fields))
+          (first_row_fault publications (Some fields.after) (next + 1) more)
+          (ap (option_map (at_row next)) here)
+          (renumbered more (Some fields.after) 1 (next + 1) (then_none (option_map (at_row 0) kind) rest fine_one)))
+
+  -- ---- both parts
+
+  both_places : (front : Place) (records : Records) → front.begun ≡ true
+      → place_of_both front (place_behind within_trace records) ≡ place_behind front records
+  both_places front [] begun = rw begun refl
+  both_places front (one ∷ more) begun =
+      let records = one ∷ more in
+      let number : 0 + length records ≡ length records = omega arith in
+      let some : (0 + length records == 0) ≡ false = ne_eqb (0 + length records) 0
+      (λ none. let long : 0 + suc (length more) ≡ 0 = none in omega arith) in
+      rw begun (λ i. record {
+        begun = true;
+        last = cond (some i) front.last (last_after None records);
+        next = front.next + number i;
+      })
+
+  module _ (place : Place) (before : List ℕ) (e : ℕ) (ends : is_line_end e ≡ true) (behind : List ℕ) where
+    abbrev front_records : Records
+    front_records = records_of (before ++ e ∷ [])
+
+    abbrev back_records : Records
+    back_records = records_of (e ∷ behind)
+
+    abbrev records : Records
+    records = records_of (before ++ e ∷ behind)
+
+    abbrev IsReadFrom : Place → Records → Result Piece TraceFault → Type 0
+    IsReadFrom at rows = IsReadAs (piece_fault publications at rows) (row_records at.begun rows) (place_behind at rows)
+
+    both : (front back piece : Piece) → IsReadFrom place front_records (Ok front)
+        → IsReadFrom within_trace back_records (Ok back) → AreJoined (Ok front) (Ok back) piece
+        → IsReadFrom place records (Ok piece)
+    both front back piece (fine, said, stands, small) (fine_back, said_back, stands_back, small_back)
+        (begun, follows, rows, place_is, few) =
+        let split : records ≡ front_records ++ back_records = apart publications place before e ends fine behind in
+        let stands_begun : has_begun place.begun front_records ≡ true =
+        ap (λ (p : Place). p.begun) (sym stands) ∙ begun in
+        let last : last_after place.last (row_records place.begun front_records) ≡ front.place.last =
+        ap (λ (p : Place). p.last) (sym stands) in
+        let next = place.next + length (row_records place.begun front_records) in
+        let later : first_row_fault publications (last_after place.last (row_records place.begun front_records)) next
+        back_records ≡ None =
+        rw last (goes_on front.place.last next back_records back.rows.items fine_back said_back follows) in
+        let stands_at : piece.place ≡ place_behind place records =
+        place_is ∙ ap (place_of_both front.place) stands_back ∙ both_places front.place back_records begun
+        ∙ ap (λ (p : Place). place_behind p back_records) stands
+        ∙ sym (places_in_turn place front_records back_records) ∙ ap (place_behind place) (sym split) in (
+          ap (piece_fault publications place) split
+              ∙ in_turn publications place.last place.next place.begun front_records back_records
+              ∙ none_then (piece_fault publications place front_records) _ fine (rw stands_begun later),
+          ap (map row_fields) rows ∙ map-append row_fields front.rows.items back.rows.items
+              ∙ ap (λ (l : List RowFields). l ++ map row_fields back.rows.items) said
+              ∙ ap (λ (l : List RowFields). filter_map row_of_record (row_records place.begun front_records) ++ l)
+              said_back
+              ∙ sym (rw stands_begun at (rows_in_two place.begun front_records back_records))
+              ∙ ap (λ (r : Records). filter_map row_of_record (row_records place.begun r)) (sym split),
+          stands_at,
+          let number : piece.place.next ≡ (place_behind place records).next = ap (λ (p : Place). p.next) stands_at in
+              let sum : piece.place.next ≡ front.place.next + back.place.next =
+              ap (λ (p : Place). p.next) place_is in omega arith,
+        )
+
+    parts_joined : (front back : Result Piece TraceFault) (piece : Piece) → IsReadFrom place front_records front
+        → IsReadFrom within_trace back_records back → AreJoined front back piece → IsReadFrom place records (Ok piece)
+    parts_joined (Ok front) (Ok back) piece read read_back joined = both front back piece read read_back joined
+    parts_joined (Ok front) (Err fault) piece read read_back joined = absurd joined
+    parts_joined (Err fault) back piece read read_back joined = absurd joined
+
+  -- a text that was cut at a line's end
+  pub parts_read : (place : Place) (text low high : List ℕ) (end : ℕ) → end < length text
+      → is_line_end (get_or text end 0) ≡ true → low ≡ take (end + 1) text → high ≡ drop end text
+      → (front back : Result Piece TraceFault) (piece : Piece)
+      → IsReadAs (piece_fault publications place (records_of low)) (row_records place.begun (records_of low))
+      (place_behind place (records_of low)) front
+      → IsReadAs (piece_fault publications within_trace (records_of high)) (records_of high)
+      (place_behind within_trace (records_of high)) back
+      → AreJoined front back piece
+      → IsReadAs (piece_fault publications place (records_of text)) (row_records place.begun (records_of text))
+      (place_behind place (records_of text)) (Ok piece)
+  parts_read place text low high end inside ends low_is high_is front back piece read read_back joined =
+      let e = get_or text end 0 in
+      let before = take end text in
+      let behind = drop (end + 1) text in
+      let low_ends : low ≡ before ++ e ∷ [] = low_is ∙ take_more text end 0 inside in
+      let high_begins : high ≡ e ∷ behind = high_is ∙ drop_more text end 0 inside in
+      let whole : text ≡ before ++ e ∷ behind = sym (take-append-drop end text)
+      ∙ ap (λ (l : List ℕ). before ++ l) (drop_more text end 0 inside) in
+      rw whole (parts_joined place before e ends behind front back piece (rw low_ends at read)
+      (rw high_begins at read_back) joined)

@@ -1,0 +1,137 @@
+//! The rows of a piece, read by several threads.
+
+ghost use Rattle.std.specs.Prelude.{◌≡◌, ◌<◌, IfErr, IfOk, IfSome, IsTrue, length, map, slice_index, true};
+ghost use Rattle.std.specs.Thread.{IsSync};
+ghost use Rattle.pmp_text.specs.LongTraces.{IsReadAs, is_line_end, piece_fault, place_behind, row_records};
+ghost use Rattle.pmp_text.specs.Outcomes.{no_memory_for_rows};
+ghost use Rattle.pmp_text.specs.Tables.{records_of};
+ghost use Rattle.pmp_text.specs.TraceFaults.{IsInOrder, afters};
+ghost use Rattle.pmp_text.specs.Traces.{row_fields};
+ghost use Rattle.pmp_audit.specs.LongParts.{AreJoined, Follows, within_trace};
+
+use pmp_text::{Piece, Place, Row, TraceFault, TraceKind, read_piece};
+use std::alloc::Global;
+use std::thread;
+use std::thread::Threads;
+
+/// Where a part stands for which no other has been read yet.
+const WITHIN: Place = Place {
+    begun: true,
+    last: None,
+    next: 0,
+};
+
+const NO_MEMORY: TraceFault = TraceFault {
+    kind: TraceKind::Memory,
+    row: 0,
+};
+
+/// Reads a piece as [`read_piece`] does, in so many parts at a time. Where a part has a fault, or doesn't go on from
+/// the one before, the piece is read in one.
+#[cycle(reading)]
+pub fn read_parts<T: Threads + Sync>(
+    rt: &T,
+    alloc: Global,
+    parts: usize,
+    text: &[u8],
+    publications: u64,
+    place: Place,
+) -> Result<Piece, TraceFault>
+    ensures given { IsReadAs (piece_fault publications place (records_of text.now))
+        (row_records place.begun (records_of text.now)) (place_behind place (records_of text.now)) result }
+    ensures ordered { IfOk result (λ piece. IsInOrder publications 0 (afters (map row_fields piece.rows.items))) }
+{
+    if parts < 2 {
+        return read_piece(alloc, text, publications, place);
+    }
+    let Some(end) = middle_line_end(text) else {
+        return read_piece(alloc, text, publications, place);
+    };
+    let half = parts / 2;
+    let low = &text[..=end];
+    let high = &text[end..];
+    let front = move || -> Result<Piece, TraceFault>
+        requires { IsSync T.row × (0 < half) }
+        ensures { IsReadAs (piece_fault publications place (records_of low.entry.now))
+            (row_records place.begun (records_of low.entry.now)) (place_behind place (records_of low.entry.now))
+            result }
+    { read_parts(rt, alloc, half, low, publications, place) };
+    let back = move || -> Result<Piece, TraceFault>
+        requires { IsSync T.row × (half < parts) }
+        ensures { IsReadAs (piece_fault publications within_trace (records_of high.entry.now))
+            (records_of high.entry.now) (place_behind within_trace (records_of high.entry.now)) result }
+    { read_parts(rt, alloc, parts - half, high, publications, WITHIN) };
+    let (front, back) = thread::join(rt, front, back);
+    match joined(front, back)? {
+        Some(piece) => Ok(piece),
+        None => read_piece(alloc, text, publications, place),
+    }
+}
+
+/// The place of the first line's end in the second half.
+fn middle_line_end(text: &[u8]) -> Option<usize>
+    ensures { IfSome result (λ end. (end < length text.now) × (is_line_end (slice_index text.now end) ≡ true)) }
+{
+    for end in text.len() / 2..text.len() {
+        if matches!(text[end], b'\r' | b'\n') {
+            return Some(end);
+        }
+    }
+    None
+}
+
+/// Two parts as one, where both could be read, and the back one goes on from the front one.
+fn joined(
+    front: Result<Piece, TraceFault>,
+    back: Result<Piece, TraceFault>,
+) -> Result<Option<Piece>, TraceFault>
+    ensures ok { IfOk result (λ joined. IfSome joined (AreJoined front back)) }
+    ensures err { IfErr result (λ fault. fault ≡ no_memory_for_rows) }
+{
+    if lacks_memory(&front) || lacks_memory(&back) {
+        return Err(NO_MEMORY);
+    }
+    let (Ok(mut front), Ok(mut back)) = (front, back) else {
+        return Ok(None);
+    };
+    if !goes_on(front.place, &back.rows) {
+        return Ok(None);
+    }
+    let Some(next) = front.place.next.checked_add(back.place.next) else {
+        return Ok(None);
+    };
+    let last = match back.place.next {
+        0 => front.place.last,
+        _ => back.place.last,
+    };
+    if front.rows.append(&mut back.rows).is_err() {
+        return Err(NO_MEMORY);
+    }
+    let place = Place {
+        begun: true,
+        last,
+        next,
+    };
+    Ok(Some(Piece {
+        rows: front.rows,
+        place,
+    }))
+}
+
+fn lacks_memory(part: &Result<Piece, TraceFault>) -> bool {
+    match part {
+        Ok(_) => false,
+        Err(fault) => matches!(fault.kind, TraceKind::Memory),
+    }
+}
+
+/// Whether these rows may stand behind that place: the header was read, and the first asks for no fewer publications
+/// than the row before it.
+fn goes_on(place: Place, rows: &[Row]) -> bool
+    ensures { IsTrue result → (place.begun ≡ true) × Follows place.last rows.now }
+{
+    match (place.last, rows.first()) {
+        (Some(last), Some(row)) => place.begun && last <= row.after,
+        _ => place.begun,
+    }
+}
