@@ -1,7 +1,7 @@
 // hostile PROGRAM check SCRIPT, hostile PROGRAM audit SCRIPT TRACE, hostile PROGRAM policy SCRIPT POLICY, hostile PROGRAM
-// diff OLD NEW: runs the program on the last text with each byte changed to each of eight others, and on each beginning
-// of it. It has to answer or to refuse with a numbered line, and not both. The last line is how many texts were answered
-// and how many refused.
+// diff OLD NEW, each of these three with an option before SCRIPT where one is given: runs the program on the last text
+// with each byte changed to each of eight others, and on each beginning of it. It has to answer or to refuse with a
+// numbered line, and not both. The last line is how many texts were answered and how many refused.
 #define _GNU_SOURCE
 #include <fcntl.h>
 #include <spawn.h>
@@ -97,7 +97,7 @@ static int work(int worker, char **words, int last, const char *text, size_t len
             stop("text");
         }
         run(words, out, err, &left);
-        int right = is_right(&left, last == 3);
+        int right = is_right(&left, last > 2);
         if (!right) {
             printf("failed: byte %zu, change %zu: status %d, '%s', '%s'\n", place, change, left.status, left.out,
                    left.err);
@@ -108,13 +108,12 @@ static int work(int worker, char **words, int last, const char *text, size_t len
 }
 
 int main(int count, char **arguments) {
-    if (count < 4 || count > 5) {
-        fprintf(stderr, "usage: hostile PROGRAM check SCRIPT | hostile PROGRAM audit|policy|diff SCRIPT TEXT\n");
+    if (count < 4 || count > 6) {
+        fprintf(stderr, "usage: hostile PROGRAM check SCRIPT | hostile PROGRAM audit|policy|diff [OPTION] SCRIPT TEXT\n");
         return 2;
     }
     char *check[] = {arguments[1], "check", arguments[3], "U", "load", "0x80000000", "4", NULL};
-    char *two[] = {arguments[1], arguments[2], arguments[3], count == 5 ? arguments[4] : NULL, NULL};
-    char **words = count == 5 ? two : check;
+    char **words = count > 4 ? arguments + 1 : check;
     char text[MOST];
     FILE *source = fopen(arguments[count - 1], "rb");
     if (source == NULL) {
@@ -129,7 +128,7 @@ int main(int count, char **arguments) {
     for (int worker = 0; worker < WORKERS; worker++) {
         pid_t child = fork();
         if (child == 0) {
-            return work(worker, words, count == 5 ? 3 : 2, text, length, counts[worker]);
+            return work(worker, words, count > 4 ? count - 2 : 2, text, length, counts[worker]);
         }
         if (child < 0) {
             stop("fork");

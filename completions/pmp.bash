@@ -8,7 +8,7 @@ _pmp() {
     fi
     case ${COMP_WORDS[1]} in
         check) words='--after --expect M S U fetch load store stdin'; files=yes ;;
-        audit) words='--checkers stdin'; files=yes ;;
+        audit) words='--checkers --long --jobs --first-row stdin'; files=yes ;;
         policy) words='--each-write stdin'; files=yes ;;
         dump | map | picture | entries) words='--after stdin'; files=yes ;;
         writes) words='stdin'; files=yes ;;
@@ -19,7 +19,7 @@ _pmp() {
         --expect) words='allow fault' files= ;;
         --only) words='more less' files= ;;
         --checkers) words='1 2 3 4 5 6 7 8' files= ;;
-        --after | --old-after | --new-after) words= files= ;;
+        --after | --old-after | --new-after | --jobs | --first-row) words= files= ;;
     esac
     COMPREPLY=($(compgen -W "$words" -- "$word"))
     [ -z "$files" ] || COMPREPLY+=($(compgen -f -- "$word"))

@@ -19,6 +19,10 @@ complete -c pmp -n '__fish_seen_subcommand_from check' -l expect -x -a 'allow fa
     -d 'end with status 0 where this is the answer'
 complete -c pmp -n '__fish_seen_subcommand_from check' -a 'M S U fetch load store'
 complete -c pmp -n '__fish_seen_subcommand_from audit' -l checkers -x -a '1 2 3 4 5 6 7 8' -d 'decide by K threads'
+complete -c pmp -n '__fish_seen_subcommand_from audit' -l long -d 'take a trace of any length'
+complete -c pmp -n '__fish_seen_subcommand_from audit' -l jobs -x -d 'decide a long trace by N jobs at a time'
+complete -c pmp -n '__fish_seen_subcommand_from audit' -l first-row -x \
+    -d "give a long trace's first row the number N"
 complete -c pmp -n '__fish_seen_subcommand_from policy' -l each-write -d 'ask after each write too'
 complete -c pmp -n '__fish_seen_subcommand_from diff' -l old-after -x \
     -d 'take the first N publications of the old script'

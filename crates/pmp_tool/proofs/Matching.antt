@@ -60,6 +60,13 @@ number_read : (number : Option ℕ) (result : Result ℕ Refusal) → result ≡
 number_read None result is = rw is refl
 number_read (Some number) result is = rw is refl
 
+-- an option's word, as the rows have it
+pub word_in_rows : (found : Found) (id : Text) (known word : Option (Bor Text))
+    → option_map (λ s. s.now) known ≡ first_value found id → known ≡ word
+    → first_of id (rows_of found) ≡ option_map (λ s. s.now) word
+word_in_rows found id known word read is =
+    sym (first_value-rows found id) ∙ sym read ∙ ap (option_map (λ s. s.now)) is
+
 -- the number that the option's word has
 pub after_there : (found : Found) (id word : Text) (result : Result ℕ Refusal)
     → Some word ≡ first_value found id → result ≡ ok_or (word_number word) BadWord

@@ -1,12 +1,12 @@
 -- What a call of pmp_audit refuses, as a request that gets no answer.
-use Rattle.std.proofs.Common.{ℕ, List, Option}
+use Rattle.std.proofs.Common.{ℕ, List, Option, Some, None, subst}
 use Rattle.pmp_audit.specs.Answers.{IsRefused}
 use Rattle.pmp_audit.specs.declared.fault.AuditFault.{AuditFault}
 use Rattle.pmp_audit.specs.declared.fault.AuditFault.TheVariants.{Memory, Output}
 use Rattle.pmp_tool.specs.declared.command.Request.{Request}
 use Rattle.pmp_tool.specs.declared.outcome.Outcome.{Outcome}
 use Rattle.pmp_tool.specs.Failures.{unaudited}
-use Rattle.pmp_tool.specs.Inputs.{Inputs}
+use Rattle.pmp_tool.specs.Inputs.{AreBytesOf, GivesBytesOf, Inputs}
 use Rattle.pmp_tool.specs.Requests.{RequestRefuses, RequestSays}
 use Rattle.pmp_tool.specs.Runs.{RequestFails, no_answer}
 
@@ -33,3 +33,9 @@ module _ (scripts traces : Inputs) (script : List ℕ) (request : Request) (befo
     pub not_answered : (fault : AuditFault) → IsRefused Says before after Refuses fault
         → RequestFails scripts traces script request before after (unaudited fault)
     not_answered fault refused = no_answer fault (request_refused fault refused)
+
+-- what a reader of an input has left are the input's bytes
+pub bytes_given : (known remaining : Option (List ℕ)) (bytes : List ℕ) → GivesBytesOf known remaining
+    → AreBytesOf remaining bytes → AreBytesOf known bytes
+bytes_given None remaining bytes gives are = tt
+bytes_given (Some those) remaining bytes gives are = subst (λ left. AreBytesOf left bytes) gives are

@@ -1,5 +1,5 @@
 -- The command line, as the crate clap reads it.
-use Rattle.std.specs.Prelude.{◌≡◌, ◌≢◌, ◌⊎◌, List, [], Some, Ok, Err, pos, true, codes}
+use Rattle.std.specs.Prelude.{◌≡◌, ◌≢◌, ◌⊎◌, ℕ, List, [], Option, Some, Ok, Err, pos, true, codes}
 use Rattle.clap.specs.Words.{App, IsAmong, Rule, Text, fault_of, kind_of, new_app, new_rule, subcommand_of}
 use Rattle.clap.specs.Words.{with_rule, with_subcommand}
 use Rattle.clap.specs.declared.builder.action.ArgAction.TheVariants.{SetTrue}
@@ -7,8 +7,9 @@ use Rattle.clap.specs.declared.builder.value_parser.ValueParser.TheVariants as p
 use Rattle.clap.specs.declared.error.Error.{Error}
 use Rattle.clap.specs.declared.error.kind.ErrorKind.TheVariants.{DisplayHelp, DisplayVersion}
 use Rattle.pmp_share.specs.declared.opening.TheConstants.{CHECKERS}
+use Rattle.pmp_tool.specs.declared.jobs.TheConstants.{JOBS}
 use Rattle.pmp_tool.specs.declared.refusal.Refusal.{Refusal}
-use Rattle.pmp_tool.specs.Commands.{Asked, asked_of}
+use Rattle.pmp_tool.specs.Commands.{Asked, LongAudit, asked_of}
 
 -- a word that its command requires
 abbrev pub word_rule : (id : Text) → Rule
@@ -22,12 +23,12 @@ option_rule id = record (new_rule id) { long = Some id; value_names = 1 }
 abbrev pub flag_rule : (id : Text) → Rule
 flag_rule id = record (new_rule id) { long = Some id; action = Some SetTrue }
 
--- `--checkers K`, a number from 1 to how many a unit has places for
-abbrev pub checkers_rule : Rule
-checkers_rule = record (new_rule (codes "checkers")) {
-  long = Some (codes "checkers");
+-- an option with a number from 1 to `most`
+abbrev pub count_rule : (id : Text) (most : ℕ) → Rule
+count_rule id most = record (new_rule id) {
+  long = Some id;
   value_names = 1;
-  parser = Some (parser.Signed (pos 1) (pos CHECKERS));
+  parser = Some (parser.Signed (pos 1) (pos most));
 }
 
 unfoldable pub with_word : App → (id : Text) → App
@@ -43,8 +44,8 @@ with_flag app id = with_rule app (flag_rule id)
 abbrev pub with_after : App → App
 with_after app = with_option app (codes "after")
 
-unfoldable pub with_checkers : App → App
-with_checkers app = with_rule app checkers_rule
+unfoldable pub with_count : App → (id : Text) (most : ℕ) → App
+with_count app id most = with_rule app (count_rule id most)
 
 -- a command of a script: `NAME SCRIPT`, as `writes` is
 abbrev pub script_app : (name : Text) → App
@@ -56,9 +57,11 @@ check_app =
     with_option (with_after (with_word (with_word (with_word (with_word (script_app (codes "check")) (codes "mode"))
     (codes "kind")) (codes "start")) (codes "length"))) (codes "expect")
 
--- `audit SCRIPT TRACE [--checkers K]`
+-- `audit SCRIPT TRACE [--checkers K] [--long] [--jobs N] [--first-row N]`
 abbrev pub audit_app : App
-audit_app = with_checkers (with_word (script_app (codes "audit")) (codes "trace"))
+audit_app =
+    with_option (with_count (with_flag (with_count (with_word (script_app (codes "audit")) (codes "trace"))
+    (codes "checkers") CHECKERS) (codes "long")) (codes "jobs") JOBS) (codes "first-row")
 
 -- `policy SCRIPT POLICY [--each-write]`
 abbrev pub policy_app : App
@@ -106,6 +109,14 @@ pmp_app =
 -- clap takes the words, and what it finds in them asks for that
 abbrev pub WordsAskFor : List Text → Asked → Type 0
 WordsAskFor words task = (fault_of pmp_app words ≡ []) × (asked_of (subcommand_of pmp_app words) ≡ Ok task)
+
+-- the words ask for a long audit
+pub record AsksForLongAudit (words : List Text) : Type 0 where
+  pub script : Text
+  pub trace : Text
+  pub jobs : Option ℕ
+  pub first : ℕ
+  pub task : WordsAskFor words (record { script = script; task = LongAudit trace jobs first })
 
 -- clap takes the words, and one that it finds in them is refused
 abbrev pub WordsAreRefused : List Text → Refusal → Type 0

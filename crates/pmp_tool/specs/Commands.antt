@@ -1,5 +1,6 @@
 -- What the matches of the command line ask for.
-use Rattle.std.specs.Prelude.{ℕ, List, Option, Some, None, Result, Ok, Err, ◌&&◌, if◌then◌else◌, codes, option_map}
+use Rattle.std.specs.Prelude.{ℕ, ◌==◌, List, Bool, false, ◌&&◌, ◌||◌, Option, Some, None, is_some, option_map, Result}
+use Rattle.std.specs.Prelude.{Ok, Err, if◌then◌else◌, codes}
 use Rattle.std.specs.Option.{option_and_then}
 use Rattle.std.specs.Str.{bytes_eq}
 use Rattle.clap.specs.Words.{Row, Text, first_of}
@@ -25,6 +26,7 @@ use Rattle.pmp_tool.specs.declared.refusal.Refusal.{Refusal}
 use Rattle.pmp_tool.specs.declared.refusal.Refusal.TheVariants.{BadWord}
 use Rattle.pmp_tool.specs.Checkers.{checkers_given}
 use Rattle.pmp_tool.specs.Expected.{expected_of}
+use Rattle.pmp_tool.specs.Jobs.{jobs_given}
 use Rattle.pmp_tool.specs.OnlyWord.{only_of}
 use Rattle.pmp_tool.specs.Refusals.{refusal_of_access, result_map}
 
@@ -39,6 +41,7 @@ pub record AccessTask : Type 0 where
 pub data Task : Type 0 where
   Check : AccessTask → (after : Option ℕ) → Expected → Task
   Audit : (trace : Text) (checkers : Option ℕ) → Task
+  LongAudit : (trace : Text) (jobs : Option ℕ) (first : ℕ) → Task
   Policy : (policy : Text) → Pace → Task
   Show : View → (after : Option ℕ) → Task
   Writes : Task
@@ -50,6 +53,7 @@ access_task access = record { mode = access.mode; kind = access.kind; start = ac
 abbrev pub task_of : Request → Task
 task_of (request.Check access after expected) = Check (access_task access) after expected
 task_of (request.Audit trace checkers) = Audit trace.now (option_map (λ checkers. checkers.count) checkers)
+task_of (request.LongAudit trace jobs first) = LongAudit trace.now (option_map (λ jobs. jobs.count) jobs) first
 task_of (request.Policy policy pace) = Policy policy.now pace
 task_of (request.Show view after) = Show view after
 task_of request.Writes = Writes
@@ -100,6 +104,26 @@ abbrev pub checkers_of : Option Text → Result (Option ℕ) Refusal
 checkers_of None = Ok None
 checkers_of (Some word) = result_map Some (checkers_given (word_number word))
 
+-- how many jobs a long audit does at a time, where the option is used
+abbrev pub jobs_of : Option Text → Result (Option ℕ) Refusal
+jobs_of None = Ok None
+jobs_of (Some word) = result_map Some (jobs_given (word_number word))
+
+-- a row has a number from 1 on
+abbrev pub first_row_given : Option ℕ → Result ℕ Refusal
+first_row_given None = Err BadWord
+first_row_given (Some number) = if number == 0 then Err BadWord else Ok number
+
+-- the number of a long trace's first row: 1 where the option isn't used
+abbrev pub first_row_of : Option Text → Result ℕ Refusal
+first_row_of None = Ok 1
+first_row_of (Some word) = first_row_given (word_number word)
+
+-- clap finds the word `true` for an option without a word that is used
+abbrev pub flag_of : Option Text → Bool
+flag_of None = false
+flag_of (Some word) = bytes_eq word (codes "true")
+
 abbrev pub check_with : Result Expected Refusal → (after : Result (Option ℕ) Refusal) → Result AccessTask Refusal
     → Result Task Refusal
 check_with (Err refusal) after access = Err refusal
@@ -124,15 +148,36 @@ second_with (Ok script) (Ok second) =
 abbrev pub second_in : (id : Text) → List Row → Result Text Refusal
 second_in id rows = second_with (required (first_of (codes "script") rows)) (required (first_of id rows))
 
-abbrev pub audit_with : (trace : Result Text Refusal) → (checkers : Result (Option ℕ) Refusal) → Result Task Refusal
-audit_with (Err refusal) checkers = Err refusal
-audit_with (Ok trace) (Err refusal) = Err refusal
-audit_with (Ok trace) (Ok checkers) = Ok (Audit trace checkers)
+-- an option is used
+abbrev pub has_option : (id : Text) → List Row → Bool
+has_option id rows = is_some (first_of id rows)
 
--- the trace's place is read before the option
+-- an audit of a trace that is taken whole
+abbrev pub whole_audit_in : (trace : Text) → List Row → Result Task Refusal
+whole_audit_in trace rows =
+    if has_option (codes "jobs") rows || has_option (codes "first-row") rows then Err BadWord
+    else result_map (Audit trace) (checkers_of (first_of (codes "checkers") rows))
+
+abbrev pub long_audit_with : (trace : Text) → (jobs : Result (Option ℕ) Refusal) → (first : Result ℕ Refusal)
+    → Result Task Refusal
+long_audit_with trace (Err refusal) first = Err refusal
+long_audit_with trace (Ok jobs) (Err refusal) = Err refusal
+long_audit_with trace (Ok jobs) (Ok first) = Ok (LongAudit trace jobs first)
+
+-- an audit of a trace that is taken piece by piece
+abbrev pub long_audit_in : (trace : Text) → List Row → Result Task Refusal
+long_audit_in trace rows =
+    if has_option (codes "checkers") rows then Err BadWord
+    else long_audit_with trace (jobs_of (first_of (codes "jobs") rows)) (first_row_of (first_of (codes "first-row") rows))
+
+abbrev pub audit_with : (trace : Result Text Refusal) → List Row → Result Task Refusal
+audit_with (Err refusal) rows = Err refusal
+audit_with (Ok trace) rows =
+    if flag_of (first_of (codes "long") rows) then long_audit_in trace rows else whole_audit_in trace rows
+
+-- the trace's place is read before the options
 abbrev pub audit_in : List Row → Result Task Refusal
-audit_in rows =
-    audit_with (second_in (codes "trace") rows) (checkers_of (first_of (codes "checkers") rows))
+audit_in rows = audit_with (second_in (codes "trace") rows) rows
 
 abbrev pub diff_with : (new : Result Text Refusal) → (old_after new_after : Result (Option ℕ) Refusal)
     → Result (Option Only) Refusal → Result Task Refusal
@@ -148,14 +193,9 @@ diff_in rows =
     diff_with (second_in (codes "new") rows) (after_of (first_of (codes "old-after") rows))
     (after_of (first_of (codes "new-after") rows)) (only_of (first_of (codes "only") rows))
 
--- clap finds the word `true` for an option without a word that is used
-abbrev pub pace_named : Text → Pace
-pace_named word = if bytes_eq word (codes "true") then Events else Publications
-
 -- how often a policy asks: after each publication where the option isn't used
 abbrev pub pace_of : Option Text → Pace
-pace_of None = Publications
-pace_of (Some word) = pace_named word
+pace_of each_write = if flag_of each_write then Events else Publications
 
 abbrev pub policy_in : List Row → Result Task Refusal
 policy_in rows = result_map (λ policy. Policy policy (pace_of (first_of (codes "each-write") rows)))

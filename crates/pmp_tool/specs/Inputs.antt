@@ -1,5 +1,5 @@
 -- What is known of the program's inputs, and what reading them answers.
-use Rattle.std.specs.Prelude.{◌≡◌, ℕ, ◌<◌, List, length, Option, IfSome, ⊤}
+use Rattle.std.specs.Prelude.{◌≡◌, ℕ, ◌<◌, List, length, Option, Some, IfSome, ⊤}
 use Rattle.pmp_text.specs.declared.input.InputFault.{InputFault}
 use Rattle.pmp_text.specs.declared.input.InputFault.TheVariants.{TooLong, Input, Memory}
 
@@ -11,8 +11,18 @@ Inputs = List ℕ → Option (List ℕ)
 abbrev pub AreBytesOf : Option (List ℕ) → List ℕ → Type 0
 AreBytesOf known bytes = IfSome known (λ those. bytes ≡ those)
 
+-- a reader has these bytes left: those of an input, as far as they are known
+abbrev pub GivesBytesOf : (known remaining : Option (List ℕ)) → Type 0
+GivesBytesOf known remaining = IfSome known (λ those. remaining ≡ Some those)
+
 -- an input can't be read; one that is too long has more bytes than the limit, as far as they are known
 abbrev pub CantBeRead : (limit : ℕ) (known : Option (List ℕ)) → InputFault → Type 0
 CantBeRead limit known TooLong = IfSome known (λ bytes. limit < length bytes)
 CantBeRead limit known Input = ⊤
 CantBeRead limit known Memory = ⊤
+
+-- an input can't be opened, however long it is
+abbrev pub CantBeOpened : InputFault → Type 0
+CantBeOpened TooLong = ⊥
+CantBeOpened Input = ⊤
+CantBeOpened Memory = ⊤

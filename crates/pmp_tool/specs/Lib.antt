@@ -5,6 +5,7 @@ pub mod Expected
 pub mod Commands
 pub mod Failures
 pub mod Inputs
+pub mod Jobs
 pub mod OnlyWord
 pub mod Refusals
 pub mod Requests

@@ -14,10 +14,13 @@ use Rattle.pmp_audit.specs.declared.policy_check.steps.Pace.{Pace}
 use Rattle.pmp_audit.specs.declared.fault.Side.TheVariants.{New}
 use Rattle.pmp_text.specs.declared.lines.changes.Only.{Only}
 use Rattle.pmp_audit.specs.Answers.{IsRefused, IsWritten}
+use Rattle.pmp_audit.specs.declared.long_audit.TheConstants.{PIECE}
+use Rattle.pmp_audit.specs.LongAudit.{StopsLong}
 use Rattle.pmp_tool.specs.declared.checkers.Checkers.{Checkers}
 use Rattle.pmp_tool.specs.declared.command.Command.{Command}
 use Rattle.pmp_tool.specs.declared.command.Request.{Request}
-use Rattle.pmp_tool.specs.declared.command.Request.TheVariants.{Audit, Policy, Diff}
+use Rattle.pmp_tool.specs.declared.command.Request.TheVariants.{Audit, LongAudit, Policy, Diff}
+use Rattle.pmp_tool.specs.declared.jobs.Jobs.{Jobs}
 use Rattle.pmp_tool.specs.declared.failure.Failure.{Failure}
 use Rattle.pmp_tool.specs.declared.failure.Failure.TheVariants.{Words}
 use Rattle.pmp_tool.specs.declared.refusal.Refusal.{Refusal}
@@ -28,7 +31,7 @@ use Rattle.pmp_tool.specs.CommandLines.{IsRefusedCommandLine, MayAskForText, Wor
 use Rattle.pmp_tool.specs.Commands.{asked}
 use Rattle.pmp_tool.specs.Expected.{is_met}
 use Rattle.pmp_tool.specs.Failures.{refused, unaudited, unread}
-use Rattle.pmp_tool.specs.Inputs.{AreBytesOf, CantBeRead, Inputs}
+use Rattle.pmp_tool.specs.Inputs.{AreBytesOf, CantBeOpened, CantBeRead, Inputs}
 use Rattle.pmp_tool.specs.Refusals.{refusal_of_input}
 use Rattle.pmp_tool.specs.Requests.{RequestRefuses, RequestSays, old_side}
 
@@ -64,6 +67,15 @@ pub data RequestFails (scripts traces : Inputs) (script : List ℕ) (request : R
   no_new : (new : Bor (List ℕ)) (old_after new_after : Option ℕ) (only : Option Only) (fault : InputFault)
       → request ≡ Diff new old_after new_after only → CantBeRead MAX_SCRIPT (scripts new.now) fault
       → Keeps before after → RequestFails scripts traces script request before after (unread fault (Some New))
+  -- the trace of a long audit can't be opened
+  no_long_trace : (trace : Bor (List ℕ)) (jobs : Option Jobs) (first : ℕ) (fault : InputFault)
+      → request ≡ LongAudit trace jobs first → CantBeOpened fault → Keeps before after
+      → RequestFails scripts traces script request before after (refused (refusal_of_input fault))
+  -- a long audit stops, maybe behind whole rows
+  no_end : (path : Bor (List ℕ)) (jobs : Option Jobs) (first : ℕ) (trace : List ℕ) (fault : AuditFault)
+      → request ≡ LongAudit path jobs first → AreBytesOf (traces path.now) trace
+      → StopsLong PIECE script first trace before after fault
+      → RequestFails scripts traces script request before after (unaudited fault)
   -- what was read is refused, or memory or the output failed
   no_answer : (fault : AuditFault) → IsRefused (RequestSays scripts traces script request) before after
       (RequestRefuses scripts traces script request) fault

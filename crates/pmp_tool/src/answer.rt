@@ -6,16 +6,17 @@ ghost use Rattle.pmp_audit.specs.TraceAudit.{AuditSays};
 ghost use Rattle.pmp_tool.specs.Inputs.{AreBytesOf};
 ghost use Rattle.pmp_tool.specs.Requests.{AuditByRefuses, RequestSays};
 ghost use Rattle.pmp_tool.specs.Runs.{CommandAnswers, CommandFails, IsUnread, RequestFails};
-ghost use Rattle.pmp_tool.specs.declared.command.Request.TheVariants.{Audit, Diff, Policy};
+ghost use Rattle.pmp_tool.specs.declared.command.Request.TheVariants.{Audit, Diff, LongAudit, Policy};
 
 use crate::checkers::Checkers;
 use crate::command::{Command, Request};
 use crate::failure::Failure;
 use crate::inputs::Inputs;
+use crate::jobs::Jobs;
 use crate::outcome::Outcome;
 use pmp_audit::{
-    AuditFault, OpenGate, Pace, Side, Summary, audit, audit_shared, check, check_policy, diff,
-    show, writes,
+    AuditFault, OpenGate, PIECE, Pace, Side, Summary, audit, audit_long, audit_shared, check,
+    check_policy, diff, show, writes,
 };
 use pmp_text::Only;
 use std::alloc::Global;
@@ -64,6 +65,9 @@ fn answer_request<R: Threads + Wait + Sync, I: Inputs, O: Write>(
         Request::Audit(trace, checkers) => {
             answer_audit(rt, alloc, script, trace, checkers, inputs, out)
         }
+        Request::LongAudit(trace, jobs, first) => {
+            answer_long_audit(rt, alloc, script, trace, jobs, first, inputs, out)
+        }
         Request::Policy(policy, pace) => answer_policy(alloc, script, policy, pace, inputs, out),
         Request::Show(view, after) => {
             show(alloc, view, script, after, out)?;
@@ -95,6 +99,31 @@ fn answer_audit<R: Threads + Wait + Sync, I: Inputs, O: Write>(
 {
     let rows = inputs.trace(trace)?;
     let summary = audit_by(rt, alloc, checkers, script, &rows, out)?;
+    Ok(Outcome::Audited(summary))
+}
+
+/// Opens the trace at this path, whose first row has the number `first`, and audits it piece by piece.
+fn answer_long_audit<R: Threads + Wait + Sync, I: Inputs, O: Write>(
+    rt: &R,
+    alloc: Global,
+    script: &[u8],
+    trace: &str,
+    jobs: Option<Jobs>,
+    first: u64,
+    inputs: &mut I,
+    out: &mut O,
+) -> Result<Outcome, Failure>
+    ensures ok { IfOk result
+        (IsWritten (RequestSays (I.scripts inputs.old) (I.traces inputs.old) script.now
+        (LongAudit trace.entry jobs first)) (O.contents out.old) (O.contents out.new)) }
+    ensures err { IfErr result
+        (RequestFails (I.scripts inputs.old) (I.traces inputs.old) script.now (LongAudit trace.entry jobs first)
+        (O.contents out.old) (O.contents out.new)) }
+{
+    let mut reader = inputs.open_trace(trace)?;
+    let jobs = jobs.unwrap_or_else(|| Jobs::of_processors(rt));
+    let count = usize::from(jobs.count());
+    let summary = audit_long(rt, alloc, count, script, first, PIECE, &mut reader, out)?;
     Ok(Outcome::Audited(summary))
 }
 

@@ -5,8 +5,9 @@ ghost use Rattle.clap.specs.Words.{first_of, found_of, rows_of, subcommand_rows_
 ghost use Rattle.pmp_text.specs.AccessWords.{kind_named, mode_named};
 ghost use Rattle.pmp_text.specs.Numbers.{word_number};
 ghost use Rattle.pmp_tool.specs.Commands.{access_of, access_task, after_of, asked, asked_of, audit_in, check_in};
-ghost use Rattle.pmp_tool.specs.Commands.{checkers_of, command_named, diff_in, pace_named, pace_of, policy_in};
-ghost use Rattle.pmp_tool.specs.Commands.{required, second_in, task_in, task_of};
+ghost use Rattle.pmp_tool.specs.Commands.{checkers_of, command_named, diff_in, first_row_given, first_row_of, flag_of};
+ghost use Rattle.pmp_tool.specs.Commands.{has_option, jobs_of, long_audit_in, pace_of, policy_in, required, second_in};
+ghost use Rattle.pmp_tool.specs.Commands.{task_in, task_of, whole_audit_in};
 ghost use Rattle.pmp_tool.specs.Expected.{expected_of};
 ghost use Rattle.pmp_tool.specs.OnlyWord.{only_of};
 ghost use Rattle.pmp_tool.specs.Refusals.{result_map};
@@ -14,6 +15,7 @@ ghost use Rattle.pmp_tool.specs.Requests.{old_side};
 
 use crate::checkers::{Checkers, read_checkers};
 use crate::expected::{Expected, read_expected};
+use crate::jobs::{Jobs, read_jobs};
 use crate::only_word::read_only;
 use crate::refusal::Refusal;
 use clap::ArgMatches;
@@ -28,6 +30,9 @@ pub enum Request<'a> {
     Check(Access, Option<u64>, Expected),
     /// The path of the trace, and how many checkers decide its rows, where that is said.
     Audit(&'a str, Option<Checkers>),
+    /// The path of a trace of any length, how many jobs the audit does at a time, where that is said, and the number
+    /// of the first row.
+    LongAudit(&'a str, Option<Jobs>, u64),
     /// The path of the policy, and how often it asks.
     Policy(&'a str, Pace),
     /// What is shown, and how many publications are taken before it, where not all are.
@@ -129,13 +134,56 @@ fn read_second<'a>(words: &ArgMatches<'a>, id: &str) -> Result<&'a str, Refusal>
     Ok(second)
 }
 
-/// The trace of an audit, and its checkers.
+/// The trace of an audit, and how it is made.
 fn read_audit<'a>(words: &ArgMatches<'a>) -> Result<Request<'a>, Refusal>
     ensures { result_map task_of result ≡ audit_in (rows_of (found_of words.now)) }
 {
     let trace = read_second(words, "trace")?;
+    if has_flag(words, "long") {
+        read_long_audit(words, trace)
+    } else {
+        read_whole_audit(words, trace)
+    }
+}
+
+/// The checkers of an audit of a trace that is taken whole.
+fn read_whole_audit<'a>(words: &ArgMatches, trace: &'a str) -> Result<Request<'a>, Refusal>
+    ensures { result_map task_of result ≡ whole_audit_in trace.now (rows_of (found_of words.now)) }
+{
+    if has_option(words, "jobs") || has_option(words, "first-row") {
+        return Err(Refusal::BadWord);
+    }
     let checkers = asked_checkers(words)?;
     Ok(Request::Audit(trace, checkers))
+}
+
+/// The jobs and the first row's number of an audit of a trace that is taken piece by piece.
+fn read_long_audit<'a>(words: &ArgMatches, trace: &'a str) -> Result<Request<'a>, Refusal>
+    ensures { result_map task_of result ≡ long_audit_in trace.now (rows_of (found_of words.now)) }
+{
+    if has_option(words, "checkers") {
+        return Err(Refusal::BadWord);
+    }
+    let jobs = asked_jobs(words)?;
+    let first = asked_first_row(words)?;
+    Ok(Request::LongAudit(trace, jobs, first))
+}
+
+/// Whether an option is used.
+fn has_option(words: &ArgMatches, id: &str) -> bool
+    ensures { result ≡ has_option id.now (rows_of (found_of words.now)) }
+{
+    words.get_str(id).is_some()
+}
+
+/// Whether an option without a word is used: `clap` finds the word `true` for it then.
+fn has_flag(words: &ArgMatches, id: &str) -> bool
+    ensures { result ≡ flag_of (first_of id.now (rows_of (found_of words.now))) }
+{
+    match words.get_str(id) {
+        Some(word) => word == "true",
+        None => false,
+    }
 }
 
 /// The policy, and how often it asks.
@@ -146,24 +194,14 @@ fn read_policy<'a>(words: &ArgMatches<'a>) -> Result<Request<'a>, Refusal>
     Ok(Request::Policy(policy, asked_pace(words)))
 }
 
-/// `clap` finds the word `true` for an option without a word that is used.
-fn read_pace(word: &str) -> Pace
-    ensures { result ≡ pace_named word.now }
-{
-    if word == "true" {
-        Pace::Events
-    } else {
-        Pace::Publications
-    }
-}
-
 /// How often a policy asks.
 fn asked_pace(words: &ArgMatches) -> Pace
     ensures { result ≡ pace_of (first_of (codes "each-write") (rows_of (found_of words.now))) }
 {
-    match words.get_str("each-write") {
-        Some(word) => read_pace(word),
-        None => Pace::Publications,
+    if has_flag(words, "each-write") {
+        Pace::Events
+    } else {
+        Pace::Publications
     }
 }
 
@@ -175,6 +213,37 @@ fn asked_checkers(words: &ArgMatches) -> Result<Option<Checkers>, Refusal>
     match words.get_str("checkers") {
         Some(word) => Ok(Some(read_checkers(word)?)),
         None => Ok(None),
+    }
+}
+
+/// How many jobs a long audit does at a time, where the words say that.
+fn asked_jobs(words: &ArgMatches) -> Result<Option<Jobs>, Refusal>
+    ensures { result_map (option_map (λ jobs. jobs.count)) result
+        ≡ jobs_of (first_of (codes "jobs") (rows_of (found_of words.now))) }
+{
+    match words.get_str("jobs") {
+        Some(word) => Ok(Some(read_jobs(word)?)),
+        None => Ok(None),
+    }
+}
+
+/// The number of a long trace's first row: 1 where the words don't say it.
+fn asked_first_row(words: &ArgMatches) -> Result<u64, Refusal>
+    ensures { result ≡ first_row_of (first_of (codes "first-row") (rows_of (found_of words.now))) }
+{
+    match words.get_str("first-row") {
+        Some(word) => read_first_row(word),
+        None => Ok(1),
+    }
+}
+
+/// The number of a row, from 1 on.
+fn read_first_row(word: &str) -> Result<u64, Refusal>
+    ensures { result ≡ first_row_given (word_number word.now) }
+{
+    match read_word_number(word.as_bytes()) {
+        Some(number) if number > 0 => Ok(number),
+        _ => Err(Refusal::BadWord),
     }
 }
 

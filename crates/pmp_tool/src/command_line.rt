@@ -3,12 +3,13 @@
 ghost use Rattle.std.specs.Prelude.{◌≡◌, map, false, IfOk, IfErr, string_bytes};
 ghost use Rattle.clap.specs.Words.{App, HasKind, fault_of, new_app, rule_of};
 ghost use Rattle.pmp_tool.specs.Building.{Builds, IsBuilt, IsCommand, IsTaken};
-ghost use Rattle.pmp_tool.specs.CommandLines.{audit_app, check_app, checkers_rule, diff_app, file_app, flag_rule};
+ghost use Rattle.pmp_tool.specs.CommandLines.{audit_app, check_app, count_rule, diff_app, file_app, flag_rule};
 ghost use Rattle.pmp_tool.specs.CommandLines.{option_rule};
-ghost use Rattle.pmp_tool.specs.CommandLines.{pmp_app, policy_app, script_app, top_app, with_after, with_checkers};
-ghost use Rattle.pmp_tool.specs.CommandLines.{with_command, with_flag, with_option, with_views, with_word, word_rule};
+ghost use Rattle.pmp_tool.specs.CommandLines.{pmp_app, policy_app, script_app, top_app, with_after, with_command};
+ghost use Rattle.pmp_tool.specs.CommandLines.{with_count, with_flag, with_option, with_views, with_word, word_rule};
 
 use crate::help;
+use crate::jobs::JOBS;
 use clap::{Arg, ArgAction, ArgMatches, Command, Error, value_parser};
 use pmp_share::CHECKERS;
 use std::alloc::{AllocError, Global};
@@ -72,7 +73,10 @@ fn audit<'a>(alloc: Global) -> Built<'a>
 {
     let command = of_script(alloc, "audit", help::AUDIT, help::MORE_OF_AUDIT);
     let command = with_word(alloc, command, "trace", "TRACE", help::TRACE);
-    with_checkers(alloc, command)
+    let command = with_count(alloc, command, "checkers", "K", CHECKERS, help::CHECKERS);
+    let command = with_flag(alloc, command, "long", help::LONG);
+    let command = with_count(alloc, command, "jobs", "N", JOBS, help::JOBS);
+    with_option(alloc, command, "first-row", "N", help::FIRST_ROW)
 }
 
 fn policy<'a>(alloc: Global) -> Built<'a>
@@ -202,20 +206,27 @@ fn flag<'a>(alloc: Global, id: &'a str, help: &'a str) -> Arg<'a>
         .help(help)
 }
 
-fn with_checkers<'a>(alloc: Global, command: Built<'a>) -> Built<'a>
-    ensures { Builds with_checkers command.entry result }
+fn with_count<'a>(
+    alloc: Global,
+    command: Built<'a>,
+    id: &'a str,
+    name: &'a str,
+    most: u8,
+    help: &'a str,
+) -> Built<'a>
+    ensures { Builds (λ app. with_count app id.entry.now most) command.entry result }
 {
-    command?.arg(checkers(alloc))
+    command?.arg(count(alloc, id, name, most, help))
 }
 
-/// `--checkers K`, a number that a unit has places for.
-fn checkers<'a>(alloc: Global) -> Arg<'a>
-    ensures rule { rule_of result ≡ checkers_rule }
+/// `--id name`, a number from 1 to `most`.
+fn count<'a>(alloc: Global, id: &'a str, name: &'a str, most: u8, help: &'a str) -> Arg<'a>
+    ensures rule { rule_of result ≡ count_rule id.entry.now most }
     ensures local { result.global ≡ false }
 {
-    Arg::new(alloc, "checkers")
-        .long("checkers")
-        .value_name("K")
-        .value_parser(value_parser!(u8).range(1..=i64::from(CHECKERS)))
-        .help(help::CHECKERS)
+    Arg::new(alloc, id)
+        .long(id)
+        .value_name(name)
+        .value_parser(value_parser!(u8).range(1..=i64::from(most)))
+        .help(help)
 }

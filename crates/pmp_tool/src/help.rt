@@ -47,7 +47,7 @@ pub const SCRIPT: &str =
     16 entries, with pmp 2 for one of 64";
 
 pub const TRACE: &str =
-    "The path of a trace of at most 16777216 bytes, or stdin where the script isn't";
+    "The path of a trace of at most 16777216 bytes, with --long of any length, or stdin where the script isn't";
 
 pub const POLICY_PATH: &str =
     "The path of a policy of at most 16777216 bytes, or stdin where the script isn't";
@@ -73,6 +73,16 @@ pub const EXPECT: &str =
 
 pub const CHECKERS: &str =
     "Decides the rows by K checkers on threads, a number from 1 to 8; K changes the time, never what is written";
+
+pub const LONG: &str =
+    "Takes a trace of any length, piece by piece, and writes rows as pieces are decided";
+
+pub const JOBS: &str =
+    "Decides a long trace by N jobs at a time, a number from 1 to 64; by as many as there are processors without this \
+    option; N changes the time, never what is written";
+
+pub const FIRST_ROW: &str =
+    "Gives a long trace's first row the number N, from 1 on, and those behind it the next ones; 1 without this option";
 
 pub const MORE: &str = "\
 Exit status:
@@ -117,10 +127,21 @@ Exit status:
   2  no answer: the words, the script or the trace are at fault
   3  no answer: memory, an input, the output or a place for a checker failed
 
+With --long a trace may have any length, and --jobs and --first-row may be said;
+--checkers may not. It is taken piece by piece, and each piece's rows are
+written once they are decided: a refusal may come behind rows. Those are rows
+of the answer all the same, from the first on.
+
 Example:
   printf 'after,mode,kind,start,length\\n0,M,load,0x0,8\\n' > trace.csv
   echo 'pmp 1' | pmp audit stdin trace.csv
   It answers 1,allow,,none,
+
+Example of a long audit:
+  echo 'pmp 1' > reset.pmp
+  printf 'after,mode,kind,start,length\\n0,M,load,0x0,8\\n' |
+      pmp audit --long --first-row 1001 reset.pmp stdin
+  It answers 1001,allow,,none,
 
 docs/FORMATS.md describes scripts, traces, rows, and every refusal with its
 number.";

@@ -3,14 +3,19 @@
 ghost use Rattle.std.specs.Prelude.{◌≡◌, ℕ, ◌≤◌, List, length, Option, None, IfOk, IfErr};
 ghost use Rattle.pmp_text.specs.declared.script.reader.TheConstants.{MAX_SCRIPT};
 ghost use Rattle.pmp_text.specs.declared.trace.reader.TheConstants.{MAX_TRACE};
-ghost use Rattle.pmp_tool.specs.Inputs.{AreBytesOf, CantBeRead};
+ghost use Rattle.pmp_tool.specs.Inputs.{AreBytesOf, CantBeOpened, CantBeRead, GivesBytesOf};
 
+use crate::trace_input::TraceInput;
 use pmp_text::{InputFault, read_script_bytes, read_trace_bytes};
 use std::fs;
+use std::io::Read;
 use std::rt::Files;
 
 /// The inputs that the program's words name.
 pub trait Inputs {
+    /// What gives the bytes of a trace little by little.
+    type Trace: Read + Drop;
+
     /// The bytes of the script at a path, where it is known what they are.
     ghost scripts: { Self → List ℕ → Option (List ℕ) } = { λ _ _. None };
 
@@ -28,6 +33,11 @@ pub trait Inputs {
     fn trace(&mut self, path: &str) -> Result<Vec<u8>, InputFault>
         ensures read { IfOk result (λ bytes. AreBytesOf (traces self.old path.now) bytes.items) }
         ensures unread { IfErr result (CantBeRead MAX_TRACE (traces self.old path.now)) };
+
+    /// A reader of the trace at this path, of which no byte is read yet.
+    fn open_trace(&mut self, path: &str) -> Result<Self::Trace, InputFault>
+        ensures opened { IfOk result (λ reader. GivesBytesOf (traces self.old path.now) (Self.Trace.remaining reader)) }
+        ensures unopened { IfErr result CantBeOpened };
 }
 
 /// The files of the system. The path `stdin` means standard input.
@@ -43,12 +53,18 @@ impl<'a, R> SystemInputs<'a, R> {
 }
 
 impl<R: Files + Input + AllocGlobal> Inputs for SystemInputs<'_, R> {
+    type Trace = TraceInput<R>;
+
     fn script(&mut self, path: &str) -> Result<Vec<u8>, InputFault> {
         read_script_at(self.runtime, path)
     }
 
     fn trace(&mut self, path: &str) -> Result<Vec<u8>, InputFault> {
         read_trace_at(self.runtime, path)
+    }
+
+    fn open_trace(&mut self, path: &str) -> Result<TraceInput<R>, InputFault> {
+        Ok(TraceInput::open(self.runtime, path)?)
     }
 }
 

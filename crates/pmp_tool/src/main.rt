@@ -10,10 +10,12 @@ mod failure;
 mod fault_line;
 mod help;
 mod inputs;
+mod jobs;
 mod only_word;
 mod outcome;
 mod refusal;
 mod run;
+mod trace_input;
 
 use fault_line::FaultLine;
 use inputs::SystemInputs;

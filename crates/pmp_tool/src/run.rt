@@ -1,7 +1,8 @@
 //! The program: from words to an exit status.
 
-ghost use Rattle.std.specs.Prelude.{◌≡◌, ℕ, ◌≤◌, List, map, IfOk, IfErr, string_bytes};
+ghost use Rattle.std.specs.Prelude.{◌≡◌, ◌⊎◌, ℕ, ◌≤◌, List, map, IfOk, IfErr, string_bytes};
 ghost use Rattle.std.specs.Io.KnownBytes.{Appends, Keeps};
+ghost use Rattle.pmp_tool.specs.CommandLines.{AsksForLongAudit};
 ghost use Rattle.pmp_tool.specs.Failures.{Tells, failure_status};
 ghost use Rattle.pmp_tool.specs.Runs.{Answers, Fails, TextFails, outcome_status};
 ghost use Rattle.pmp_tool.specs.declared.failure.Failure.{Failure};
@@ -51,7 +52,9 @@ pub fn run_tool<R: Threads + Wait + Sync, I: Inputs, O: Write, E: Write>(
         (O.contents out.old) (O.contents out.new) failure
         × Tells failure (E.contents err.old) (E.contents err.new) }
 
-    ensures untouched { result ≡ 2 → Keeps (O.contents out.old) (O.contents out.new) }
+    // A long audit may be refused behind rows that it wrote; nothing else may.
+    ensures untouched { result ≡ 2 → AsksForLongAudit (map string_bytes words.now)
+        ⊎ Keeps (O.contents out.old) (O.contents out.new) }
 {
     match run(rt, alloc, words, inputs, out) {
         Ok(outcome) => outcome.status(),
