@@ -6,7 +6,7 @@ use Rattle.pmp_core.specs.declared.access.Mode.{Mode}
 use Rattle.pmp_core.specs.declared.access.Mode.TheVariants.{M, S, U}
 use Rattle.pmp_core.specs.declared.access.Kind.{Kind}
 use Rattle.pmp_core.specs.declared.access.Kind.TheVariants.{Fetch, Load, Store}
-use Rattle.pmp_core.specs.declared.access.TheConstants.{ADDRESS_LIMIT}
+use Rattle.pmp_core.specs.declared.access.TheConstants.{ADDRESS_LIMIT, MAX_LENGTH}
 use Rattle.pmp_c.specs.Request.{mode_number, kind_number, IsNamed}
 
 pub mode_once : (one other : Mode) → mode_number one ≡ mode_number other → one ≡ other
@@ -33,7 +33,7 @@ kind_once Store Store e = refl
 
 -- a lawful start and length
 abbrev IsLawful : (start length : ℕ) → Type 0
-IsLawful start length = (0 < length) × (length ≤ 4096) × (start + length ≤ ADDRESS_LIMIT)
+IsLawful start length = (0 < length) × (length ≤ MAX_LENGTH) × (start + length ≤ ADDRESS_LIMIT)
 
 made : Mode → Kind → (start length : ℕ) → IsLawful start length → Access
 made mode kind start length lawful = record {
@@ -101,7 +101,7 @@ kind_with (suc zero) few = (Load, refl)
 kind_with (suc (suc zero)) few = (Store, refl)
 kind_with (suc (suc (suc n))) few = absurd (omega arith)
 
-pub named_some : (mode kind start length : ℕ) → mode ≤ 3 → mode ≢ 2 → kind ≤ 2 → length ≢ 0 → length ≤ 4096
+pub named_some : (mode kind start length : ℕ) → mode ≤ 3 → mode ≢ 2 → kind ≤ 2 → length ≢ 0 → length ≤ MAX_LENGTH
     → start + length ≤ ADDRESS_LIMIT → (access : Access) × IsNamed access mode kind start length
 named_some mode kind start length level other known full few ends =
     let m = mode_with mode level other in

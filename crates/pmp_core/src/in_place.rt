@@ -116,7 +116,7 @@ impl SavedRegisters {
         }
     }
 
-    /// Whether entry `index` keeps its address, for its own lock or as the low end of a locked range.
+    /// Whether entry `index` keeps its address: it is frozen, or the next entry is frozen and TOR.
     #[inline]
     fn is_address_frozen(&self, index: usize) -> bool
         requires { index < count_of (saved_size self.now.entries) }

@@ -67,7 +67,7 @@ fn write_configurations(entries: &mut [Entry], mseccfg: &MseccfgFields, register
     }
 }
 
-/// Whether entry `index` keeps its address, for its own lock or as the low end of a locked range.
+/// Whether entry `index` keeps its address: it is frozen, or the next entry is frozen and TOR.
 pub fn is_address_frozen(entries: &[Entry], mseccfg: &MseccfgFields, index: usize) -> bool
     requires { index < length entries.now }
     ensures { result ≡ is_address_frozen (file_of mseccfg.now entries.now) index }

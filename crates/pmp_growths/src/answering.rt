@@ -11,11 +11,11 @@ use crate::texts::{
 use crate::worked::decision_after;
 use arrayvec::ArrayVec;
 use pmp_audit::{
-    AuditFault, OpenGate, Pace, PolicySummary, Summary, audit, audit_shared, check, check_policy,
-    diff, dump, entries_of, map_of,
+    AuditFault, OpenGate, PIECE, Pace, PolicySummary, Summary, audit, audit_long, audit_shared,
+    check, check_policy, diff, dump, entries_of, map_of,
 };
 use pmp_core::Access;
-use pmp_share::ShareFault;
+use pmp_share::{CHECKERS, ShareFault};
 use std::alloc::Global;
 use std::sync::Wait;
 use std::thread::Threads;
@@ -27,6 +27,8 @@ pub enum Answering {
     Audit,
     /// By so many checkers, one to eight.
     SharedAudit(u8),
+    /// By so many jobs. The trace has one piece, so a refused audit writes nothing.
+    LongAudit(usize),
     Policy,
     MapOf,
     EntriesOf,
@@ -95,7 +97,11 @@ impl Answering {
             Answering::Check => Ok(check(alloc, SCRIPT, page, None, output)? == decision_after(2)),
             Answering::Audit => is_summary(audit(alloc, SCRIPT, TRACE, output)),
             Answering::SharedAudit(checkers) => {
-                audits_by(rt, alloc, checkers.clamp(1, 8), output)
+                audits_by(rt, alloc, checkers.clamp(1, CHECKERS), output)
+            }
+            Answering::LongAudit(jobs) => {
+                let mut reader = TRACE;
+                is_summary(audit_long(rt, alloc, jobs, SCRIPT, 1, PIECE, &mut reader, output))
             }
             Answering::Policy => {
                 Ok(check_policy(alloc, Pace::Events, SCRIPT, POLICY, output)? == JUDGED)

@@ -23,7 +23,7 @@ pub enum Case {
 }
 
 /// Each case once, with the word of the command line that stands for it.
-pub static CASES: [(&str, Case); 34] = [
+pub static CASES: [(&str, Case); 36] = [
     ("start", Case::Start),
     ("start_from", Case::StartFrom),
     ("submit", Case::Share(Sharing::Submit)),
@@ -59,6 +59,8 @@ pub static CASES: [(&str, Case); 34] = [
     ("audit_shared_1", Case::Answer(Answering::SharedAudit(1))),
     ("audit_shared_2", Case::Answer(Answering::SharedAudit(2))),
     ("audit_shared_8", Case::Answer(Answering::SharedAudit(8))),
+    ("audit_long_1", Case::Answer(Answering::LongAudit(1))),
+    ("audit_long_4", Case::Answer(Answering::LongAudit(4))),
     ("policy", Case::Answer(Answering::Policy)),
     ("map_of", Case::Answer(Answering::MapOf)),
     ("entries_of", Case::Answer(Answering::EntriesOf)),

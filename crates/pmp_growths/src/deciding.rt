@@ -6,7 +6,7 @@ use crate::count::{begin, end};
 use crate::outcome::{Tried, Wrong, answered_if};
 use crate::worked::{batch, decision_after, events};
 use pmp_core::{Access, Csr, Mode, Perms};
-use pmp_share::{Checker, Publisher};
+use pmp_share::{Checker, GROUP_ACCESSES, Publisher};
 use std::alloc::Global;
 use std::sync::Wait;
 
@@ -32,12 +32,12 @@ fn publish_first<R: Wait>(rt: &R, publisher: &mut Publisher) -> Result<(), Wrong
 
 /// A group of equal accesses has equal decisions.
 fn decides_group(alloc: Global, checker: &mut Checker, page: &Access) -> Tried {
-    let group = [*page; 16];
+    let group = [*page; GROUP_ACCESSES];
     begin(alloc);
     let (decisions, seen) = checker.decide_group(&group);
     end(alloc);
     answered_if(
-        decisions.as_slice() == [decision_after(1); 16].as_slice() && seen == events(1),
+        decisions.as_slice() == [decision_after(1); GROUP_ACCESSES].as_slice() && seen == events(1),
         "the decisions",
     )
 }

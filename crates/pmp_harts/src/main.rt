@@ -104,8 +104,7 @@ fn program<R: Wait>(
     publisher.submit(&Batch::of(writes).map_err(|_| ShareFault::Full)?)?;
     let events = publisher.publish(rt)?;
     let sent = notices.send(publisher.tell()?);
-    sent.map_err(|_| ShareFault::NoPlace)?;
-    Ok(events)
+    sent.map(|()| events).map_err(|_| ShareFault::NoPlace)
 }
 
 /// Hart 0 walks, switches to the second domain once hart 1 walked in the first, and walks again behind a remote fence.
@@ -175,8 +174,7 @@ fn load(hart: &mut Hart, start: u64, answers: &mut Vec<Answer>) -> Result<(), Sh
     ensures { hart.new.checker.unit ≡ hart.old.checker.unit }
 {
     let load = Access::new(Mode::U, Kind::Load, start, 8).map_err(|_| ShareFault::NoPlace)?;
-    answers.push(hart.answer(&load))?;
-    Ok(())
+    Ok(answers.push(hart.answer(&load))?)
 }
 
 /// Loads twice in the first page, across into the second, and twice there.

@@ -118,7 +118,7 @@ impl Checker {
 
     /// Decides a group of accesses in what is published, all in the same batches, and answers the decisions in the
     /// order of the accesses, and how many events that is. It waits for nobody and takes no memory. An emulator takes
-    /// a group for a page walk or for the elements of a vector access, between which no publication may come.
+    /// a group for the elements of a vector access, between which no publication may come.
     pub fn decide_group(&mut self, accesses: &[Access]) -> (ArrayVec<Decision, GROUP_ACCESSES>, u64)
         requires { length accesses.now ≤ GROUP_ACCESSES }
         ensures unit { self.new.unit ≡ self.old.unit }
@@ -155,9 +155,9 @@ impl Checker {
         answer
     }
 
-    /// How many events are published. What a TLB holds of an earlier count is to be forgotten where this is another. It
-    /// waits for nobody and takes no memory; where nothing was published since the last call it reads one word that
-    /// threads share, and enters nothing.
+    /// How many events the list has that it looks at. If that isn't the count of a TLB, flush the TLB. It waits for
+    /// nobody and takes no memory; where nothing was published since the last call it reads one word that threads
+    /// share, and enters nothing.
     pub fn count(&mut self) -> u64
         ensures unit { self.new.unit ≡ self.old.unit }
         ensures looked { Looked self.old.held self.new.held }

@@ -60,7 +60,6 @@ impl Digest {
         *self = Digest::of(version);
     }
 
-    /// The register file.
     pub fn file(&self) -> RegFile
         ensures { result ≡ file_from self.now.base self.now.list }
     {

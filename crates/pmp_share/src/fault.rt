@@ -6,7 +6,7 @@ use std::alloc::{AllocError, AllocFailed};
 
 #[derive(Clone, Copy, Debug, PartialEq, Eq)]
 pub enum ShareFault {
-    /// As many checkers and notices are there as a unit has places, 32, or the shared structure refuses one.
+    /// As many checkers and notices are there as a unit has `PLACES`, or the shared structure refuses one.
     NoPlace,
     /// The batch would go past a limit of the unit, in events or in batches.
     Full,

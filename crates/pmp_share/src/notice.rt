@@ -29,7 +29,7 @@ impl Notice {
         Notice { state }
     }
 
-    /// Where it stands.
+    /// The reader state that tells of it, with its place.
     pub(crate) fn into_state(self) -> ReaderState
         ensures { result ≡ record { unit = self.unit; list = self.told } }
     {

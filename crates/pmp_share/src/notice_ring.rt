@@ -59,8 +59,8 @@ impl Model for NoticeReceiver {
 
 impl Publisher {
     /// A ring for up to `room` notices of its unit: one end for the publisher's thread, and the other for that of a
-    /// checker. The notices in it have places, as others have. `NoPlace` where 32 are taken, and `Memory` where memory
-    /// is refused.
+    /// checker. The notices in it have places, as others have. `NoPlace` where all are taken, and `Memory` where
+    /// memory is refused.
     pub fn notice_ring(
         &mut self,
         alloc: Global,

@@ -141,8 +141,8 @@ impl Publisher {
         state.end(rt)
     }
 
-    /// A notice of all that is published. `NoPlace` where 32 checkers and notices are there; a place is free again once
-    /// one is dropped or learnt.
+    /// A notice of all that is published. `NoPlace` where checkers and notices have all `PLACES`; one is free again
+    /// once a notice or a checker is dropped, or a notice learnt.
     pub fn tell(&mut self) -> Result<Notice, ShareFault>
         ensures same { self.new ≡ self.old }
         ensures told { IfOk result (λ notice.

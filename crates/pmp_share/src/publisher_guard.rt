@@ -29,7 +29,7 @@ impl<R: Wait + Drop> PublisherGuard<R> {
         PublisherGuard { rt, publisher }
     }
 
-    /// The publisher again.
+    /// Gives the publisher back, which isn't ended then.
     pub fn into_publisher(self) -> Publisher
         ensures { result ≡ self }
     {

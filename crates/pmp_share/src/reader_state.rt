@@ -232,7 +232,7 @@ impl ReaderState {
         replace_with(self, (), |state, ()| (state.caught_up(), ()));
     }
 
-    /// The state after that.
+    /// The state after it entered the published version and left it, where an entrance is given.
     fn caught_up(self) -> ReaderState
         ensures unit { result.unit ≡ self.unit }
         ensures begins { StartsWith result.list self.list }

@@ -44,7 +44,7 @@ impl Split<Knowledge> for Tells {
     ghost right = { λ view. view };
 }
 
-/// It knew nothing before.
+/// A reader that knew nothing knows what it is told.
 pub struct Hears;
 
 impl Join<Knowledge> for Hears {

@@ -11,7 +11,7 @@ use crate::replay::Published;
 use crate::tally::Tally;
 use crate::time::Moment;
 use crate::unit::{WRITE, publish, publish_regions};
-use pmp_share::{Batch, Checker, Publisher, start};
+use pmp_share::{Batch, CHECKERS, Checker, Publisher, start};
 use std::alloc::Global;
 use std::sync::{Arc, Wait};
 use std::thread::{JoinHandle, Threads};
@@ -162,7 +162,7 @@ pub fn run_round<R: Clock + Threads + Wait>(
     random: &mut Random,
     tally: &mut Tally,
 ) -> Result<(), Failure> {
-    let (mut publisher, checkers) = start(rt, alloc, checkers.clamp(1, 8))?;
+    let (mut publisher, checkers) = start(rt, alloc, checkers.clamp(1, CHECKERS))?;
     let outcome = match publish_first(rt, &mut publisher, load) {
         Ok(()) => run(rt, alloc, &mut publisher, checkers, load, random, tally),
         Err(failure) => Err(failure),

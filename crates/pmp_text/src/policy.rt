@@ -76,7 +76,7 @@ impl Kinds {
 pub struct PolicyRow {
     /// The least number of publications that are done.
     pub from: u64,
-    /// The greatest.
+    /// The greatest number of publications that are done.
     pub to: u64,
     pub modes: Modes,
     pub kinds: Kinds,
