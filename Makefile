@@ -53,6 +53,7 @@ test:
 	checks/files
 	checks/limits
 	checks/hostile $(PROGRAM)
+	checks/machines $(PROGRAM)
 	checks/growths $(GROWTHS)
 
 # Ends with status 1 where something differs.

@@ -1,4 +1,5 @@
-/* Times `pmp audit` on a long trace, with and without checkers, and a plain C audit that reads the same files. */
+/* Times `pmp audit` on a trace of the most bytes, with and without checkers, and then `pmp audit --long` on one of 1 GiB
+   by one, two and four jobs, each beside a plain C audit of the same files. */
 #define _GNU_SOURCE
 #include "plain_unit.h"
 #include <fcntl.h>
@@ -11,7 +12,7 @@
 #include <time.h>
 #include <unistd.h>
 
-enum { MAX_TRACE = 16777216, PUBLICATIONS = 10, ROUNDS = 7, MAX_EVENTS = 64 };
+enum { MAX_TRACE = 16777216, LONG_TRACE = 1073741824, PUBLICATIONS = 10, ROUNDS = 7, LONG_ROUNDS = 3, MAX_EVENTS = 64 };
 
 #define SCRIPT "bench/out/audit.pmp"
 #define TRACE "bench/out/audit.csv"
@@ -43,16 +44,16 @@ static void write_script(void) {
 }
 
 /* As many rows as fit, in order of their publications; most hit a region. */
-static size_t write_trace(void) {
+static size_t write_trace(size_t most) {
     static const char *modes = "MSU", *kinds[3] = {"fetch", "load", "store"};
     FILE *file = checked(fopen(TRACE, "w"), TRACE);
     size_t size = fprintf(file, "after,mode,kind,start,length\n"), rows = 0;
     for (;;) {
         char row[64];
-        unsigned after = size * (PUBLICATIONS + 1) / MAX_TRACE;
+        unsigned after = size * (PUBLICATIONS + 1) / most;
         uint64_t start = region(below(PUBLICATIONS)) + below(0x1100);
         int length = snprintf(row, sizeof row, "%u,%c,%s,0x%" PRIx64 ",8\n", after, modes[below(3)], kinds[below(3)], start);
-        if (size + length >= MAX_TRACE)
+        if (size + length >= most)
             break;
         fputs(row, file);
         size += length;
@@ -207,16 +208,16 @@ static struct run run(char *const words[], const char *output) {
 /* What is timed: an audit by a command, its report, and its best run. */
 struct subject {
     const char *name;
-    char *words[7];
+    char *words[8];
     const char *report;
     struct run best;
 };
 
 /* Each round runs all of them in turn, so that a busy machine slows none alone. */
-static void run_rounds(struct subject *subjects, size_t count) {
+static void run_rounds(struct subject *subjects, size_t count, unsigned rounds) {
     for (size_t i = 0; i < count; i++)
         subjects[i].best = (struct run){1e18, 0};
-    for (unsigned round = 0; round < ROUNDS; round++) {
+    for (unsigned round = 0; round < rounds; round++) {
         for (size_t i = 0; i < count; i++) {
             struct run one = run(subjects[i].words, subjects[i].report), *best = &subjects[i].best;
             if (one.seconds < best->seconds)
@@ -243,11 +244,20 @@ static size_t compare(const struct subject *subjects, size_t count) {
     return wanted_size;
 }
 
-static void tell(const struct subject *subject, double plain, size_t rows) {
+static void tell(const struct subject *subject, double plain, size_t rows, size_t most) {
     struct run run = subject->best;
-    printf("%-12s %6.3f s %6.2f times plain C %12.0f rows/s %7.1f MiB, %.1f times the trace\n", subject->name,
-           run.seconds, run.seconds / plain, rows / run.seconds, run.mebibytes,
-           run.mebibytes * 1048576.0 / MAX_TRACE);
+    printf("%-12s %6.3f s %6.2f times plain C %12.0f rows/s %7.1f MiB, %.2f times the trace\n", subject->name,
+           run.seconds, run.seconds / plain, rows / run.seconds, run.mebibytes, run.mebibytes * 1048576.0 / most);
+}
+
+/* Times the subjects, of which plain C is the first, on a trace of just under so many bytes. */
+static void time_on(size_t most, struct subject *subjects, size_t count, unsigned rounds) {
+    size_t rows = write_trace(most);
+    run_rounds(subjects, count, rounds);
+    size_t size = compare(subjects, count);
+    printf("%zu rows, %d publications, the same report of %zu bytes\n", rows, PUBLICATIONS, size);
+    for (size_t i = 0; i < count; i++)
+        tell(&subjects[i], subjects[0].best.seconds, rows, most);
 }
 
 int main(int count, char **words) {
@@ -260,20 +270,21 @@ int main(int count, char **words) {
         return 0;
     }
     char *pmp = words[1];
-    struct subject subjects[] = {
+    struct subject whole[] = {
         {.name = "plain C", .words = {words[0], "plain"}, .report = "/dev/null"},
         {.name = "proved", .words = {pmp, "audit", SCRIPT, TRACE}, .report = PROVED_REPORT},
         {.name = "1 checker", .words = {pmp, "audit", SCRIPT, TRACE, "--checkers", "1"}, .report = PROVED_REPORT "1"},
         {.name = "2 checkers", .words = {pmp, "audit", SCRIPT, TRACE, "--checkers", "2"}, .report = PROVED_REPORT "2"},
         {.name = "4 checkers", .words = {pmp, "audit", SCRIPT, TRACE, "--checkers", "4"}, .report = PROVED_REPORT "4"},
     };
-    enum { SUBJECTS = sizeof subjects / sizeof *subjects };
+    struct subject pieces[] = {
+        {.name = "plain C", .words = {words[0], "plain"}, .report = "/dev/null"},
+        {.name = "1 job", .words = {pmp, "audit", "--long", SCRIPT, TRACE, "--jobs", "1"}, .report = PROVED_REPORT "1"},
+        {.name = "2 jobs", .words = {pmp, "audit", "--long", SCRIPT, TRACE, "--jobs", "2"}, .report = PROVED_REPORT "2"},
+        {.name = "4 jobs", .words = {pmp, "audit", "--long", SCRIPT, TRACE, "--jobs", "4"}, .report = PROVED_REPORT "4"},
+    };
     write_script();
-    size_t rows = write_trace();
-    run_rounds(subjects, SUBJECTS);
-    size_t size = compare(subjects, SUBJECTS);
-    printf("%zu rows, %d publications, the same report of %zu bytes\n", rows, PUBLICATIONS, size);
-    for (unsigned i = 0; i < SUBJECTS; i++)
-        tell(&subjects[i], subjects[0].best.seconds, rows);
+    time_on(MAX_TRACE, whole, sizeof whole / sizeof *whole, ROUNDS);
+    time_on(LONG_TRACE, pieces, sizeof pieces / sizeof *pieces, LONG_ROUNDS);
     return 0;
 }
