@@ -15,4 +15,6 @@ mod rows;
 #[cfg(test)]
 mod sharing;
 #[cfg(test)]
+mod using;
+#[cfg(test)]
 mod values;
