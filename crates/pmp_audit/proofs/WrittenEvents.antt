@@ -14,7 +14,7 @@ use Rattle.pmp_text.specs.Contents.{ScriptContents}
 use Rattle.pmp_text.specs.Effects.{effect_row}
 use Rattle.pmp_text.proofs.Words.{range_more}
 use Rattle.pmp_audit.specs.declared.write_list.WriteSummary.{WriteSummary}
-use Rattle.pmp_audit.specs.WriteList.{PlacedEvent, placed, events_of, file_before, rows_text, is_turned_away}
+use Rattle.pmp_audit.specs.WriteList.{PlacedEvent, placed, events_of, file_before, rows_text, is_not_stored}
 use Rattle.pmp_audit.specs.WriteList.{write_summary}
 use Rattle.pmp_audit.specs.EventRows.{file_left, rows_from, turned_from, Written, AreWritten}
 
@@ -75,7 +75,7 @@ written_then from mid to xs ys first second =
           ∙ sym (counted-append from.summary.events xs ys);
       turned =
           let one = first.turned in
-          let two = second.turned ∙ ap (λ (file : RegisterFile). mid.summary.turned_away + turned_from file ys)
+          let two = second.turned ∙ ap (λ (file : RegisterFile). mid.summary.not_stored + turned_from file ys)
           first.file_is in
           let both = turned-append from.file xs ys in
           omega arith;
@@ -87,13 +87,13 @@ pub one_written : (from to : Written) (it : PlacedEvent)
       publication = it.publication;
       line = it.line;
     }) from.file it.event → to.file ≡ step from.file it.event → to.summary.events ≡ from.summary.events + 1
-    → to.summary.turned_away ≡ from.summary.turned_away + cond (is_turned_away from.file it.event) 1 0
+    → to.summary.not_stored ≡ from.summary.not_stored + cond (is_not_stored from.file it.event) 1 0
     → AreWritten from to (it ∷ [])
 one_written from to it row file counted turned = record {
   rows = row ∙ ap (λ (l : List ℕ). from.text ++ l) (sym (append-nil _));
   file_is = file;
   counted = counted;
-  turned = turned ∙ ap (λ (m : ℕ). from.summary.turned_away + m) (omega arith);
+  turned = turned ∙ ap (λ (m : ℕ). from.summary.not_stored + m) (omega arith);
 }
 
 -- ---- by places
@@ -140,35 +140,35 @@ module _ (n : ℕ) where
       ∙ ap (λ (l : List ℕ). row file ++ l) tail
 
   turned_by_place : (before rest : List PlacedEvent)
-      → count_by (λ (k, it). is_turned_away (file_before n (before ++ rest) k) it.event)
+      → count_by (λ (k, it). is_not_stored (file_before n (before ++ rest) k) it.event)
       (enumerate_from (length before) rest)
       ≡ turned_from (file_left (reset_file n) before) rest
   turned_by_place before [] = refl
   turned_by_place before (it ∷ rest) =
       let all = before ++ it ∷ rest in
       let file = file_left (reset_file n) before in
-      let more = count_by (λ (k, x). is_turned_away (file_before n all k) x.event)
+      let more = count_by (λ (k, x). is_not_stored (file_before n all k) x.event)
       (enumerate_from (length before + 1) rest) in
       let tail : more ≡ turned_from (step file it.event) rest =
       rw (moved it before rest, length_push before it, next_file it before rest) at
       (turned_by_place (before ++ it ∷ []) rest) in
-      sum_by-cons (λ (k, x). cond (is_turned_away (file_before n all k) x.event) 1 0)
+      sum_by-cons (λ (k, x). cond (is_not_stored (file_before n all k) x.event) 1 0)
       (length before, it) (enumerate_from (length before + 1) rest)
-      ∙ ap (λ (f : RegisterFile). cond (is_turned_away f it.event) 1 0 + more) (there before rest it)
-      ∙ ap (λ (m : ℕ). cond (is_turned_away file it.event) 1 0 + m) tail
+      ∙ ap (λ (f : RegisterFile). cond (is_not_stored f it.event) 1 0 + more) (there before rest it)
+      ∙ ap (λ (m : ℕ). cond (is_not_stored file it.event) 1 0 + m) tail
 
   pub rows_all : (events : List PlacedEvent) → rows_from 1 (reset_file n) events ≡ rows_text n events
   unfolding rows_text
   rows_all events = sym (rows_by_place [] events)
 
   pub summary_all : (events : List PlacedEvent) (summary : WriteSummary) → summary.events ≡ 0 + length events
-      → summary.turned_away ≡ 0 + turned_from (reset_file n) events → summary ≡ write_summary n events
+      → summary.not_stored ≡ 0 + turned_from (reset_file n) events → summary ≡ write_summary n events
   unfolding write_summary
   summary_all events summary all_counted all_turned =
       let counted : summary.events ≡ length events = omega arith in
-      let turned : summary.turned_away ≡ turned_from (reset_file n) events = omega arith in
-      ap (λ (m : ℕ). record { events = m; turned_away = summary.turned_away }) counted
-      ∙ ap (λ (m : ℕ). record { events = length events; turned_away = m })
+      let turned : summary.not_stored ≡ turned_from (reset_file n) events = omega arith in
+      ap (λ (m : ℕ). record { events = m; not_stored = summary.not_stored }) counted
+      ∙ ap (λ (m : ℕ). record { events = length events; not_stored = m })
       (turned ∙ sym (turned_by_place [] events))
 
 -- ---- the events of a publication

@@ -4,7 +4,7 @@ use Rattle.pmp_core.specs.RegisterFile.{RegisterFile}
 use Rattle.pmp_core.specs.RegisterWrite.{step}
 use Rattle.pmp_text.specs.Effects.{effect_row}
 use Rattle.pmp_audit.specs.declared.write_list.WriteSummary.{WriteSummary}
-use Rattle.pmp_audit.specs.WriteList.{PlacedEvent, is_turned_away}
+use Rattle.pmp_audit.specs.WriteList.{PlacedEvent, is_not_stored}
 
 abbrev pub file_left : RegisterFile → List PlacedEvent → RegisterFile
 file_left file events = fold step file (map (λ it. it.event) events)
@@ -16,11 +16,11 @@ rows_from number file (it ∷ rest) =
     effect_row (record { number = number; publication = it.publication; line = it.line }) file it.event
     ++ rows_from (number + 1) (step file it.event) rest
 
--- how many of them are turned away
+-- how many of them are not stored as written
 abbrev pub turned_from : RegisterFile → List PlacedEvent → ℕ
 turned_from file [] = 0
 turned_from file (it ∷ rest) =
-    (if is_turned_away file it.event then 1 else 0) + turned_from (step file it.event) rest
+    (if is_not_stored file it.event then 1 else 0) + turned_from (step file it.event) rest
 
 -- a text, a register file, and what was counted
 pub record Written : Type 0 where
@@ -33,4 +33,4 @@ pub record AreWritten (from to : Written) (events : List PlacedEvent) : Type 0 w
   pub rows : to.text ≡ from.text ++ rows_from (from.summary.events + 1) from.file events
   pub file_is : to.file ≡ file_left from.file events
   pub counted : to.summary.events ≡ from.summary.events + length events
-  pub turned : to.summary.turned_away ≡ from.summary.turned_away + turned_from from.file events
+  pub turned : to.summary.not_stored ≡ from.summary.not_stored + turned_from from.file events

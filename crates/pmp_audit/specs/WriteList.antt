@@ -49,15 +49,15 @@ rows_text n events =
     (enumerate_from 0 events)
 
 -- a write that isn't stored as written, so that it has a reason
-abbrev pub is_turned_away : RegisterFile → Event → Bool
-is_turned_away file (Write csr value) = not (register_value (written file csr value) csr == value)
-is_turned_away file Reset = false
+abbrev pub is_not_stored : RegisterFile → Event → Bool
+is_not_stored file (Write csr value) = not (register_value (written file csr value) csr == value)
+is_not_stored file Reset = false
 
 -- how many events there are, and how many of them are such writes
 unfoldable pub write_summary : (n : ℕ) → List PlacedEvent → WriteSummary
 write_summary n events = record {
   events = length events;
-  turned_away = count_by (λ (k, it). is_turned_away (file_before n events k) it.event) (enumerate_from 0 events);
+  not_stored = count_by (λ (k, it). is_not_stored (file_before n events k) it.event) (enumerate_from 0 events);
 }
 
 -- the script means this, the text has a row for each of its events, and they are counted

@@ -8,7 +8,7 @@ ghost use Rattle.pmp_text.specs.declared.script.reader.TheConstants.{MAX_SCRIPT}
 ghost use Rattle.pmp_text.specs.Sizes.{script_size};
 ghost use Rattle.pmp_audit.specs.Answers.{IsWritten, IsRefused};
 ghost use Rattle.pmp_audit.specs.EventRows.{AreWritten};
-ghost use Rattle.pmp_audit.specs.WriteList.{placed, placed_events, rows_text, is_turned_away, write_summary};
+ghost use Rattle.pmp_audit.specs.WriteList.{placed, placed_events, rows_text, is_not_stored, write_summary};
 ghost use Rattle.pmp_audit.specs.WriteList.{WritesSay, WritesRefuse};
 
 use crate::answer::write_answer;
@@ -23,7 +23,7 @@ use std::io::Write;
 #[derive(Clone, Copy, Debug, Default, PartialEq, Eq)]
 pub struct WriteSummary {
     pub events: u64,
-    pub turned_away: u64,
+    pub not_stored: u64,
 }
 
 /// Writes a row for each event of the script, in their order: what it wrote, what the register read before and after,
@@ -75,12 +75,12 @@ fn write_publication(
     events: &[Event],
 ) -> Result<WriteSummary, AllocError>
     requires room { before.events + length events.now < 2 ^ 64 }
-    requires within { before.turned_away ≤ before.events }
+    requires within { before.not_stored ≤ before.events }
     ensures written { IfOk result (λ after. AreWritten
         (record { text = out.old.items; file = file.old; summary = before })
         (record { text = out.new.items; file = file.new; summary = after })
         (placed publication lines.now events.now)) }
-    ensures within { IfOk result (λ after. after.turned_away ≤ after.events) }
+    ensures within { IfOk result (λ after. after.not_stored ≤ after.events) }
 {
     let mut summary = before;
     for (line, event) in lines.iter().zip(events) {
@@ -90,15 +90,15 @@ fn write_publication(
             line: *line,
         };
         let after = write_effect(out, &place, file, *event)?;
-        summary.count(is_turned_away(&after, *event));
+        summary.count(is_not_stored(&after, *event));
         *file = after;
     }
     Ok(summary)
 }
 
 /// Whether the event, which left this file, is a write that the register doesn't read then.
-fn is_turned_away(after: &RegFile, event: Event) -> bool
-    ensures { (file : RegisterFile) → after.now ≡ step file event → result ≡ is_turned_away file event }
+fn is_not_stored(after: &RegFile, event: Event) -> bool
+    ensures { (file : RegisterFile) → after.now ≡ step file event → result ≡ is_not_stored file event }
 {
     match event {
         Event::Write(csr, value) => after.read(csr) != value,
@@ -108,16 +108,16 @@ fn is_turned_away(after: &RegFile, event: Event) -> bool
 
 impl WriteSummary {
     /// One more event.
-    fn count(&mut self, is_turned_away: bool)
+    fn count(&mut self, is_not_stored: bool)
         requires room { self.old.events + 1 < 2 ^ 64 }
-        requires within { self.old.turned_away ≤ self.old.events }
+        requires within { self.old.not_stored ≤ self.old.events }
         ensures events { self.new.events ≡ self.old.events + 1 }
-        ensures turned_away { self.new.turned_away ≡ self.old.turned_away + (if is_turned_away then 1 else 0) }
-        ensures within { self.new.turned_away ≤ self.new.events }
+        ensures not_stored { self.new.not_stored ≡ self.old.not_stored + (if is_not_stored then 1 else 0) }
+        ensures within { self.new.not_stored ≤ self.new.events }
     {
         self.events += 1;
-        if is_turned_away {
-            self.turned_away += 1;
+        if is_not_stored {
+            self.not_stored += 1;
         }
     }
 }

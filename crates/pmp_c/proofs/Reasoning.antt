@@ -7,7 +7,7 @@ use Rattle.pmp_core.specs.Configuration.{bit_of}
 use Rattle.pmp_core.specs.RegisterFile.{RegisterFile, IsLegal}
 use Rattle.pmp_core.specs.RegisterValue.{register_value}
 use Rattle.pmp_core.specs.RegisterWrite.{written}
-use Rattle.pmp_core.specs.WriteReasons.{turns_away}
+use Rattle.pmp_core.specs.WriteReasons.{is_reason}
 use Rattle.pmp_core.proofs.Reasons.{HasNone, has_none, no_reasons}
 use Rattle.pmp_core.proofs.ReasonsLaw.{write_reasons_law}
 use Rattle.pmp_c.specs.Reasons.{reasons_number}
@@ -44,10 +44,10 @@ module _ (file : RegisterFile) (csr : Csr) (value : ℕ) where
 
   number_none : reasons_number file csr value ≡ 0 → HasNone file csr value
   number_none zero_is =
-      let each = sum_zero (bit_of (turns_away Absent file csr value)) (bit_of (turns_away Bits file csr value))
-      (bit_of (turns_away Frozen file csr value)) (bit_of (turns_away Tor file csr value))
-      (bit_of (turns_away Reserved file csr value)) (bit_of (turns_away Lockdown file csr value))
-      (bit_of (turns_away Sticky file csr value)) (bit_of (turns_away Bypass file csr value)) zero_is in
+      let each = sum_zero (bit_of (is_reason Absent file csr value)) (bit_of (is_reason Bits file csr value))
+      (bit_of (is_reason Frozen file csr value)) (bit_of (is_reason Tor file csr value))
+      (bit_of (is_reason Reserved file csr value)) (bit_of (is_reason Lockdown file csr value))
+      (bit_of (is_reason Sticky file csr value)) (bit_of (is_reason Bypass file csr value)) zero_is in
       record {
         absent = no_bit _ each.0;
         bits = no_bit _ each.1;

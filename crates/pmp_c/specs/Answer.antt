@@ -5,6 +5,7 @@ use Rattle.pmp_core.specs.declared.access.Kind.{Kind}
 use Rattle.pmp_core.specs.declared.decision.Cause.{Cause}
 use Rattle.pmp_core.specs.declared.decision.Cause.TheVariants.{Rule, Split, NoMatch}
 use Rattle.pmp_core.specs.declared.decision.Decision.{Decision}
+use Rattle.pmp_c.specs.declared.answer.TheConstants.{NO_CAUSE}
 use Rattle.pmp_core.specs.FaultCode.{access_fault_code}
 
 abbrev pub cause_number : Cause → ℕ
@@ -22,7 +23,7 @@ number_by kind cause allowed = cause_number cause + 1024 * fault_number kind all
 -- what is answered where numbers name no access: the cause is none, and the fault that of the kind, or a load's where
 -- the kind isn't one
 abbrev pub no_cause : ℕ
-no_cause = 1023
+no_cause = NO_CAUSE
 
 abbrev pub no_access : (kind : ℕ) → ℕ
 no_access kind = no_cause + 1024 * (if kind == 0 then 1 else (if kind == 2 then 7 else 5))

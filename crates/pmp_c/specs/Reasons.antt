@@ -6,7 +6,7 @@ use Rattle.pmp_core.specs.declared.write_reasons.WriteReason.TheVariants.{Absent
 use Rattle.pmp_core.specs.declared.write_reasons.WriteReason.TheVariants.{Sticky, Bypass}
 use Rattle.pmp_core.specs.Configuration.{bit_of}
 use Rattle.pmp_core.specs.RegisterFile.{RegisterFile}
-use Rattle.pmp_core.specs.WriteReasons.{turns_away}
+use Rattle.pmp_core.specs.WriteReasons.{is_reason}
 
 -- a bit for each reason, in their order
 abbrev pub reasons_by : (WriteReason → Bool) → ℕ
@@ -16,4 +16,4 @@ reasons_by holds =
     + 128 * bit_of (holds Bypass)
 
 abbrev pub reasons_number : RegisterFile → Csr → (value : ℕ) → ℕ
-reasons_number file csr value = reasons_by (λ reason. turns_away reason file csr value)
+reasons_number file csr value = reasons_by (λ reason. is_reason reason file csr value)

@@ -32,17 +32,6 @@ fn cause_number(cause: Cause) -> u16
     }
 }
 
-fn fault_code(kind: Kind) -> u16
-    ensures code { result ≡ access_fault_code kind }
-    ensures most { result ≤ 7 }
-{
-    match kind {
-        Kind::Fetch => 1,
-        Kind::Load => 5,
-        Kind::Store => 7,
-    }
-}
-
 /// The number of an answer to an access of this kind.
 pub fn number_by(kind: Kind, cause: Cause, allowed: bool) -> u16
     ensures { result ≡ number_by kind cause allowed }
@@ -51,7 +40,7 @@ pub fn number_by(kind: Kind, cause: Cause, allowed: bool) -> u16
     if allowed {
         cause
     } else {
-        cause + 1024 * fault_code(kind)
+        cause + 1024 * u16::from(kind.access_fault_code())
     }
 }
 
@@ -67,5 +56,5 @@ pub fn split_number(kind: Kind, entry: u16) -> u16
     requires { entry ≤ 512 }
     ensures { result ≡ 256 + entry + 1024 * access_fault_code kind }
 {
-    256 + entry + 1024 * fault_code(kind)
+    256 + entry + 1024 * u16::from(kind.access_fault_code())
 }

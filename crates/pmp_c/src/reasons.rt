@@ -22,14 +22,14 @@ pub fn address_reasons(registers: &SavedRegisters, register: u8, value: u64) -> 
     ensures reasons { result ≡ reasons_number (restored_file registers.now) (Csr.Addr register) value }
     ensures most { result ≤ 255 }
 {
-    bit(registers.turns_address_away(WriteReason::Absent, register, value))
-        + 2 * bit(registers.turns_address_away(WriteReason::Bits, register, value))
-        + 4 * bit(registers.turns_address_away(WriteReason::Frozen, register, value))
-        + 8 * bit(registers.turns_address_away(WriteReason::Tor, register, value))
-        + 16 * bit(registers.turns_address_away(WriteReason::Reserved, register, value))
-        + 32 * bit(registers.turns_address_away(WriteReason::Lockdown, register, value))
-        + 64 * bit(registers.turns_address_away(WriteReason::Sticky, register, value))
-        + 128 * bit(registers.turns_address_away(WriteReason::Bypass, register, value))
+    bit(registers.is_address_reason(WriteReason::Absent, register, value))
+        + 2 * bit(registers.is_address_reason(WriteReason::Bits, register, value))
+        + 4 * bit(registers.is_address_reason(WriteReason::Frozen, register, value))
+        + 8 * bit(registers.is_address_reason(WriteReason::Tor, register, value))
+        + 16 * bit(registers.is_address_reason(WriteReason::Reserved, register, value))
+        + 32 * bit(registers.is_address_reason(WriteReason::Lockdown, register, value))
+        + 64 * bit(registers.is_address_reason(WriteReason::Sticky, register, value))
+        + 128 * bit(registers.is_address_reason(WriteReason::Bypass, register, value))
 }
 
 /// The reasons of any write, by the whole file.
@@ -40,14 +40,14 @@ fn file_reasons(registers: &SavedRegisters, csr: Csr, value: u64) -> u32
     ensures most { result ≤ 255 }
 {
     let file = RegFile::restore(registers);
-    bit(file.turns_away(WriteReason::Absent, csr, value))
-        + 2 * bit(file.turns_away(WriteReason::Bits, csr, value))
-        + 4 * bit(file.turns_away(WriteReason::Frozen, csr, value))
-        + 8 * bit(file.turns_away(WriteReason::Tor, csr, value))
-        + 16 * bit(file.turns_away(WriteReason::Reserved, csr, value))
-        + 32 * bit(file.turns_away(WriteReason::Lockdown, csr, value))
-        + 64 * bit(file.turns_away(WriteReason::Sticky, csr, value))
-        + 128 * bit(file.turns_away(WriteReason::Bypass, csr, value))
+    bit(file.is_reason(WriteReason::Absent, csr, value))
+        + 2 * bit(file.is_reason(WriteReason::Bits, csr, value))
+        + 4 * bit(file.is_reason(WriteReason::Frozen, csr, value))
+        + 8 * bit(file.is_reason(WriteReason::Tor, csr, value))
+        + 16 * bit(file.is_reason(WriteReason::Reserved, csr, value))
+        + 32 * bit(file.is_reason(WriteReason::Lockdown, csr, value))
+        + 64 * bit(file.is_reason(WriteReason::Sticky, csr, value))
+        + 128 * bit(file.is_reason(WriteReason::Bypass, csr, value))
 }
 
 /// The reasons of a write that is done: none where the register reads the value.

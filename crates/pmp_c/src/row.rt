@@ -6,11 +6,12 @@ ghost use Rattle.pmp_core.specs.RegisterFile.{RegisterFile};
 ghost use Rattle.pmp_core.specs.Rights.{perms_of};
 ghost use Rattle.pmp_core.specs.SavedRegisters.{restored_file, saved_size};
 ghost use Rattle.pmp_core.specs.Size.{count_of};
-ghost use Rattle.pmp_map.specs.Answers.{owned_rights, whole_cause};
+ghost use Rattle.pmp_map.specs.Answers.{owned_rights};
 ghost use Rattle.pmp_c.specs.Rows.{IsRow, owned_answer};
 
 use crate::answer::{NO_CAUSE, number_by};
-use pmp_core::{Cause, Kind, Mode, Perms, SavedRegisters};
+use pmp_core::{Kind, Mode, Perms, SavedRegisters};
+use pmp_map::whole_cause;
 
 /// An answer for each mode and kind: at 4 times the mode's level, and the kind's number. There is no level 2.
 pub type Row = [u16; 16];
@@ -23,16 +24,6 @@ pub fn owned_rights(registers: &SavedRegisters, owner: Option<u8>, mode: Mode) -
     match owner {
         Some(entry) => registers.rights(entry, mode),
         None => registers.default_rights(mode),
-    }
-}
-
-fn whole_cause(owner: Option<u8>) -> Cause
-    ensures cause { result ≡ whole_cause owner }
-    ensures number { IfSome owner (λ entry. entry < 256) }
-{
-    match owner {
-        Some(entry) => Cause::Rule(entry),
-        None => Cause::NoMatch,
     }
 }
 

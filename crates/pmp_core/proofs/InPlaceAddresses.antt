@@ -11,7 +11,7 @@ use Rattle.std.proofs.lemmas.List.FromFn.{length-range_with_len, get_or-range_wi
 use Rattle.pmp_core.specs.declared.write_reasons.WriteReason.{WriteReason}
 use Rattle.pmp_core.specs.declared.write_reasons.WriteReason.TheVariants.{Absent, Bits, Frozen, Tor, Reserved, Lockdown}
 use Rattle.pmp_core.specs.declared.write_reasons.WriteReason.TheVariants.{Sticky, Bypass}
-use Rattle.pmp_core.specs.WriteReasons.{is_changed, turns_away, turns_entry_away_by, turns_some_entry_away}
+use Rattle.pmp_core.specs.WriteReasons.{is_changed, is_reason, is_entry_reason, is_some_entry_reason}
 use Rattle.pmp_core.proofs.Reasons.{none_between}
 use Rattle.pmp_core.specs.declared.configuration.AddressMatching.{AddressMatching}
 use Rattle.pmp_core.specs.declared.configuration.Configuration.{Configuration}
@@ -133,7 +133,7 @@ any_past p n i others past = none_between p 0 n (λ k _ near. others k (λ here.
 
 -- a reason that an address register can have by one of its entries it has by its own alone
 own_alone : (reason : WriteReason) (file : RegisterFile) (i value k : ℕ) → k ≢ i
-    → turns_entry_away_by reason file (Addr i) value k ≡ false
+    → is_entry_reason reason file (Addr i) value k ≡ false
 own_alone Absent file i value k other = refl
 own_alone Bits file i value k other = refl
 own_alone Frozen file i value k other = rw (ne_eqb i k (λ e. other (sym e))) (and_right _ false refl)
@@ -144,14 +144,14 @@ own_alone Sticky file i value k other = refl
 own_alone Bypass file i value k other = refl
 
 module _ (saved : SavedRegisters) (i value : ℕ) (reason : WriteReason) where
-  pub own_turned : i < count_in saved → turns_some_entry_away reason (restored_file saved) (Addr i) value
-      ≡ turns_entry_away_by reason (restored_file saved) (Addr i) value i
-  own_turned inside = any_at_one (turns_entry_away_by reason (restored_file saved) (Addr i) value)
+  pub own_turned : i < count_in saved → is_some_entry_reason reason (restored_file saved) (Addr i) value
+      ≡ is_entry_reason reason (restored_file saved) (Addr i) value i
+  own_turned inside = any_at_one (is_entry_reason reason (restored_file saved) (Addr i) value)
       (length (restored_file saved).entries) i (own_alone reason (restored_file saved) i value)
       (omega (arith, length_in saved))
 
-  pub none_turned : count_in saved ≤ i → turns_some_entry_away reason (restored_file saved) (Addr i) value ≡ false
-  none_turned past = any_past (turns_entry_away_by reason (restored_file saved) (Addr i) value)
+  pub none_turned : count_in saved ≤ i → is_some_entry_reason reason (restored_file saved) (Addr i) value ≡ false
+  none_turned past = any_past (is_entry_reason reason (restored_file saved) (Addr i) value)
       (length (restored_file saved).entries) i (own_alone reason (restored_file saved) i value)
       (omega (arith, length_in saved))
 
@@ -171,8 +171,8 @@ module _ (saved : SavedRegisters) (i : ℕ) (inside : i < count_in saved) where
 
 module _ (saved : SavedRegisters) (i value : ℕ) where
   pub turned_inside : i < count_in saved → (reason : WriteReason) → reason ≢ Absent → reason ≢ Bits
-      → turns_entry_away_by reason (restored_file saved) (Addr i) value i
-      ≡ turns_away reason (restored_file saved) (Addr i) value
+      → is_entry_reason reason (restored_file saved) (Addr i) value i
+      ≡ is_reason reason (restored_file saved) (Addr i) value
   turned_inside inside Absent absent bits = absurd (absent refl)
   turned_inside inside Bits absent bits = absurd (bits refl)
   turned_inside inside Frozen absent bits = sym (own_turned saved i value Frozen inside)
@@ -183,7 +183,7 @@ module _ (saved : SavedRegisters) (i value : ℕ) where
   turned_inside inside Bypass absent bits = refl
 
   pub turned_past : count_in saved ≤ i → (reason : WriteReason) → reason ≢ Absent → reason ≢ Bits
-      → false ≡ turns_away reason (restored_file saved) (Addr i) value
+      → false ≡ is_reason reason (restored_file saved) (Addr i) value
   turned_past past Absent absent bits = absurd (absent refl)
   turned_past past Bits absent bits = absurd (bits refl)
   turned_past past Frozen absent bits = sym (none_turned saved i value Frozen past)

@@ -10,7 +10,7 @@ use Rattle.pmp_core.specs.declared.write_reasons.WriteReason.{WriteReason}
 use Rattle.pmp_core.specs.declared.write_reasons.WriteReason.TheVariants.{Absent, Bits, Frozen, Tor, Reserved, Lockdown}
 use Rattle.pmp_core.specs.declared.write_reasons.WriteReason.TheVariants.{Sticky, Bypass}
 use Rattle.pmp_core.specs.RegisterFile.{RegisterFile}
-use Rattle.pmp_core.specs.WriteReasons.{turns_away, turns_entry_away_by, turns_some_entry_away, all_reasons}
+use Rattle.pmp_core.specs.WriteReasons.{is_reason, is_entry_reason, is_some_entry_reason, all_reasons}
 use Rattle.pmp_core.specs.WriteReasons.{write_reasons}
 
 -- ---- lists
@@ -55,27 +55,27 @@ none_of p xs i none near =
 -- ---- a reason for some entry
 
 module _ (reason : WriteReason) (file : RegisterFile) (csr : Csr) (value : ℕ) where
-  pub none_at_entry : turns_some_entry_away reason file csr value ≡ false → (i : ℕ) → i < length file.entries
-      → turns_entry_away_by reason file csr value i ≡ false
+  pub none_at_entry : is_some_entry_reason reason file csr value ≡ false → (i : ℕ) → i < length file.entries
+      → is_entry_reason reason file csr value i ≡ false
   none_at_entry none i inside =
-      none_at (turns_entry_away_by reason file csr value) 0 (length file.entries) i none (omega arith) (omega arith)
+      none_at (is_entry_reason reason file csr value) 0 (length file.entries) i none (omega arith) (omega arith)
 
-  pub none_at_entries : ((i : ℕ) → i < length file.entries → turns_entry_away_by reason file csr value i ≡ false)
-      → turns_some_entry_away reason file csr value ≡ false
-  none_at_entries each = none_between (turns_entry_away_by reason file csr value) 0 (length file.entries)
+  pub none_at_entries : ((i : ℕ) → i < length file.entries → is_entry_reason reason file csr value i ≡ false)
+      → is_some_entry_reason reason file csr value ≡ false
+  none_at_entries each = none_between (is_entry_reason reason file csr value) 0 (length file.entries)
       (λ i _ inside. each i (omega arith))
 
 -- ---- the reasons one by one
 
 pub record HasNone (file : RegisterFile) (csr : Csr) (value : ℕ) : Type 0 where
-  pub absent : turns_away Absent file csr value ≡ false
-  pub bits : turns_away Bits file csr value ≡ false
-  pub frozen : turns_away Frozen file csr value ≡ false
-  pub tor : turns_away Tor file csr value ≡ false
-  pub reserved : turns_away Reserved file csr value ≡ false
-  pub lockdown : turns_away Lockdown file csr value ≡ false
-  pub sticky : turns_away Sticky file csr value ≡ false
-  pub bypass : turns_away Bypass file csr value ≡ false
+  pub absent : is_reason Absent file csr value ≡ false
+  pub bits : is_reason Bits file csr value ≡ false
+  pub frozen : is_reason Frozen file csr value ≡ false
+  pub tor : is_reason Tor file csr value ≡ false
+  pub reserved : is_reason Reserved file csr value ≡ false
+  pub lockdown : is_reason Lockdown file csr value ≡ false
+  pub sticky : is_reason Sticky file csr value ≡ false
+  pub bypass : is_reason Bypass file csr value ≡ false
 
 none_all : (p : WriteReason → Bool) → p Absent ≡ false → p Bits ≡ false → p Frozen ≡ false → p Tor ≡ false
     → p Reserved ≡ false → p Lockdown ≡ false → p Sticky ≡ false → p Bypass ≡ false → filter p all_reasons ≡ []
@@ -84,8 +84,8 @@ none_all p a b c d e f g h = rw (a, b, c, d, e, f, g, h) refl
 pub has_none : (file : RegisterFile) (csr : Csr) (value : ℕ) → write_reasons file csr value ≡ []
     → HasNone file csr value
 has_none file csr value none =
-    let each : (i : ℕ) → i < 8 → turns_away (get_or all_reasons i Absent) file csr value ≡ false =
-    λ i near. filter_none (λ reason. turns_away reason file csr value) all_reasons i Absent none near in
+    let each : (i : ℕ) → i < 8 → is_reason (get_or all_reasons i Absent) file csr value ≡ false =
+    λ i near. filter_none (λ reason. is_reason reason file csr value) all_reasons i Absent none near in
     record {
       absent = each 0 (omega arith);
       bits = each 1 (omega arith);
@@ -100,5 +100,5 @@ has_none file csr value none =
 pub no_reasons : (file : RegisterFile) (csr : Csr) (value : ℕ) → HasNone file csr value
     → write_reasons file csr value ≡ []
 no_reasons file csr value h =
-    none_all (λ reason. turns_away reason file csr value) h.absent h.bits h.frozen h.tor h.reserved h.lockdown h.sticky
+    none_all (λ reason. is_reason reason file csr value) h.absent h.bits h.frozen h.tor h.reserved h.lockdown h.sticky
     h.bypass

@@ -62,24 +62,24 @@ adds_barred file (Addr k) value i = false
 adds_barred file Mseccfg value i = false
 
 -- whether this is a reason for entry i, which only four of the reasons can be
-abbrev pub turns_entry_away_by : WriteReason → RegisterFile → Csr → (value i : ℕ) → Bool
-turns_entry_away_by Absent file csr value i = false
-turns_entry_away_by Bits file csr value i = false
-turns_entry_away_by Frozen file csr value i = changes_frozen file csr value i
-turns_entry_away_by Tor file csr value i = is_low_end file csr value i
-turns_entry_away_by Reserved file csr value i = adds_reserved file csr value i
-turns_entry_away_by Lockdown file csr value i = adds_barred file csr value i
-turns_entry_away_by Sticky file csr value i = false
-turns_entry_away_by Bypass file csr value i = false
+abbrev pub is_entry_reason : WriteReason → RegisterFile → Csr → (value i : ℕ) → Bool
+is_entry_reason Absent file csr value i = false
+is_entry_reason Bits file csr value i = false
+is_entry_reason Frozen file csr value i = changes_frozen file csr value i
+is_entry_reason Tor file csr value i = is_low_end file csr value i
+is_entry_reason Reserved file csr value i = adds_reserved file csr value i
+is_entry_reason Lockdown file csr value i = adds_barred file csr value i
+is_entry_reason Sticky file csr value i = false
+is_entry_reason Bypass file csr value i = false
 
--- entry i is turned away by some reason
-abbrev pub turns_entry_away : RegisterFile → Csr → (value i : ℕ) → Bool
-turns_entry_away file csr value i = list_any (λ reason. turns_entry_away_by reason file csr value i) all_reasons
+-- some reason holds for entry i
+abbrev pub has_reason : RegisterFile → Csr → (value i : ℕ) → Bool
+has_reason file csr value i = list_any (λ reason. is_entry_reason reason file csr value i) all_reasons
 
--- the numbers of the entries that are turned away
-abbrev pub entries_turned_away : RegisterFile → Csr → (value : ℕ) → List ℕ
-entries_turned_away file csr value =
-    filter (turns_entry_away file csr value) (range_with_len 0 (length file.entries))
+-- the numbers of the entries for which some reason holds
+abbrev pub entries_with_reasons : RegisterFile → Csr → (value : ℕ) → List ℕ
+entries_with_reasons file csr value =
+    filter (has_reason file csr value) (range_with_len 0 (length file.entries))
 
 -- ---- the whole register
 
@@ -117,21 +117,21 @@ sets_bypass file Mseccfg value =
     (mseccfg_fields value).rlb && not file.mseccfg.rlb && is_any_locked file.entries
 
 -- a reason for some entry of the unit
-abbrev pub turns_some_entry_away : WriteReason → RegisterFile → Csr → (value : ℕ) → Bool
-turns_some_entry_away reason file csr value =
-    list_any (turns_entry_away_by reason file csr value) (range_with_len 0 (length file.entries))
+abbrev pub is_some_entry_reason : WriteReason → RegisterFile → Csr → (value : ℕ) → Bool
+is_some_entry_reason reason file csr value =
+    list_any (is_entry_reason reason file csr value) (range_with_len 0 (length file.entries))
 
 -- whether this is a reason why the register doesn't read the value
-abbrev pub turns_away : WriteReason → RegisterFile → Csr → (value : ℕ) → Bool
-turns_away Absent file csr value = is_absent (length file.entries) csr value
-turns_away Bits file csr value = has_other_bits csr value
-turns_away Frozen file csr value = turns_some_entry_away Frozen file csr value
-turns_away Tor file csr value = turns_some_entry_away Tor file csr value
-turns_away Reserved file csr value = turns_some_entry_away Reserved file csr value
-turns_away Lockdown file csr value = turns_some_entry_away Lockdown file csr value
-turns_away Sticky file csr value = clears_sticky file.mseccfg csr value
-turns_away Bypass file csr value = sets_bypass file csr value
+abbrev pub is_reason : WriteReason → RegisterFile → Csr → (value : ℕ) → Bool
+is_reason Absent file csr value = is_absent (length file.entries) csr value
+is_reason Bits file csr value = has_other_bits csr value
+is_reason Frozen file csr value = is_some_entry_reason Frozen file csr value
+is_reason Tor file csr value = is_some_entry_reason Tor file csr value
+is_reason Reserved file csr value = is_some_entry_reason Reserved file csr value
+is_reason Lockdown file csr value = is_some_entry_reason Lockdown file csr value
+is_reason Sticky file csr value = clears_sticky file.mseccfg csr value
+is_reason Bypass file csr value = sets_bypass file csr value
 
 -- the reasons why the register doesn't read the value, in this order
 abbrev pub write_reasons : RegisterFile → Csr → (value : ℕ) → List WriteReason
-write_reasons file csr value = filter (λ reason. turns_away reason file csr value) all_reasons
+write_reasons file csr value = filter (λ reason. is_reason reason file csr value) all_reasons

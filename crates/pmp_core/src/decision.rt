@@ -1,7 +1,7 @@
 //! What the unit answers.
 
-ghost use Rattle.std.specs.Prelude.{◌≡◌};
-ghost use Rattle.pmp_core.specs.FaultCode.{fault_of};
+ghost use Rattle.std.specs.Prelude.{◌≡◌, ◌≤◌};
+ghost use Rattle.pmp_core.specs.FaultCode.{access_fault_code, fault_of};
 
 use crate::access::{Access, Kind};
 
@@ -24,16 +24,27 @@ pub struct Decision {
     pub cause: Cause,
 }
 
+impl Kind {
+    /// The exception code of an access fault of this kind (Volume II, 3.1.15).
+    pub fn access_fault_code(self) -> u8
+        ensures code { result ≡ access_fault_code self }
+        ensures most { result ≤ 7 }
+    {
+        match self {
+            Kind::Fetch => 1,
+            Kind::Load => 5,
+            Kind::Store => 7,
+        }
+    }
+}
+
 /// The exception code of a refused access, none where it is allowed (Volume II, 3.1.15).
 pub fn fault_code(access: &Access, decision: &Decision) -> Option<u8>
     ensures { result ≡ fault_of access.now decision.now }
 {
     if decision.allowed {
-        return None;
-    }
-    match access.kind {
-        Kind::Fetch => Some(1),
-        Kind::Load => Some(5),
-        Kind::Store => Some(7),
+        None
+    } else {
+        Some(access.kind.access_fault_code())
     }
 }

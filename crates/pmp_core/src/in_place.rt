@@ -11,7 +11,7 @@ ghost use Rattle.pmp_core.specs.Ranges.{decision_in, decision_of, range_of, rang
 ghost use Rattle.pmp_core.specs.Rights.{perms_of, rights, default_rights};
 ghost use Rattle.pmp_core.specs.SavedRegisters.{restored_entry, restored_file, saved_size, IsSetAt};
 ghost use Rattle.pmp_core.specs.Size.{count_of};
-ghost use Rattle.pmp_core.specs.WriteReasons.{turns_away, turns_entry_away_by};
+ghost use Rattle.pmp_core.specs.WriteReasons.{is_reason, is_entry_reason};
 
 use crate::access::{Access, Mode};
 use crate::configuration::{AddressMatching, Configuration};
@@ -156,9 +156,9 @@ impl SavedRegisters {
 
     /// Whether this reason holds for the entry of the address register.
     #[inline]
-    fn turns_own_entry_away(&self, reason: WriteReason, index: usize, value: u64) -> bool
+    fn is_own_entry_reason(&self, reason: WriteReason, index: usize, value: u64) -> bool
         requires { index < count_of (saved_size self.now.entries) }
-        ensures { result ≡ turns_entry_away_by reason (restored_file self.now) (Csr.Addr index) value index }
+        ensures { result ≡ is_entry_reason reason (restored_file self.now) (Csr.Addr index) value index }
     {
         let is_other = value != self.address(index);
         match reason {
@@ -170,15 +170,15 @@ impl SavedRegisters {
 
     /// Whether this is a reason why the address register wouldn't read the value, if it were written now.
     #[inline]
-    pub fn turns_address_away(&self, reason: WriteReason, register: u8, value: u64) -> bool
-        ensures { result ≡ turns_away reason (restored_file self.now) (Csr.Addr register) value }
+    pub fn is_address_reason(&self, reason: WriteReason, register: u8, value: u64) -> bool
+        ensures { result ≡ is_reason reason (restored_file self.now) (Csr.Addr register) value }
     {
         let index = usize::from(register);
         let is_there = index < self.count();
         match reason {
             WriteReason::Absent => value != 0 && !is_there,
             WriteReason::Bits => value / WORD_ADDRESSES != 0,
-            _ if is_there => self.turns_own_entry_away(reason, index, value),
+            _ if is_there => self.is_own_entry_reason(reason, index, value),
             _ => false,
         }
     }

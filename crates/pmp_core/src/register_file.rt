@@ -10,7 +10,7 @@ ghost use Rattle.pmp_core.specs.Decision.{IsDecision};
 ghost use Rattle.pmp_core.specs.Rights.{perms_of, rights, default_rights};
 ghost use Rattle.pmp_core.specs.RegisterWrite.{step, is_address_frozen};
 ghost use Rattle.pmp_core.specs.RegisterValue.{register_value};
-ghost use Rattle.pmp_core.specs.WriteReasons.{turns_away, turns_entry_away};
+ghost use Rattle.pmp_core.specs.WriteReasons.{is_reason, has_reason};
 ghost use Rattle.pmp_core.specs.Ranges.{AreRanges, ranges_of, decision_of};
 ghost use Rattle.pmp_core.specs.SavedRegisters.{saved_registers, restored_file};
 ghost use Rattle.pmp_core.specs.Size.{count_of};
@@ -220,24 +220,18 @@ impl RegFile {
     }
 
     /// Whether this is a reason why the register wouldn't read the value, if it were written now.
-    pub fn turns_away(&self, reason: WriteReason, csr: Csr, value: u64) -> bool
-        ensures { result ≡ turns_away reason self.now csr value }
+    pub fn is_reason(&self, reason: WriteReason, csr: Csr, value: u64) -> bool
+        ensures { result ≡ is_reason reason self.now csr value }
     {
-        write_reasons::turns_away(reason, self.in_use(), &self.mseccfg, csr, value)
+        write_reasons::is_reason(reason, self.in_use(), &self.mseccfg, csr, value)
     }
 
     /// Whether `Frozen`, `Tor`, `Reserved` or `Lockdown` would hold for the entry, if the value were written now.
-    pub fn turns_entry_away(&self, entry: u8, csr: Csr, value: u64) -> bool
+    pub fn has_reason(&self, entry: u8, csr: Csr, value: u64) -> bool
         requires { entry < length self.now.entries }
-        ensures { result ≡ turns_entry_away self.now csr value entry }
+        ensures { result ≡ has_reason self.now csr value entry }
     {
-        write_reasons::turns_entry_away(
-            self.in_use(),
-            &self.mseccfg,
-            csr,
-            value,
-            usize::from(entry),
-        )
+        write_reasons::has_reason(self.in_use(), &self.mseccfg, csr, value, usize::from(entry))
     }
 
     /// Decides an access, in one pass over the entries. Each size has a pass of its own, over as many entries as are

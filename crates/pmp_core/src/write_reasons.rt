@@ -8,7 +8,7 @@ ghost use Rattle.pmp_core.specs.RegisterFile.{file_of};
 ghost use Rattle.pmp_core.specs.RegisterWrite.{holds_byte_of};
 ghost use Rattle.pmp_core.specs.Rights.{is_barred};
 ghost use Rattle.pmp_core.specs.WriteReasons.{byte_for, is_changed};
-ghost use Rattle.pmp_core.specs.WriteReasons.{turns_entry_away_by, turns_entry_away, turns_some_entry_away, turns_away};
+ghost use Rattle.pmp_core.specs.WriteReasons.{is_entry_reason, has_reason, is_some_entry_reason, is_reason};
 ghost use Rattle.pmp_core.specs.WriteReasons.{is_absent, has_bit_6_or_5, has_other_bits, clears_sticky, sets_bypass};
 
 use crate::configuration::Configuration;
@@ -96,7 +96,7 @@ fn adds_barred(mseccfg: &MseccfgFields, byte: u8) -> bool
 }
 
 /// Whether this reason holds for the entry.
-fn turns_entry_away_by(
+fn is_entry_reason(
     reason: WriteReason,
     entries: &[Entry],
     mseccfg: &MseccfgFields,
@@ -105,7 +105,7 @@ fn turns_entry_away_by(
     index: usize,
 ) -> bool
     requires { index < length entries.now }
-    ensures { result ≡ turns_entry_away_by reason (file_of mseccfg.now entries.now) csr value index }
+    ensures { result ≡ is_entry_reason reason (file_of mseccfg.now entries.now) csr value index }
 {
     let frozen = entries[index].configuration.locked && !mseccfg.rlb;
     match (reason, csr) {
@@ -128,20 +128,20 @@ fn turns_entry_away_by(
 }
 
 /// Whether this reason holds for some entry of the unit.
-fn turns_some_entry_away(
+fn is_some_entry_reason(
     reason: WriteReason,
     entries: &[Entry],
     mseccfg: &MseccfgFields,
     csr: Csr,
     value: u64,
 ) -> bool
-    ensures { result ≡ turns_some_entry_away reason (file_of mseccfg.now entries.now) csr value }
+    ensures { result ≡ is_some_entry_reason reason (file_of mseccfg.now entries.now) csr value }
 {
-    (0..entries.len()).any(|index| turns_entry_away_by(reason, entries, mseccfg, csr, value, index))
+    (0..entries.len()).any(|index| is_entry_reason(reason, entries, mseccfg, csr, value, index))
 }
 
 /// Whether some reason holds for the entry.
-pub fn turns_entry_away(
+pub fn has_reason(
     entries: &[Entry],
     mseccfg: &MseccfgFields,
     csr: Csr,
@@ -149,9 +149,9 @@ pub fn turns_entry_away(
     index: usize,
 ) -> bool
     requires { index < length entries.now }
-    ensures { result ≡ turns_entry_away (file_of mseccfg.now entries.now) csr value index }
+    ensures { result ≡ has_reason (file_of mseccfg.now entries.now) csr value index }
 {
-    WriteReason::ALL.iter().any(|reason| turns_entry_away_by(
+    WriteReason::ALL.iter().any(|reason| is_entry_reason(
         *reason, entries, mseccfg, csr, value, index,
     ))
 }
@@ -206,7 +206,7 @@ fn sets_bypass(entries: &[Entry], mseccfg: &MseccfgFields, value: u64) -> bool
 }
 
 /// Whether this is a reason why the register doesn't read the value after it is written.
-pub fn turns_away(
+pub fn is_reason(
     reason: WriteReason,
     entries: &[Entry],
     mseccfg: &MseccfgFields,
@@ -214,7 +214,7 @@ pub fn turns_away(
     value: u64,
 ) -> bool
     requires { length entries.now % 8 ≡ 0 }
-    ensures { result ≡ turns_away reason (file_of mseccfg.now entries.now) csr value }
+    ensures { result ≡ is_reason reason (file_of mseccfg.now entries.now) csr value }
 {
     match (reason, csr) {
         (WriteReason::Absent, _) => is_absent(entries.len(), csr, value),
@@ -222,6 +222,6 @@ pub fn turns_away(
         (WriteReason::Sticky, Csr::Mseccfg) => clears_sticky(mseccfg, value),
         (WriteReason::Bypass, Csr::Mseccfg) => sets_bypass(entries, mseccfg, value),
         (WriteReason::Sticky | WriteReason::Bypass, _) => false,
-        _ => turns_some_entry_away(reason, entries, mseccfg, csr, value),
+        _ => is_some_entry_reason(reason, entries, mseccfg, csr, value),
     }
 }

@@ -3,7 +3,7 @@
 ghost use Rattle.std.specs.Prelude.{◌≡◌, ◌<◌, ℕ, Option, IfSome, length};
 ghost use Rattle.pmp_core.specs.RegisterFile.{RegisterFile};
 ghost use Rattle.pmp_core.specs.Rights.{perms_of};
-ghost use Rattle.pmp_map.specs.Answers.{answers_of, decision_by, kept_rights, owned_rights};
+ghost use Rattle.pmp_map.specs.Answers.{answers_of, decision_by, kept_rights, owned_rights, whole_cause};
 
 use pmp_core::{Access, Cause, Decision, Mode, Perms, RegFile};
 
@@ -16,6 +16,13 @@ pub fn owned_rights(file: &RegFile, owner: Option<u8>, mode: Mode) -> Perms
         Some(entry) => file.rights(entry, mode),
         None => file.default_rights(mode),
     }
+}
+
+/// What decides an access whose bytes all have this owner.
+pub fn whole_cause(owner: Option<u8>) -> Cause
+    ensures { result ≡ whole_cause owner }
+{
+    owner.map_or(Cause::NoMatch, Cause::Rule)
 }
 
 /// What a run answers to every access inside it, worked out when the map is built.
@@ -35,7 +42,7 @@ impl Answers {
         ensures { result ≡ answers_of file.now owner }
     {
         Answers {
-            cause: owner.map_or(Cause::NoMatch, Cause::Rule),
+            cause: whole_cause(owner),
             machine: owned_rights(file, owner, Mode::M),
             others: owned_rights(file, owner, Mode::U),
         }

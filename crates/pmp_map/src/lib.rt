@@ -15,7 +15,7 @@ mod search;
 mod straddling;
 mod tables;
 
-pub use answers::owned_rights;
+pub use answers::{owned_rights, whole_cause};
 pub use cuts::{Stretch, run_around, run_from, stretch_from};
 pub use range_rights::rights_in;
 pub use rights_run::{ModeRights, RightsRun, rights_runs};

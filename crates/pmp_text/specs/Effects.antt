@@ -11,7 +11,7 @@ use Rattle.pmp_text.specs.declared.lines.hexadecimal.TheConstants.{VALUE_DIGITS}
 use Rattle.pmp_core.specs.RegisterFile.{RegisterFile}
 use Rattle.pmp_core.specs.RegisterValue.{register_value}
 use Rattle.pmp_core.specs.RegisterWrite.{written}
-use Rattle.pmp_core.specs.WriteReasons.{write_reasons, entries_turned_away}
+use Rattle.pmp_core.specs.WriteReasons.{write_reasons, entries_with_reasons}
 use Rattle.pmp_text.specs.declared.lines.effects.EventPlace.{EventPlace}
 use Rattle.pmp_text.specs.Hexadecimal.{hex_text}
 use Rattle.pmp_text.specs.Names.{register_name}
@@ -42,7 +42,7 @@ reasons_text file csr value = join_with_byte 32 (map reason_text (write_reasons 
 
 -- the entries that turn the value away, ascending, parted by one space
 abbrev pub entries_text : RegisterFile → Csr → (value : ℕ) → List ℕ
-entries_text file csr value = join_with_byte 32 (map decimal (entries_turned_away file csr value))
+entries_text file csr value = join_with_byte 32 (map decimal (entries_with_reasons file csr value))
 
 -- the register's name, the value, what the register reads before and after, the effect, the reasons, the entries
 abbrev pub event_fields : RegisterFile → Event → List (List ℕ)

@@ -1,10 +1,11 @@
 -- The names of registers.
-use Rattle.std.specs.Prelude.{◌≡◌, ℕ, ◌+◌, List, ◌++◌, length, take, drop, ◌&&◌, ◌==◌, Option, Some, None, Result, Ok}
-use Rattle.std.specs.Prelude.{Err, nat_le, codes, bytes_eq, decimal, slice_index, if◌then◌else◌}
+use Rattle.std.specs.Prelude.{◌≡◌, ℕ, ◌+◌, ◌-◌, List, ◌++◌, length, take, drop, ◌&&◌, ◌==◌, Option, Some, None, Result}
+use Rattle.std.specs.Prelude.{Ok, Err, nat_le, codes, bytes_eq, decimal, slice_index, if◌then◌else◌}
 use Rattle.pmp_core.specs.declared.csr.Csr.{Csr}
 use Rattle.pmp_core.specs.declared.csr.Csr.TheVariants.{Cfg, Addr, Mseccfg}
 use Rattle.pmp_core.specs.declared.csr.CsrFault.{CsrFault}
 use Rattle.pmp_core.specs.declared.csr.CsrFault.TheVariants as csr_fault
+use Rattle.pmp_core.specs.declared.size.TheConstants.{MAX_ENTRIES}
 use Rattle.pmp_core.specs.Csr.{numbered}
 use Rattle.pmp_text.specs.declared.script.ScriptKind.{ScriptKind}
 use Rattle.pmp_text.specs.declared.script.ScriptKind.TheVariants.{BadName, OddCfg}
@@ -40,7 +41,8 @@ unfoldable pub register_number : List ℕ → Option ℕ
 register_number word =
     if bytes_eq word (codes "mseccfg") then Some 0x747
     else (if bytes_eq (take 6 word) (codes "pmpcfg") then counted_from 0x3a0 (plain_number 15 (drop 6 word))
-    else (if bytes_eq (take 7 word) (codes "pmpaddr") then counted_from 0x3b0 (plain_number 63 (drop 7 word))
+    else (if bytes_eq (take 7 word) (codes "pmpaddr")
+    then counted_from 0x3b0 (plain_number (MAX_ENTRIES - 1) (drop 7 word))
     else (if bytes_eq (take 2 word) (codes "0x") then numeral 16 16 (drop 2 word) else None)))
 
 -- how a script refuses a number of no register

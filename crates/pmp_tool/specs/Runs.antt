@@ -115,11 +115,11 @@ pub data Fails (words : List Text) (scripts traces : Inputs) (before after : Opt
       → CommandFails scripts traces command before after failure → Fails words scripts traces before after failure
 
 -- a check ends well where the answer is the expected one, an audit where all accesses are allowed, a policy where no
--- row is broken, writes where none is turned away, a comparison where no row is written, and all else does
+-- row is broken, writes where all are stored as written, a comparison where no row is written, and all else does
 abbrev pub outcome_status : Outcome → ℕ
 outcome_status (Decided decision expected) = if is_met expected decision then 0 else 1
 outcome_status (Audited summary) = if summary.faults == 0 then 0 else 1
 outcome_status (Judged summary) = if summary.broken == 0 then 0 else 1
-outcome_status (Replayed summary) = if summary.turned_away == 0 then 0 else 1
+outcome_status (Replayed summary) = if summary.not_stored == 0 then 0 else 1
 outcome_status (Compared rows) = if rows == 0 then 0 else 1
 outcome_status _ = 0

@@ -13,7 +13,7 @@ use pmp_core::Decision;
 const DONE: u8 = 0;
 
 /// The exit status of an answer that isn't the expected one, of an access of a trace that is refused, of a policy that
-/// is broken, of a write that is turned away, and of register files that differ.
+/// is broken, of a write that isn't stored as written, and of register files that differ.
 const OTHER: u8 = 1;
 
 /// What the program did.
@@ -42,7 +42,7 @@ impl Outcome {
             Outcome::Decided(decision, expected) if !expected.is_met(decision) => OTHER,
             Outcome::Audited(summary) => status_of(summary.faults),
             Outcome::Judged(summary) => status_of(summary.broken),
-            Outcome::Replayed(summary) => status_of(summary.turned_away),
+            Outcome::Replayed(summary) => status_of(summary.not_stored),
             Outcome::Compared(rows) => status_of(rows),
             _ => DONE,
         }

@@ -10,7 +10,7 @@ use pmp_core::{Kind, Mode, Perms, RegFile};
 use pmp_map::owned_rights;
 use pmp_text::{Demand, Kinds, PolicyRow};
 
-/// What is asked.
+/// What a row of a policy asks of a byte of its range.
 #[derive(Clone, Copy)]
 pub enum Question {
     /// Whether the row's demand is broken.

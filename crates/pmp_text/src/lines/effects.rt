@@ -106,7 +106,7 @@ fn write_reason_words(
 {
     let mut is_first = true;
     for reason in WriteReason::ALL {
-        if file.turns_away(reason, csr, value) {
+        if file.is_reason(reason, csr, value) {
             let space = space_unless(is_first);
             let word = reason_word(reason);
             append_line(out, format_args!("{space}{word}"))?;
@@ -128,7 +128,7 @@ fn write_entry_numbers(
 {
     let mut is_first = true;
     for entry in 0..file.entries() {
-        if file.turns_entry_away(entry, csr, value) {
+        if file.has_reason(entry, csr, value) {
             let space = space_unless(is_first);
             append_line(out, format_args!("{space}{entry}"))?;
             is_first = false;

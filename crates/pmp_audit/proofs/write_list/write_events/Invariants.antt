@@ -12,10 +12,10 @@ invariant-loop-index l = record {
       (record {
         text = l.initial.out.items;
         file = reset_file (count_of l.script.size);
-        summary = record { events = 0; turned_away = 0 };
+        summary = record { events = 0; not_stored = 0 };
       })
       (record { text = l.out.items; file = l.file; summary = l.summary })
       (events_of l.script l.index);
   few : l.summary.events ≤ 64 * l.index;
-  within : l.summary.turned_away ≤ l.summary.events;
+  within : l.summary.not_stored ≤ l.summary.events;
 }

@@ -17,7 +17,7 @@ loop-line-preserved c =
     record {
       written = rw (length_push, more) (written_then _ _ _ _ _ c.loop-line.invariant.written
           (one_written _ _ _ c.in_ok-after.ensures.ok c.in_ok-after.ensures.next c.count.ensures.events
-          (rw (c.is_turned_away.ensures _ c.in_ok-after.ensures.next) at c.count.ensures.turned_away)));
+          (rw (c.is_not_stored.ensures _ c.in_ok-after.ensures.next) at c.count.ensures.not_stored)));
       within = c.count.ensures.within;
     }
 

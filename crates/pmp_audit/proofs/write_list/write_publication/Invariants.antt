@@ -10,5 +10,5 @@ invariant-loop-line l = record {
       (record { text = l.fn.out.items; file = l.fn.file; summary = l.fn.before })
       (record { text = l.out.items; file = l.file; summary = l.summary })
       (take (length l.yielded) (placed l.publication l.lines l.events));
-  within : l.summary.turned_away ≤ l.summary.events;
+  within : l.summary.not_stored ≤ l.summary.events;
 }

@@ -22,5 +22,5 @@ returns-in_ok-read_checkers-in-Some c =
 
 pub returns-in-None : goal.returns-in-None
 returns-in-None c =
-    rw (word_in_rows (found_of c.args.words.now) (codes "checkers") c.get_str.result None c.get_str.ensures c.in-None.is)
-    refl
+    rw (word_in_rows (found_of c.args.words.now) (codes "checkers") c.get_str.result None
+    c.get_str.ensures c.in-None.is) refl

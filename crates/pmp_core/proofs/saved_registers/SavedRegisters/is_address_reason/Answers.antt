@@ -1,10 +1,10 @@
 use Rattle.std.proofs.Common.{◌∙◌, arith}
 use Rattle.pmp_core.proofs.InPlaceAddresses.{turned_inside, turned_past}
-use Rattle.pmp_core.proofs.saved_registers.SavedRegisters.turns_address_away.Goals as goal
+use Rattle.pmp_core.proofs.saved_registers.SavedRegisters.is_address_reason.Goals as goal
 
 pub returns-in_default : goal.returns-in_default
 returns-in_default c =
-    (rw c.from-index.ensures at c.turns_own_entry_away.ensures)
+    (rw c.from-index.ensures at c.is_own_entry_reason.ensures)
     ∙ turned_inside c.args.self.now c.args.register c.args.value
     (omega (arith, c.if-is_there.true, c.count.ensures.count, c.from-index.ensures)) c.args.reason
     c.in_default.not-Absent c.in_default.not-Bits

@@ -3,7 +3,7 @@ use Rattle.pmp_core.specs.declared.csr.Csr.TheVariants.{Addr}
 use Rattle.pmp_core.specs.SavedRegisters.{restored_file}
 use Rattle.pmp_core.specs.WriteReasons.{is_changed}
 use Rattle.pmp_core.proofs.InPlaceAddresses.{own_changed}
-use Rattle.pmp_core.proofs.saved_registers.SavedRegisters.turns_own_entry_away.Goals as goal
+use Rattle.pmp_core.proofs.saved_registers.SavedRegisters.is_own_entry_reason.Goals as goal
 
 pub returns-then-is_frozen : goal.returns-then-is_frozen
 returns-then-is_frozen c =

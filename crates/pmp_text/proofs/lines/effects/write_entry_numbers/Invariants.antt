@@ -1,10 +1,10 @@
 use Rattle.std.proofs.Common.{decimal}
 use Rattle.std.specs.List.{range_with_len}
-use Rattle.pmp_core.specs.WriteReasons.{turns_entry_away}
+use Rattle.pmp_core.specs.WriteReasons.{has_reason}
 use Rattle.pmp_text.proofs.Words.{HasPassed}
 use Rattle.pmp_text.proofs.lines.effects.write_entry_numbers.Given as goal
 
 -- the numbers of those entries so far that turn the value away are appended
 abbrev pub invariant-loop-entry : goal.invariant-loop-entry
-invariant-loop-entry l = HasPassed (turns_entry_away l.file l.csr l.value) decimal l.initial.out.items
+invariant-loop-entry l = HasPassed (has_reason l.file l.csr l.value) decimal l.initial.out.items
     l.out.items l.is_first (range_with_len 0 l.entry-counter)

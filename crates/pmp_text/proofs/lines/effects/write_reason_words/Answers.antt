@@ -2,29 +2,29 @@ use Rattle.std.proofs.Common.{◌≡◌, ◌++◌, Bool, get_or, take, sym, ◌�
 use Rattle.std.proofs.lemmas.List.{take_more}
 use Rattle.pmp_core.specs.declared.write_reasons.WriteReason.{WriteReason}
 use Rattle.pmp_core.specs.declared.write_reasons.WriteReason.TheVariants.{Absent}
-use Rattle.pmp_core.specs.WriteReasons.{turns_away, all_reasons}
+use Rattle.pmp_core.specs.WriteReasons.{is_reason, all_reasons}
 use Rattle.pmp_text.specs.Effects.{reason_text}
 use Rattle.pmp_text.proofs.Words.{space_unless, passed_more, not_passed}
 use Rattle.pmp_text.proofs.lines.effects.write_reason_words.Goals as goal
 use Rattle.pmp_text.proofs.lines.effects.write_reason_words.Goals.{
-  then-turns_away+in_ok-append_line,
-  else-turns_away,
+  then-is_reason+in_ok-append_line,
+  else-is_reason,
 }
 
 pub loop-reason-preserved : goal.loop-reason-preserved
 loop-reason-preserved c =
     let loop = c.loop-reason in
     let before = c.args.out.now.items in
-    let test : WriteReason → Bool = λ reason. turns_away reason c.args.file.now c.args.csr c.args.value in
+    let test : WriteReason → Bool = λ reason. is_reason reason c.args.file.now c.args.csr c.args.value in
     let done = take loop.reason-index all_reasons in
     let item = get_or all_reasons loop.reason-index Absent in
-    rw (take_more all_reasons loop.reason-index Absent c.loop-reason-test.true) (elim c.if-turns_away.branch [
-      | then-turns_away+in_ok-append_line w ↦
+    rw (take_more all_reasons loop.reason-index Absent c.loop-reason-test.true) (elim c.if-is_reason.branch [
+      | then-is_reason+in_ok-append_line w ↦
           let grown : w.append_line.new.out.items ≡ loop.out.items ++ (space_unless loop.is_first ++ reason_text item) =
           rw (w.space_unless-space.ensures, w.reason_word-word.ensures) at w.in_ok-append_line.ensures.ok in
           rw (w.out-is, w.is_first-is) (passed_more test reason_text before loop.out.items w.append_line.new.out.items
-          loop.is_first done item (sym c.turns_away.ensures ∙ w.if-turns_away.true) loop.invariant grown)
-      | else-turns_away w ↦
+          loop.is_first done item (sym c.is_reason.ensures ∙ w.if-is_reason.true) loop.invariant grown)
+      | else-is_reason w ↦
           rw (w.out-is, w.is_first-is) (not_passed test reason_text before loop.out.items loop.is_first done item
-          (sym c.turns_away.ensures ∙ w.if-turns_away.false) loop.invariant)
+          (sym c.is_reason.ensures ∙ w.if-is_reason.false) loop.invariant)
     ])

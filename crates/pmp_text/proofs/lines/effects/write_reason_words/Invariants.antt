@@ -1,10 +1,10 @@
 use Rattle.std.proofs.Common.{take}
-use Rattle.pmp_core.specs.WriteReasons.{turns_away, all_reasons}
+use Rattle.pmp_core.specs.WriteReasons.{is_reason, all_reasons}
 use Rattle.pmp_text.specs.Effects.{reason_text}
 use Rattle.pmp_text.proofs.Words.{HasPassed}
 use Rattle.pmp_text.proofs.lines.effects.write_reason_words.Given as goal
 
 -- the words of those reasons so far that apply are appended
 abbrev pub invariant-loop-reason : goal.invariant-loop-reason
-invariant-loop-reason l = HasPassed (λ reason. turns_away reason l.file l.csr l.value) reason_text l.initial.out.items
+invariant-loop-reason l = HasPassed (λ reason. is_reason reason l.file l.csr l.value) reason_text l.initial.out.items
     l.out.items l.is_first (take l.reason-index all_reasons)
