@@ -50,6 +50,7 @@ test:
 	checks/program $(PROGRAM)
 	checks/launcher
 	checks/documents $(PROGRAM)
+	checks/converters $(PROGRAM)
 	checks/files
 	checks/limits
 	checks/hostile $(PROGRAM)

@@ -2,11 +2,12 @@
 #
 #   awk -f examples/qemu-trace.awk pmp.log >boot.pmp
 #
-# It takes the writes of hart 0, or of another by -v hart=1, and makes each write a publication. With -v bursts=1 a
-# publication has the writes on lines side by side, at most 64: any other line of the trace ends it.
+# It takes the writes of hart 0, or of another by -v hart=1, and makes each write a publication. Any of several harts
+# may boot the others, so it says on standard error how many writes each other hart has. With -v bursts=1 a publication
+# has the writes on lines side by side, at most 64: any other line of the trace ends it.
 #
-# The script is of version 2, for a unit of 64 entries, where a value other than zero is written to a register of entries
-# 16 to 63; else it is of version 1, for one of 16 entries. With -v version=1 or -v version=2 it is of that one.
+# The script is of version 2, for a unit of 64 entries, where a value other than zero is written to a register of
+# entries 16 to 63; else it is of version 1, for one of 16 entries. With -v version=1 or -v version=2 it is of that one.
 #
 # It was made for QEMU 7.2, whose events have the form
 #
@@ -29,6 +30,16 @@ function add(line) {
 function publish() {
     if (open) add("publish")
     open = 0
+}
+
+# How many writes each other hart has, and in `busiest` the one with most of them.
+function others(    i, words) {
+    busiest = order[1]
+    for (i = 1; i <= harts; i++) {
+        words = words (i > 1 ? ", " : "") writes_of[order[i]] " of hart " order[i]
+        if (writes_of[order[i]] > writes_of[busiest]) busiest = order[i]
+    }
+    return words
 }
 
 # Whether it is a register of entries 16 to 63.
@@ -66,8 +77,8 @@ $0 !~ ("_csr_write " form) {
     # What is left: 0: write reg0, val: 0x18
     sub(/^.*_csr_write hart /, "")
     if ($1 != hart ":") {
-        if (!others[$1]++) harts = harts (harts == "" ? "" : ", ") $1 + 0
-        left_out++
+        sub(/:$/, "", $1)
+        if (!writes_of[$1]++) order[++harts] = $1
         next
     }
     name = $3
@@ -84,9 +95,9 @@ $0 !~ ("_csr_write " form) {
 END {
     if (failed) exit 1
     publish()
-    if (left_out) say("left out: " left_out " writes of other harts: " harts)
+    if (harts) say("left out the writes of other harts: " others())
     if (!writes) {
-        say("the trace has no write of hart " hart (harts == "" ? "" : ": choose another by -v hart=.."))
+        say("the trace has no write of hart " hart (harts ? ": choose another, as by -v hart=" busiest : ""))
         exit 1
     }
     print "pmp " (version ? version : high ? 2 : 1)
