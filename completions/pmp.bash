@@ -13,7 +13,7 @@ _pmp() {
         dump | map | picture | entries) words='--after stdin'; files=yes ;;
         writes) words='stdin'; files=yes ;;
         diff) words='--old-after --new-after --only stdin'; files=yes ;;
-        help) words=$commands ;;
+        help) words="$commands script trace rows" ;;
     esac
     case $before in
         --expect) words='allow fault' files= ;;

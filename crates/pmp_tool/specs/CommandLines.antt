@@ -100,11 +100,25 @@ with_views program =
     with_command (with_command (with_command (with_command program (file_app (codes "dump")))
     (file_app (codes "map"))) (file_app (codes "picture"))) (file_app (codes "entries"))
 
+-- a topic of help, `help NAME`: as a command it wants a word, and takes none
+abbrev pub topic_app : (name : Text) → App
+topic_app name = let app = new_app name in record app {
+  top = record app.top {
+    arg_required_else_help = true;
+  };
+}
+
+-- a program with a topic of help more for each format
+unfoldable pub with_topics : App → App
+with_topics program =
+    with_command (with_command (with_command program (topic_app (codes "script"))) (topic_app (codes "trace")))
+    (topic_app (codes "rows"))
+
 -- the program, with a subcommand for each thing that it does
 abbrev pub pmp_app : App
 pmp_app =
-    with_command (with_command (with_views (with_command (with_command (with_command top_app check_app) audit_app)
-    policy_app)) (script_app (codes "writes"))) diff_app
+    with_topics (with_command (with_command (with_views (with_command (with_command (with_command top_app check_app)
+    audit_app) policy_app)) (script_app (codes "writes"))) diff_app)
 
 -- clap takes the words, and what it finds in them asks for that
 abbrev pub WordsAskFor : List Text → Asked → Type 0

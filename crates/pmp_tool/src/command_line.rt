@@ -5,11 +5,12 @@ ghost use Rattle.clap.specs.Words.{App, HasKind, fault_of, new_app, rule_of};
 ghost use Rattle.pmp_tool.specs.Building.{Builds, IsBuilt, IsCommand, IsTaken};
 ghost use Rattle.pmp_tool.specs.CommandLines.{audit_app, check_app, count_rule, diff_app, file_app, flag_rule};
 ghost use Rattle.pmp_tool.specs.CommandLines.{option_rule};
-ghost use Rattle.pmp_tool.specs.CommandLines.{pmp_app, policy_app, script_app, top_app, with_after, with_command};
-ghost use Rattle.pmp_tool.specs.CommandLines.{with_count, with_flag, with_option, with_views, with_word, word_rule};
+ghost use Rattle.pmp_tool.specs.CommandLines.{pmp_app, policy_app, script_app, top_app, topic_app, with_after};
+ghost use Rattle.pmp_tool.specs.CommandLines.{with_command, with_count, with_flag, with_option, with_topics};
+ghost use Rattle.pmp_tool.specs.CommandLines.{with_views, with_word, word_rule};
 
-use crate::help;
 use crate::jobs::JOBS;
+use crate::{help, topics};
 use clap::{Arg, ArgAction, ArgMatches, Command, Error, value_parser};
 use pmp_share::CHECKERS;
 use std::alloc::{AllocError, Global};
@@ -34,7 +35,30 @@ fn pmp<'a>(alloc: Global) -> Built<'a>
     let program = with_command(program, policy(alloc));
     let program = with_views(alloc, program);
     let writes = of_script(alloc, "writes", help::WRITES, help::MORE_OF_WRITES);
-    with_command(with_command(program, writes), diff(alloc))
+    let program = with_command(with_command(program, writes), diff(alloc));
+    with_topics(alloc, program)
+}
+
+/// The program with a topic of help more for each format.
+fn with_topics<'a>(alloc: Global, program: Built<'a>) -> Built<'a>
+    ensures { Builds with_topics program.entry result }
+{
+    let script = topic(alloc, "script", topics::SCRIPT);
+    let program = with_command(program, script);
+    let trace = topic(alloc, "trace", topics::TRACE);
+    let program = with_command(program, trace);
+    let rows = topic(alloc, "rows", topics::ROWS);
+    with_command(program, rows)
+}
+
+/// A topic of help, whose text `help name` answers. As a command it is refused, by the same text where it stands alone.
+fn topic<'a>(alloc: Global, name: &'a str, text: &'a str) -> Built<'a>
+    ensures { IsBuilt result (topic_app name.entry.now) }
+{
+    let topic = Command::new(alloc, name)
+        .hide(true)
+        .arg_required_else_help(true);
+    Ok(topic.override_help(text))
 }
 
 /// The program with a command more for each view of a register file.

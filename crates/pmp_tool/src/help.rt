@@ -99,12 +99,23 @@ Example:
   echo 'pmp 1' | pmp check stdin M load 0x0 8
   It answers 1,allow,,none,
 
-`pmp help COMMAND` tells of a command and its words. docs/FORMATS.md describes
+`pmp help COMMAND` tells of a command and its words, and `pmp help script`,
+`pmp help trace` and `pmp help rows` of the formats. docs/FORMATS.md describes
 scripts, traces, all that is written, and every refusal with its number.";
 
 pub const MORE_OF_CHECK: &str = "\
 A number is 1 to 20 decimal digits, or 0x and 1 to 16 hexadecimal digits, and is
 below 2^64.
+
+It writes a row: N,ANSWER,FAULT,CAUSE,ENTRY.
+  N       the row's number, from 1
+  ANSWER  allow or fault
+  FAULT   empty where the access is allowed, else its exception code: 1 for a
+          fetch, 5 for a load, 7 for a store
+  CAUSE   rule where an entry matches every byte of the access, split where the
+          first entry that matches a byte doesn't match them all, none where no
+          entry matches any byte
+  ENTRY   the number of that entry, empty under none
 
 Exit status:
   0  the access is allowed, or with --expect fault the unit refuses it
@@ -121,6 +132,16 @@ Example:
 docs/FORMATS.md describes scripts, the row, and every refusal with its number.";
 
 pub const MORE_OF_AUDIT: &str = "\
+Each row of the trace is answered by a row: N,ANSWER,FAULT,CAUSE,ENTRY.
+  N       the row's number, from 1
+  ANSWER  allow or fault
+  FAULT   empty where the access is allowed, else its exception code: 1 for a
+          fetch, 5 for a load, 7 for a store
+  CAUSE   rule where an entry matches every byte of the access, split where the
+          first entry that matches a byte doesn't match them all, none where no
+          entry matches any byte
+  ENTRY   the number of that entry, empty under none
+
 Exit status:
   0  every access of the trace is allowed
   1  the unit refuses one of them

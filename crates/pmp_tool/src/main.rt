@@ -15,6 +15,7 @@ mod only_word;
 mod outcome;
 mod refusal;
 mod run;
+mod topics;
 mod trace_input;
 
 use fault_line::FaultLine;
