@@ -1,7 +1,8 @@
 // hostile PROGRAM check SCRIPT, hostile PROGRAM audit SCRIPT TRACE, hostile PROGRAM policy SCRIPT POLICY, hostile PROGRAM
 // diff OLD NEW, each of these three with an option before SCRIPT where one is given: runs the program on the last text
 // with each byte changed to each of eight others, and on each beginning of it. It has to answer or to refuse with a
-// numbered line, and not both. The last line is how many texts were answered and how many refused.
+// numbered line, behind which an explanation stands exactly with the option --explain, and not both. The last line is
+// how many texts were answered and how many refused.
 #define _GNU_SOURCE
 #include <fcntl.h>
 #include <spawn.h>
@@ -53,9 +54,22 @@ static void run(char **words, int out, int err, struct run *run) {
     take(err, run->err);
 }
 
+// Whether the text is a line's end and lines of ASCII signs, the last two with what was wanted and what to do.
+static int is_explanation(const char *text) {
+    const char *wanted = strstr(text, "\nwanted: ");
+    const char *remedy = wanted == NULL ? NULL : strchr(wanted + 1, '\n');
+    for (const char *sign = text; *sign != 0; sign++) {
+        if ((*sign < ' ' && *sign != '\n') || *sign > '~') {
+            return 0;
+        }
+    }
+    return remedy != NULL && strncmp(remedy, "\nto do: ", 8) == 0 && strchr(remedy + 1, '\n') == strrchr(text, '\n') &&
+           text[strlen(text) - 1] == '\n';
+}
+
 // Whether the text is one line that a refusal is told by: 'pmp: [script line N: |trace row N: |new line N: ]refused N
 // NAME'.
-static int is_refusal(const char *text) {
+static int is_refusal(const char *text, int is_explained) {
     unsigned long place;
     unsigned number;
     char name[32];
@@ -67,12 +81,12 @@ static int is_refusal(const char *text) {
         sscanf(text, "pmp: refused %u %31[A-Za-z]%n", &number, name, &end) != 2) {
         return 0;
     }
-    return strcmp(text + end, "\n") == 0;
+    return is_explained ? is_explanation(text + end) : strcmp(text + end, "\n") == 0;
 }
 
-static int is_right(const struct run *run, int may_be_silent) {
+static int is_right(const struct run *run, int may_be_silent, int is_explained) {
     if (run->status == 2) {
-        return run->out[0] == 0 && is_refusal(run->err);
+        return run->out[0] == 0 && is_refusal(run->err, is_explained);
     }
     return (run->status == 0 || run->status == 1) && run->err[0] == 0 && (may_be_silent || run->out[0] != 0);
 }
@@ -97,7 +111,7 @@ static int work(int worker, char **words, int last, const char *text, size_t len
             stop("text");
         }
         run(words, out, err, &left);
-        int right = is_right(&left, last > 2);
+        int right = is_right(&left, last > 2, strcmp(words[2], "--explain") == 0);
         if (!right) {
             printf("failed: byte %zu, change %zu: status %d, '%s', '%s'\n", place, change, left.status, left.out,
                    left.err);

@@ -7,12 +7,12 @@ _pmp() {
         return
     fi
     case ${COMP_WORDS[1]} in
-        check) words='--after --expect M S U fetch load store stdin'; files=yes ;;
-        audit) words='--checkers --long --jobs --first-row stdin'; files=yes ;;
-        policy) words='--each-write stdin'; files=yes ;;
-        dump | map | picture | entries) words='--after stdin'; files=yes ;;
-        writes) words='stdin'; files=yes ;;
-        diff) words='--old-after --new-after --only stdin'; files=yes ;;
+        check) words='--explain --after --expect M S U fetch load store stdin'; files=yes ;;
+        audit) words='--explain --checkers --long --jobs --first-row stdin'; files=yes ;;
+        policy) words='--explain --each-write stdin'; files=yes ;;
+        dump | map | picture | entries) words='--explain --after stdin'; files=yes ;;
+        writes) words='--explain stdin'; files=yes ;;
+        diff) words='--explain --old-after --new-after --only stdin'; files=yes ;;
         help) words="$commands script trace rows" ;;
     esac
     case $before in

@@ -13,6 +13,7 @@ complete -c pmp -n __fish_use_subcommand -f -a writes -d 'write what each write 
 complete -c pmp -n __fish_use_subcommand -f -a diff -d 'write where two scripts differ'
 complete -c pmp -n __fish_use_subcommand -f -a help -d 'tell of a command'
 complete -c pmp -n '__fish_seen_subcommand_from help' -f -a "$commands script trace rows"
+complete -c pmp -n "__fish_seen_subcommand_from $commands" -l explain -d 'explain a refusal'
 complete -c pmp -n '__fish_seen_subcommand_from check dump map picture entries' -l after -x \
     -d 'take the first N publications'
 complete -c pmp -n '__fish_seen_subcommand_from check' -l expect -x -a 'allow fault' \

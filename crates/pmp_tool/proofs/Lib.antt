@@ -1,4 +1,5 @@
 pub mod Building
+pub mod Explaining
 pub mod LineLengths
 pub mod Matching
 pub mod Requesting

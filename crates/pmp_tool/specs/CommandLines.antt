@@ -47,33 +47,33 @@ with_after app = with_option app (codes "after")
 unfoldable pub with_count : App → (id : Text) (most : ℕ) → App
 with_count app id most = with_rule app (count_rule id most)
 
--- a command of a script: `NAME SCRIPT`, as `writes` is
+-- a command of a script: `NAME SCRIPT [--explain]`, as `writes` is
 abbrev pub script_app : (name : Text) → App
-script_app name = with_word (new_app name) (codes "script")
+script_app name = with_flag (with_word (new_app name) (codes "script")) (codes "explain")
 
--- `check SCRIPT MODE KIND START LENGTH [--after N] [--expect ANSWER]`
+-- `check SCRIPT MODE KIND START LENGTH [--explain] [--after N] [--expect ANSWER]`
 abbrev pub check_app : App
 check_app =
     with_option (with_after (with_word (with_word (with_word (with_word (script_app (codes "check")) (codes "mode"))
     (codes "kind")) (codes "start")) (codes "length"))) (codes "expect")
 
--- `audit SCRIPT TRACE [--checkers K] [--long] [--jobs N] [--first-row N]`
+-- `audit SCRIPT TRACE [--explain] [--checkers K] [--long] [--jobs N] [--first-row N]`
 abbrev pub audit_app : App
 audit_app =
     with_option (with_count (with_flag (with_count (with_word (script_app (codes "audit")) (codes "trace"))
     (codes "checkers") CHECKERS) (codes "long")) (codes "jobs") JOBS) (codes "first-row")
 
--- `policy SCRIPT POLICY [--each-write]`
+-- `policy SCRIPT POLICY [--explain] [--each-write]`
 abbrev pub policy_app : App
 policy_app = with_flag (with_word (script_app (codes "policy")) (codes "policy")) (codes "each-write")
 
--- `diff OLD NEW [--old-after N] [--new-after M] [--only CHANGE]`
+-- `diff OLD NEW [--explain] [--old-after N] [--new-after M] [--only CHANGE]`
 abbrev pub diff_app : App
 diff_app =
     with_option (with_option (with_option (with_word (script_app (codes "diff")) (codes "new")) (codes "old-after"))
     (codes "new-after")) (codes "only")
 
--- `NAME SCRIPT [--after N]`, as `dump`, `map`, `picture` and `entries` are
+-- `NAME SCRIPT [--explain] [--after N]`, as `dump`, `map`, `picture` and `entries` are
 abbrev pub file_app : (name : Text) → App
 file_app name = with_after (script_app name)
 

@@ -2,6 +2,7 @@
 pub mod CommandLines
 pub mod Checkers
 pub mod Expected
+pub mod Explanations
 pub mod Commands
 pub mod Failures
 pub mod Inputs

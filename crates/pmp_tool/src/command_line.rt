@@ -116,25 +116,27 @@ fn diff<'a>(alloc: Global) -> Built<'a>
 {
     let command = Ok(named(alloc, "diff", help::DIFF, help::MORE_OF_DIFF));
     let command = with_word(alloc, command, "script", "OLD", help::OLD);
+    let command = with_flag(alloc, command, "explain", help::EXPLAIN);
     let command = with_word(alloc, command, "new", "NEW", help::NEW);
     let command = with_option(alloc, command, "old-after", "N", help::OLD_AFTER);
     let command = with_option(alloc, command, "new-after", "M", help::NEW_AFTER);
     with_option(alloc, command, "only", "CHANGE", help::ONLY)
 }
 
-/// A command of the register file after publications: `name SCRIPT [--after N]`.
+/// A command of the register file after publications: `name SCRIPT [--explain] [--after N]`.
 fn of_file<'a>(alloc: Global, name: &'a str, about: &'a str, more: &'a str) -> Built<'a>
     ensures { IsBuilt result (file_app name.entry.now) }
 {
     with_after(alloc, of_script(alloc, name, about, more))
 }
 
-/// A command of a script: `name SCRIPT`.
+/// A command of a script: `name SCRIPT [--explain]`.
 fn of_script<'a>(alloc: Global, name: &'a str, about: &'a str, more: &'a str) -> Built<'a>
     ensures { IsBuilt result (script_app name.entry.now) }
 {
     let command = Ok(named(alloc, name, about, more));
-    with_word(alloc, command, "script", "SCRIPT", help::SCRIPT)
+    let command = with_word(alloc, command, "script", "SCRIPT", help::SCRIPT);
+    with_flag(alloc, command, "explain", help::EXPLAIN)
 }
 
 /// The program without its commands.

@@ -64,6 +64,9 @@ pub const START: &str = "The address of its first byte, a number";
 
 pub const LENGTH: &str = "How many bytes it has, a number from 1 to 4096; it ends at or below 2^56";
 
+pub const EXPLAIN: &str =
+    "Says behind the line of a refusal which input and line it is about, what was wanted there, and what to do";
+
 pub const AFTER: &str =
     "Takes the first N publications, a number up to how many there are; all without this option";
 

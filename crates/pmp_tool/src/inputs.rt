@@ -5,6 +5,7 @@ ghost use Rattle.pmp_text.specs.declared.script.reader.TheConstants.{MAX_SCRIPT}
 ghost use Rattle.pmp_text.specs.declared.trace.reader.TheConstants.{MAX_TRACE};
 ghost use Rattle.pmp_tool.specs.Inputs.{AreBytesOf, CantBeOpened, CantBeRead, GivesBytesOf};
 
+use crate::kept::Kept;
 use crate::trace_input::TraceInput;
 use pmp_text::{InputFault, read_script_bytes, read_trace_bytes};
 use std::fs;
@@ -38,17 +39,23 @@ pub trait Inputs {
     fn open_trace(&mut self, path: &str) -> Result<Self::Trace, InputFault>
         ensures opened { IfOk result (λ reader. GivesBytesOf (traces self.old path.now) (Self.Trace.remaining reader)) }
         ensures unopened { IfErr result CantBeOpened };
+
+    /// What is kept of the inputs so far.
+    fn kept(&self) -> &Kept;
 }
 
 /// The files of the system. The path `stdin` means standard input.
 #[derive(Drop)]
 pub struct SystemInputs<'a, R> {
     runtime: &'a R,
+    kept: Kept,
 }
 
-impl<'a, R> SystemInputs<'a, R> {
-    pub fn new(runtime: &'a R) -> Self {
-        SystemInputs { runtime }
+impl<'a, R: AllocGlobal> SystemInputs<'a, R> {
+    /// What is read is kept too, where that is said.
+    pub fn new(runtime: &'a R, keeps: bool) -> Self {
+        let kept = Kept::new(runtime.alloc(), keeps);
+        SystemInputs { runtime, kept }
     }
 }
 
@@ -56,15 +63,26 @@ impl<R: Files + Input + AllocGlobal> Inputs for SystemInputs<'_, R> {
     type Trace = TraceInput<R>;
 
     fn script(&mut self, path: &str) -> Result<Vec<u8>, InputFault> {
-        read_script_at(self.runtime, path)
+        self.kept.begin(path);
+        let script = read_script_at(self.runtime, path)?;
+        self.kept.fill(&script);
+        Ok(script)
     }
 
     fn trace(&mut self, path: &str) -> Result<Vec<u8>, InputFault> {
-        read_trace_at(self.runtime, path)
+        self.kept.begin(path);
+        let trace = read_trace_at(self.runtime, path)?;
+        self.kept.fill(&trace);
+        Ok(trace)
     }
 
     fn open_trace(&mut self, path: &str) -> Result<TraceInput<R>, InputFault> {
+        self.kept.begin(path);
         Ok(TraceInput::open(self.runtime, path)?)
+    }
+
+    fn kept(&self) -> &Kept {
+        &self.kept
     }
 }
 

@@ -6,11 +6,13 @@ mod checkers;
 mod command;
 mod command_line;
 mod expected;
+mod explanation;
 mod failure;
 mod fault_line;
 mod help;
 mod inputs;
 mod jobs;
+mod kept;
 mod only_word;
 mod outcome;
 mod refusal;
@@ -18,6 +20,7 @@ mod run;
 mod topics;
 mod trace_input;
 
+use explanation::asks_to_explain;
 use fault_line::FaultLine;
 use inputs::SystemInputs;
 use refusal::Refusal;
@@ -34,7 +37,7 @@ fn main(rt: HostRuntime) -> ExitCode {
             return ExitCode::from(refusal.status());
         }
     };
-    let mut inputs = SystemInputs::new(&rt);
+    let mut inputs = SystemInputs::new(&rt, asks_to_explain(&words));
     ExitCode::from(run_tool(
         &rt,
         rt.alloc(),

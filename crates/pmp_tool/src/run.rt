@@ -3,7 +3,8 @@
 ghost use Rattle.std.specs.Prelude.{◌≡◌, ◌⊎◌, ℕ, ◌≤◌, List, map, IfOk, IfErr, string_bytes};
 ghost use Rattle.std.specs.Io.KnownBytes.{Appends, Keeps};
 ghost use Rattle.pmp_tool.specs.CommandLines.{AsksForLongAudit};
-ghost use Rattle.pmp_tool.specs.Failures.{Tells, failure_status};
+ghost use Rattle.pmp_tool.specs.Explanations.{TellsAndExplains};
+ghost use Rattle.pmp_tool.specs.Failures.{failure_status};
 ghost use Rattle.pmp_tool.specs.Runs.{Answers, Fails, TextFails, outcome_status};
 ghost use Rattle.pmp_tool.specs.declared.failure.Failure.{Failure};
 ghost use Rattle.pmp_tool.specs.declared.outcome.Outcome.{Outcome};
@@ -12,6 +13,7 @@ ghost use Rattle.pmp_tool.specs.declared.outcome.Outcome.TheVariants.{Told};
 use crate::answer::answer;
 use crate::command::read_command;
 use crate::command_line::parse_words;
+use crate::explanation::tell_and_explain;
 use crate::failure::Failure;
 use crate::inputs::Inputs;
 use crate::outcome::Outcome;
@@ -29,7 +31,7 @@ use std::thread::Threads;
 /// `rt` makes the threads of an audit by several checkers, for which the call may wait.
 ///
 /// `out` gets the report rows, the lines, the picture or the text. A text on `err` is handed over whole, by
-/// one write. Where it can't be written, or not wholly, the status is the same.
+/// one write, and an explanation behind it by another. Where it can't be written, or not wholly, the status is the same.
 pub fn run_tool<R: Threads + Wait + Sync, I: Inputs, O: Write, E: Write>(
     rt: &R,
     alloc: Global,
@@ -46,11 +48,12 @@ pub fn run_tool<R: Threads + Wait + Sync, I: Inputs, O: Write, E: Write>(
         (O.contents out.old) (O.contents out.new) outcome
         × Keeps (E.contents err.old) (E.contents err.new) }
 
-    // Why it wasn't, or not wholly, and how standard error tells of that.
+    // Why it wasn't, or not wholly, and how standard error tells of that: what stands behind its line is an explanation,
+    // where the words ask for one.
     ensures failed { 2 ≤ result → (failure : Failure) × (result ≡ failure_status failure)
         × Fails (map string_bytes words.now) (I.scripts inputs.old) (I.traces inputs.old)
         (O.contents out.old) (O.contents out.new) failure
-        × Tells failure (E.contents err.old) (E.contents err.new) }
+        × TellsAndExplains (map string_bytes words.now) failure (E.contents err.old) (E.contents err.new) }
 
     // A long audit may be refused behind rows that it wrote; nothing else may.
     ensures untouched { result ≡ 2 → AsksForLongAudit (map string_bytes words.now)
@@ -59,7 +62,7 @@ pub fn run_tool<R: Threads + Wait + Sync, I: Inputs, O: Write, E: Write>(
     match run(rt, alloc, words, inputs, out) {
         Ok(outcome) => outcome.status(),
         Err(failure) => {
-            let _ = failure.tell(err);
+            tell_and_explain(alloc, words, &failure, inputs, err);
             failure.status()
         }
     }

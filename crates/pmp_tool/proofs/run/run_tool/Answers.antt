@@ -9,7 +9,7 @@ returns-in-Ok-clause-answered g c =
 
 pub returns-in-Err-clause-failed : goal.returns-in-Err-clause-failed
 returns-in-Err-clause-failed g c =
-    λ many. (c.in-Err.failure, c.status-in-Err.ensures.value, c.in-Err.ensures.err, c.tell.ensures.beginning)
+    λ many. (c.in-Err.failure, c.status-in-Err.ensures.value, c.in-Err.ensures.err, c.tell_and_explain.ensures)
 
 pub returns-in-Err-clause-untouched : goal.returns-in-Err-clause-untouched
 returns-in-Err-clause-untouched g c =

@@ -1,0 +1,65 @@
+//! Inputs that are kept for an explanation.
+
+use std::alloc::{AllocError, Global};
+
+/// An input of a command.
+#[derive(Drop)]
+pub struct KeptInput {
+    pub path: String,
+    /// Its bytes, or none where it can't be read, isn't kept, or is a long trace.
+    pub bytes: Vec<u8>,
+}
+
+/// The inputs of a command in the order in which it takes them, where they are kept.
+#[derive(Drop)]
+pub struct Kept {
+    alloc: Global,
+    keeps: bool,
+    inputs: Vec<KeptInput>,
+}
+
+impl Kept {
+    /// Nothing is kept yet, and nothing will be unless it `keeps` inputs.
+    pub fn new(alloc: Global, keeps: bool) -> Kept {
+        Kept {
+            alloc,
+            keeps,
+            inputs: Vec::new(alloc),
+        }
+    }
+
+    /// Takes note of an input. Where there is no memory for that, nothing is kept from here on.
+    pub fn begin(&mut self, path: &str) {
+        if self.keeps && self.add(path).is_err() {
+            self.keeps = false;
+        }
+    }
+
+    fn add(&mut self, path: &str) -> Result<(), AllocError> {
+        let path = String::from_str(self.alloc, path)?;
+        let bytes = Vec::new(self.alloc);
+        Ok(self.inputs.push(KeptInput { path, bytes })?)
+    }
+
+    /// Keeps the bytes of the last input, where there is memory for them.
+    pub fn fill(&mut self, bytes: &[u8]) {
+        if !self.keeps {
+            return;
+        }
+        if let Some(input) = self.inputs.last_mut() {
+            let _ = input.bytes.extend_from_slice(bytes);
+        }
+    }
+
+    pub fn first(&self) -> Option<&KeptInput> {
+        self.inputs.first()
+    }
+
+    pub fn second(&self) -> Option<&KeptInput> {
+        self.inputs.get(1)
+    }
+
+    pub fn last(&self) -> Option<&KeptInput> {
+        self.inputs.last()
+    }
+}
