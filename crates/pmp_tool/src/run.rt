@@ -30,8 +30,8 @@ use std::thread::Threads;
 ///
 /// `rt` makes the threads of an audit by several checkers, for which the call may wait.
 ///
-/// `out` gets the report rows, the lines, the picture or the text. A text on `err` is handed over whole, by
-/// one write, and an explanation behind it by another. Where it can't be written, or not wholly, the status is the same.
+/// `out` gets the report rows, the lines, the picture or the text. A text on `err` is handed over whole, by one write,
+/// and an explanation behind it by another. Where it can't be written, or not wholly, the status is the same.
 pub fn run_tool<R: Threads + Wait + Sync, I: Inputs, O: Write, E: Write>(
     rt: &R,
     alloc: Global,
@@ -48,8 +48,8 @@ pub fn run_tool<R: Threads + Wait + Sync, I: Inputs, O: Write, E: Write>(
         (O.contents out.old) (O.contents out.new) outcome
         × Keeps (E.contents err.old) (E.contents err.new) }
 
-    // Why it wasn't, or not wholly, and how standard error tells of that: what stands behind its line is an explanation,
-    // where the words ask for one.
+    // Why it wasn't, or not wholly, and how standard error tells of that: behind its line stands an explanation, where
+    // the words ask for one.
     ensures failed { 2 ≤ result → (failure : Failure) × (result ≡ failure_status failure)
         × Fails (map string_bytes words.now) (I.scripts inputs.old) (I.traces inputs.old)
         (O.contents out.old) (O.contents out.new) failure
