@@ -1,5 +1,5 @@
 -- A piece of a long audit: what is written of it, and why it isn't.
-use Rattle.std.specs.Prelude.{◌≡◌, ◌⊎◌, ℕ, ◌+◌, ◌^◌, ◌≤◌, List, ◌++◌, length, map, filter_map, count_by, not}
+use Rattle.std.specs.Prelude.{◌≡◌, ◌⊎◌, ℕ, ◌+◌, ◌^◌, ◌≤◌, List, length, map, filter_map}
 use Rattle.std.specs.Prelude.{Option, None, Some}
 use Rattle.std.specs.Io.KnownBytes.{Appends, Keeps}
 use Rattle.pmp_core.specs.declared.decision.Decision.{Decision}
@@ -16,19 +16,7 @@ use Rattle.pmp_text.specs.Traces.{row_fields, row_of_record}
 use Rattle.pmp_audit.specs.declared.fault.AuditFault.{AuditFault}
 use Rattle.pmp_audit.specs.declared.fault.AuditFault.TheVariants.{Trace, Memory, Output}
 use Rattle.pmp_audit.specs.declared.long_audit.standing.Standing.{Standing}
-
--- how many of the accesses were refused
-abbrev pub refused_count : List Decision → ℕ
-refused_count decisions = count_by (λ decision. not decision.allowed) decisions
-
--- these rows were decided, and reported behind what stood there, the first with this number
-pub record IsListed (script : ScriptContents) (rows : List Row) (first : ℕ) (before after : List ℕ) (faults : ℕ)
-    : Type 0
-  where
-    pub decisions : List Decision
-    pub decided : AreDecided script rows decisions
-    pub report : after ≡ before ++ report_text_from first rows decisions
-    pub counted : faults ≡ refused_count decisions
+use Rattle.pmp_audit.specs.Report.{refused_count}
 
 -- the records have no fault where they stand, and this text reports their rows
 pub record IsPieceText (script : ScriptContents) (records : Records) (old : Standing) (faults : ℕ) (text : List ℕ)
