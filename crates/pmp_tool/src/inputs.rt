@@ -5,11 +5,13 @@ ghost use Rattle.pmp_text.specs.declared.script.reader.TheConstants.{MAX_SCRIPT}
 ghost use Rattle.pmp_text.specs.declared.trace.reader.TheConstants.{MAX_TRACE};
 ghost use Rattle.pmp_tool.specs.Inputs.{AreBytesOf, CantBeOpened, CantBeRead, GivesBytesOf};
 
+use crate::progress::{ProgressLine, Watched};
 use crate::trace_input::TraceInput;
 use pmp_text::{InputFault, read_script_bytes, read_trace_bytes};
 use std::fs;
-use std::io::Read;
+use std::io::{Read, Write};
 use std::rt::Files;
+use std::time::Clock;
 
 /// The inputs that the program's words name.
 pub trait Inputs {
@@ -42,18 +44,21 @@ pub trait Inputs {
 
 /// The files of the system. The path `stdin` means standard input.
 #[derive(Drop)]
-pub struct SystemInputs<'a, R> {
+pub struct SystemInputs<'a, R, E> {
     runtime: &'a R,
+    /// Where it is shown how far a trace was read little by little.
+    terminal: Option<E>,
 }
 
-impl<'a, R> SystemInputs<'a, R> {
-    pub fn new(runtime: &'a R) -> Self {
-        SystemInputs { runtime }
+impl<'a, R, E> SystemInputs<'a, R, E> {
+    pub fn new(runtime: &'a R, terminal: Option<E>) -> Self {
+        SystemInputs { runtime, terminal }
     }
 }
 
-impl<R: Files + Input + AllocGlobal> Inputs for SystemInputs<'_, R> {
-    type Trace = TraceInput<R>;
+impl<'a, R: Files + Input + AllocGlobal + Clock, E: Write + Drop> Inputs
+    for SystemInputs<'a, R, E> {
+    type Trace = Watched<'a, TraceInput<R>, R, E>;
 
     fn script(&mut self, path: &str) -> Result<Vec<u8>, InputFault> {
         read_script_at(self.runtime, path)
@@ -63,8 +68,10 @@ impl<R: Files + Input + AllocGlobal> Inputs for SystemInputs<'_, R> {
         read_trace_at(self.runtime, path)
     }
 
-    fn open_trace(&mut self, path: &str) -> Result<TraceInput<R>, InputFault> {
-        Ok(TraceInput::open(self.runtime, path)?)
+    fn open_trace(&mut self, path: &str) -> Result<Self::Trace, InputFault> {
+        let input = TraceInput::open(self.runtime, path)?;
+        let line = ProgressLine::new(self.runtime, self.terminal.take());
+        Ok(Watched::new(input, line))
     }
 }
 

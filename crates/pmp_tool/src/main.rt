@@ -13,6 +13,7 @@ mod inputs;
 mod jobs;
 mod only_word;
 mod outcome;
+mod progress;
 mod refusal;
 mod run;
 mod trace_input;
@@ -22,7 +23,7 @@ use inputs::SystemInputs;
 use refusal::Refusal;
 use run::run_tool;
 use std::env;
-use std::io::ErrorKind;
+use std::io::{ErrorKind, IsTerminal};
 use std::process::ExitCode;
 
 fn main(rt: HostRuntime) -> ExitCode {
@@ -33,7 +34,9 @@ fn main(rt: HostRuntime) -> ExitCode {
             return ExitCode::from(refusal.status());
         }
     };
-    let mut inputs = SystemInputs::new(&rt);
+    let terminal = rt.stderr();
+    let shows = terminal.is_terminal() && !rt.stdout().is_terminal();
+    let mut inputs = SystemInputs::new(&rt, shows.then_some(terminal));
     ExitCode::from(run_tool(
         &rt,
         rt.alloc(),
