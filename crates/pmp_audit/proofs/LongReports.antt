@@ -6,19 +6,26 @@ use Rattle.std.specs.Prelude.{filter_map, not}
 use Rattle.std.proofs.lemmas.List.{length-map}
 use Rattle.std.proofs.lemmas.List.Sums.{count_by-le-length}
 use Rattle.std.proofs.lemmas.Slice.Zip.{AllZip-long, all_zipped_more}
+use Rattle.std.specs.Io.KnownBytes.{Appends}
+use Rattle.std.proofs.KnownBytes.{Keeps-refl}
 use Rattle.pmp_core.specs.declared.decision.Decision.{Decision}
 use Rattle.pmp_text.specs.declared.trace.Row.{Row}
 use Rattle.pmp_text.specs.declared.trace.TraceFault.{TraceFault}
 use Rattle.pmp_text.specs.declared.trace.piece.Place.{Place}
 use Rattle.pmp_text.specs.declared.trace.row_fields.RowFields.{RowFields}
+use Rattle.pmp_text.specs.Bytes.{AppendsBeginning}
 use Rattle.pmp_text.specs.Contents.{ScriptContents}
 use Rattle.pmp_text.specs.LongTraces.{Records, piece_fault, place_behind, report_text_from, row_records}
 use Rattle.pmp_text.specs.Traces.{row_fields, row_of_record}
 use Rattle.pmp_text.specs.Reports.{report_row, report_text}
-use Rattle.pmp_audit.specs.LongPieces.{IsPieceText}
+use Rattle.pmp_audit.specs.LongPieces.{IsPieceReported, IsPieceText, IsPieceWritten, PieceFails, PieceStops}
 use Rattle.pmp_audit.specs.declared.trace_audit.Summary.{Summary}
 use Rattle.pmp_audit.specs.Report.{IsListed, IsReported}
+use Rattle.pmp_audit.specs.declared.fault.AuditFault.{AuditFault}
+use Rattle.pmp_audit.specs.declared.fault.AuditFault.TheVariants.{Script, Trace, Policy, Share, Moved, BadAfter, Memory}
+use Rattle.pmp_audit.specs.declared.fault.AuditFault.TheVariants.{Output, ScriptOf, BadAfterOf}
 use Rattle.pmp_audit.specs.declared.long_audit.reading.Parts.{Parts}
+use Rattle.pmp_audit.specs.declared.long_audit.reporting.PieceReport.{PieceReport}
 use Rattle.pmp_audit.specs.declared.long_audit.standing.Standing.{Standing}
 use Rattle.pmp_audit.specs.LongParts.{AreReadAs, items_of}
 use Rattle.pmp_audit.proofs.Reports.{Decides, refused-push, same_summary}
@@ -138,3 +145,36 @@ piece_says script records standing parts before after text faults read listed em
       ∙ ap (λ (l : List ℕ). l ++ report_text_from standing.place.next (items_of parts.rows.items) listed.decisions) empty;
   counted = listed.counted;
 }
+
+-- ---- a piece that is reported
+
+module _ (script : ScriptContents) (records : Records) (old : Standing) where
+  pub fails_unwritten : (out : Option (List ℕ)) (fault : AuditFault) → PieceFails script records old fault
+      → PieceStops script records old out out fault
+  fails_unwritten out (Trace fault) fails = (fails, Keeps-refl out)
+  fails_unwritten out Memory fails = Keeps-refl out
+  fails_unwritten out (Script fault) fails = absurd fails
+  fails_unwritten out (Policy fault) fails = absurd fails
+  fails_unwritten out (Share fault) fails = absurd fails
+  fails_unwritten out (Moved moved) fails = absurd fails
+  fails_unwritten out BadAfter fails = absurd fails
+  fails_unwritten out (ScriptOf side fault) fails = absurd fails
+  fails_unwritten out (BadAfterOf side) fails = absurd fails
+  fails_unwritten out Output fails = absurd fails
+
+  module _ (report : PieceReport) (reported : IsPieceReported script records old report)
+      (before after : Option (List ℕ)) where
+    pub report_written : Appends before after (items_of report.texts.items)
+        → IsPieceWritten script records old before after report.behind
+    report_written written = record {
+      text = items_of report.texts.items;
+      faults = reported.faults;
+      says = reported.says;
+      written = written;
+      place = reported.place;
+      refused = reported.refused;
+    }
+
+    pub report_cut_short : AppendsBeginning before after (items_of report.texts.items)
+        → PieceStops script records old before after Output
+    report_cut_short written = (reported.faults, items_of report.texts.items, reported.says, written)
