@@ -154,7 +154,8 @@ module _ (publications : ℕ) where
     records = records_of (before ++ e ∷ behind)
 
     abbrev AreReadFrom : Place → Records → Result Parts TraceFault → Type 0
-    AreReadFrom at rows = AreReadAs (piece_fault publications at rows) (row_records at.begun rows) (place_behind at rows)
+    AreReadFrom at rows =
+        AreReadAs (piece_fault publications at rows) (row_records at.begun rows) (place_behind at rows)
 
     both : (front back all : Parts) → AreReadFrom place front_records (Ok front)
         → AreReadFrom within_trace back_records (Ok back) → AreJoined (Ok front) (Ok back) all

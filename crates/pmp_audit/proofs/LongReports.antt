@@ -142,7 +142,8 @@ piece_says script records standing parts before after text faults read listed em
   said = read.1;
   decided = listed.decided;
   report = same ∙ listed.report
-      ∙ ap (λ (l : List ℕ). l ++ report_text_from standing.place.next (items_of parts.rows.items) listed.decisions) empty;
+      ∙ ap (λ (l : List ℕ). l
+      ++ report_text_from standing.place.next (items_of parts.rows.items) listed.decisions) empty;
   counted = listed.counted;
 }
 

@@ -27,8 +27,8 @@ pub const PIECE: usize = 1 << 23;
 /// in memory for two pieces of at most `limit` bytes.
 ///
 /// The trace is cut at line ends. Each piece is decided and reported before the one behind the next is taken, so a
-/// refusal but `Script` may come behind rows that are written. `TooLong` is answered where as many bytes as a piece has,
-/// but one, have no line's end.
+/// refusal but `Script` may come behind rows that are written. `TooLong` is answered where as many bytes as a piece
+/// has, but one, have no line's end.
 ///
 /// The rows of a piece are read, and then decided, in `jobs` parts at a time, each on a thread of its own where one can
 /// be made, while the calling thread takes the next piece; all have ended when the call answers. None is started for a
