@@ -21,7 +21,8 @@ use Rattle.pmp_text.specs.Traces.{after_of, first_row_fault, is_header, row_faul
 use Rattle.pmp_text.proofs.PieceFaults.{behind, in_turn, places_in_turn, rows_in_two}
 use Rattle.pmp_audit.specs.declared.long_audit.standing.Standing.{Standing}
 use Rattle.pmp_audit.specs.LongAudit.{IsFrontReport}
-use Rattle.pmp_audit.specs.LongPieces.{IsPieceText, refused_count}
+use Rattle.pmp_audit.specs.LongPieces.{IsPieceText}
+use Rattle.pmp_audit.specs.Report.{refused_count}
 use Rattle.pmp_audit.proofs.LongReports.{report_goes_on}
 use Rattle.pmp_audit.proofs.Reports.{Decides}
 

@@ -2,10 +2,12 @@
 use Rattle.std.proofs.Common.{◌≡◌, ℕ, zero, suc, ◌+◌, ◌^◌, ◌<◌, Bool, true, false, cond, List, [], ◌∷◌, ◌++◌, length}
 use Rattle.std.proofs.Common.{map, Option, Some, None, Result, Ok, Err, refl, sym, ap, ◌∙◌, arith, take, drop}
 use Rattle.std.proofs.Common.{get_or}
-use Rattle.std.specs.Prelude.{◌==◌, filter_map, option_map}
+use Rattle.std.specs.Prelude.{◌==◌, filter_map, option_map, slice_get, IfOk, Vec}
 use Rattle.std.specs.Option.{option_or}
+use Rattle.std.specs.declared.alloc.Global.{Global}
 use Rattle.std.proofs.lemmas.Bool.{ne_eqb}
 use Rattle.std.proofs.lemmas.List.{drop_more, map-append, take-append-drop, take_more}
+use Rattle.std.proofs.lemmas.List.Concat.{flat_map-append}
 use Rattle.pmp_text.specs.declared.trace.Row.{Row}
 use Rattle.pmp_text.specs.declared.trace.TraceFault.{TraceFault}
 use Rattle.pmp_text.specs.declared.trace.TraceKind.{TraceKind}
@@ -18,8 +20,10 @@ use Rattle.pmp_text.specs.LongTraces.{place_behind, row_records}
 use Rattle.pmp_text.specs.Tables.{at_row, records_of}
 use Rattle.pmp_text.specs.Traces.{after_of, falls_behind, fields_fault, first_row_fault, row_fault, row_fields}
 use Rattle.pmp_text.specs.Traces.{row_of_record}
-use Rattle.pmp_text.proofs.PieceFaults.{apart, in_turn, places_in_turn, rows_in_two}
-use Rattle.pmp_audit.specs.LongParts.{AreJoined, Follows, place_of_both, within_trace}
+use Rattle.pmp_text.specs.TraceFaults.{IsInOrder, afters}
+use Rattle.pmp_text.proofs.PieceFaults.{apart, in_turn, piece_in_order, places_in_turn, rows_in_two}
+use Rattle.pmp_audit.specs.declared.long_audit.reading.Parts.{Parts}
+use Rattle.pmp_audit.specs.LongParts.{AreJoined, AreReadAs, Follows, items_of, place_of_both, within_trace}
 
 no_fault : (number other : ℕ) (kind : Option TraceKind) → option_map (at_row number) kind ≡ None
     → option_map (at_row other) kind ≡ None
@@ -41,6 +45,35 @@ none_then (Some fault) y none e = absurd cc
 pub no_kind : (number : ℕ) (kind : Option TraceKind) → option_map (at_row number) kind ≡ None → kind ≡ None
 no_kind number None e = refl
 no_kind number (Some kind) e = absurd cc
+
+-- ---- one part
+
+-- a piece that was read is its one part
+pub one_part : (fault : Option TraceFault) (rows : Records) (behind : Place) (piece : Piece) (parts : Parts)
+    → IsReadAs fault rows behind (Ok piece) → items_of parts.rows.items ≡ piece.rows.items
+    → parts.place ≡ piece.place → AreReadAs fault rows behind (Ok parts)
+one_part fault rows behind piece parts (fine, said, stands, small) same place =
+    (fine, ap (map row_fields) same ∙ said, place ∙ stands, small)
+
+pub no_rows : (rows : List Row) → length rows ≡ 0 → [] ≡ rows
+no_rows [] none = refl
+no_rows (row ∷ more) none = absurd (omega arith)
+
+-- ---- the first row
+
+module _ (last : ℕ) (parts : List (Vec Row Global)) (part : Vec Row Global) (row : Row)
+    (part_is : slice_get parts 0 ≡ Some part) (row_is : slice_get part.items 0 ≡ Some row)
+    (follows : falls_behind (Some last) row.after ≡ false) where
+  first_row : (rows more : List Row) → slice_get rows 0 ≡ Some row → Follows (Some last) (rows ++ more)
+  first_row [] more is = absurd cc
+  first_row (first ∷ rest) more is = let same : first ≡ row = cc in rw same follows
+
+  first_part : (all : List (Vec Row Global)) → slice_get all 0 ≡ Some part → Follows (Some last) (items_of all)
+  first_part [] is = absurd cc
+  first_part (one ∷ more) is = let same : one ≡ part = cc in rw same (first_row part.items (items_of more) row_is)
+
+  pub part_follows : Follows (Some last) (items_of parts)
+  part_follows = first_part parts part_is
 
 module _ (publications : ℕ) where
   -- rows without a fault have none with other numbers
@@ -120,13 +153,14 @@ module _ (publications : ℕ) where
     abbrev records : Records
     records = records_of (before ++ e ∷ behind)
 
-    abbrev IsReadFrom : Place → Records → Result Piece TraceFault → Type 0
-    IsReadFrom at rows = IsReadAs (piece_fault publications at rows) (row_records at.begun rows) (place_behind at rows)
+    abbrev AreReadFrom : Place → Records → Result Parts TraceFault → Type 0
+    AreReadFrom at rows =
+        AreReadAs (piece_fault publications at rows) (row_records at.begun rows) (place_behind at rows)
 
-    both : (front back piece : Piece) → IsReadFrom place front_records (Ok front)
-        → IsReadFrom within_trace back_records (Ok back) → AreJoined (Ok front) (Ok back) piece
-        → IsReadFrom place records (Ok piece)
-    both front back piece (fine, said, stands, small) (fine_back, said_back, stands_back, small_back)
+    both : (front back all : Parts) → AreReadFrom place front_records (Ok front)
+        → AreReadFrom within_trace back_records (Ok back) → AreJoined (Ok front) (Ok back) all
+        → AreReadFrom place records (Ok all)
+    both front back all (fine, said, stands, small) (fine_back, said_back, stands_back, small_back)
         (begun, follows, rows, place_is, few) =
         let split : records ≡ front_records ++ back_records = apart publications place before e ends fine behind in
         let stands_begun : has_begun place.begun front_records ≡ true =
@@ -136,44 +170,46 @@ module _ (publications : ℕ) where
         let next = place.next + length (row_records place.begun front_records) in
         let later : first_row_fault publications (last_after place.last (row_records place.begun front_records)) next
         back_records ≡ None =
-        rw last (goes_on front.place.last next back_records back.rows.items fine_back said_back follows) in
-        let stands_at : piece.place ≡ place_behind place records =
+        rw last (goes_on front.place.last next back_records (items_of back.rows.items) fine_back said_back follows) in
+        let stands_at : all.place ≡ place_behind place records =
         place_is ∙ ap (place_of_both front.place) stands_back ∙ both_places front.place back_records begun
         ∙ ap (λ (p : Place). place_behind p back_records) stands
         ∙ sym (places_in_turn place front_records back_records) ∙ ap (place_behind place) (sym split) in (
           ap (piece_fault publications place) split
               ∙ in_turn publications place.last place.next place.begun front_records back_records
               ∙ none_then (piece_fault publications place front_records) _ fine (rw stands_begun later),
-          ap (map row_fields) rows ∙ map-append row_fields front.rows.items back.rows.items
-              ∙ ap (λ (l : List RowFields). l ++ map row_fields back.rows.items) said
+          ap (λ l. map row_fields (items_of l)) rows
+              ∙ ap (map row_fields) (flat_map-append _ front.rows.items back.rows.items)
+              ∙ map-append row_fields (items_of front.rows.items) (items_of back.rows.items)
+              ∙ ap (λ (l : List RowFields). l ++ map row_fields (items_of back.rows.items)) said
               ∙ ap (λ (l : List RowFields). filter_map row_of_record (row_records place.begun front_records) ++ l)
               said_back
               ∙ sym (rw stands_begun at (rows_in_two place.begun front_records back_records))
               ∙ ap (λ (r : Records). filter_map row_of_record (row_records place.begun r)) (sym split),
           stands_at,
-          let number : piece.place.next ≡ (place_behind place records).next = ap (λ (p : Place). p.next) stands_at in
-              let sum : piece.place.next ≡ front.place.next + back.place.next =
+          let number : all.place.next ≡ (place_behind place records).next = ap (λ (p : Place). p.next) stands_at in
+              let sum : all.place.next ≡ front.place.next + back.place.next =
               ap (λ (p : Place). p.next) place_is in omega arith,
         )
 
-    parts_joined : (front back : Result Piece TraceFault) (piece : Piece) → IsReadFrom place front_records front
-        → IsReadFrom within_trace back_records back → AreJoined front back piece → IsReadFrom place records (Ok piece)
-    parts_joined (Ok front) (Ok back) piece read read_back joined = both front back piece read read_back joined
-    parts_joined (Ok front) (Err fault) piece read read_back joined = absurd joined
-    parts_joined (Err fault) back piece read read_back joined = absurd joined
+    parts_joined : (front back : Result Parts TraceFault) (all : Parts) → AreReadFrom place front_records front
+        → AreReadFrom within_trace back_records back → AreJoined front back all → AreReadFrom place records (Ok all)
+    parts_joined (Ok front) (Ok back) all read read_back joined = both front back all read read_back joined
+    parts_joined (Ok front) (Err fault) all read read_back joined = absurd joined
+    parts_joined (Err fault) back all read read_back joined = absurd joined
 
   -- a text that was cut at a line's end
   pub parts_read : (place : Place) (text low high : List ℕ) (end : ℕ) → end < length text
       → is_line_end (get_or text end 0) ≡ true → low ≡ take (end + 1) text → high ≡ drop end text
-      → (front back : Result Piece TraceFault) (piece : Piece)
-      → IsReadAs (piece_fault publications place (records_of low)) (row_records place.begun (records_of low))
+      → (front back : Result Parts TraceFault) (all : Parts)
+      → AreReadAs (piece_fault publications place (records_of low)) (row_records place.begun (records_of low))
       (place_behind place (records_of low)) front
-      → IsReadAs (piece_fault publications within_trace (records_of high)) (records_of high)
+      → AreReadAs (piece_fault publications within_trace (records_of high)) (records_of high)
       (place_behind within_trace (records_of high)) back
-      → AreJoined front back piece
-      → IsReadAs (piece_fault publications place (records_of text)) (row_records place.begun (records_of text))
-      (place_behind place (records_of text)) (Ok piece)
-  parts_read place text low high end inside ends low_is high_is front back piece read read_back joined =
+      → AreJoined front back all
+      → AreReadAs (piece_fault publications place (records_of text)) (row_records place.begun (records_of text))
+      (place_behind place (records_of text)) (Ok all)
+  parts_read place text low high end inside ends low_is high_is front back all read read_back joined =
       let e = get_or text end 0 in
       let before = take end text in
       let behind = drop (end + 1) text in
@@ -181,5 +217,13 @@ module _ (publications : ℕ) where
       let high_begins : high ≡ e ∷ behind = high_is ∙ drop_more text end 0 inside in
       let whole : text ≡ before ++ e ∷ behind = sym (take-append-drop end text)
       ∙ ap (λ (l : List ℕ). before ++ l) (drop_more text end 0 inside) in
-      rw whole (parts_joined place before e ends behind front back piece (rw low_ends at read)
+      rw whole (parts_joined place before e ends behind front back all (rw low_ends at read)
       (rw high_begins at read_back) joined)
+
+  -- the rows of parts without a fault are in order
+  pub parts_in_order : (place behind : Place) (records : Records) (result : Result Parts TraceFault)
+      → AreReadAs (piece_fault publications place records) (row_records place.begun records) behind result
+      → IfOk result (λ parts. IsInOrder publications 0 (afters (map row_fields (items_of parts.rows.items))))
+  parts_in_order place behind records (Ok parts) read =
+      rw (read.1) (piece_in_order publications place.begun place.last place.next records read.0)
+  parts_in_order place behind records (Err fault) read = tt

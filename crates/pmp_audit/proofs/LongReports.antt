@@ -6,19 +6,29 @@ use Rattle.std.specs.Prelude.{filter_map, not}
 use Rattle.std.proofs.lemmas.List.{length-map}
 use Rattle.std.proofs.lemmas.List.Sums.{count_by-le-length}
 use Rattle.std.proofs.lemmas.Slice.Zip.{AllZip-long, all_zipped_more}
+use Rattle.std.specs.Io.KnownBytes.{Appends}
+use Rattle.std.proofs.KnownBytes.{Keeps-refl}
 use Rattle.pmp_core.specs.declared.decision.Decision.{Decision}
 use Rattle.pmp_text.specs.declared.trace.Row.{Row}
 use Rattle.pmp_text.specs.declared.trace.TraceFault.{TraceFault}
-use Rattle.pmp_text.specs.declared.trace.piece.Piece.{Piece}
 use Rattle.pmp_text.specs.declared.trace.piece.Place.{Place}
 use Rattle.pmp_text.specs.declared.trace.row_fields.RowFields.{RowFields}
+use Rattle.pmp_text.specs.Bytes.{AppendsBeginning}
 use Rattle.pmp_text.specs.Contents.{ScriptContents}
-use Rattle.pmp_text.specs.LongTraces.{IsReadAs, Records, piece_fault, place_behind, report_text_from, row_records}
+use Rattle.pmp_text.specs.LongTraces.{Records, piece_fault, place_behind, report_text_from, row_records}
 use Rattle.pmp_text.specs.Traces.{row_fields, row_of_record}
-use Rattle.pmp_text.specs.Reports.{report_row}
-use Rattle.pmp_audit.specs.LongPieces.{IsListed, IsPieceText}
+use Rattle.pmp_text.specs.Reports.{report_row, report_text}
+use Rattle.pmp_audit.specs.LongPieces.{IsPieceReported, IsPieceText, IsPieceWritten, PieceFails, PieceStops}
+use Rattle.pmp_audit.specs.declared.trace_audit.Summary.{Summary}
+use Rattle.pmp_audit.specs.Report.{IsListed, IsReported}
+use Rattle.pmp_audit.specs.declared.fault.AuditFault.{AuditFault}
+use Rattle.pmp_audit.specs.declared.fault.AuditFault.TheVariants.{Script, Trace, Policy, Share, Moved, BadAfter, Memory}
+use Rattle.pmp_audit.specs.declared.fault.AuditFault.TheVariants.{Output, ScriptOf, BadAfterOf}
+use Rattle.pmp_audit.specs.declared.long_audit.reading.Parts.{Parts}
+use Rattle.pmp_audit.specs.declared.long_audit.reporting.PieceReport.{PieceReport}
 use Rattle.pmp_audit.specs.declared.long_audit.standing.Standing.{Standing}
-use Rattle.pmp_audit.proofs.Reports.{Decides, refused-push}
+use Rattle.pmp_audit.specs.LongParts.{AreReadAs, items_of}
+use Rattle.pmp_audit.proofs.Reports.{Decides, refused-push, same_summary}
 
 -- a report behind another one goes on with its numbers
 pub report_goes_on : (rows more : List Row) (decisions others : List Decision) (first : ℕ)
@@ -72,6 +82,20 @@ module _ (script : ScriptContents) (first : ℕ) where
                 ∙ sym (refused-push so_far.decisions decision);
           }
 
+-- a list of rows that are numbered from 1 is a report with its summary
+pub listed_from_one : (script : ScriptContents) (rows : List Row) (before after : List ℕ) (faults : ℕ)
+    (summary : Summary) → IsListed script rows 1 before after faults → summary.rows ≡ length rows
+    → summary.faults ≡ faults → IsReported script rows before after summary
+unfolding report_text_from report_text
+listed_from_one script rows before after faults summary listed rows_are faults_are = record {
+  decisions = listed.decisions;
+  decided = listed.decided;
+  report = listed.report;
+  counted = same_summary summary _
+      (rows_are ∙ sym (AllZip-long (Decides script) rows listed.decisions listed.decided))
+      (faults_are ∙ listed.counted);
+}
+
 -- ---- how many rows a piece has
 
 few_said : (records : Records) → length (filter_map row_of_record records) ≤ length records
@@ -85,39 +109,73 @@ few_said (one ∷ more) = by (row_of_record one) refl (few_said more)
     by (Some row) is few = rw is (omega arith)
 
 -- the rows of a piece are numbered before those of the next one
-pub rows_fit : (fault : Option TraceFault) (place : Place) (records : Records) (piece : Piece)
-    → IsReadAs fault (row_records place.begun records) (place_behind place records) (Ok piece)
-    → place.next + length piece.rows.items ≤ piece.place.next
-rows_fit fault place records piece read =
+pub rows_fit : (fault : Option TraceFault) (place : Place) (records : Records) (parts : Parts)
+    → AreReadAs fault (row_records place.begun records) (place_behind place records) (Ok parts)
+    → place.next + length (items_of parts.rows.items) ≤ parts.place.next
+rows_fit fault place records parts read =
     let rows = row_records place.begun records in
     let few = few_said rows in
-    let many : length piece.rows.items ≡ length (filter_map row_of_record rows) =
-    sym (length-map piece.rows.items row_fields) ∙ ap (λ (l : List RowFields). length l) read.1 in
-    let next : piece.place.next ≡ place.next + length rows = ap (λ (p : Place). p.next) read.2 in
+    let many : length (items_of parts.rows.items) ≡ length (filter_map row_of_record rows) =
+    sym (length-map (items_of parts.rows.items) row_fields) ∙ ap (λ (l : List RowFields). length l) read.1 in
+    let next : parts.place.next ≡ place.next + length rows = ap (λ (p : Place). p.next) read.2 in
     omega arith
 
-pub rows_small : (fault : Option TraceFault) (place : Place) (records : Records) (piece : Piece)
-    → IsReadAs fault (row_records place.begun records) (place_behind place records) (Ok piece)
-    → piece.place.next < 2 ^ 64
-rows_small fault place records piece read =
-    let next : piece.place.next ≡ (place_behind place records).next = ap (λ (p : Place). p.next) read.2 in
+pub rows_small : (fault : Option TraceFault) (place : Place) (records : Records) (parts : Parts)
+    → AreReadAs fault (row_records place.begun records) (place_behind place records) (Ok parts)
+    → parts.place.next < 2 ^ 64
+rows_small fault place records parts read =
+    let next : parts.place.next ≡ (place_behind place records).next = ap (λ (p : Place). p.next) read.2 in
     let small = read.3 in
     omega arith
 
 -- the text that a piece comes to
-pub piece_says : (script : ScriptContents) (records : Records) (standing : Standing) (piece : Piece)
+pub piece_says : (script : ScriptContents) (records : Records) (standing : Standing) (parts : Parts)
     (before after text : List ℕ) (faults : ℕ)
-    → IsReadAs (piece_fault (length script.batches) standing.place records) (row_records standing.place.begun records)
-    (place_behind standing.place records) (Ok piece)
-    → IsListed script piece.rows.items standing.place.next before after faults → before ≡ [] → text ≡ after
+    → AreReadAs (piece_fault (length script.batches) standing.place records) (row_records standing.place.begun records)
+    (place_behind standing.place records) (Ok parts)
+    → IsListed script (items_of parts.rows.items) standing.place.next before after faults → before ≡ [] → text ≡ after
     → IsPieceText script records standing faults text
-piece_says script records standing piece before after text faults read listed empty same = record {
+piece_says script records standing parts before after text faults read listed empty same = record {
   fine = read.0;
-  rows = piece.rows.items;
+  rows = items_of parts.rows.items;
   decisions = listed.decisions;
   said = read.1;
   decided = listed.decided;
   report = same ∙ listed.report
-      ∙ ap (λ (l : List ℕ). l ++ report_text_from standing.place.next piece.rows.items listed.decisions) empty;
+      ∙ ap (λ (l : List ℕ). l
+      ++ report_text_from standing.place.next (items_of parts.rows.items) listed.decisions) empty;
   counted = listed.counted;
 }
+
+-- ---- a piece that is reported
+
+module _ (script : ScriptContents) (records : Records) (old : Standing) where
+  pub fails_unwritten : (out : Option (List ℕ)) (fault : AuditFault) → PieceFails script records old fault
+      → PieceStops script records old out out fault
+  fails_unwritten out (Trace fault) fails = (fails, Keeps-refl out)
+  fails_unwritten out Memory fails = Keeps-refl out
+  fails_unwritten out (Script fault) fails = absurd fails
+  fails_unwritten out (Policy fault) fails = absurd fails
+  fails_unwritten out (Share fault) fails = absurd fails
+  fails_unwritten out (Moved moved) fails = absurd fails
+  fails_unwritten out BadAfter fails = absurd fails
+  fails_unwritten out (ScriptOf side fault) fails = absurd fails
+  fails_unwritten out (BadAfterOf side) fails = absurd fails
+  fails_unwritten out Output fails = absurd fails
+
+  module _ (report : PieceReport) (reported : IsPieceReported script records old report)
+      (before after : Option (List ℕ)) where
+    pub report_written : Appends before after (items_of report.texts.items)
+        → IsPieceWritten script records old before after report.behind
+    report_written written = record {
+      text = items_of report.texts.items;
+      faults = reported.faults;
+      says = reported.says;
+      written = written;
+      place = reported.place;
+      refused = reported.refused;
+    }
+
+    pub report_cut_short : AppendsBeginning before after (items_of report.texts.items)
+        → PieceStops script records old before after Output
+    report_cut_short written = (reported.faults, items_of report.texts.items, reported.says, written)

@@ -56,65 +56,8 @@ refused-push decisions decision =
     ∙ ap (λ (n : ℕ). count_by is_refused decisions + n) (one_refused decision decision.allowed refl)
 
 module _ (script : ScriptContents) where
-  pub no_rows : (held : List ℕ) (summary : Summary)
-      → summary.rows ≡ 0 → summary.faults ≡ 0 → IsReported script [] held held summary
-  unfolding report_text
-  no_rows held summary rows faults = record {
-    decisions = [];
-    decided = tt;
-    report = sym (append-nil held);
-    counted = same_summary summary (summary_of []) rows faults;
-  }
-
   abbrev pub Decides : Row → Decision → Type 0
   Decides row decision = IsDecision (file_of_script script row.after) row.access decision
-
-  module _ (rows : List Row) (before held : List ℕ) (summary : Summary)
-      (so_far : IsReported script rows before held summary) where
-    one_each : length so_far.decisions ≡ length rows
-    one_each = AllZip-long Decides rows so_far.decisions so_far.decided
-
-    pub rows_so_far : summary.rows ≡ length rows
-    rows_so_far = ap (λ (s : Summary). s.rows) so_far.counted ∙ one_each
-
-    pub faults_so_far : summary.faults ≤ summary.rows
-    faults_so_far = rw so_far.counted (count_by-le-length is_refused so_far.decisions)
-
-    module _ (row : Row) (decision : Decision) (after : List ℕ) (more : Summary) where
-      decisions : List Decision
-      decisions = so_far.decisions ++ decision ∷ []
-
-      counted : more.rows ≡ summary.rows + 1 → more.faults ≡ summary.faults + cond decision.allowed 0 1
-          → more ≡ summary_of decisions
-      unfolding decisions
-      counted one_more refused =
-          let rows : more.rows ≡ length decisions = one_more ∙ ap (λ (s : Summary). s.rows + 1) so_far.counted
-          ∙ sym (length-append so_far.decisions (decision ∷ [])) in
-          let faults : more.faults ≡ count_by is_refused decisions = refused
-          ∙ ap (λ (s : Summary). s.faults + cond decision.allowed 0 1) so_far.counted
-          ∙ sym (refused-push so_far.decisions decision) in
-          same_summary more (summary_of decisions) rows faults
-
-      reported : more.rows ≡ summary.rows + 1 → after ≡ held ++ report_row more.rows row.access decision
-          → after ≡ before ++ report_text (rows ++ row ∷ []) decisions
-      unfolding decisions
-      reported one_more written =
-          let number = one_more ∙ ap (λ (n : ℕ). n + 1) rows_so_far in
-          let last = report_row (length rows + 1) row.access decision in
-          written ∙ ap (λ (n : ℕ). held ++ report_row n row.access decision) number
-          ∙ ap (λ l. l ++ last) so_far.report ∙ append_assoc before (report_text rows so_far.decisions) last
-          ∙ ap (λ l. before ++ l) (sym (report_text-push rows so_far.decisions row decision one_each))
-
-      pub one_row_more : Decides row decision → after ≡ held ++ report_row more.rows row.access decision
-          → more.rows ≡ summary.rows + 1 → more.faults ≡ summary.faults + cond decision.allowed 0 1
-          → IsReported script (rows ++ row ∷ []) before after more
-      unfolding decisions
-      one_row_more by_bytes written one_more refused = record {
-        decisions = so_far.decisions ++ decision ∷ [];
-        decided = all_zipped_more Decides rows so_far.decisions row decision so_far.decided by_bytes;
-        report = reported one_more written;
-        counted = counted one_more refused;
-      }
 
   -- the rows before place i, the one there, and those behind it
   module _ (rows : List Row) (i : ℕ) (row : Row) (inside : i < length rows) (row_is : row ≡ get_or rows i row) where

@@ -1,6 +1,6 @@
 -- A piece of a long audit: what is written of it, and why it isn't.
-use Rattle.std.specs.Prelude.{◌≡◌, ◌⊎◌, ℕ, ◌+◌, ◌^◌, ◌≤◌, List, ◌++◌, length, map, filter_map, count_by, not}
-use Rattle.std.specs.Prelude.{Option, None, Some}
+use Rattle.std.specs.Prelude.{◌≡◌, ◌⊎◌, ℕ, ◌+◌, ◌^◌, ◌≤◌, List, length, map, filter_map}
+use Rattle.std.specs.Prelude.{Option, None, Some, ⊤}
 use Rattle.std.specs.Io.KnownBytes.{Appends, Keeps}
 use Rattle.pmp_core.specs.declared.decision.Decision.{Decision}
 use Rattle.pmp_text.specs.declared.input.InputFault.{InputFault}
@@ -15,20 +15,10 @@ use Rattle.pmp_text.specs.Reports.{AreDecided}
 use Rattle.pmp_text.specs.Traces.{row_fields, row_of_record}
 use Rattle.pmp_audit.specs.declared.fault.AuditFault.{AuditFault}
 use Rattle.pmp_audit.specs.declared.fault.AuditFault.TheVariants.{Trace, Memory, Output}
+use Rattle.pmp_audit.specs.declared.long_audit.reporting.PieceReport.{PieceReport}
 use Rattle.pmp_audit.specs.declared.long_audit.standing.Standing.{Standing}
-
--- how many of the accesses were refused
-abbrev pub refused_count : List Decision → ℕ
-refused_count decisions = count_by (λ decision. not decision.allowed) decisions
-
--- these rows were decided, and reported behind what stood there, the first with this number
-pub record IsListed (script : ScriptContents) (rows : List Row) (first : ℕ) (before after : List ℕ) (faults : ℕ)
-    : Type 0
-  where
-    pub decisions : List Decision
-    pub decided : AreDecided script rows decisions
-    pub report : after ≡ before ++ report_text_from first rows decisions
-    pub counted : faults ≡ refused_count decisions
+use Rattle.pmp_audit.specs.LongParts.{items_of}
+use Rattle.pmp_audit.specs.Report.{refused_count}
 
 -- the records have no fault where they stand, and this text reports their rows
 pub record IsPieceText (script : ScriptContents) (records : Records) (old : Standing) (faults : ℕ) (text : List ℕ)
@@ -42,6 +32,15 @@ pub record IsPieceText (script : ScriptContents) (records : Records) (old : Stan
     pub report : text ≡ report_text_from old.place.next rows decisions
     pub counted : faults ≡ refused_count decisions
 
+-- the report is that of the piece, and the next piece stands there
+pub record IsPieceReported (script : ScriptContents) (records : Records) (old : Standing) (report : PieceReport)
+    : Type 0
+  where
+    pub faults : ℕ
+    pub says : IsPieceText script records old faults (items_of report.texts.items)
+    pub place : report.behind.place ≡ place_behind old.place records
+    pub refused : report.behind.faults ≡ old.faults + faults
+
 -- the text was written, and the next piece stands there
 pub record IsPieceWritten (script : ScriptContents) (records : Records) (old : Standing)
     (before after : Option (List ℕ))
@@ -53,12 +52,19 @@ pub record IsPieceWritten (script : ScriptContents) (records : Records) (old : S
   pub place : new.place ≡ place_behind old.place records
   pub refused : new.faults ≡ old.faults + faults
 
+-- why records that stand there have no report
+abbrev pub PieceFails : (script : ScriptContents) (records : Records) (old : Standing) → AuditFault → Type 0
+PieceFails script records old (Trace fault) = (piece_fault (length script.batches) old.place records ≡ Some fault)
+    ⊎ (fault ≡ no_input_for_rows)
+    ⊎ ((fault ≡ too_long_for_rows) × (2 ^ 64 ≤ (place_behind old.place records).next))
+PieceFails script records old Memory = ⊤
+PieceFails script records old _ = ⊥
+
 -- why nothing, or not all, was written of records that stand there
 abbrev pub PieceStops : (script : ScriptContents) (records : Records) (old : Standing) (before after : Option (List ℕ))
     → AuditFault → Type 0
 PieceStops script records old before after (Trace fault) =
-    ((piece_fault (length script.batches) old.place records ≡ Some fault) ⊎ (fault ≡ no_input_for_rows)
-    ⊎ ((fault ≡ too_long_for_rows) × (2 ^ 64 ≤ (place_behind old.place records).next))) × Keeps before after
+    PieceFails script records old (Trace fault) × Keeps before after
 PieceStops script records old before after Memory = Keeps before after
 PieceStops script records old before after Output =
     (faults : ℕ) × (text : List ℕ) × IsPieceText script records old faults text × AppendsBeginning before after text

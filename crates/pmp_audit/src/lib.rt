@@ -11,6 +11,7 @@ pub mod laws;
 mod long_audit;
 mod policy_check;
 mod replay;
+mod report;
 mod rights_diff;
 mod shared_audit;
 mod since;

@@ -7,12 +7,13 @@ ghost use Rattle.pmp_audit.specs.LongAudit.{LongAuditSays, StopsLong};
 
 mod listing;
 mod reading;
+mod reporting;
 mod standing;
 mod writing;
 
 use crate::fault::AuditFault;
 use crate::long_audit::standing::Standing;
-use crate::long_audit::writing::write_piece;
+use crate::long_audit::writing::{write_and_cut, write_piece};
 use crate::trace_audit::Summary;
 use pmp_text::{Cut, InputFault, Script, cut_piece, read_script};
 use std::alloc::Global;
@@ -23,14 +24,15 @@ use std::thread::Threads;
 pub const PIECE: usize = 1 << 23;
 
 /// Answers as [`audit`](crate::audit) does, but of a trace of any length, whose first row has the number `first`, and
-/// in memory for a piece of at most `limit` bytes.
+/// in memory for two pieces of at most `limit` bytes.
 ///
-/// The trace is cut at line ends. Each piece is read, decided and reported before the next one is taken, so a refusal
-/// but `Script` may come behind rows that are written. `TooLong` is answered where as many bytes as a piece has, but
-/// one, have no line's end.
+/// The trace is cut at line ends. Each piece is decided and reported before the one behind the next is taken, so a
+/// refusal but `Script` may come behind rows that are written. `TooLong` is answered where as many bytes as a piece
+/// has, but one, have no line's end.
 ///
 /// The rows of a piece are read, and then decided, in `jobs` parts at a time, each on a thread of its own where one can
-/// be made; all have ended when the call answers. None is started for a `jobs` of 0 or 1.
+/// be made, while the calling thread takes the next piece; all have ended when the call answers. None is started for a
+/// `jobs` of 0 or 1.
 pub fn audit_long<T: Threads + Sync, R: Read, W: Write>(
     rt: &T,
     alloc: Global,
@@ -70,10 +72,13 @@ fn audit_pieces<T: Threads + Sync, R: Read, W: Write>(
 {
     let mut held = Vec::new(alloc);
     let mut standing = Standing::beginning(first);
+    let mut cut = cut_piece(alloc, reader, &mut held, limit);
     for _count in 0..u64::MAX {
-        match cut_piece(alloc, reader, &mut held, limit) {
+        match cut {
             Ok(Cut::Front(text)) => {
-                standing = write_piece(rt, alloc, jobs, script, &text, standing, writer)?;
+                (standing, cut) = write_and_cut(
+                    rt, alloc, jobs, script, &text, standing, reader, &mut held, limit, writer,
+                )?;
             }
             Ok(Cut::Last(text)) => {
                 return write_piece(rt, alloc, jobs, script, &text, standing, writer)?.end(first);

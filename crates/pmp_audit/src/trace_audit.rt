@@ -10,7 +10,7 @@ ghost use Rattle.pmp_audit.specs.TraceAudit.{AuditSays, AuditRefuses};
 
 use crate::answer::write_answer;
 use crate::fault::AuditFault;
-use crate::replay::Replay;
+use crate::report::{list_rows, refusals};
 use pmp_core::Decision;
 use pmp_text::{Row, Script, read_script, read_trace, write_row};
 use std::alloc::{AllocError, Global};
@@ -53,30 +53,12 @@ fn write_report(report: &mut Vec<u8>, script: &Script, rows: &[Row]) -> Result<S
     requires { IsInOrder (length script.now.batches) 0 (afters (map row_fields rows.now)) }
     ensures { IfOk result (IsReported script.now rows.now report.old.items report.new.items) }
 {
-    let mut replay = Replay::new(script);
-    let mut summary = Summary::default();
-    for row in rows {
-        replay.advance(row.after);
-        let decision = replay.decide(&row.access);
-        summary.add_row(report, row, decision)?;
-    }
-    Ok(summary)
+    let faults = list_rows(report, script, rows, 1)?;
+    let rows = rows.len() as u64;
+    Ok(Summary { rows, faults })
 }
 
 impl Summary {
-    /// One more row, which was decided so.
-    fn count(&mut self, decision: Decision)
-        requires rows { self.old.rows + 1 < 2 ^ 64 }
-        requires faults { self.old.faults ≤ self.old.rows }
-        ensures rows { self.new.rows ≡ self.old.rows + 1 }
-        ensures faults { self.new.faults ≡ self.old.faults + (if decision.allowed then 0 else 1) }
-    {
-        self.rows += 1;
-        if !decision.allowed {
-            self.faults += 1;
-        }
-    }
-
     /// One more row, which was decided so, appended to a report.
     pub(crate) fn add_row(
         &mut self,
@@ -91,7 +73,8 @@ impl Summary {
         ensures report { OnOk result
             (report.new.items ≡ report.old.items ++ report_row self.new.rows row.now.access decision) }
     {
-        self.count(decision);
+        self.rows += 1;
+        self.faults += refusals(decision);
         write_row(report, self.rows, &row.access, &decision)
     }
 }

@@ -35,7 +35,8 @@ module _ (publications : ℕ) where
   behind true last next rows e = e
   behind false last next rows e = absurd cc
 
-  piece_in_order : (begun : Bool) (last : Option ℕ) (next : ℕ) (records : Records)
+  -- the rows of a piece without a fault are in order
+  pub piece_in_order : (begun : Bool) (last : Option ℕ) (next : ℕ) (records : Records)
       → first_fault_at publications begun last next records ≡ None
       → IsInOrder publications 0 (afters (filter_map row_of_record (row_records begun records)))
   piece_in_order true last next records e = rows_from_none last next records e

@@ -13,7 +13,7 @@ use std::io::Read;
 use std::mem;
 
 /// The most bytes that one read asks for.
-const CHUNK: usize = 8 * 1024;
+const CHUNK: usize = 64 * 1024;
 
 /// A piece of what a reader gives.
 #[derive(Drop)]

@@ -154,7 +154,8 @@ Exit status:
 With --long a trace may have any length, and --jobs and --first-row may be said;
 --checkers may not. It is taken piece by piece, and each piece's rows are
 written once they are decided: a refusal may come behind rows. Those are rows
-of the answer all the same, from the first on.
+of the answer all the same, from the first on. Where standard error is a
+terminal and standard output isn't, a line there says how much was read.
 
 Example:
   printf 'after,mode,kind,start,length\\n0,M,load,0x0,8\\n' > trace.csv

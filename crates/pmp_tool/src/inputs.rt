@@ -6,11 +6,13 @@ ghost use Rattle.pmp_text.specs.declared.trace.reader.TheConstants.{MAX_TRACE};
 ghost use Rattle.pmp_tool.specs.Inputs.{AreBytesOf, CantBeOpened, CantBeRead, GivesBytesOf};
 
 use crate::kept::Kept;
+use crate::progress::{ProgressLine, Watched};
 use crate::trace_input::TraceInput;
 use pmp_text::{InputFault, read_script_bytes, read_trace_bytes};
 use std::fs;
-use std::io::Read;
+use std::io::{Read, Write};
 use std::rt::Files;
+use std::time::Clock;
 
 /// The inputs that the program's words name.
 pub trait Inputs {
@@ -46,21 +48,28 @@ pub trait Inputs {
 
 /// The files of the system. The path `stdin` means standard input.
 #[derive(Drop)]
-pub struct SystemInputs<'a, R> {
+pub struct SystemInputs<'a, R, E> {
     runtime: &'a R,
+    /// Where it is shown how far a trace was read little by little.
+    terminal: Option<E>,
     kept: Kept,
 }
 
-impl<'a, R: AllocGlobal> SystemInputs<'a, R> {
+impl<'a, R: AllocGlobal, E> SystemInputs<'a, R, E> {
     /// What is read is kept too, where that is said.
-    pub fn new(runtime: &'a R, keeps: bool) -> Self {
+    pub fn new(runtime: &'a R, terminal: Option<E>, keeps: bool) -> Self {
         let kept = Kept::new(runtime.alloc(), keeps);
-        SystemInputs { runtime, kept }
+        SystemInputs {
+            runtime,
+            terminal,
+            kept,
+        }
     }
 }
 
-impl<R: Files + Input + AllocGlobal> Inputs for SystemInputs<'_, R> {
-    type Trace = TraceInput<R>;
+impl<'a, R: Files + Input + AllocGlobal + Clock, E: Write + Drop> Inputs
+    for SystemInputs<'a, R, E> {
+    type Trace = Watched<'a, TraceInput<R>, R, E>;
 
     fn script(&mut self, path: &str) -> Result<Vec<u8>, InputFault> {
         self.kept.begin(path);
@@ -76,9 +85,11 @@ impl<R: Files + Input + AllocGlobal> Inputs for SystemInputs<'_, R> {
         Ok(trace)
     }
 
-    fn open_trace(&mut self, path: &str) -> Result<TraceInput<R>, InputFault> {
+    fn open_trace(&mut self, path: &str) -> Result<Self::Trace, InputFault> {
         self.kept.begin(path);
-        Ok(TraceInput::open(self.runtime, path)?)
+        let input = TraceInput::open(self.runtime, path)?;
+        let line = ProgressLine::new(self.runtime, self.terminal.take());
+        Ok(Watched::new(input, line))
     }
 
     fn kept(&self) -> &Kept {

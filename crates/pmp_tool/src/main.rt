@@ -15,6 +15,7 @@ mod jobs;
 mod kept;
 mod only_word;
 mod outcome;
+mod progress;
 mod refusal;
 mod run;
 mod topics;
@@ -26,7 +27,7 @@ use inputs::SystemInputs;
 use refusal::Refusal;
 use run::run_tool;
 use std::env;
-use std::io::ErrorKind;
+use std::io::{ErrorKind, IsTerminal};
 use std::process::ExitCode;
 
 fn main(rt: HostRuntime) -> ExitCode {
@@ -37,7 +38,10 @@ fn main(rt: HostRuntime) -> ExitCode {
             return ExitCode::from(refusal.status());
         }
     };
-    let mut inputs = SystemInputs::new(&rt, asks_to_explain(&words));
+    let terminal = rt.stderr();
+    let shows = terminal.is_terminal() && !rt.stdout().is_terminal();
+    let shown = shows.then_some(terminal);
+    let mut inputs = SystemInputs::new(&rt, shown, asks_to_explain(&words));
     ExitCode::from(run_tool(
         &rt,
         rt.alloc(),

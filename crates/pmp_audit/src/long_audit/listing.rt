@@ -1,106 +1,106 @@
-//! The report of rows, made by several threads.
+//! The report of a piece's rows, made by several threads.
 
-ghost use Rattle.std.specs.Prelude.{◌≡◌, ◌+◌, ◌++◌, ◌^◌, ◌<◌, ◌≤◌, [], IfOk, length, map, if◌then◌else◌};
+ghost use Rattle.std.specs.Prelude.{◌≡◌, ◌+◌, ◌++◌, ◌^◌, ◌<◌, [], IfOk, length, map};
 ghost use Rattle.std.specs.Thread.{IsSync};
 ghost use Rattle.pmp_text.specs.TraceFaults.{IsInOrder, afters};
 ghost use Rattle.pmp_text.specs.Traces.{row_fields};
-ghost use Rattle.pmp_audit.specs.LongPieces.{IsListed};
+ghost use Rattle.pmp_audit.specs.LongParts.{items_of};
+ghost use Rattle.pmp_audit.specs.Report.{IsListed};
 
-use crate::replay::Replay;
-use pmp_core::Decision;
-use pmp_text::{Row, Script, write_row};
+use crate::report::list_rows;
+use pmp_text::{Row, Script};
 use std::alloc::{AllocError, Global};
 use std::thread;
 use std::thread::Threads;
 
-/// The report of rows, and how many of their accesses are refused.
+/// The report of rows, a text for each part, and how many of their accesses are refused.
 #[derive(Drop)]
 pub struct Listing {
-    pub text: Vec<u8>,
+    pub texts: Vec<Vec<u8>>,
     pub faults: u64,
 }
 
-/// The report of rows, the first with this number, in so many parts at a time.
+/// The report of rows, the first with this number, of all parts at a time.
 #[cycle(listing)]
 pub fn list_parts<T: Threads + Sync>(
     rt: &T,
     alloc: Global,
-    parts: usize,
     script: &Script,
-    rows: &[Row],
+    parts: &[Vec<Row>],
     first: u64,
 ) -> Result<Listing, AllocError>
-    requires order { IsInOrder (length script.now.batches) 0 (afters (map row_fields rows.now)) }
-    requires room { first + length rows.now < 2 ^ 64 }
-    ensures { IfOk result (λ listing. IsListed script.now rows.now first [] listing.text.items listing.faults) }
+    requires order { IsInOrder (length script.now.batches) 0 (afters (map row_fields (items_of parts.now))) }
+    requires room { first + length (items_of parts.now) < 2 ^ 64 }
+    ensures { IfOk result (λ listing.
+        IsListed script.now (items_of parts.now) first [] (items_of listing.texts.items) listing.faults) }
 {
-    if parts < 2 {
-        let mut text = Vec::new(alloc);
-        let faults = list_rows(&mut text, script, rows, first)?;
-        return Ok(Listing { text, faults });
+    if parts.len() < 2 {
+        return list_part(alloc, script, parts, first);
     }
-    let half = parts / 2;
-    let (low, high) = rows.split_at(rows.len() / 2);
-    let middle = first + low.len() as u64;
+    let (low, high) = parts.split_at(parts.len() / 2);
+    let middle = first + count_rows(low);
     let front = move || -> Result<Listing, AllocError>
-        requires { IsSync T.row × (0 < half)
-            × IsInOrder (length script.now.batches) 0 (afters (map row_fields low.now))
-            × (first + length low.now < 2 ^ 64) }
-        ensures { IfOk result (λ listing. IsListed script.entry.now low.entry.now first [] listing.text.items
-            listing.faults) }
-    { list_parts(rt, alloc, half, script, low, first) };
+        requires { IsSync T.row × IsInOrder (length script.now.batches) 0 (afters (map row_fields (items_of low.now)))
+            × (first + length (items_of low.now) < 2 ^ 64) }
+        ensures { IfOk result (λ listing. IsListed script.entry.now (items_of low.entry.now) first []
+            (items_of listing.texts.items) listing.faults) }
+    { list_parts(rt, alloc, script, low, first) };
     let back = move || -> Result<Listing, AllocError>
-        requires { IsSync T.row × (half < parts)
-            × IsInOrder (length script.now.batches) 0 (afters (map row_fields high.now))
-            × (middle + length high.now < 2 ^ 64) }
-        ensures { IfOk result (λ listing. IsListed script.entry.now high.entry.now middle [] listing.text.items
-            listing.faults) }
-    { list_parts(rt, alloc, parts - half, script, high, middle) };
+        requires { IsSync T.row × IsInOrder (length script.now.batches) 0 (afters (map row_fields (items_of high.now)))
+            × (middle + length (items_of high.now) < 2 ^ 64) }
+        ensures { IfOk result (λ listing. IsListed script.entry.now (items_of high.entry.now) middle []
+            (items_of listing.texts.items) listing.faults) }
+    { list_parts(rt, alloc, script, high, middle) };
     let (front, back) = thread::join(rt, front, back);
     join_listings(front?, back?)
 }
 
-/// One report behind another.
+/// How many rows the parts have.
+fn count_rows(parts: &[Vec<Row>]) -> u64
+    requires { length (items_of parts.now) < 2 ^ 64 }
+    ensures { result ≡ length (items_of parts.now) }
+{
+    let mut count = 0;
+    for part in parts {
+        count += part.len() as u64;
+    }
+    count
+}
+
+/// The report of at most one part.
+fn list_part(
+    alloc: Global,
+    script: &Script,
+    parts: &[Vec<Row>],
+    first: u64,
+) -> Result<Listing, AllocError>
+    requires one { length parts.now < 2 }
+    requires order { IsInOrder (length script.now.batches) 0 (afters (map row_fields (items_of parts.now))) }
+    requires room { first + length (items_of parts.now) < 2 ^ 64 }
+    ensures { IfOk result (λ listing.
+        IsListed script.now (items_of parts.now) first [] (items_of listing.texts.items) listing.faults) }
+{
+    let mut texts = Vec::new(alloc);
+    match parts.first() {
+        None => Ok(Listing { texts, faults: 0 }),
+        Some(rows) => {
+            let mut text = Vec::new(alloc);
+            let faults = list_rows(&mut text, script, rows, first)?;
+            texts.push(text)?;
+            Ok(Listing { texts, faults })
+        }
+    }
+}
+
+/// The report of some parts, and that of the parts behind them.
 fn join_listings(mut front: Listing, mut back: Listing) -> Result<Listing, AllocError>
     requires { front.faults + back.faults < 2 ^ 64 }
-    ensures { IfOk result (λ listing. (listing.text.items ≡ front.text.items ++ back.text.items)
+    ensures { IfOk result (λ listing. (listing.texts.items ≡ front.texts.items ++ back.texts.items)
         × (listing.faults ≡ front.faults + back.faults)) }
 {
-    front.text.append(&mut back.text)?;
+    front.texts.append(&mut back.texts)?;
     Ok(Listing {
-        text: front.text,
+        texts: front.texts,
         faults: front.faults + back.faults,
     })
-}
-
-/// Appends the report of rows, the first with this number: how many accesses are refused.
-fn list_rows(
-    report: &mut Vec<u8>,
-    script: &Script,
-    rows: &[Row],
-    first: u64,
-) -> Result<u64, AllocError>
-    requires order { IsInOrder (length script.now.batches) 0 (afters (map row_fields rows.now)) }
-    requires room { first + length rows.now < 2 ^ 64 }
-    ensures listed { IfOk result (IsListed script.now rows.now first report.old.items report.new.items) }
-    ensures few { IfOk result (λ faults. faults ≤ length rows.now) }
-{
-    let mut replay = Replay::new(script);
-    let mut number = first;
-    let mut faults = 0;
-    for row in rows {
-        replay.advance(row.after);
-        let decision = replay.decide(&row.access);
-        write_row(report, number, &row.access, &decision)?;
-        number += 1;
-        faults += refusals(decision);
-    }
-    Ok(faults)
-}
-
-/// How many accesses one decision refuses.
-fn refusals(decision: Decision) -> u64
-    ensures { result ≡ if decision.allowed then 0 else 1 }
-{
-    if decision.allowed { 0 } else { 1 }
 }

@@ -2,17 +2,24 @@
 
 ghost use Rattle.std.specs.Prelude.{◌≡◌, ◌<◌, IfErr, IfOk, IfSome, IsTrue, length, map, slice_index, true};
 ghost use Rattle.std.specs.Thread.{IsSync};
-ghost use Rattle.pmp_text.specs.LongTraces.{IsReadAs, is_line_end, piece_fault, place_behind, row_records};
+ghost use Rattle.pmp_text.specs.LongTraces.{is_line_end, piece_fault, place_behind, row_records};
 ghost use Rattle.pmp_text.specs.Outcomes.{no_memory_for_rows};
 ghost use Rattle.pmp_text.specs.Tables.{records_of};
 ghost use Rattle.pmp_text.specs.TraceFaults.{IsInOrder, afters};
 ghost use Rattle.pmp_text.specs.Traces.{row_fields};
-ghost use Rattle.pmp_audit.specs.LongParts.{AreJoined, Follows, within_trace};
+ghost use Rattle.pmp_audit.specs.LongParts.{AreJoined, AreReadAs, Follows, items_of, within_trace};
 
 use pmp_text::{Piece, Place, Row, TraceFault, TraceKind, read_piece};
 use std::alloc::Global;
 use std::thread;
 use std::thread::Threads;
+
+/// The rows of a piece, in the parts in which they were read, and where the next piece stands.
+#[derive(Drop)]
+pub struct Parts {
+    pub rows: Vec<Vec<Row>>,
+    pub place: Place,
+}
 
 /// Where a part stands for which no other has been read yet.
 const WITHIN: Place = Place {
@@ -27,7 +34,7 @@ const NO_MEMORY: TraceFault = TraceFault {
 };
 
 /// Reads a piece as [`read_piece`] does, in so many parts at a time. Where a part has a fault, or doesn't go on from
-/// the one before, the piece is read in one.
+/// the one before, the piece is read as one part.
 #[cycle(reading)]
 pub fn read_parts<T: Threads + Sync>(
     rt: &T,
@@ -36,36 +43,57 @@ pub fn read_parts<T: Threads + Sync>(
     text: &[u8],
     publications: u64,
     place: Place,
-) -> Result<Piece, TraceFault>
-    ensures given { IsReadAs (piece_fault publications place (records_of text.now))
+) -> Result<Parts, TraceFault>
+    ensures given { AreReadAs (piece_fault publications place (records_of text.now))
         (row_records place.begun (records_of text.now)) (place_behind place (records_of text.now)) result }
-    ensures ordered { IfOk result (λ piece. IsInOrder publications 0 (afters (map row_fields piece.rows.items))) }
+    ensures ordered { IfOk result (λ parts.
+        IsInOrder publications 0 (afters (map row_fields (items_of parts.rows.items)))) }
 {
     if parts < 2 {
-        return read_piece(alloc, text, publications, place);
+        return read_part(alloc, text, publications, place);
     }
     let Some(end) = middle_line_end(text) else {
-        return read_piece(alloc, text, publications, place);
+        return read_part(alloc, text, publications, place);
     };
     let half = parts / 2;
     let low = &text[..=end];
     let high = &text[end..];
-    let front = move || -> Result<Piece, TraceFault>
+    let front = move || -> Result<Parts, TraceFault>
         requires { IsSync T.row × (0 < half) }
-        ensures { IsReadAs (piece_fault publications place (records_of low.entry.now))
+        ensures { AreReadAs (piece_fault publications place (records_of low.entry.now))
             (row_records place.begun (records_of low.entry.now)) (place_behind place (records_of low.entry.now))
             result }
     { read_parts(rt, alloc, half, low, publications, place) };
-    let back = move || -> Result<Piece, TraceFault>
+    let back = move || -> Result<Parts, TraceFault>
         requires { IsSync T.row × (half < parts) }
-        ensures { IsReadAs (piece_fault publications within_trace (records_of high.entry.now))
+        ensures { AreReadAs (piece_fault publications within_trace (records_of high.entry.now))
             (records_of high.entry.now) (place_behind within_trace (records_of high.entry.now)) result }
     { read_parts(rt, alloc, parts - half, high, publications, WITHIN) };
     let (front, back) = thread::join(rt, front, back);
     match joined(front, back)? {
-        Some(piece) => Ok(piece),
-        None => read_piece(alloc, text, publications, place),
+        Some(both) => Ok(both),
+        None => read_part(alloc, text, publications, place),
     }
+}
+
+/// Reads a piece as one part, or as none where it has no row.
+fn read_part(
+    alloc: Global,
+    text: &[u8],
+    publications: u64,
+    place: Place,
+) -> Result<Parts, TraceFault>
+    ensures given { AreReadAs (piece_fault publications place (records_of text.now))
+        (row_records place.begun (records_of text.now)) (place_behind place (records_of text.now)) result }
+    ensures ordered { IfOk result (λ parts.
+        IsInOrder publications 0 (afters (map row_fields (items_of parts.rows.items)))) }
+{
+    let Piece { rows: part, place } = read_piece(alloc, text, publications, place)?;
+    let mut rows = Vec::new(alloc);
+    if !part.is_empty() {
+        rows.push(part)?;
+    }
+    Ok(Parts { rows, place })
 }
 
 /// The place of the first line's end in the second half.
@@ -82,9 +110,9 @@ fn middle_line_end(text: &[u8]) -> Option<usize>
 
 /// Two parts as one, where both could be read, and the back one goes on from the front one.
 fn joined(
-    front: Result<Piece, TraceFault>,
-    back: Result<Piece, TraceFault>,
-) -> Result<Option<Piece>, TraceFault>
+    front: Result<Parts, TraceFault>,
+    back: Result<Parts, TraceFault>,
+) -> Result<Option<Parts>, TraceFault>
     ensures ok { IfOk result (λ joined. IfSome joined (AreJoined front back)) }
     ensures err { IfErr result (λ fault. fault ≡ no_memory_for_rows) }
 {
@@ -112,13 +140,13 @@ fn joined(
         last,
         next,
     };
-    Ok(Some(Piece {
+    Ok(Some(Parts {
         rows: front.rows,
         place,
     }))
 }
 
-fn lacks_memory(part: &Result<Piece, TraceFault>) -> bool {
+fn lacks_memory(part: &Result<Parts, TraceFault>) -> bool {
     match part {
         Ok(_) => false,
         Err(fault) => matches!(fault.kind, TraceKind::Memory),
@@ -126,12 +154,14 @@ fn lacks_memory(part: &Result<Piece, TraceFault>) -> bool {
 }
 
 /// Whether these rows may stand behind that place: the header was read, and the first asks for no fewer publications
-/// than the row before it.
-fn goes_on(place: Place, rows: &[Row]) -> bool
-    ensures { IsTrue result → (place.begun ≡ true) × Follows place.last rows.now }
+/// than the row before it. No part is empty that was read.
+fn goes_on(place: Place, parts: &[Vec<Row>]) -> bool
+    ensures { IsTrue result → (place.begun ≡ true) × Follows place.last (items_of parts.now) }
 {
-    match (place.last, rows.first()) {
-        (Some(last), Some(row)) => place.begun && last <= row.after,
+    match (place.last, parts.first()) {
+        (Some(last), Some(part)) => {
+            place.begun && part.first().is_some_and(|row| last <= row.after)
+        }
         _ => place.begun,
     }
 }

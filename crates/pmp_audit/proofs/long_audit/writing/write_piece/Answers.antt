@@ -1,41 +1,19 @@
-use Rattle.std.proofs.Common.{rules, [], Err, ◌≡◌, refl, arith}
-use Rattle.pmp_text.specs.Tables.{records_of}
+use Rattle.std.proofs.Common.{rules, ◌≡◌, Err}
 use Rattle.pmp_audit.specs.declared.fault.AuditFault.TheVariants.{Output}
-use Rattle.pmp_audit.proofs.LongReports.{few_refused, piece_says, rows_fit, rows_small}
+use Rattle.pmp_audit.proofs.LongReports.{fails_unwritten, report_cut_short, report_written}
 use Rattle.pmp_audit.proofs.long_audit.writing.write_piece.Goals as goal
 
-pub list_parts-requires-clause-room : goal.list_parts-requires-clause-room
-list_parts-requires-clause-room g c =
-    let fit =
-    rows_fit _ c.args.standing.place (records_of c.args.text.now) c.in_ok-piece.piece c.in_ok-piece.ensures.given in
-    let small = rows_small _ c.args.standing.place (records_of c.args.text.now) c.in_ok-piece.piece
-    c.in_ok-piece.ensures.given in
-    rw c.deref.ensures.value (omega arith)
+pub returns-clause-ok : goal.returns-clause-ok
+returns-clause-ok g c = report_written _ _ _ c.in_ok-report.report c.in_ok-report.ensures.ok _ _
+    (rw c.deref.ensures.value at c.in_ok-write_texts.ensures.ok)
 
-pub overflow_add-result : goal.overflow_add-result
-overflow_add-result g c =
-    let fit =
-    rows_fit _ c.args.standing.place (records_of c.args.text.now) c.in_ok-piece.piece c.in_ok-piece.ensures.given in
-    let listed = rw c.deref.ensures.value at c.in_ok-listing.ensures in
-    let few = few_refused _ _ _ _ _ _ listed in
-    let small = rows_small _ c.args.standing.place (records_of c.args.text.now) c.in_ok-piece.piece
-    c.in_ok-piece.ensures.given in
-    let within = c.requires in
-    omega arith
+pub returns-in_err-report-clause-err : goal.returns-in_err-report-clause-err
+returns-in_err-report-clause-err g c =
+    let stopped : c.from_residual.result ≡ Err c.in_err-report.field-0.0 = search rules in
+    rw stopped (fails_unwritten _ _ _ _ c.in_err-report.field-0.0 c.in_err-report.ensures.err)
 
-pub returns-clause-within : goal.returns-clause-within
-returns-clause-within g c =
-    let fit =
-    rows_fit _ c.args.standing.place (records_of c.args.text.now) c.in_ok-piece.piece c.in_ok-piece.ensures.given in
-    let listed = rw c.deref.ensures.value at c.in_ok-listing.ensures in
-    let few = few_refused _ _ _ _ _ _ listed in
-    let within = c.requires in
-    omega arith
-
-pub returns-in_err-write_out-clause-err : goal.returns-in_err-write_out-clause-err
-returns-in_err-write_out-clause-err g c =
-    let stopped : c.from_residual-in_err-write_out.result ≡ Err Output = search rules in
-    let says = piece_says c.args.script.now (records_of c.args.text.now) c.args.standing c.in_ok-piece.piece
-    [] _ c.deref-2.result.now _ (rw c.batches.ensures at c.in_ok-piece.ensures.given)
-    (rw c.deref.ensures.value at c.in_ok-listing.ensures) refl c.deref-2.ensures.value in
-    rw stopped (c.in_ok-listing.listing.faults, c.deref-2.result.now, says, c.in_err-write_out.ensures.err)
+pub returns-in_err-write_texts-clause-err : goal.returns-in_err-write_texts-clause-err
+returns-in_err-write_texts-clause-err g c =
+    let stopped : c.from_residual-in_err-write_texts.result ≡ Err Output = search rules in
+    rw stopped (report_cut_short _ _ _ c.in_ok-report.report c.in_ok-report.ensures.ok _ _
+    (rw c.deref.ensures.value at c.in_err-write_texts.ensures.err))

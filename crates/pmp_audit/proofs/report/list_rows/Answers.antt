@@ -4,7 +4,7 @@ use Rattle.pmp_text.specs.Contents.{ScriptContents}
 use Rattle.pmp_text.specs.Reports.{file_of_script}
 use Rattle.pmp_audit.proofs.LongReports.{none_listed, one_listed_more}
 use Rattle.pmp_audit.proofs.Reports.{one_more, order_of_rest, so_many}
-use Rattle.pmp_audit.proofs.long_audit.listing.list_rows.Goals as goal
+use Rattle.pmp_audit.proofs.report.list_rows.Goals as goal
 
 pub loop-row-init : goal.loop-row-init
 loop-row-init c =

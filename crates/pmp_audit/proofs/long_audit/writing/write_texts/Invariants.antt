@@ -1,0 +1,9 @@
+use Rattle.std.proofs.Common.{take}
+use Rattle.std.specs.Io.KnownBytes.{Appends}
+use Rattle.pmp_audit.specs.LongParts.{items_of}
+use Rattle.pmp_audit.proofs.long_audit.writing.write_texts.Given as goal
+
+-- the texts so far are written
+abbrev pub invariant-loop-text : goal.invariant-loop-text
+invariant-loop-text g l = Appends (g.W.Write.contents l.initial.writer) (g.W.Write.contents l.writer)
+    (items_of (take l.text-index l.texts))
