@@ -1,2 +1,3 @@
 -- What a hart of the example keeps.
 pub mod Pages
+pub mod Tlb

@@ -1,11 +1,14 @@
 //! A hart: its checker, and before that a TLB of the rights of pages.
 
-ghost use Rattle.std.specs.Prelude.{◌≡◌, ◌+◌, ◌≤◌};
+ghost use Rattle.std.specs.Prelude.{◌≡◌, ◌++◌, ◌∷◌, []};
+ghost use Rattle.pmp_share.specs.Looks.{KeepsBound};
 ghost use Rattle.pmp_harts.specs.declared.hart.TheConstants.{PAGE};
 ghost use Rattle.pmp_harts.specs.Pages.{allows_at, count_at, HasRights, IsInside};
 
 use pmp_core::{Access, Mode, Perms};
-use pmp_share::Checker;
+use pmp_share::laws::law_same_events;
+use pmp_share::{Checker, Notice};
+use std::marker::Model;
 use std::snapshot::Snapshot;
 
 const PAGE: u64 = 4096;
@@ -17,9 +20,31 @@ pub struct Answer {
     pub allowed: bool,
     pub events: u64,
     pub by_tlb: bool,
-    seen: Snapshot<Snapshot<Checker>>,
-    ghost decided: { allowed ≡ allows_at seen.value.value access },
-    ghost counted: { events ≡ count_at seen.value.value },
+    seen: Snapshot<Checker>,
+    ghost decided: { allowed ≡ allows_at seen.value access },
+    ghost counted: { events ≡ count_at seen.value },
+}
+
+impl Answer {
+    fn of(
+        seen: Snapshot<Checker>,
+        access: &Access,
+        allowed: bool,
+        events: u64,
+        by_tlb: bool,
+    ) -> Answer
+        requires decided { allowed ≡ allows_at seen.value access.now }
+        requires counted { events ≡ count_at seen.value }
+        ensures { (result.access ≡ access.now) × (result.allowed ≡ allowed) × (result.events ≡ events) }
+    {
+        Answer {
+            access: *access,
+            allowed,
+            events,
+            by_tlb,
+            seen,
+        }
+    }
 }
 
 /// What a mode may do in a page, in the registers of so many events.
@@ -35,71 +60,85 @@ struct Page {
 }
 
 impl Page {
-    fn answer(&self, access: &Access, by_tlb: bool) -> Answer
+    /// Whether the page's rights allow an access that lies in it.
+    fn allows(&self, access: &Access) -> bool
         requires { IsInside access.now self.now.mode self.now.start PAGE }
-        ensures { (result.access ≡ access.now) × (result.events ≡ self.now.events) }
+        ensures { result ≡ allows_at self.now.seen.value access.now }
     {
-        Answer {
-            access: *access,
-            allowed: self.rights.allows(access.kind),
-            events: self.events,
-            by_tlb,
-            seen: Snapshot::of(&self.seen),
-        }
+        self.rights.allows(access.kind)
     }
 }
 
-/// A hart of an emulator.
+/// A hart of an emulator. A contract sees its checker: the TLB's pages are of registers that this had or has.
 #[derive(Drop)]
 pub struct Hart {
-    pub checker: Checker,
+    checker: Checker,
     tlb: [Option<Page>; 4],
+}
+
+impl Model for Hart {
+    ghost use Rattle.pmp_share.specs.Tokens.{CheckerToken};
+    ghost use Rattle.pmp_harts.specs.Tlb.{AreBehind};
+
+    ghost Value = { CheckerToken };
+
+    ghost view = { λ hart. hart.checker };
+
+    ghost invariant = { λ hart. AreBehind hart.checker hart.tlb };
 }
 
 impl Hart {
     /// A hart whose TLB is empty.
     pub fn new(checker: Checker) -> Hart
-        ensures { result.checker ≡ checker }
+        ensures { result ≡ checker }
     {
         let tlb = [None, None, None, None];
         Hart { checker, tlb }
     }
 
-    /// Answers an access, by the TLB where that holds its page as of just the events that are published.
-    pub fn answer(&mut self, access: &Access) -> Answer
-        ensures unit { self.new.checker.unit ≡ self.old.checker.unit }
-        ensures same { result.access ≡ access.now }
-        ensures fresh { result.events ≡ count_at self.new.checker }
+    /// Takes in a notice of its unit, at a remote fence.
+    pub fn learn(&mut self, notice: Notice)
+        requires { notice.unit ≡ self.old.unit }
+        ensures unit { self.new.unit ≡ self.old.unit }
+        ensures held { self.new.held ≡ self.old.held ++ notice.told ∷ [] }
     {
-        let events = self.checker.count();
-        let (mode, start) = (access.mode, access.start - access.start % PAGE);
+        self.checker.learn(notice);
+    }
+
+    /// Answers an access as the checker would where it stands now, by the TLB where that holds its page as of just the
+    /// events that are published.
+    pub fn answer(&mut self, access: &Access) -> Answer
+        ensures unit { self.new.unit ≡ self.old.unit }
+        ensures bound { KeepsBound self.old.held self.new.held }
+        ensures same { result.access ≡ access.now }
+        ensures decided { result.allowed ≡ allows_at self.new access.now }
+        ensures fresh { result.events ≡ count_at self.new }
+    {
+        law_same_events();
+        let (events, start) = (self.checker.count(), access.start - access.start % PAGE);
         let place = (start / PAGE % 4) as usize;
         if access.start + access.length <= start + PAGE {
             if let Some(page) = &self.tlb[place]
-                && (page.mode, page.start, page.events) == (mode, start, events)
+                && (page.mode, page.start, page.events) == (access.mode, start, events)
             {
-                return page.answer(access, true);
+                let allowed = page.allows(access);
+                return Answer::of(Snapshot::of(&self.checker), access, allowed, events, true);
             }
-            if let (Some(rights), events) = self.checker.rights(mode, start, PAGE) {
+            if let (Some(rights), events) = self.checker.rights(access.mode, start, PAGE) {
                 let page = Page {
-                    mode,
+                    mode: access.mode,
                     start,
                     rights,
                     events,
                     seen: Snapshot::of(&self.checker),
                 };
-                let answer = page.answer(access, false);
+                let allowed = page.allows(access);
                 self.tlb[place] = Some(page);
-                return answer;
+                return Answer::of(Snapshot::of(&self.checker), access, allowed, events, false);
             }
         }
         let (decision, events) = self.checker.decide(access);
-        Answer {
-            access: *access,
-            allowed: decision.allowed,
-            events,
-            by_tlb: false,
-            seen: Snapshot::of(&Snapshot::of(&self.checker)),
-        }
+        let allowed = decision.allowed;
+        Answer::of(Snapshot::of(&self.checker), access, allowed, events, false)
     }
 }

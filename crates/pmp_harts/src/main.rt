@@ -16,21 +16,23 @@ use std::sync::{Arc, Wait};
 use std::thread::Threads;
 use std::{io, thread};
 
-/// Entries 0 and 1 have a page each, and the first domain may use that of entry 0.
+/// Entries 0 and 1 have two pages each, and the first domain may use those of entry 0.
 const SET_UP: [Event; 3] = [
-    Event::Write(Csr::Addr(0), 0x200001ff),
-    Event::Write(Csr::Addr(1), 0x200005ff),
+    Event::Write(Csr::Addr(0), 0x200003ff),
+    Event::Write(Csr::Addr(1), 0x20000bff),
     Event::Write(Csr::Cfg(0), 0x181b),
 ];
 
-/// Nobody may use either page, and then the second domain that of entry 1.
+/// Nobody may use any of them, and then the second domain those of entry 1.
 const SWITCH: [Event; 2] = [
     Event::Write(Csr::Cfg(0), 0x1818),
     Event::Write(Csr::Cfg(0), 0x1b18),
 ];
 
-/// Where hart 1 loads between notices. How often, and before which of them, is for the schedule to say.
-const BETWEEN: u64 = 0x80002000;
+/// Where hart 1 loads between notices: in a page of entry 0 that no walk fills the TLB with.
+const BETWEEN: u64 = 0x80001000;
+
+type Answers = Vec<Answer>;
 
 /// Starts a unit, which it ends on every answer.
 fn main(rt: HostRuntime) -> ExitCode {
@@ -48,46 +50,46 @@ fn main(rt: HostRuntime) -> ExitCode {
     ExitCode::from(u8::from(show(&rt, journal.events(), &answers).is_err()))
 }
 
-/// Shows the answers that the schedule doesn't change, and whether a replay of what was published gives all of them.
-fn show(rt: &impl Print, events: &[Event], both: &(Vec<Answer>, Vec<Answer>)) -> io::Result<()> {
+/// Shows the answers of the walks of hart 0 and of hart 1, and of hart 1 between notices, and whether a replay of what
+/// was published gives all of them.
+fn show(rt: &impl Print, events: &[Event], all: &(Answers, Answers, Answers)) -> io::Result<()> {
     let mut same = true;
-    for (hart, answers) in [(0, &both.0), (1, &both.1)] {
+    for (hart, answers) in [("0", &all.0), ("1", &all.1), ("1 between notices", &all.2)] {
         for answer in answers.as_slice() {
             let mut file = RegFile::reset();
             file.run_events(events.get(..answer.events as usize).unwrap_or(&[]));
             same = same && file.decide(&answer.access).allowed == answer.allowed;
             let (start, count) = (answer.access.start, answer.events);
-            if start != BETWEEN {
-                let allowed = if answer.allowed { "allowed" } else { "refused" };
-                let by = if answer.by_tlb { "TLB" } else { "unit" };
-                println!(rt; "hart {hart}, {count} events: load {start:#x} {allowed} by the {by}")?;
-            }
+            let allowed = if answer.allowed { "allowed" } else { "refused" };
+            let by = if answer.by_tlb { "TLB" } else { "unit" };
+            println!(rt; "hart {hart}, {count} events: load {start:#x} {allowed} by the {by}")?;
         }
     }
     println!(rt; "a replay answers the same: {same}")
 }
 
-/// Sets the unit up, and runs hart 1 on a thread of its own and hart 0 meanwhile.
+/// Sets the unit up, and runs hart 1 on a thread of its own and hart 0 meanwhile. Answers what `show` shows.
 fn run_harts<R: Threads + Wait + Copy + Send + 'static>(
     rt: &R,
     alloc: Global,
     publisher: &mut Publisher,
     zero: Checker,
     one: Checker,
-) -> Result<(Vec<Answer>, Vec<Answer>), ShareFault>
+) -> Result<(Answers, Answers, Answers), ShareFault>
     requires { (zero.unit ≡ publisher.old.unit) × (one.unit ≡ publisher.old.unit) }
 {
     let (mut sender, receiver) = publisher.notice_ring(alloc, 1)?;
     program(rt, publisher, &mut sender, &SET_UP)?;
     let fenced = Arc::new(alloc, AtomicU64::new(0))?;
     let (runtime, theirs) = (*rt, Arc::try_clone(&fenced)?);
-    let hart = move || -> Result<Vec<Answer>, ShareFault>
+    let hart = move || -> Result<(Answers, Answers), ShareFault>
         requires { receiver.unit ≡ one.unit }
     { run_one(&runtime, alloc, one, receiver, &theirs) };
     let thread = thread::spawn(rt, hart).map_err(|_| ShareFault::NoPlace)?;
     let zero = run_zero(rt, alloc, zero, publisher, sender, &fenced);
     let one = thread.join(rt);
-    Ok((zero?, one?))
+    let (zero, (one, between)) = (zero?, one?);
+    Ok((zero, one, between))
 }
 
 /// Publishes these writes in one step, tells hart 1 of it, and answers how many events are published.
@@ -115,16 +117,16 @@ fn run_zero<R: Wait>(
     publisher: &mut Publisher,
     mut notices: NoticeSender,
     fenced: &AtomicU64,
-) -> Result<Vec<Answer>, ShareFault>
+) -> Result<Answers, ShareFault>
     requires { (notices.unit ≡ publisher.old.unit) × (checker.unit ≡ publisher.old.unit) }
 {
     let (mut hart, mut answers) = (Hart::new(checker), Vec::new(alloc));
-    hart.checker.learn(publisher.tell()?);
+    hart.learn(publisher.tell()?);
     walk(&mut hart, &mut answers)?;
     wait_for(rt, fenced, SET_UP.len() as u64, &mut notices);
     let events = program(rt, publisher, &mut notices, &SWITCH)?;
     wait_for(rt, fenced, events, &mut notices);
-    hart.checker.learn(publisher.tell()?);
+    hart.learn(publisher.tell()?);
     walk(&mut hart, &mut answers)?;
     Ok(answers)
 }
@@ -141,48 +143,54 @@ fn wait_for<R: Wait>(rt: &R, fenced: &AtomicU64, events: u64, notices: &mut Noti
     }
 }
 
-/// Hart 1 learns of each notice and then walks, until nobody sends any more.
+/// Hart 1 learns of each notice and then walks, until nobody sends any more. It loads all the while, and answers what
+/// the walks gave, and of the other loads the first in each number of events.
 fn run_one<R: Wait>(
     rt: &R,
     alloc: Global,
     checker: Checker,
     mut notices: NoticeReceiver,
     fenced: &AtomicU64,
-) -> Result<Vec<Answer>, ShareFault>
+) -> Result<(Answers, Answers), ShareFault>
     requires { notices.unit ≡ checker.unit }
 {
-    let (mut hart, mut answers) = (Hart::new(checker), Vec::new(alloc));
+    let mut hart = Hart::new(checker);
+    let (mut walked, mut between) = (Vec::new(alloc), Vec::new(alloc));
+    let mut seen = None;
     for _ in rt.forever() {
         let is_last = notices.is_abandoned();
+        let answer = load(&mut hart, BETWEEN)?;
+        if seen != Some(answer.events) {
+            seen = Some(answer.events);
+            between.push(answer)?;
+        }
         if let Some(notice) = notices.receive() {
-            hart.checker.learn(notice);
-            walk(&mut hart, &mut answers)?;
-            fenced.store(hart.checker.count(), Ordering::SeqCst);
+            let events = notice.len();
+            hart.learn(notice);
+            walk(&mut hart, &mut walked)?;
+            fenced.store(events, Ordering::SeqCst);
         } else if is_last {
             break;
-        } else if answers.len() < 1000 {
-            load(&mut hart, BETWEEN, &mut answers)?;
-        } else {
-            thread::yield_now();
         }
+        thread::yield_now();
     }
-    Ok(answers)
+    Ok((walked, between))
 }
 
 /// Loads eight bytes in user mode.
-fn load(hart: &mut Hart, start: u64, answers: &mut Vec<Answer>) -> Result<(), ShareFault>
-    ensures { hart.new.checker.unit ≡ hart.old.checker.unit }
+fn load(hart: &mut Hart, start: u64) -> Result<Answer, ShareFault>
+    ensures { hart.new.unit ≡ hart.old.unit }
 {
     let load = Access::new(Mode::U, Kind::Load, start, 8).map_err(|_| ShareFault::NoPlace)?;
-    Ok(answers.push(hart.answer(&load))?)
+    Ok(hart.answer(&load))
 }
 
-/// Loads twice in the first page, across into the second, and twice there.
-fn walk(hart: &mut Hart, answers: &mut Vec<Answer>) -> Result<(), ShareFault>
-    ensures { hart.new.checker.unit ≡ hart.old.checker.unit }
+/// Loads twice in the first page of entry 0, across into entry 1, and twice in its first page.
+fn walk(hart: &mut Hart, answers: &mut Answers) -> Result<(), ShareFault>
+    ensures { hart.new.unit ≡ hart.old.unit }
 {
-    for start in [0x80000000, 0x80000800, 0x80000ffc, 0x80001000, 0x80001800] {
-        load(hart, start, answers)?;
+    for start in [0x80000000, 0x80000800, 0x80001ffc, 0x80002000, 0x80002800] {
+        answers.push(load(hart, start)?)?;
     }
     Ok(())
 }

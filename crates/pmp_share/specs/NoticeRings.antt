@@ -7,9 +7,10 @@ pub record SenderToken : Type 0 where
   pub unit : UnitId
   pub room : ℕ
 
--- the end that receives
+-- the end that receives: whose notices, and how many it surely has still to receive
 pub record ReceiverToken : Type 0 where
   pub unit : UnitId
+  pub waiting : ℕ
 
 -- there is a first notice, which is of this unit
 abbrev pub Began : List NoticeToken → UnitId → Type 0

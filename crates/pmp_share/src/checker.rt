@@ -155,6 +155,17 @@ impl Checker {
         answer
     }
 
+    /// Looks where something was published since the last time.
+    #[inline]
+    fn keep_up(&mut self)
+        ensures unit { self.new.unit ≡ self.old.unit }
+        ensures looked { Looked self.old.held self.new.held }
+        ensures bound { KeepsBound self.old.held self.new.held }
+    {
+        self.listener.keep_up(&mut self.state);
+        self.held = HeldLists::alone(self.state.digest());
+    }
+
     /// How many events the list has that it looks at. If that isn't the count of a TLB, flush the TLB. It waits for
     /// nobody and takes no memory; where nothing was published since the last call it reads one word that threads
     /// share, and enters nothing.
@@ -164,10 +175,8 @@ impl Checker {
         ensures count { result ≡ event_count (latest self.new.held) }
         ensures bound { KeepsBound self.old.held self.new.held }
     {
-        self.listener.keep_up(&mut self.state);
-        let digest = self.state.digest();
-        self.held = HeldLists::alone(digest);
-        digest.events()
+        self.keep_up();
+        self.state.digest().events()
     }
 
     /// What the register reads in what is published, and how many events that is. It waits for nobody and takes no
@@ -179,9 +188,8 @@ impl Checker {
         ensures count { result.1 ≡ event_count (latest self.new.held) }
         ensures bound { KeepsBound self.old.held self.new.held }
     {
-        self.listener.keep_up(&mut self.state);
+        self.keep_up();
         let digest = self.state.digest();
-        self.held = HeldLists::alone(digest);
         (digest.read(csr), digest.events())
     }
 

@@ -1,6 +1,6 @@
 //! Rings of notices, by which they reach a checker whose thread runs on.
 
-ghost use Rattle.std.specs.Prelude.{◌≡◌, ◌+◌, ◌<◌, ◌≤◌, IfOk, IfErr, IfSome, IsOk};
+ghost use Rattle.std.specs.Prelude.{◌≡◌, ◌+◌, ◌<◌, ◌≤◌, IfOk, IfErr, IfSome, IsOk, IsSome};
 ghost use Rattle.pmp_share.specs.declared.fault.ShareFault.TheVariants.{Full};
 
 use crate::fault::ShareFault;
@@ -47,12 +47,16 @@ pub struct NoticeReceiver {
 }
 
 impl Model for NoticeReceiver {
-    ghost use Rattle.rtrb.specs.Ring.{received};
+    ghost use Rattle.std.specs.Prelude.{length};
+    ghost use Rattle.rtrb.specs.Ring.{received, known_items};
     ghost use Rattle.pmp_share.specs.NoticeRings.{ReceiverToken, Began};
 
     ghost Value = { ReceiverToken };
 
-    ghost view = { λ receiver. record { unit = receiver.first.value.unit } };
+    ghost view = { λ receiver. record {
+      unit = receiver.first.value.unit;
+      waiting = length (known_items receiver.consumer);
+    } };
 
     ghost invariant = { λ receiver. Began (received receiver.consumer) receiver.first.value.unit };
 }
@@ -69,7 +73,7 @@ impl Publisher {
         requires { 1 ≤ room }
         ensures same { self.new ≡ self.old }
         ensures sender { IfOk result (λ ends. ends.0 ≡ record { unit = self.old.unit; room = room }) }
-        ensures receiver { IfOk result (λ ends. ends.1 ≡ record { unit = self.old.unit }) }
+        ensures receiver { IfOk result (λ ends. ends.1.unit ≡ self.old.unit) }
         ensures refused { IfErr result (λ fault. ¬ (fault ≡ Full)) }
     {
         let first = self.tell()?;
@@ -121,14 +125,26 @@ impl NoticeReceiver {
     /// The next notice that was sent, where one is there. It is of the ring's unit.
     pub fn receive(&mut self) -> Option<Notice>
         ensures unit { self.new.unit ≡ self.old.unit }
+        ensures waiting { self.old.waiting ≤ self.new.waiting + 1 }
         ensures received { IfSome result (λ notice. notice.unit ≡ self.old.unit) }
+        ensures succeeds { 0 < self.old.waiting → IsSome result }
     {
         self.consumer.pop().ok()
     }
 
+    /// How many notices are there. Each of them is received.
+    pub fn waiting(&mut self) -> usize
+        ensures unit { self.new.unit ≡ self.old.unit }
+        ensures known { self.old.waiting ≤ self.new.waiting }
+        ensures value { result ≡ self.new.waiting }
+    {
+        self.consumer.slots()
+    }
+
     /// Whether the sender was dropped. What it had sent is received still.
     pub fn is_abandoned(&mut self) -> bool
-        ensures { self.new.unit ≡ self.old.unit }
+        ensures unit { self.new.unit ≡ self.old.unit }
+        ensures waiting { self.old.waiting ≤ self.new.waiting }
     {
         self.consumer.is_abandoned()
     }

@@ -25,7 +25,7 @@ const ALONE: [(&str, Alone); 8] = [
 ];
 
 /// The least times of so many checkers at once.
-fn least_of_crowd<R: Clock + Threads + Wait>(
+fn least_of_crowd<R: Clock + Threads + Wait + Copy>(
     rt: &R,
     alloc: Global,
     checkers: u8,
@@ -40,7 +40,7 @@ fn least_of_crowd<R: Clock + Threads + Wait>(
     Ok(least)
 }
 
-fn print_crowd<R: Clock + Threads + Wait + Print>(
+fn print_crowd<R: Clock + Threads + Wait + Print + Copy>(
     rt: &R,
     alloc: Global,
     checkers: u8,
@@ -52,7 +52,10 @@ fn print_crowd<R: Clock + Threads + Wait + Print>(
     print_time(rt, checkers, "a publication meanwhile", busy.publication)
 }
 
-pub fn bench<R: Clock + Threads + Wait + Print>(rt: &R, alloc: Global) -> Result<(), Failure> {
+pub fn bench<R: Clock + Threads + Wait + Print + Copy>(
+    rt: &R,
+    alloc: Global,
+) -> Result<(), Failure> {
     for (what, alone) in ALONE {
         print_time(rt, 1, what, alone.least(rt, alloc)?)?;
     }

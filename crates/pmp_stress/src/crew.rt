@@ -8,7 +8,7 @@ use crate::meeting::Meeting;
 use crate::random::Random;
 use crate::unit::loads;
 use pmp_core::{Access, Csr, Decision, Perms};
-use pmp_share::{Checker, Notice, Publisher};
+use pmp_share::{Checker, NoticeReceiver, Publisher};
 use std::alloc::Global;
 use std::sync::Arc;
 use std::thread;
@@ -99,19 +99,23 @@ fn decide_random(
     Ok(())
 }
 
-/// What a checker does on its thread: it learns the notice, waits for the others and decides.
+/// What a checker does on its thread: it learns the notice in its ring, waits for the others and decides. Without a
+/// notice no answer would count.
 fn serve(
     alloc: Global,
     mut checker: Checker,
-    notice: Notice,
+    mut notices: NoticeReceiver,
     duty: Duty,
     mut random: Random,
     meeting: &Meeting,
 ) -> Done
-    requires { notice.unit ≡ checker.unit }
+    requires { notices.unit ≡ checker.unit }
 {
-    let told = notice.len();
-    checker.learn(notice);
+    let mut told = u64::MAX;
+    if let Some(notice) = notices.receive() {
+        told = notice.len();
+        checker.learn(notice);
+    }
     let mut answers = Vec::new(alloc);
     meeting.begin();
     let outcome = match duty {
@@ -128,7 +132,7 @@ fn serve(
     }
 }
 
-/// Tells the checker, and gives it a thread.
+/// Tells the checker, by a ring whose sender is gone then, and gives it a thread.
 fn send_out<R: Threads>(
     rt: &R,
     alloc: Global,
@@ -141,10 +145,14 @@ fn send_out<R: Threads>(
     requires { checker.unit ≡ publisher.old.unit }
     ensures { publisher.new.unit ≡ publisher.old.unit }
 {
+    let (mut sender, receiver) = publisher.notice_ring(alloc, 1)?;
     let notice = publisher.tell()?;
+    if sender.send(notice).is_err() {
+        return Err(Failure::Decision);
+    }
     Ok(thread::spawn(
         rt,
-        move || serve(alloc, checker, notice, duty, random, &meeting),
+        move || serve(alloc, checker, receiver, duty, random, &meeting),
     )?)
 }
 

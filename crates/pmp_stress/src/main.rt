@@ -48,7 +48,7 @@ fn number(words: &[String], place: usize, other: u32) -> u32 {
     }
 }
 
-fn run<R: Clock + Threads + Wait + Print>(
+fn run<R: Clock + Threads + Wait + Print + Copy>(
     rt: &R,
     alloc: Global,
     words: &[String],

@@ -3,20 +3,25 @@
 use crate::crew::{Answer, Done, Said};
 use pmp_core::{Access, Csr, Event, RegFile};
 use pmp_map::rights_in;
-use pmp_share::{Batch, Checker};
+use pmp_share::{Batch, Checker, Publisher};
 use std::alloc::{AllocError, Global};
 
-/// The published events, and where each batch and each publication ends.
+/// What a unit begins with, the published events, where each batch and each publication ends, and the register file
+/// after all of them.
 #[derive(Drop)]
 pub struct Published {
+    base: RegFile,
+    file: RegFile,
     events: Vec<Event>,
     ends: Vec<u64>,
     publications: Vec<u64>,
 }
 
 impl Published {
-    pub fn new(alloc: Global) -> Published {
+    pub fn new(alloc: Global, base: RegFile) -> Published {
         Published {
+            base,
+            file: base,
             events: Vec::new(alloc),
             ends: Vec::new(alloc),
             publications: Vec::new(alloc),
@@ -25,6 +30,7 @@ impl Published {
 
     pub fn push(&mut self, batch: &Batch) -> Result<(), AllocError> {
         self.events.extend_from_slice(batch.events())?;
+        self.file.run_events(batch.events());
         self.ends.push(self.events.len() as u64)?;
         Ok(())
     }
@@ -33,6 +39,15 @@ impl Published {
     pub fn end_publication(&mut self) -> Result<(), AllocError> {
         self.publications.push(self.events.len() as u64)?;
         Ok(())
+    }
+
+    /// Whether the publisher reads so, all of which it published or has pending.
+    pub fn is_read_by(&self, publisher: &Publisher) -> bool {
+        let mut same = true;
+        for csr in [Csr::Cfg(0), Csr::Addr(1), Csr::Mseccfg] {
+            same = same && publisher.read(csr) == self.file.read(csr);
+        }
+        same
     }
 
     /// How many batches.
@@ -62,7 +77,7 @@ impl Published {
     fn fits_answers(&self, told: u64, answers: &[Answer]) -> bool {
         let mut replay = Replay {
             published: self,
-            file: RegFile::reset(),
+            file: self.base,
             seen: 0,
         };
         for answer in answers {

@@ -11,7 +11,8 @@ use crate::replay::Published;
 use crate::tally::Tally;
 use crate::time::Moment;
 use crate::unit::{WRITE, publish, publish_regions};
-use pmp_share::{Batch, CHECKERS, Checker, Publisher, start};
+use pmp_core::RegFile;
+use pmp_share::{Batch, CHECKERS, Checker, Publisher, PublisherGuard, start_from};
 use std::alloc::Global;
 use std::sync::{Arc, Wait};
 use std::thread::{JoinHandle, Threads};
@@ -63,7 +64,7 @@ fn publish_writes<R: Clock + Wait>(
     Ok(())
 }
 
-/// One to three batches.
+/// One to three batches, which the publisher reads at once.
 fn submit_some(
     publisher: &mut Publisher,
     published: &mut Published,
@@ -74,7 +75,11 @@ fn submit_some(
         publisher.submit(&batch)?;
         published.push(&batch)?;
     }
-    Ok(())
+    if published.is_read_by(publisher) {
+        Ok(())
+    } else {
+        Err(Failure::Decision)
+    }
 }
 
 fn publish_random<R: Clock + Wait>(
@@ -114,6 +119,7 @@ fn run<R: Clock + Threads + Wait>(
     alloc: Global,
     publisher: &mut Publisher,
     checkers: Vec<Checker>,
+    base: RegFile,
     load: Load,
     random: &mut Random,
     tally: &mut Tally,
@@ -130,7 +136,7 @@ fn run<R: Clock + Threads + Wait>(
         random,
         &meeting,
     )?;
-    let mut published = Published::new(alloc);
+    let mut published = Published::new(alloc, base);
     meeting.begin();
     let since = Moment::now(rt);
     let outcome = match load {
@@ -153,8 +159,16 @@ fn publish_first<R: Wait>(rt: &R, publisher: &mut Publisher, load: Load) -> Resu
     }
 }
 
-/// A round with a unit of its own, of one to eight checkers.
-pub fn run_round<R: Clock + Threads + Wait>(
+/// What a unit begins with.
+fn base_for(load: Load, random: &mut Random) -> Result<RegFile, Failure> {
+    match load {
+        Load::Quiet | Load::Busy => Ok(RegFile::reset()),
+        Load::Random => random.file(),
+    }
+}
+
+/// A round with a unit of its own, of one to eight checkers. A guard ends it.
+pub fn run_round<R: Clock + Threads + Wait + Copy>(
     rt: &R,
     alloc: Global,
     checkers: u8,
@@ -162,11 +176,26 @@ pub fn run_round<R: Clock + Threads + Wait>(
     random: &mut Random,
     tally: &mut Tally,
 ) -> Result<(), Failure> {
-    let (mut publisher, checkers) = start(rt, alloc, checkers.clamp(1, CHECKERS))?;
+    let base = base_for(load, random)?;
+    let (mut publisher, checkers) = start_from(
+        rt,
+        alloc,
+        &base.save(),
+        checkers.clamp(1, CHECKERS),
+    )?;
     let outcome = match publish_first(rt, &mut publisher, load) {
-        Ok(()) => run(rt, alloc, &mut publisher, checkers, load, random, tally),
+        Ok(()) => run(
+            rt,
+            alloc,
+            &mut publisher,
+            checkers,
+            base,
+            load,
+            random,
+            tally,
+        ),
         Err(failure) => Err(failure),
     };
-    publisher.end(rt);
+    drop(PublisherGuard::new(*rt, publisher));
     outcome
 }

@@ -14,7 +14,7 @@ use std::thread::Threads;
 use std::time::Clock;
 
 /// One unit after another, until so many seconds are over.
-fn run_rounds<R: Clock + Threads + Wait>(
+fn run_rounds<R: Clock + Threads + Wait + Copy>(
     rt: &R,
     alloc: Global,
     seconds: u32,
@@ -33,7 +33,7 @@ fn run_rounds<R: Clock + Threads + Wait>(
 }
 
 /// Prints what came of it. Of no seconds it says what is the same on each machine.
-pub fn soak<R: Clock + Threads + Wait + Print>(
+pub fn soak<R: Clock + Threads + Wait + Print + Copy>(
     rt: &R,
     alloc: Global,
     seconds: u32,

@@ -7,6 +7,7 @@ mod groups;
 mod limits;
 mod reading;
 mod rings;
+mod sending;
 mod starting;
 mod swapping;
 mod unit;

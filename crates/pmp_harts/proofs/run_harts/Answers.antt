@@ -9,4 +9,4 @@ pub spawn-requires-send-F : goal.spawn-requires-send-F
 spawn-requires-send-F g c κs within = search (checker_send, receiver_send, crosses, sendable) depth 20
 
 pub spawn-requires-send-T : goal.spawn-requires-send-T
-spawn-requires-send-T g c κs within = search (answer_send, crosses, sendable) depth 14
+spawn-requires-send-T g c κs within = search (answer_send, crosses, sendable) depth 20

@@ -16,6 +16,7 @@ fn notices_come_in_their_order(rt: HostRuntime) {
     publish(&rt, &mut publisher, &ENTRY_ZERO, 6);
     let back = sender.send(tell(&rt, &mut publisher)).err();
     assert!(rt; back.map(|notice| notice.len()) == Some(6));
+    assert!(rt; receiver.waiting() == 2);
     assert!(rt; receiver.receive().map(|notice| notice.len()) == Some(2));
     assert!(rt; receiver.receive().map(|notice| notice.len()) == Some(4));
     assert!(rt; receiver.receive().is_none());

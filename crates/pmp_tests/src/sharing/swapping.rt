@@ -15,26 +15,26 @@ use std::thread;
 use std::thread::{JoinHandle, Threads};
 
 /// How often two entries are swapped and swapped back.
-const ROUNDS: u32 = 200;
+pub const ROUNDS: u32 = 200;
 
 /// How many batches that takes: the opening, two a round, and five in every second round.
 const BATCHES: u64 = 1 + 100 * 2 + 100 * 5;
 
 /// Two neighbouring entries, of which one reads the page at a time.
 #[derive(Drop)]
-struct Swap {
+pub struct Swap {
     size: Size,
     /// The number of the first of them.
-    first: u8,
+    pub first: u8,
     /// The first entry reads the page.
-    opening: [Event; 2],
+    pub opening: [Event; 2],
     /// The second reads it in its place. After the first event alone no entry would.
     there: [Event; 2],
     /// The first reads it again.
     back: [Event; 3],
 }
 
-const ZERO_AND_ONE: Swap = Swap {
+pub const ZERO_AND_ONE: Swap = Swap {
     size: Size::Sixteen,
     first: 0,
     opening: ENTRY_ZERO,
@@ -65,7 +65,7 @@ const LAST_TWO: Swap = Swap {
 };
 
 /// How many events are published after so many rounds.
-fn events_after(rounds: u32) -> u64
+pub fn events_after(rounds: u32) -> u64
     ensures { result ≡ 2 + 5 * rounds }
 {
     2 + 5 * u64::from(rounds)
@@ -86,7 +86,9 @@ fn fits(first: u8, decision: &Decision, count: u64) -> bool {
 
 /// Decides once, and asserts that the decision fits its events, which are no fewer than `least`. It answers how many
 /// they are.
-fn look_in_round(rt: &impl Abort, first: u8, checker: &mut Checker, least: u64) -> u64 {
+pub fn look_in_round(rt: &impl Abort, first: u8, checker: &mut Checker, least: u64) -> u64
+    ensures { checker.new.unit ≡ checker.old.unit }
+{
     let (decision, count) = checker.decide(&page_load(rt));
     assert!(rt; least <= count, "the list went back");
     assert!(rt; fits(first, &decision, count), "another decision");
@@ -174,7 +176,9 @@ impl Swap {
     /// Publishes the way there and the way back in each of these rounds, each by itself. In every second round each
     /// event is a batch of its own, and a body that shows where one of these batches ends is refused: `fits` has no
     /// such number.
-    fn publish<R: Wait + Abort>(&self, rt: &R, publisher: &mut Publisher, rounds: Range<u32>) {
+    pub fn publish<R: Wait + Abort>(&self, rt: &R, publisher: &mut Publisher, rounds: Range<u32>)
+        ensures { publisher.new.unit ≡ publisher.old.unit }
+    {
         for round in rounds {
             let before = events_after(round);
             if round % 2 == 0 {
@@ -184,6 +188,8 @@ impl Swap {
                 publish_apart(rt, publisher, &self.there, before + 2);
                 publish_apart(rt, publisher, &self.back, before + 5);
             }
+            let value = publisher.read(Csr::Cfg(self.first / 8 * 2));
+            assert!(rt; Some(value) == configurations(self.first, before + 5));
         }
     }
 }

@@ -49,7 +49,9 @@ pub fn publish_apart<R: Wait + Abort>(
     publisher: &mut Publisher,
     events: &[Event],
     count: u64,
-) {
+)
+    ensures { publisher.new.unit ≡ publisher.old.unit }
+{
     for event in events {
         submit(rt, publisher, &[*event]);
     }

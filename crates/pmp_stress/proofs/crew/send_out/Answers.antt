@@ -1,12 +1,13 @@
 use Rattle.std.proofs.Crossing.{crosses}
 use denote.Param.Send.{sendable}
-use Rattle.pmp_share.proofs.Crossing.{checker_send, notice_send}
+use Rattle.pmp_share.proofs.Crossing.{checker_send}
+use Rattle.pmp_share.proofs.RingCrossing.{receiver_send}
 use Rattle.pmp_stress.proofs.Crossing.{random_send, duty_send, meeting_send, meeting_sync, done_send}
 use Rattle.pmp_stress.proofs.crew.send_out.Goals as goal
 
 pub spawn-requires-send-F : goal.spawn-requires-send-F
 spawn-requires-send-F g c κs within =
-    search (checker_send, notice_send, random_send, duty_send, meeting_send, meeting_sync, crosses, sendable) depth 20
+    search (checker_send, receiver_send, random_send, duty_send, meeting_send, meeting_sync, crosses, sendable) depth 20
 
 pub spawn-requires-send-T : goal.spawn-requires-send-T
 spawn-requires-send-T g c κs within = search (done_send, crosses, sendable) depth 14
