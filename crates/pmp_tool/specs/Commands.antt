@@ -169,7 +169,7 @@ abbrev pub long_audit_in : (trace : Text) → List Row → Result Task Refusal
 long_audit_in trace rows =
     if has_option (codes "checkers") rows then Err BadWord
     else long_audit_with trace (jobs_of (first_of (codes "jobs") rows))
-        (first_row_of (first_of (codes "first-row") rows))
+    (first_row_of (first_of (codes "first-row") rows))
 
 abbrev pub audit_with : (trace : Result Text Refusal) → List Row → Result Task Refusal
 audit_with (Err refusal) rows = Err refusal

@@ -16,6 +16,7 @@ takes_one (Err e) (y ∷ ys) left P popped front succeeds = absurd (cc (succeeds
 
 pub returns-clause-waiting : goal.returns-clause-waiting
 returns-clause-waiting c =
-    subst (λ n. n ≤ length (known_items c.pop.new.self) + 1) (ap (λ (token : ReceiverToken). token.waiting) c.self.view_is)
+    subst (λ n. n ≤ length (known_items c.pop.new.self) + 1)
+    (ap (λ (token : ReceiverToken). token.waiting) c.self.view_is)
     (takes_one c.pop.result (known_items c.self.inside.consumer) (known_items c.pop.new.self) _ c.pop.ensures.ok
     (λ x popped. popped.1) c.pop.ensures.succeeds)
