@@ -12,6 +12,7 @@ mod numbers;
 mod output;
 mod policy;
 mod script;
+mod sink;
 mod trace;
 
 pub use access_words::{read_kind, read_mode};
@@ -25,4 +26,5 @@ pub use numbers::read_word_number;
 pub use output::{OutputFault, write_out};
 pub use policy::{Demand, Kinds, Modes, PolicyRow, read_policy};
 pub use script::{MAX_SCRIPT, Script, ScriptFault, ScriptKind, read_script};
+pub use sink::Sink;
 pub use trace::{MAX_TRACE, Piece, Place, Row, TraceFault, TraceKind, read_piece, read_trace};
