@@ -4,6 +4,7 @@
 
 mod access_words;
 mod cutter;
+mod event_log;
 mod input;
 pub mod laws;
 mod lines;
@@ -17,6 +18,7 @@ mod trace;
 
 pub use access_words::{read_kind, read_mode};
 pub use cutter::{Cut, cut_piece};
+pub use event_log::{EventLog, FixedLog, GrowingLog};
 pub use input::{InputFault, MAX_LIMIT, read_bytes, read_script_bytes, read_trace_bytes};
 pub use lines::{
     Breach, Change, EventPlace, NoMemory, Only, Since, write_changes, write_effect, write_entries,
