@@ -24,10 +24,9 @@ pub use runs::write_runs;
 pub use since::Since;
 pub use verdict::{Breach, write_verdict};
 /// There is no room for more of a text, as the calls say that append texts.
-pub use std::alloc::AllocError as NoMemory;
-
 use crate::sink::Sink;
 use arrayvec::ArrayString;
+pub use std::alloc::AllocError as NoMemory;
 use std::alloc::AllocError;
 use std::fmt::{Display, Write};
 

@@ -106,7 +106,11 @@ fn write_change<S: Sink>(out: &mut S, run: &RightsRun, change: Change) -> Result
 
 /// Appends the row of the run, if it has one, and answers whether it has.
 #[tactic(auto, unfolding(crate::specs::Changes::asked_row, crate::specs::Changes::has_row))]
-fn write_asked<S: Sink>(out: &mut S, run: &RightsRun, only: Option<Only>) -> Result<bool, AllocError>
+fn write_asked<S: Sink>(
+    out: &mut S,
+    run: &RightsRun,
+    only: Option<Only>,
+) -> Result<bool, AllocError>
     ensures ok { OnOk result (S.text out.new ≡ S.text out.old ++ asked_row only run.now) }
     ensures has { IfOk result (λ has. has ≡ has_row only run.now) }
     ensures err { OnErr result (S.text out.new ≡ S.text out.old) }
@@ -120,7 +124,11 @@ fn write_asked<S: Sink>(out: &mut S, run: &RightsRun, only: Option<Only>) -> Res
     }
 }
 
-fn write_all<S: Sink>(out: &mut S, runs: &[RightsRun], only: Option<Only>) -> Result<u64, AllocError>
+fn write_all<S: Sink>(
+    out: &mut S,
+    runs: &[RightsRun],
+    only: Option<Only>,
+) -> Result<u64, AllocError>
     ensures ok { OnOk result (S.text out.new ≡ S.text out.old ++ change_rows only runs.now) }
     ensures counted { IfOk result (λ rows. rows ≡ change_count only runs.now) }
     ensures err { OnErr result (StartsWith (S.text out.new) (S.text out.old)) }

@@ -87,7 +87,12 @@ fn matching_word(matching: AddressMatching) -> &'static str
     }
 }
 
-fn write_entry<S: Sink>(out: &mut S, file: &RegFile, entry: u8, since: Since) -> Result<(), AllocError>
+fn write_entry<S: Sink>(
+    out: &mut S,
+    file: &RegFile,
+    entry: u8,
+    since: Since,
+) -> Result<(), AllocError>
     requires { entry < length file.now.entries }
     ensures span { IsSpan file.now.entries entry (span_of file.now.entries entry) }
     ensures ok { OnOk result (S.text out.new

@@ -281,7 +281,12 @@ fn write_extent<S: Sink>(out: &mut S, run: &Run) -> Result<(), AllocError>
 }
 
 /// Appends the band of the run in this place.
-fn write_band<S: Sink>(out: &mut S, file: &RegFile, place: usize, run: &Run) -> Result<(), AllocError>
+fn write_band<S: Sink>(
+    out: &mut S,
+    file: &RegFile,
+    place: usize,
+    run: &Run,
+) -> Result<(), AllocError>
     requires place { place < RUNS }
     requires proper { run.now.first ≤ run.now.last }
     requires inside { run.now.last < ADDRESS_LIMIT }

@@ -22,7 +22,11 @@ pub struct Breach {
 /// `NUMBER,broken,DONE,FIRST,LAST,OWNER` and LF, with the first and the last byte in fourteen hexadecimal digits, and
 /// a dash for no owner.
 #[tactic(auto, unfolding(crate::specs::Verdicts::verdict_row))]
-pub fn write_verdict<S: Sink>(out: &mut S, number: u64, breach: Option<Breach>) -> Result<(), NoMemory>
+pub fn write_verdict<S: Sink>(
+    out: &mut S,
+    number: u64,
+    breach: Option<Breach>,
+) -> Result<(), NoMemory>
     ensures ok { OnOk result (S.text out.new ≡ S.text out.old ++ verdict_row number breach) }
     ensures err { OnErr result (S.text out.new ≡ S.text out.old) }
 {

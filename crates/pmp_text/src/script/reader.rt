@@ -65,10 +65,7 @@ fn read_statements<'a, L: EventLog>(
 /// The script that a text describes, else its first fault. The time is linear in the text, and only the publications
 /// take room, in the log, which forgets what it had: where they have none, `Memory` is answered in place of any fault
 /// further on.
-pub fn read_script<'a, L: EventLog>(
-    log: &'a mut L,
-    text: &[u8],
-) -> Result<Script<'a>, ScriptFault>
+pub fn read_script<'a, L: EventLog>(log: &'a mut L, text: &[u8]) -> Result<Script<'a>, ScriptFault>
     ensures { Gives (λ script. script) result (script_meaning text.now) }
 {
     if text.len() > MAX_SCRIPT {
