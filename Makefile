@@ -6,6 +6,8 @@
 # make dist                 writes a release of what is built to dist/
 # make dist-test            makes one, and wants each tool that its check asks for
 # make soak SECONDS=..      lets a publisher and eight checkers run so long, and compares each answer with a replay
+# make page                 proves and builds the page, one file: web/out/pmp.html
+# make page-test            has a browser ask it, and compares each answer with the program's
 # make conformance          tries QEMU's unit, or that of HART="simulator ELF", by cases of each rule
 # make qemu                 builds QEMU 7.2 as it is and over the library, boots OpenSBI and U-Boot on both, and compares
 # make test                 proves and tests everything, has the prover refuse the wrong bodies, then tries the program, the
@@ -23,7 +25,7 @@ export PREFIX DESTDIR
 # ci has one process for each, which is less work than several for one.
 LANES = $(shell awk -v most="$$(nproc)" '/^MemAvailable/ { n = int($$2 / 3500000); print n < 1 ? 1 : n < most ? n : most }' /proc/meminfo)
 
-.PHONY: build library test conformance qemu install install-program install-library uninstall dist dist-test soak stress \
+.PHONY: build library page page-test test conformance qemu install install-program install-library uninstall dist dist-test soak stress \
     bench bench-decide bench-threads bench-limits bench-audit
 
 # The launcher builds the program, and then the program says its version.
@@ -32,6 +34,12 @@ build:
 
 library:
 	@release/library
+
+page:
+	@web/build
+
+page-test: build page
+	checks/page --wanted web/out/pmp.html $(PROGRAM)
 
 # rt ci proves and builds all from nothing. What comes after it goes over the libraries that it leaves, so no others may
 # stand in their places, and the launcher takes the program that it leaves, with the sums of the sources from before.
@@ -56,6 +64,8 @@ test:
 	checks/hostile $(PROGRAM)
 	checks/machines $(PROGRAM)
 	checks/growths $(GROWTHS)
+	@if command -v chromium >/dev/null; then RT=$(CURDIR)/checks/over-proved web/build; fi
+	checks/page web/out/pmp.html $(PROGRAM)
 
 # Ends with status 1 where something differs.
 conformance:
