@@ -1,0 +1,266 @@
+// The page: what is asked of the unit at the moment that the sliders name, and where it is shown.
+
+const byId = (id) => document.getElementById(id);
+const data = JSON.parse(byId('data').textContent);
+const BAD_WORD = 24;
+const MOST_WRITES = 500;
+const SHORT_SCRIPT = 65536; // as many letters are asked of at each key; with more the page waits for a pause
+const PAUSE = 300;
+const SIGNS = {ignored: '✕', altered: '≠', wrong: '!', done: '●'};
+
+function sayRefusal({status, line}) {
+    const place = line > 0 ? `Script line ${line}: refused` : 'Refused';
+    return `${place} ${status} ${data.refusals[status].name}`;
+}
+
+class Page {
+    constructor(unit) {
+        this.unit = unit;
+        this.moment = {by: 'publication', at: 0};
+        this.boot = null;
+        this.name = '';
+        this.editor = new Editor(byId('script'), byId('gutter'));
+        this.picture = new Picture(byId('picture'), data.darkPicture);
+        this.access = new Access(unit, ['mode', 'kind', 'start', 'length'].map(byId), byId('access-now'), byId('decisions'));
+        for (const name of Object.keys(data.boots)) byId('boot').add(new Option(name, name));
+        byId('boot').add(new Option('your own', ''));
+        this.listen();
+    }
+
+    listen() {
+        byId('boot').addEventListener('change', (event) => this.openBoot(event.target.value));
+        byId('file').addEventListener('change', (event) => this.openFile(event.target.files[0]));
+        byId('script').addEventListener('input', () => this.edited());
+        for (const by of ['publication', 'write']) {
+            byId(by).addEventListener('input', (event) => this.moveTo({by, at: Number(event.target.value)}));
+            byId(by).addEventListener('change', () => this.noteAddress());
+        }
+        byId('access').addEventListener('input', () => this.accessChanged());
+        byId('access').addEventListener('submit', (event) => event.preventDefault());
+        byId('runs-part').addEventListener('toggle', () => this.showRuns());
+        byId('registers-part').addEventListener('toggle', () => this.showRegisters());
+        byId('all-entries').addEventListener('change', (event) => {
+            byId('entries').className = event.target.checked ? '' : 'some';
+        });
+        byId('save').addEventListener('click', () => this.picture.save(`pmp-${this.moment.by}-${this.moment.at}.svg`));
+        byId('fault-go').addEventListener('click', () => this.editor.goTo(this.boot.fault.line));
+        byId('skip').addEventListener('click', (event) => {
+            event.preventDefault();
+            byId('answers').focus();
+        });
+        addEventListener('dragover', (event) => event.preventDefault());
+        addEventListener('drop', (event) => {
+            event.preventDefault();
+            if (event.dataTransfer.files.length > 0) this.openFile(event.dataTransfer.files[0]);
+        });
+        addEventListener('hashchange', () => this.openAddress());
+    }
+
+    // What is opened.
+
+    async openAddress() {
+        let state = null;
+        try {
+            state = await readAddress(location.hash);
+        } catch {
+            tell('The address has no state that this page can read.');
+        }
+        if (state?.access) this.access.state = state.access;
+        const own = state?.text !== undefined;
+        const name = own || !Object.hasOwn(data.boots, state?.boot) ? Object.keys(data.boots)[0] : state.boot;
+        this.open(own ? '' : name, own ? state.text : data.boots[name], state ?? {});
+    }
+
+    openBoot(name) {
+        this.open(name, name === '' ? this.editor.text : data.boots[name]);
+        this.noteAddress();
+    }
+
+    async openFile(file) {
+        if (!file) return;
+        const bytes = new Uint8Array(await file.arrayBuffer());
+        const text = decodeText(bytes);
+        this.open('', text);
+        const same = encodeText(this.editor.text).join() === encodeText(text.replaceAll('\r\n', '\n')).join();
+        tell(same ? '' : 'The editor has no lone CR: each is a line’s end here.');
+        this.noteAddress();
+    }
+
+    // Shows the script, at the moment that is wanted, or after all its publications.
+    open(name, text, wanted = {}) {
+        this.editor.text = text;
+        this.moment = {by: wanted.by ?? 'publication', at: wanted.at ?? Infinity};
+        this.rename(name);
+        this.read();
+    }
+
+    rename(name) {
+        this.name = name;
+        byId('boot').value = name;
+    }
+
+    edited() {
+        clearTimeout(this.waiting);
+        const read = () => {
+            this.rename('');
+            this.editor.count();
+            const last = this.boot.last(this.moment.by);
+            if (this.moment.at === last) this.moment = {by: this.moment.by, at: Infinity};
+            this.read();
+            this.noteAddress();
+        };
+        if (this.editor.text.length <= SHORT_SCRIPT) read();
+        else this.waiting = setTimeout(read, PAUSE);
+    }
+
+    // What is asked.
+
+    read() {
+        this.boot = new Boot(this.unit, this.editor.text);
+        this.showFault(this.boot.fault);
+        byId('answers').hidden = this.boot.fault !== null;
+        if (this.boot.fault === null) {
+            this.showWrites();
+            this.moveTo(this.moment);
+        } else {
+            this.access.asked += 1;
+            this.editor.mark(new Map([[this.boot.fault.line, {kind: 'wrong', sign: SIGNS.wrong}]]));
+        }
+    }
+
+    moveTo(moment) {
+        const by = moment.by;
+        const anew = by !== this.moment.by || this.boot !== this.shown;
+        this.moment = {by, at: Math.min(moment.at, this.boot.last(by))};
+        this.shown = this.boot;
+        this.showMoment();
+        this.showAnswers();
+        if (anew) this.access.showAll(this.boot, by);
+    }
+
+    accessChanged() {
+        this.access.show(this.boot, this.moment);
+        this.access.showAll(this.boot, this.moment.by);
+        this.noteAddress();
+    }
+
+    ask(call) {
+        return this.unit[call](this.boot.scriptBy(this.moment.by), this.moment.at);
+    }
+
+    // What is shown.
+
+    showFault(fault) {
+        byId('fault').hidden = fault === null;
+        if (fault === null) return;
+        byId('fault-line').textContent = sayRefusal(fault);
+        byId('fault-advice').textContent = data.refusals[fault.status].advice;
+        byId('fault-go').hidden = fault.line === 0;
+    }
+
+    showMoment() {
+        const {boot, moment} = this;
+        const done = {publication: boot.publicationsAt(moment), write: boot.eventsAt(moment)};
+        for (const by of ['publication', 'write']) {
+            byId(by).max = boot.last(by);
+            byId(by).value = done[by];
+            byId(`${by}-at`).textContent = `${done[by]} of ${boot.last(by)}`;
+        }
+        byId('write-help').hidden = moment.by !== 'write';
+        this.markLines(done.write);
+    }
+
+    markLines(done) {
+        const marks = new Map();
+        this.boot.events.forEach(({line, effect}, place) => {
+            if (effect in SIGNS) marks.set(line, {kind: effect, sign: SIGNS[effect]});
+            else if (place < done) marks.set(line, {kind: 'done', sign: SIGNS.done});
+        });
+        this.editor.mark(marks);
+    }
+
+    showAnswers() {
+        const picture = this.ask('picture');
+        if (picture.status !== 0) {
+            tell(`${sayRefusal(picture)}. ${data.refusals[picture.status].advice}`);
+            return;
+        }
+        this.picture.show(picture.text);
+        this.showRuns();
+        this.showEntries();
+        this.showRegisters();
+        this.access.show(this.boot, this.moment);
+        this.sayMoment();
+    }
+
+    sayMoment() {
+        const {by, at} = this.moment;
+        const event = this.boot.events[at - 1];
+        const last = by === 'write' && at > 0 ? `, line ${event.line}: ${event.fields[3]} ${event.effect}` : '';
+        const frozen = byId('entries-count').textContent;
+        byId('moment').textContent = `After ${by} ${at}${last}: ${byId('runs-count').textContent} runs. ${frozen}`;
+    }
+
+    showRuns() {
+        const lines = linesOf(this.ask('map').text, ',');
+        byId('runs-count').textContent = lines.length;
+        if (byId('runs-part').open) fillTable(byId('runs'), lines, (row, fields) => { row.className = `su${fields[4]}`; });
+    }
+
+    showEntries() {
+        const lines = linesOf(this.ask('entries').text, ',');
+        fillTable(byId('entries'), lines, (row, fields) => {
+            row.className = classOfEntry(fields);
+        });
+        const frozen = lines.filter((fields) => fields[6] === 'frozen').length;
+        const hold = lines.filter((fields) => fields[9] !== '').length;
+        byId('entries-count').textContent = `Of ${lines.length} entries ${frozen} frozen, of which ${hold} hold.`;
+    }
+
+    showRegisters() {
+        if (byId('registers-part').open) fillTable(byId('registers'), linesOf(this.ask('registers').text, ' '));
+    }
+
+    showWrites() {
+        const wrong = this.boot.events.filter((event) => event.effect in SIGNS);
+        byId('writes-count').textContent = wrong.length === 0
+            ? `All of ${counted(this.boot.events.length, 'event')} are stored as written.`
+            : `${wrong.length} of ${counted(this.boot.events.length, 'event')}`
+                + (wrong.length > MOST_WRITES ? `; the first ${MOST_WRITES}:` : ':');
+        const lines = wrong.slice(0, MOST_WRITES).map((event) => event.fields);
+        byId('writes').hidden = lines.length === 0;
+        fillTable(byId('writes'), lines, (row, fields) => {
+            const line = Number(fields[2]);
+            row.className = fields[7];
+            makeButton(row.cells[2], `Line ${line} of the script`, () => this.editor.goTo(line));
+        });
+        this.showReasons(new Set(lines.flatMap((fields) => fields[8].split(' '))));
+    }
+
+    showReasons(reasons) {
+        const items = [...reasons].flatMap((reason) => {
+            const [name, when] = [document.createElement('dt'), document.createElement('dd')];
+            [name.textContent, when.textContent] = [reason, data.reasons[reason]];
+            return [name, when];
+        });
+        byId('reasons').replaceChildren(...items);
+    }
+
+    async noteAddress() {
+        const state = {boot: this.name, text: this.editor.text, ...this.moment, access: this.access.state};
+        const address = await addressOf(state);
+        history.replaceState(null, '', address === '' ? location.pathname + location.search : address);
+        if (address === '') tell('The script is too long for the address: send it beside a link.');
+    }
+}
+
+function classOfEntry([, matching, , , , , lock, address, , holds]) {
+    if (lock === '-' && address === '-' && matching === 'off') return 'open-off';
+    if (holds !== '') return 'holds';
+    return lock;
+}
+
+function tell(text) {
+    byId('notice').textContent = text;
+    byId('notice').hidden = text === '';
+}
