@@ -142,4 +142,4 @@ class Tab:
         """Errors and warnings in the console, and exceptions that nothing caught."""
         texts = [it["entry"]["text"] for it in self.events("Log.entryAdded") if it["entry"]["level"] != "verbose"]
         texts += [str(it["args"]) for it in self.events("Runtime.consoleAPICalled") if it["type"] in ("error", "warning")]
-        return texts + [it["exceptionDetails"]["text"] for it in self.events("Runtime.exceptionThrown")]
+        return texts + [str(it["exceptionDetails"]) for it in self.events("Runtime.exceptionThrown")]

@@ -31,6 +31,8 @@ class Access {
         this.now = now;
         this.table = table;
         this.asked = 0;
+        this.at = 0;
+        this.groups = [];
         this.finished = Promise.resolve();
     }
 
@@ -57,7 +59,16 @@ class Access {
         const right = answer.status === 0;
         this.now.textContent = right ? sayDecision(linesOf(answer.text, ',')[0]) : sayRefusal(answer);
         this.now.className = right ? '' : 'wrong';
-        this.words.forEach((word) => word.toggleAttribute('aria-invalid', !right && word.tagName === 'INPUT'));
+        for (const word of this.words) word.ariaInvalid = String(!right && word.tagName === 'INPUT');
+        this.at = moment.at;
+        this.showNow();
+    }
+
+    // Which of the rows has the moment.
+    showNow() {
+        this.groups.forEach(({from, to}, place) => {
+            this.table.tBodies[0].rows[place].ariaCurrent = String(from <= this.at && this.at <= to);
+        });
     }
 
     // Shows the answers after 0, 1, .. publications, or events; a later call takes the place of this one.
@@ -86,10 +97,12 @@ class Access {
     }
 
     draw(groups, by) {
-        const lines = groups.slice(0, MOST_ROWS).map((it) => [sayRange(it), ...it.fields]);
+        this.groups = groups.slice(0, MOST_ROWS);
+        const lines = this.groups.map((it) => [sayRange(it), ...it.fields]);
         fillTable(this.table, lines, (row, fields) => { row.className = fields[1]; });
         this.table.caption.textContent = `The answer after each ${by}`
             + (groups.length > MOST_ROWS ? `; the first ${MOST_ROWS} changes` : '');
+        this.showNow();
     }
 }
 

@@ -1,13 +1,17 @@
 // The script's text with its line numbers. Only the numbers that are seen are there, so a script may have many lines.
+// Where the text is scrolled to is noted when it moves, since to ask for it in each draw lays the page out anew.
 
 class Editor {
     constructor(area, gutter) {
         this.area = area;
         this.gutter = gutter;
         this.marks = new Map();
+        this.now = 0;
         this.lines = 1;
-        area.addEventListener('scroll', () => this.draw());
-        new ResizeObserver(() => this.draw()).observe(area);
+        this.height = parseFloat(getComputedStyle(area).lineHeight);
+        this.measure();
+        area.addEventListener('scroll', () => this.measure());
+        new ResizeObserver(() => this.measure()).observe(area);
     }
 
     get text() {
@@ -25,21 +29,26 @@ class Editor {
         this.gutter.style.setProperty('--digits', String(this.lines).length);
     }
 
-    // marks: a map from a line's number to {sign, kind}
-    mark(marks) {
+    measure() {
+        this.above = this.area.scrollTop;
+        this.seen = this.area.clientHeight;
+        this.draw();
+    }
+
+    // marks: a map from a line's number to {sign, kind}; now: the line that the moment is at, or 0
+    mark(marks, now) {
         this.marks = marks;
+        this.now = now;
         this.draw();
     }
 
     draw() {
-        const height = parseFloat(getComputedStyle(this.area).lineHeight);
-        const above = this.area.scrollTop;
-        const first = Math.floor(above / height) + 1;
-        const last = Math.min(this.lines, first + Math.ceil(this.area.clientHeight / height) + 1);
+        const first = Math.floor(this.above / this.height) + 1;
+        const last = Math.min(this.lines, first + Math.ceil(this.seen / this.height) + 1);
         const shown = [];
         for (let line = first; line <= last; line++) shown.push(this.drawLine(line));
         this.gutter.replaceChildren(...shown);
-        this.gutter.style.setProperty('--above', `${(first - 1) * height - above}px`);
+        this.gutter.style.setProperty('--above', `${(first - 1) * this.height - this.above}px`);
     }
 
     drawLine(line) {
@@ -50,18 +59,26 @@ class Editor {
             item.className = mark.kind;
             sign.textContent = mark.sign;
         }
+        item.classList.toggle('now', line === this.now);
         item.append(sign, String(line));
         return item;
+    }
+
+    // Scrolls to the line where it isn't seen.
+    show(line) {
+        const top = (line - 1) * this.height;
+        if (top >= this.above && top + this.height <= this.above + this.seen) return;
+        this.area.scrollTop = Math.max(0, top - this.seen / 2);
+        this.measure();
     }
 
     // Selects the line, and shows it.
     goTo(line) {
         const lines = this.text.split('\n');
         const before = lines.slice(0, line - 1).reduce((sum, one) => sum + one.length + 1, 0);
-        const height = parseFloat(getComputedStyle(this.area).lineHeight);
         this.area.focus();
         this.area.setSelectionRange(before, before + (lines[line - 1] ?? '').length);
-        this.area.scrollTop = Math.max(0, (line - 4) * height);
         this.area.scrollLeft = 0;
+        this.show(line);
     }
 }

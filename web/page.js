@@ -32,16 +32,19 @@ class Page {
         byId('file').addEventListener('change', (event) => this.openFile(event.target.files[0]));
         byId('script').addEventListener('input', () => this.edited());
         for (const by of ['publication', 'write']) {
-            byId(by).addEventListener('input', (event) => this.moveTo({by, at: Number(event.target.value)}));
+            byId(by).addEventListener('input', (event) => {
+                if (this.isAnswered) this.moveTo({by, at: Number(event.target.value)});
+            });
             byId(by).addEventListener('change', () => this.noteAddress());
         }
-        byId('access').addEventListener('input', () => this.accessChanged());
+        byId('access').addEventListener('input', () => this.isAnswered && this.accessChanged());
         byId('access').addEventListener('submit', (event) => event.preventDefault());
-        byId('runs-part').addEventListener('toggle', () => this.showRuns());
-        byId('registers-part').addEventListener('toggle', () => this.showRegisters());
+        byId('runs-part').addEventListener('toggle', () => this.isAnswered && this.showRuns());
+        byId('registers-part').addEventListener('toggle', () => this.isAnswered && this.showRegisters());
         byId('all-entries').addEventListener('change', (event) => {
             byId('entries').className = event.target.checked ? '' : 'some';
         });
+        byId('runs-part').open = matchMedia('(max-width: 900px)').matches;
         byId('save').addEventListener('click', () => this.picture.save(`pmp-${this.moment.by}-${this.moment.at}.svg`));
         byId('fault-go').addEventListener('click', () => this.editor.goTo(this.boot.fault.line));
         byId('skip').addEventListener('click', (event) => {
@@ -54,6 +57,11 @@ class Page {
             if (event.dataTransfer.files.length > 0) this.openFile(event.dataTransfer.files[0]);
         });
         addEventListener('hashchange', () => this.openAddress());
+    }
+
+    // Whether there is a script, and none of its lines is at fault.
+    get isAnswered() {
+        return this.boot !== null && this.boot.fault === null;
     }
 
     // What is opened.
@@ -124,7 +132,7 @@ class Page {
             this.moveTo(this.moment);
         } else {
             this.access.asked += 1;
-            this.editor.mark(new Map([[this.boot.fault.line, {kind: 'wrong', sign: SIGNS.wrong}]]));
+            this.editor.mark(new Map([[this.boot.fault.line, {kind: 'wrong', sign: SIGNS.wrong}]]), 0);
         }
     }
 
@@ -176,7 +184,9 @@ class Page {
             if (effect in SIGNS) marks.set(line, {kind: effect, sign: SIGNS[effect]});
             else if (place < done) marks.set(line, {kind: 'done', sign: SIGNS.done});
         });
-        this.editor.mark(marks);
+        const now = this.boot.events[done - 1]?.line ?? 0;
+        this.editor.mark(marks, now);
+        if (now > 0 && done < this.boot.events.length) this.editor.show(now);
     }
 
     showAnswers() {
@@ -198,12 +208,12 @@ class Page {
         const event = this.boot.events[at - 1];
         const last = by === 'write' && at > 0 ? `, line ${event.line}: ${event.fields[3]} ${event.effect}` : '';
         const frozen = byId('entries-count').textContent;
-        byId('moment').textContent = `After ${by} ${at}${last}: ${byId('runs-count').textContent} runs. ${frozen}`;
+        byId('moment').textContent = `After ${by} ${at}${last}: ${byId('runs-count').textContent}; ${frozen}`;
     }
 
     showRuns() {
         const lines = linesOf(this.ask('map').text, ',');
-        byId('runs-count').textContent = lines.length;
+        byId('runs-count').textContent = counted(lines.length, 'run');
         if (byId('runs-part').open) fillTable(byId('runs'), lines, (row, fields) => { row.className = `su${fields[4]}`; });
     }
 
@@ -214,7 +224,7 @@ class Page {
         });
         const frozen = lines.filter((fields) => fields[6] === 'frozen').length;
         const hold = lines.filter((fields) => fields[9] !== '').length;
-        byId('entries-count').textContent = `Of ${lines.length} entries ${frozen} frozen, of which ${hold} hold.`;
+        byId('entries-count').textContent = `${frozen} of ${lines.length} entries frozen; ${hold} hold${hold === 1 ? 's' : ''}.`;
     }
 
     showRegisters() {

@@ -17,8 +17,9 @@ function start() {
     const page = new Page(new Unit(new WebAssembly.Module(bytes), tell));
     page.opened = page.openAddress();
     page.opened.then(() => {
-        const time = Math.round(performance.now() - begun);
-        byId('figures').textContent = `The module has ${Math.ceil(bytes.length / 1024)} KiB; the page was ready in ${time} ms.`;
+        page.took = performance.now() - begun;
+        byId('figures').textContent = `The module has ${Math.ceil(bytes.length / 1024)} KiB, and the page was ready in `
+            + `${Math.round(page.took)} ms.`;
     });
     return page;
 }
