@@ -2,15 +2,26 @@
 
 const byId = (id) => document.getElementById(id);
 const data = JSON.parse(byId('data').textContent);
-const BAD_WORD = 24;
+const MEMORY = 40;
 const MOST_WRITES = 500;
 const SHORT_SCRIPT = 65536; // as many letters are asked of at each key; with more the page waits for a pause
 const PAUSE = 300;
 const SIGNS = {ignored: '✕', altered: '≠', wrong: '!', done: '●'};
 
 function sayRefusal({status, line}) {
+    if (status === NO_ANSWER.status) return 'No answer';
     const place = line > 0 ? `Script line ${line}: refused` : 'Refused';
     return `${place} ${status} ${data.refusals[status].name}`;
+}
+
+// What to do about a refusal. The program has as much memory as there is, the page has limits of its own.
+function sayAdvice({status}) {
+    if (status === NO_ANSWER.status) return '';
+    if (status !== MEMORY) return data.refusals[status].advice;
+    const {EVENTS, PUBLICATIONS, MAX_ANSWER} = data.limits;
+    return `The page has room for ${counted(EVENTS, 'event')}, ${counted(PUBLICATIONS, 'publication')} and an answer of `
+        + `${counted(MAX_ANSWER, 'byte')}, where each single write is a publication if these are asked of. `
+        + 'Take the program, which has no such limits.';
 }
 
 class Page {
@@ -68,15 +79,17 @@ class Page {
 
     async openAddress() {
         let state = null;
+        let unread = '';
         try {
             state = await readAddress(location.hash);
         } catch {
-            tell('The address has no state that this page can read.');
+            unread = 'The address has no state that this page can read.';
         }
         if (state?.access) this.access.state = state.access;
         const own = state?.text !== undefined;
         const name = own || !Object.hasOwn(data.boots, state?.boot) ? Object.keys(data.boots)[0] : state.boot;
         this.open(own ? '' : name, own ? state.text : data.boots[name], state ?? {});
+        if (unread !== '') tell(unread);
     }
 
     openBoot(name) {
@@ -90,7 +103,7 @@ class Page {
         const text = decodeText(bytes);
         this.open('', text);
         const same = encodeText(this.editor.text).join() === encodeText(text.replaceAll('\r\n', '\n')).join();
-        tell(same ? '' : 'The editor has no lone CR: each is a line’s end here.');
+        if (!same) tell('The editor has no lone CR: each is a line’s end here.');
         this.noteAddress();
     }
 
@@ -124,6 +137,7 @@ class Page {
     // What is asked.
 
     read() {
+        tell('');
         this.boot = new Boot(this.unit, this.editor.text);
         this.showFault(this.boot.fault);
         byId('answers').hidden = this.boot.fault !== null;
@@ -162,7 +176,7 @@ class Page {
         byId('fault').hidden = fault === null;
         if (fault === null) return;
         byId('fault-line').textContent = sayRefusal(fault);
-        byId('fault-advice').textContent = data.refusals[fault.status].advice;
+        byId('fault-advice').textContent = sayAdvice(fault);
         byId('fault-go').hidden = fault.line === 0;
     }
 
@@ -191,8 +205,9 @@ class Page {
 
     showAnswers() {
         const picture = this.ask('picture');
+        byId('shown').hidden = picture.status !== 0;
         if (picture.status !== 0) {
-            tell(`${sayRefusal(picture)}. ${data.refusals[picture.status].advice}`);
+            byId('moment').textContent = `${sayRefusal(picture)}. ${sayAdvice(picture)}`;
             return;
         }
         this.picture.show(picture.text);

@@ -1,5 +1,6 @@
 // The picture, as the unit draws it. It stands in a tree of its own, since the selectors of its style are plain ones;
-// the style is taken as a sheet, which the page's policy allows, and one for the dark stands behind it.
+// the style is taken out before it is parsed, and becomes a sheet, since the page's policy allows no style beside its
+// own. A sheet for the dark stands behind it.
 
 class Picture {
     constructor(host, darkStyle) {
@@ -13,10 +14,9 @@ class Picture {
     show(text) {
         if (text === this.text) return;
         this.text = text;
-        const drawn = new DOMParser().parseFromString(text, 'image/svg+xml').documentElement;
-        const style = drawn.querySelector('style');
-        this.root.adoptedStyleSheets = [this.sheetOf(style.textContent), this.dark];
-        style.remove();
+        const [, before, style, behind] = text.match(/^([^]*)<style>([^]*)<\/style>([^]*)$/);
+        const drawn = new DOMParser().parseFromString(before + behind, 'image/svg+xml').documentElement;
+        this.root.adoptedStyleSheets = [this.sheetOf(style), this.dark];
         this.root.replaceChildren(document.importNode(drawn, true));
     }
 

@@ -14,7 +14,7 @@ function start() {
         return null;
     }
     const bytes = Uint8Array.from(atob(data.module), (letter) => letter.charCodeAt(0));
-    const page = new Page(new Unit(new WebAssembly.Module(bytes), tell));
+    const page = new Page(new Unit(new WebAssembly.Module(bytes), data.limits, tell));
     page.opened = page.openAddress();
     page.opened.then(() => {
         page.took = performance.now() - begun;
