@@ -24,7 +24,7 @@ function type(text) {
     page.edited();
 }
 
-const tell_input = (element) => element.dispatchEvent(new Event('input', {bubbles: true}));
+const tellInput = (element) => element.dispatchEvent(new Event('input', {bubbles: true}));
 const selected = () => byId('script').value.slice(byId('script').selectionStart, byId('script').selectionEnd);
 const isSeen = (element) => element.checkVisibility();
 
@@ -47,7 +47,7 @@ function faultShown(text) {
 
 function choose(words) {
     ['mode', 'kind', 'start', 'length'].forEach((it, place) => { byId(it).value = words[place]; });
-    tell_input(byId('start'));
+    tellInput(byId('start'));
 }
 
 function accessShown(text, words) {
@@ -67,7 +67,13 @@ function openBoot(name) {
 
 function slide(by, at) {
     byId(by).value = at;
-    tell_input(byId(by));
+    tellInput(byId(by));
+}
+
+// What is said of a moment, and whether its answers are shown.
+function momentShown(by, at) {
+    slide(by, at);
+    return `${byId('moment').textContent} ${isSeen(byId('shown')) ? 'shown' : 'hidden'}`;
 }
 
 const rowsOf = (id) => [...byId(id).tBodies[0].rows].filter(isSeen)
@@ -174,7 +180,8 @@ function contrasts() {
 // What has the focus, and whether one sees that.
 function focusShown() {
     const element = document.activeElement;
-    const ring = element.closest('.editor') ?? (element.id === 'file' ? document.querySelector('label[for=file]') : element);
+    const shown = element.id === 'file' ? document.querySelector('label[for=file]') : element;
+    const ring = element.closest('.editor') ?? shown;
     const place = ring.getBoundingClientRect();
     return {
         what: element === document.body ? '' : element.id || `${element.tagName} ${element.textContent.slice(0, 20)}`

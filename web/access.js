@@ -1,6 +1,6 @@
 // One access, and how it is decided after each publication.
 
-const LEAST_SLICE = 12; // milliseconds for which decisions are made before the page may answer again
+const SLICE = 12; // milliseconds after which the page may answer before further decisions
 const MOST_ROWS = 500;
 
 // The value of a number as scripts have it, or null.
@@ -30,8 +30,7 @@ class Access {
         this.words = words;
         this.now = now;
         this.table = table;
-        this.asked = 0;
-        this.at = 0;
+        this.turn = 0;
         this.groups = [];
         this.finished = Promise.resolve();
     }
@@ -47,20 +46,36 @@ class Access {
         });
     }
 
-    decide(boot, by, after) {
-        const access = readAccess(this.state);
+    // Begins to ask after 0, 1, .. publications of the boot, or single writes. What was asked before is given up.
+    ask(boot, by) {
+        this.turn += 1;
+        this.boot = boot;
+        this.by = by;
+        this.access = readAccess(this.state);
+        this.answers = [];
+        this.finished = this.decideAll(this.turn);
+    }
+
+    stop() {
+        this.turn += 1;
+    }
+
+    answerAt(after) {
+        const {access, boot} = this;
         if (access === null) return {status: BAD_WORD, line: 0, text: ''};
-        return this.unit.check(boot.scriptBy(by), after, access.mode, access.kind, access.start, access.length);
+        this.answers[after] ??= this.unit.check(
+            boot.scriptBy(this.by), after, access.mode, access.kind, access.start, access.length);
+        return this.answers[after];
     }
 
     // Shows the answer at the moment.
-    show(boot, moment) {
-        const answer = this.decide(boot, moment.by, moment.at);
+    show(at) {
+        const answer = this.answerAt(at);
         const right = answer.status === 0;
         this.now.textContent = right ? sayDecision(linesOf(answer.text, ',')[0]) : sayRefusal(answer);
         this.now.className = right ? '' : 'wrong';
         for (const word of this.words) word.ariaInvalid = String(!right && word.tagName === 'INPUT');
-        this.at = moment.at;
+        this.at = at;
         this.showNow();
     }
 
@@ -71,36 +86,32 @@ class Access {
         });
     }
 
-    // Shows the answers after 0, 1, .. publications, or events; a later call takes the place of this one.
-    showAll(boot, by) {
-        this.asked += 1;
-        this.finished = this.decideAll(boot, by, this.asked);
-    }
-
-    async decideAll(boot, by, asked) {
+    // In slices, so that the page answers meanwhile.
+    async decideAll(turn) {
         const groups = [];
+        const last = this.boot.last(this.by);
         this.table.setAttribute('aria-busy', 'true');
-        let since = performance.now();
-        for (let after = 0; after <= boot.last(by); after++) {
-            const answer = this.decide(boot, by, after);
+        let until = 0;
+        for (let after = 0; after <= last && groups.length <= MOST_ROWS; after++) {
+            if (performance.now() >= until) {
+                this.table.caption.textContent = `The answer after each ${this.by}: ${after} of ${last} so far`;
+                await new Promise((go) => setTimeout(go));
+                if (turn !== this.turn) return;
+                until = performance.now() + SLICE;
+            }
+            const answer = this.answerAt(after);
             if (answer.status !== 0) break;
             addDecision(groups, after, linesOf(answer.text, ',')[0].slice(1));
-            if (groups.length > MOST_ROWS) break;
-            if (performance.now() - since > LEAST_SLICE) {
-                await new Promise((go) => setTimeout(go));
-                if (asked !== this.asked) return;
-                since = performance.now();
-            }
         }
-        this.draw(groups, by);
+        this.draw(groups);
         this.table.setAttribute('aria-busy', 'false');
     }
 
-    draw(groups, by) {
+    draw(groups) {
         this.groups = groups.slice(0, MOST_ROWS);
         const lines = this.groups.map((it) => [sayRange(it), ...it.fields]);
         fillTable(this.table, lines, (row, fields) => { row.className = fields[1]; });
-        this.table.caption.textContent = `The answer after each ${by}`
+        this.table.caption.textContent = `The answer after each ${this.by}`
             + (groups.length > MOST_ROWS ? `; the first ${MOST_ROWS} changes` : '');
         this.showNow();
     }

@@ -42,6 +42,7 @@ async function addressOf(state) {
         fields.push(`script=${squeezed}`);
     }
     if (state.by === 'write') fields.push('by=write');
-    fields.push(`at=${state.at}`, `access=${state.access.map(encodeURIComponent).join(',')}`);
+    if (Number.isFinite(state.at)) fields.push(`at=${state.at}`);
+    fields.push(`access=${state.access.map(encodeURIComponent).join(',')}`);
     return `#${fields.join('&')}`;
 }

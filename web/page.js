@@ -32,7 +32,8 @@ class Page {
         this.name = '';
         this.editor = new Editor(byId('script'), byId('gutter'));
         this.picture = new Picture(byId('picture'), data.darkPicture);
-        this.access = new Access(unit, ['mode', 'kind', 'start', 'length'].map(byId), byId('access-now'), byId('decisions'));
+        const words = ['mode', 'kind', 'start', 'length'].map(byId);
+        this.access = new Access(unit, words, byId('access-now'), byId('decisions'));
         for (const name of Object.keys(data.boots)) byId('boot').add(new Option(name, name));
         byId('boot').add(new Option('your own', ''));
         this.listen();
@@ -62,10 +63,13 @@ class Page {
             event.preventDefault();
             byId('answers').focus();
         });
-        addEventListener('dragover', (event) => event.preventDefault());
+        addEventListener('dragover', (event) => {
+            if (event.dataTransfer.types.includes('Files')) event.preventDefault();
+        });
         addEventListener('drop', (event) => {
+            if (event.dataTransfer.files.length === 0) return;
             event.preventDefault();
-            if (event.dataTransfer.files.length > 0) this.openFile(event.dataTransfer.files[0]);
+            this.openFile(event.dataTransfer.files[0]);
         });
         addEventListener('hashchange', () => this.openAddress());
     }
@@ -99,11 +103,15 @@ class Page {
 
     async openFile(file) {
         if (!file) return;
-        const bytes = new Uint8Array(await file.arrayBuffer());
-        const text = decodeText(bytes);
+        if (file.size > data.limits.MAX_SCRIPT) {
+            const fault = {status: TOO_LONG, line: 0};
+            tell(`${file.name}: ${sayRefusal(fault)}. ${sayAdvice(fault)}`);
+            return;
+        }
+        const text = decodeText(await file.arrayBuffer());
         this.open('', text);
-        const same = encodeText(this.editor.text).join() === encodeText(text.replaceAll('\r\n', '\n')).join();
-        if (!same) tell('The editor has no lone CR: each is a line’s end here.');
+        if (/\r(?!\n)/.test(text)) tell('The editor has no lone CR: each is a line’s end here.');
+        if (text.includes('\ufffd')) tell('Bytes that are no UTF-8 are U+FFFD here.');
         this.noteAddress();
     }
 
@@ -141,11 +149,12 @@ class Page {
         this.boot = new Boot(this.unit, this.editor.text);
         this.showFault(this.boot.fault);
         byId('answers').hidden = this.boot.fault !== null;
+        byId('refused').hidden = this.boot.fault === null;
         if (this.boot.fault === null) {
             this.showWrites();
             this.moveTo(this.moment);
         } else {
-            this.access.asked += 1;
+            this.access.stop();
             this.editor.mark(new Map([[this.boot.fault.line, {kind: 'wrong', sign: SIGNS.wrong}]]), 0);
         }
     }
@@ -155,14 +164,14 @@ class Page {
         const anew = by !== this.moment.by || this.boot !== this.shown;
         this.moment = {by, at: Math.min(moment.at, this.boot.last(by))};
         this.shown = this.boot;
+        if (anew) this.access.ask(this.boot, by);
         this.showMoment();
         this.showAnswers();
-        if (anew) this.access.showAll(this.boot, by);
     }
 
     accessChanged() {
-        this.access.show(this.boot, this.moment);
-        this.access.showAll(this.boot, this.moment.by);
+        this.access.ask(this.boot, this.moment.by);
+        this.access.show(this.moment.at);
         this.noteAddress();
     }
 
@@ -186,7 +195,8 @@ class Page {
         for (const by of ['publication', 'write']) {
             byId(by).max = boot.last(by);
             byId(by).value = done[by];
-            byId(`${by}-at`).textContent = `${done[by]} of ${boot.last(by)}`;
+            byId(by).ariaValueText = `${done[by]} of ${boot.last(by)}`;
+            byId(`${by}-at`).textContent = byId(by).ariaValueText;
         }
         byId('write-help').hidden = moment.by !== 'write';
         this.markLines(done.write);
@@ -214,22 +224,20 @@ class Page {
         this.showRuns();
         this.showEntries();
         this.showRegisters();
-        this.access.show(this.boot, this.moment);
+        this.access.show(this.moment.at);
         this.sayMoment();
     }
 
     sayMoment() {
         const {by, at} = this.moment;
-        const event = this.boot.events[at - 1];
-        const last = by === 'write' && at > 0 ? `, line ${event.line}: ${event.fields[3]} ${event.effect}` : '';
+        const last = by === 'write' && at > 0 ? ` (${sayEvent(this.boot.events[at - 1])})` : '';
         const frozen = byId('entries-count').textContent;
-        byId('moment').textContent = `After ${by} ${at}${last}: ${byId('runs-count').textContent}; ${frozen}`;
+        byId('moment').textContent = `After ${by} ${at}${last}: ${frozen}`;
     }
 
     showRuns() {
-        const lines = linesOf(this.ask('map').text, ',');
-        byId('runs-count').textContent = counted(lines.length, 'run');
-        if (byId('runs-part').open) fillTable(byId('runs'), lines, (row, fields) => { row.className = `su${fields[4]}`; });
+        if (!byId('runs-part').open) return;
+        fillTable(byId('runs'), linesOf(this.ask('map').text, ','), (row, fields) => { row.className = `su${fields[4]}`; });
     }
 
     showEntries() {
@@ -239,7 +247,8 @@ class Page {
         });
         const frozen = lines.filter((fields) => fields[6] === 'frozen').length;
         const hold = lines.filter((fields) => fields[9] !== '').length;
-        byId('entries-count').textContent = `${frozen} of ${lines.length} entries frozen; ${hold} hold${hold === 1 ? 's' : ''}.`;
+        const verb = hold === 1 ? 'holds' : 'hold';
+        byId('entries-count').textContent = `${frozen} of ${lines.length} entries frozen; ${hold} ${verb}.`;
     }
 
     showRegisters() {
@@ -277,6 +286,10 @@ class Page {
         history.replaceState(null, '', address === '' ? location.pathname + location.search : address);
         if (address === '') tell('The script is too long for the address: send it beside a link.');
     }
+}
+
+function sayEvent({line, register, effect}) {
+    return `line ${line}: ${register}${register === effect ? '' : ` ${effect}`}`;
 }
 
 function classOfEntry([, matching, , , , , lock, address, , holds]) {
