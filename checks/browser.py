@@ -1,4 +1,4 @@
-"""Headless Chromium over the DevTools protocol, by pipes: what checks/page, bench/page and web/shot drive the page with.
+"""Headless Chromium over the DevTools protocol, by pipes: checks/page, bench/page and web/shot drive the page with it.
 
 Every command waits for its answer and every wait for an event, never for a time."""
 import json
@@ -141,5 +141,6 @@ class Tab:
     def complaints(self):
         """Errors and warnings in the console, and exceptions that nothing caught."""
         texts = [it["entry"]["text"] for it in self.events("Log.entryAdded") if it["entry"]["level"] != "verbose"]
-        texts += [str(it["args"]) for it in self.events("Runtime.consoleAPICalled") if it["type"] in ("error", "warning")]
+        calls = self.events("Runtime.consoleAPICalled")
+        texts += [str(it["args"]) for it in calls if it["type"] in ("error", "warning")]
         return texts + [str(it["exceptionDetails"]) for it in self.events("Runtime.exceptionThrown")]

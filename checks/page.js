@@ -166,9 +166,9 @@ function contrasts() {
     const walk = document.createTreeWalker(document.body, NodeFilter.SHOW_TEXT);
     while (walk.nextNode()) {
         const element = walk.currentNode.parentElement;
-        if (walk.currentNode.data.trim() === '' || !isSeen(element) || element.closest('script, option, .skip')) continue;
-        const ratio = contrast(getComputedStyle(element).color, groundOf(element));
-        found.push([walk.currentNode.data.trim().slice(0, 30), ratio]);
+        const text = walk.currentNode.data.trim();
+        if (text === '' || !isSeen(element) || element.closest('script, option, .skip')) continue;
+        found.push([text.slice(0, 30), contrast(getComputedStyle(element).color, groundOf(element))]);
     }
     for (const text of page.picture.root.querySelectorAll('text')) {
         const ground = text.parentElement.querySelector('rect') ?? page.picture.root.querySelector('rect');

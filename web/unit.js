@@ -77,8 +77,8 @@ class Unit {
             if (!(trap instanceof WebAssembly.RuntimeError)) throw trap;
             this.traps += 1;
             this.begin();
-            this.told(`The module stopped (${trap.message}) where it was asked for “${name}”, which it never should. It `
-                + 'was started anew; please report the script.');
+            this.told(`The module stopped (${trap.message}) where it was asked for “${name}”, which it never should. `
+                + 'It was started anew; please report the script.');
             return NO_ANSWER;
         }
     }
