@@ -41,7 +41,10 @@ class Page {
 
     listen() {
         byId('boot').addEventListener('change', (event) => this.openBoot(event.target.value));
-        byId('file').addEventListener('change', (event) => this.openFile(event.target.files[0]));
+        byId('file').addEventListener('change', (event) => {
+            this.openFile(event.target.files[0]);
+            event.target.value = '';
+        });
         byId('script').addEventListener('input', () => this.edited());
         for (const by of ['publication', 'write']) {
             byId(by).addEventListener('input', (event) => {
@@ -91,7 +94,9 @@ class Page {
         }
         if (state?.access) this.access.state = state.access;
         const own = state?.text !== undefined;
-        const name = own || !Object.hasOwn(data.boots, state?.boot) ? Object.keys(data.boots)[0] : state.boot;
+        const known = Object.hasOwn(data.boots, state?.boot);
+        const name = known ? state.boot : Object.keys(data.boots)[0];
+        if (state !== null && !own && !known) unread = 'The address names a boot that this page doesn’t have.';
         this.open(own ? '' : name, own ? state.text : data.boots[name], state ?? {});
         if (unread !== '') tell(unread);
     }
