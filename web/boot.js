@@ -6,7 +6,8 @@ class Boot {
         this.unit = unit;
         this.script = encodeText(text);
         this.fault = null;
-        this.events = [];
+        this.events = []; // in order, each with the line that says it
+        this.places = new Map(); // of a line's event in that list
         this.ends = [0];
         const publications = unit.publications(this.script);
         if (publications.status !== 0) {
@@ -19,6 +20,7 @@ class Boot {
             return;
         }
         this.events = linesOf(writes.text, ',').map(readEvent);
+        this.places = new Map(this.events.map((event, place) => [event.line, place]));
         this.ends = endsOf(this.events, Number(publications.text));
     }
 

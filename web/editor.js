@@ -5,7 +5,7 @@ class Editor {
     constructor(area, gutter) {
         this.area = area;
         this.gutter = gutter;
-        this.marks = new Map();
+        this.markOf = () => undefined;
         this.now = 0;
         this.lines = 1;
         this.height = parseFloat(getComputedStyle(area).lineHeight);
@@ -35,9 +35,9 @@ class Editor {
         this.draw();
     }
 
-    // marks: a map from a line's number to {sign, kind}; now: the line that the moment is at, or 0
-    mark(marks, now) {
-        this.marks = marks;
+    // markOf: what a line has beside its number, {sign, kind} or undefined; now: the line that the moment is at, or 0
+    mark(markOf, now) {
+        this.markOf = markOf;
         this.now = now;
         this.draw();
     }
@@ -53,7 +53,7 @@ class Editor {
 
     drawLine(line) {
         const item = document.createElement('div');
-        const mark = this.marks.get(line);
+        const mark = this.markOf(line);
         const sign = document.createElement('b');
         if (mark) {
             item.className = mark.kind;

@@ -160,7 +160,8 @@ class Page {
             this.moveTo(this.moment);
         } else {
             this.access.stop();
-            this.editor.mark(new Map([[this.boot.fault.line, {kind: 'wrong', sign: SIGNS.wrong}]]), 0);
+            const wrong = {kind: 'wrong', sign: SIGNS.wrong};
+            this.editor.mark((line) => (line === this.boot.fault.line ? wrong : undefined), 0);
         }
     }
 
@@ -172,6 +173,7 @@ class Page {
         if (anew) this.access.ask(this.boot, by);
         this.showMoment();
         this.showAnswers();
+        this.markLines(this.boot.eventsAt(this.moment));
     }
 
     accessChanged() {
@@ -204,18 +206,18 @@ class Page {
             byId(`${by}-at`).textContent = byId(by).ariaValueText;
         }
         byId('write-help').hidden = moment.by !== 'write';
-        this.markLines(done.write);
     }
 
+    // The last of all, since to scroll the script lays the page out.
     markLines(done) {
-        const marks = new Map();
-        this.boot.events.forEach(({line, effect}, place) => {
-            if (effect in SIGNS) marks.set(line, {kind: effect, sign: SIGNS[effect]});
-            else if (place < done) marks.set(line, {kind: 'done', sign: SIGNS.done});
-        });
-        const now = this.boot.events[done - 1]?.line ?? 0;
-        this.editor.mark(marks, now);
-        if (now > 0 && done < this.boot.events.length) this.editor.show(now);
+        const {events, places} = this.boot;
+        const now = events[done - 1]?.line ?? 0;
+        this.editor.mark((line) => {
+            const place = places.get(line);
+            const kind = events[place]?.effect in SIGNS ? events[place].effect : place < done ? 'done' : '';
+            return kind === '' ? undefined : {kind, sign: SIGNS[kind]};
+        }, now);
+        if (now > 0 && done < events.length) this.editor.show(now);
     }
 
     showAnswers() {
