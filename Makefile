@@ -67,7 +67,7 @@ test:
 	checks/hostile $(PROGRAM)
 	checks/machines $(PROGRAM)
 	checks/growths $(GROWTHS)
-	$(MAKE) page
+	RT=$(CURDIR)/checks/over-proved $(MAKE) page
 	checks/page $(PROGRAM)
 
 # Ends with status 1 where something differs.

@@ -1,9 +1,20 @@
--- What a call answers that makes a text of its inputs and writes it.
-use Rattle.std.specs.Prelude.{ℕ, List, Option}
+-- What a call answers that makes a text of its inputs, and appends it or writes it.
+use Rattle.std.specs.Prelude.{◌≡◌, ℕ, List, ◌++◌, Option, ⊤}
 use Rattle.std.specs.Io.KnownBytes.{Appends, Keeps}
 use Rattle.pmp_text.specs.Bytes.{AppendsBeginning}
 use Rattle.pmp_audit.specs.declared.fault.AuditFault.{AuditFault}
 use Rattle.pmp_audit.specs.declared.fault.AuditFault.TheVariants.{Memory, Output}
+
+-- memory ran out, or the call refuses by itself
+abbrev pub Declines : (Refuses : AuditFault → Type 0) → AuditFault → Type 0
+Declines Refuses Memory = ⊤
+Declines Refuses fault = Refuses fault
+
+-- Says answer text: this text goes with this answer, and joined another
+pub record IsAppended {A : Type 0} (Says : A → List ℕ → Type 0) (before after : List ℕ) (answer : A) : Type 0 where
+  pub text : List ℕ
+  pub says : Says answer text
+  pub appended : after ≡ before ++ text
 
 -- Says answer text: this text goes with this answer
 module _ {A : Type 0} (Says : A → List ℕ → Type 0) (before after : Option (List ℕ)) where

@@ -1,8 +1,9 @@
 -- The faults of one of two scripts, while they are read.
-use Rattle.std.specs.Prelude.{◌≡◌, ℕ, List, Option, ⊤}
+use Rattle.std.specs.Prelude.{◌≡◌, ℕ, List, Option}
 use Rattle.pmp_audit.specs.declared.fault.AuditFault.{AuditFault}
-use Rattle.pmp_audit.specs.declared.fault.AuditFault.TheVariants.{Script, BadAfter, ScriptOf, BadAfterOf, Memory}
+use Rattle.pmp_audit.specs.declared.fault.AuditFault.TheVariants.{Script, BadAfter, ScriptOf, BadAfterOf}
 use Rattle.pmp_audit.specs.declared.fault.Side.{Side}
+use Rattle.pmp_audit.specs.Answers.{Declines}
 use Rattle.pmp_audit.specs.AskedFile.{FileRefuses}
 
 -- a script's fault as that of the one on this side
@@ -13,8 +14,7 @@ fault_on side fault = fault
 
 -- the script is refused, or memory ran out
 abbrev pub FailsFile : (script : List ℕ) → (after : Option ℕ) → AuditFault → Type 0
-FailsFile script after Memory = ⊤
-FailsFile script after fault = FileRefuses script after fault
+FailsFile script after = Declines (FileRefuses script after)
 
 -- the same of the one on this side
 abbrev pub FailsOn : Side → (script : List ℕ) → (after : Option ℕ) → AuditFault → Type 0

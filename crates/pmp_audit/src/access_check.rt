@@ -2,7 +2,7 @@
 
 ghost use Rattle.std.specs.Prelude.{IfOk, IfErr};
 ghost use Rattle.pmp_audit.specs.AccessCheck.{CheckSays};
-ghost use Rattle.pmp_audit.specs.Answers.{IsWritten, IsRefused};
+ghost use Rattle.pmp_audit.specs.Answers.{Declines, IsAppended, IsWritten, IsRefused};
 ghost use Rattle.pmp_audit.specs.AskedFile.{FileRefuses};
 
 use crate::answer::write_answer;
@@ -10,7 +10,7 @@ use crate::asked_count::asked_count;
 use crate::fault::AuditFault;
 use crate::replay::Replay;
 use pmp_core::{Access, Decision};
-use pmp_text::{read_script, write_row};
+use pmp_text::{EventLog, GrowingLog, Sink, read_script, write_row};
 use std::alloc::Global;
 use std::io::Write;
 
@@ -31,10 +31,27 @@ pub fn check<W: Write>(
         (IsRefused (CheckSays script.now access.now after) (W.contents writer.old) (W.contents writer.new)
         (FileRefuses script.now after)) }
 {
-    let script = read_script(alloc, script)?;
+    let mut row = Vec::new(alloc);
+    let decision = append_check(&mut GrowingLog::new(alloc), script, access, after, &mut row)?;
+    write_answer(writer, &row, decision)
+}
+
+/// Appends the row that `check` writes. The script's events are kept in the log, and `Memory` says that they have no
+/// room there, or the row none.
+pub fn append_check<L: EventLog, S: Sink>(
+    log: &mut L,
+    script: &[u8],
+    access: &Access,
+    after: Option<u64>,
+    out: &mut S,
+) -> Result<Decision, AuditFault>
+    ensures ok { IfOk result
+        (IsAppended (CheckSays script.now access.now after) (S.text out.old) (S.text out.new)) }
+    ensures err { IfErr result (Declines (FileRefuses script.now after)) }
+{
+    let script = read_script(log, script)?;
     let count = asked_count(&script, after)?;
     let decision = Replay::after(&script, count).decide(access);
-    let mut row = Vec::new(alloc);
-    write_row(&mut row, 1, access, &decision)?;
-    write_answer(writer, &row, decision)
+    write_row(out, 1, access, &decision)?;
+    Ok(decision)
 }

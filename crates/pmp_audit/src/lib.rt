@@ -19,7 +19,7 @@ mod trace_audit;
 mod view;
 mod write_list;
 
-pub use access_check::check;
+pub use access_check::{append_check, check};
 pub use fault::{AuditFault, Side};
 pub use gate::{Gate, OpenGate};
 pub use long_audit::{PIECE, audit_long};
@@ -27,5 +27,5 @@ pub use policy_check::{Pace, PolicySummary, check_policy};
 pub use rights_diff::diff;
 pub use shared_audit::audit_shared;
 pub use trace_audit::{Summary, audit};
-pub use view::{View, dump, entries_of, map_of, picture_of, show};
-pub use write_list::{WriteSummary, writes};
+pub use view::{View, append_view, dump, entries_of, map_of, picture_of, show};
+pub use write_list::{WriteSummary, append_writes, writes};

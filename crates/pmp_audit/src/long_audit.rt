@@ -15,7 +15,7 @@ use crate::fault::AuditFault;
 use crate::long_audit::standing::Standing;
 use crate::long_audit::writing::{write_and_cut, write_piece};
 use crate::trace_audit::Summary;
-use pmp_text::{Cut, InputFault, Script, cut_piece, read_script};
+use pmp_text::{Cut, GrowingLog, InputFault, Script, cut_piece, read_script};
 use std::alloc::Global;
 use std::io::{Read, Write};
 use std::thread::Threads;
@@ -48,7 +48,8 @@ pub fn audit_long<T: Threads + Sync, R: Read, W: Write>(
     ensures err { IfErr result (λ fault. (trace : List ℕ) × IfSome (R.remaining reader.old) (λ those. trace ≡ those)
         × StopsLong limit script.now first trace (W.contents writer.old) (W.contents writer.new) fault) }
 {
-    let parsed = read_script(alloc, script)?;
+    let mut log = GrowingLog::new(alloc);
+    let parsed = read_script(&mut log, script)?;
     audit_pieces(rt, alloc, jobs, &parsed, first, limit, reader, writer)
 }
 

@@ -16,7 +16,7 @@ use crate::answer::write_answer;
 use crate::fault::AuditFault;
 use crate::policy_check::search::judge;
 use crate::policy_check::steps::Steps;
-use pmp_text::{Breach, PolicyRow, read_policy, read_script, write_verdict};
+use pmp_text::{Breach, GrowingLog, PolicyRow, read_policy, read_script, write_verdict};
 use std::alloc::{AllocError, Global};
 use std::io::Write;
 pub use steps::Pace;
@@ -46,7 +46,8 @@ pub fn check_policy<W: Write>(
         (IsRefused (PolicySays pace script.now policy.now) (W.contents writer.old) (W.contents writer.new)
         (PolicyRefuses script.now policy.now)) }
 {
-    let script = read_script(alloc, script)?;
+    let mut log = GrowingLog::new(alloc);
+    let script = read_script(&mut log, script)?;
     let rows = match read_policy(alloc, policy, script.batches()) {
         Ok(rows) => rows,
         Err(fault) => return Err(AuditFault::of_policy(fault)),

@@ -12,7 +12,7 @@ use std::marker::Model;
 /// A script whose first publications are done. A contract sees the script, and how many of its publications are done.
 #[derive(Drop)]
 pub struct Replay<'a> {
-    script: &'a Script,
+    script: &'a Script<'a>,
     done: u64,
     /// The register file that these give.
     file: RegFile,
@@ -37,7 +37,7 @@ impl<'a> Model for Replay<'a> {
 
 impl<'a> Replay<'a> {
     /// Before the first publication.
-    pub fn new(script: &'a Script) -> Replay<'a>
+    pub fn new(script: &'a Script<'a>) -> Replay<'a>
         ensures { result ≡ record { script = script.now; done = 0 } }
     {
         Replay {
@@ -49,7 +49,7 @@ impl<'a> Replay<'a> {
     }
 
     /// After the first `count` publications.
-    pub fn after(script: &'a Script, count: u64) -> Replay<'a>
+    pub fn after(script: &'a Script<'a>, count: u64) -> Replay<'a>
         requires { count ≤ length script.now.batches }
         ensures { result ≡ record { script = script.now; done = count } }
     {

@@ -11,7 +11,7 @@ use crate::fault::{AuditFault, Side};
 use crate::replay::Replay;
 use pmp_core::RegFile;
 use pmp_map::rights_runs;
-use pmp_text::{Only, read_script, write_changes};
+use pmp_text::{GrowingLog, Only, read_script, write_changes};
 use std::alloc::Global;
 use std::io::Write;
 
@@ -67,7 +67,8 @@ fn file_after(alloc: Global, script: &[u8], after: Option<u64>) -> Result<RegFil
     ensures ok { IfOk result (λ file. GivesFile script.now after file) }
     ensures err { IfErr result (FailsFile script.now after) }
 {
-    let script = read_script(alloc, script)?;
+    let mut log = GrowingLog::new(alloc);
+    let script = read_script(&mut log, script)?;
     let count = asked_count(&script, after)?;
     Ok(*Replay::after(&script, count).file())
 }

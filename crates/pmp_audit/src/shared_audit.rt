@@ -26,7 +26,7 @@ use deciding::decide_shared;
 use listing::list_decisions;
 use pmp_core::laws::{law_decided_by_ranges, law_legal};
 use pmp_text::laws::law_script_size;
-use pmp_text::{read_script, read_trace};
+use pmp_text::{GrowingLog, read_script, read_trace};
 use std::alloc::Global;
 use std::io::Write;
 use std::sync::Wait;
@@ -58,7 +58,8 @@ pub fn audit_shared<R: Threads + Wait + Sync, G: Gate + Sync, W: Write>(
         (IsRefused (AuditSays script.now trace.now) (W.contents writer.old) (W.contents writer.new)
         (SharedAuditRefuses script.now trace.now)) }
 {
-    let script = read_script(alloc, script)?;
+    let mut log = GrowingLog::new(alloc);
+    let script = read_script(&mut log, script)?;
     let rows = read_trace(alloc, trace, script.batches())?;
     law_script_size();
     let decisions = decide_shared(rt, alloc, gate, k, &script, &rows)?;

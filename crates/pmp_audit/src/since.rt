@@ -52,7 +52,7 @@ fn count_in(since: &mut [Since], file: &RegFile, are_writes: bool, done: u64)
 /// The script after its first `count` publications, and for each entry that is frozen there the number of the
 /// publication that froze it: it has been frozen ever since. The same for each entry that is held, that is, frozen with
 /// all entries before it.
-pub fn since_of(script: &Script, count: u64) -> (Replay<'_>, [Since; MAX_ENTRIES])
+pub fn since_of<'a>(script: &'a Script<'a>, count: u64) -> (Replay<'a>, [Since; MAX_ENTRIES])
     requires { count ≤ length script.now.batches }
     ensures position { result.0 ≡ record { script = script.now; done = count } }
     ensures since { AreSince (count_of script.now.size) (take count script.now.batches) result.1 }

@@ -12,7 +12,7 @@ use crate::answer::write_answer;
 use crate::fault::AuditFault;
 use crate::report::{list_rows, refusals};
 use pmp_core::Decision;
-use pmp_text::{Row, Script, read_script, read_trace, write_row};
+use pmp_text::{GrowingLog, Row, Script, read_script, read_trace, write_row};
 use std::alloc::{AllocError, Global};
 use std::io::Write;
 
@@ -41,7 +41,8 @@ pub fn audit<W: Write>(
         (IsRefused (AuditSays script.now trace.now) (W.contents writer.old) (W.contents writer.new)
         (AuditRefuses script.now trace.now)) }
 {
-    let script = read_script(alloc, script)?;
+    let mut log = GrowingLog::new(alloc);
+    let script = read_script(&mut log, script)?;
     let rows = read_trace(alloc, trace, script.batches())?;
     let mut report = Vec::new(alloc);
     let summary = write_report(&mut report, &script, &rows)?;

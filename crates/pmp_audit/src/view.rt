@@ -1,7 +1,7 @@
 //! What is shown of the register file after publications of a script.
 
 ghost use Rattle.std.specs.Prelude.{◌≡◌, ◌≤◌, ◌++◌, List, ℕ, IfOk, IfErr, OnOk, length};
-ghost use Rattle.pmp_audit.specs.Answers.{IsWritten, IsRefused};
+ghost use Rattle.pmp_audit.specs.Answers.{Declines, IsAppended, IsWritten, IsRefused};
 ghost use Rattle.pmp_audit.specs.AskedFile.{FileRefuses};
 ghost use Rattle.pmp_audit.specs.View.{IsViewText, ViewSays};
 ghost use Rattle.pmp_audit.specs.declared.view.View.TheVariants.{Registers, Runs, Picture, Entries};
@@ -12,7 +12,10 @@ use crate::fault::AuditFault;
 use crate::replay::Replay;
 use crate::since::since_of;
 use pmp_map::RunMap;
-use pmp_text::{Script, read_script, write_entries, write_picture, write_registers, write_runs};
+use pmp_text::{
+    EventLog, GrowingLog, Script, Sink, read_script, write_entries, write_picture, write_registers,
+    write_runs,
+};
 use std::alloc::{AllocError, Global};
 use std::io::Write;
 
@@ -109,18 +112,39 @@ pub fn show<W: Write>(
         (IsRefused (ViewSays view script.now after) (W.contents writer.old) (W.contents writer.new)
         (FileRefuses script.now after)) }
 {
-    let script = read_script(alloc, script)?;
-    let done = asked_count(&script, after)?;
     let mut text = Vec::new(alloc);
-    write_view(&mut text, view, &script, done)?;
+    append_view(&mut GrowingLog::new(alloc), view, script, after, &mut text)?;
     write_answer(writer, &text, ())
 }
 
+/// Appends the text that `show` writes. The script's events are kept in the log, and `Memory` says that they have no
+/// room there, or the text none.
+pub fn append_view<L: EventLog, S: Sink>(
+    log: &mut L,
+    view: View,
+    script: &[u8],
+    after: Option<u64>,
+    out: &mut S,
+) -> Result<(), AuditFault>
+    ensures ok { IfOk result (IsAppended (ViewSays view script.now after) (S.text out.old) (S.text out.new)) }
+    ensures err { IfErr result (Declines (FileRefuses script.now after)) }
+{
+    let script = read_script(log, script)?;
+    let done = asked_count(&script, after)?;
+    write_view(out, view, &script, done)?;
+    Ok(())
+}
+
 /// Appends the text that shows this after so many publications.
-fn write_view(out: &mut Vec<u8>, view: View, script: &Script, done: u64) -> Result<(), AllocError>
+fn write_view<S: Sink>(
+    out: &mut S,
+    view: View,
+    script: &Script,
+    done: u64,
+) -> Result<(), AllocError>
     requires { done ≤ length script.now.batches }
     ensures { OnOk result ((text : List ℕ) × IsViewText view script.now done text
-        × (out.new.items ≡ out.old.items ++ text)) }
+        × (S.text out.new ≡ S.text out.old ++ text)) }
 {
     match view {
         View::Registers => write_registers(out, Replay::after(script, done).file()),

@@ -6,7 +6,7 @@ ghost use Rattle.pmp_core.specs.RegisterWrite.{step};
 ghost use Rattle.pmp_core.specs.Size.{count_of};
 ghost use Rattle.pmp_text.specs.declared.script.reader.TheConstants.{MAX_SCRIPT};
 ghost use Rattle.pmp_text.specs.Sizes.{script_size};
-ghost use Rattle.pmp_audit.specs.Answers.{IsWritten, IsRefused};
+ghost use Rattle.pmp_audit.specs.Answers.{Declines, IsAppended, IsWritten, IsRefused};
 ghost use Rattle.pmp_audit.specs.EventRows.{AreWritten};
 ghost use Rattle.pmp_audit.specs.WriteList.{placed, placed_events, rows_text, is_not_stored, write_summary};
 ghost use Rattle.pmp_audit.specs.WriteList.{WritesSay, WritesRefuse};
@@ -15,7 +15,7 @@ use crate::answer::write_answer;
 use crate::fault::AuditFault;
 use pmp_core::{Event, RegFile};
 use pmp_text::laws::law_script_size;
-use pmp_text::{EventPlace, Script, read_script, write_effect};
+use pmp_text::{EventLog, EventPlace, GrowingLog, Script, Sink, read_script, write_effect};
 use std::alloc::{AllocError, Global};
 use std::io::Write;
 
@@ -41,16 +41,29 @@ pub fn writes<W: Write>(
         (IsRefused (WritesSay script.now) (W.contents writer.old) (W.contents writer.new)
         (WritesRefuse script.now)) }
 {
-    let script = read_script(alloc, script)?;
-    law_script_size();
     let mut text = Vec::new(alloc);
-    let summary = write_events(&mut text, &script)?;
+    let summary = append_writes(&mut GrowingLog::new(alloc), script, &mut text)?;
     write_answer(writer, &text, summary)
 }
 
-fn write_events(out: &mut Vec<u8>, script: &Script) -> Result<WriteSummary, AllocError>
+/// Appends the text that `writes` writes. The script's events are kept in the log, and `Memory` says that they have no
+/// room there, or the text none.
+pub fn append_writes<L: EventLog, S: Sink>(
+    log: &mut L,
+    script: &[u8],
+    out: &mut S,
+) -> Result<WriteSummary, AuditFault>
+    ensures ok { IfOk result (IsAppended (WritesSay script.now) (S.text out.old) (S.text out.new)) }
+    ensures err { IfErr result (Declines (WritesRefuse script.now)) }
+{
+    let script = read_script(log, script)?;
+    law_script_size();
+    Ok(write_events(out, &script)?)
+}
+
+fn write_events<S: Sink>(out: &mut S, script: &Script) -> Result<WriteSummary, AllocError>
     requires { script_size script.now.batches ≤ MAX_SCRIPT }
-    ensures rows { IfOk result (λ _. out.new.items ≡ out.old.items
+    ensures rows { IfOk result (λ _. S.text out.new ≡ S.text out.old
         ++ rows_text (count_of script.now.size) (placed_events script.now)) }
     ensures counted { IfOk result
         (λ summary. summary ≡ write_summary (count_of script.now.size) (placed_events script.now)) }
@@ -66,8 +79,8 @@ fn write_events(out: &mut Vec<u8>, script: &Script) -> Result<WriteSummary, Allo
 }
 
 /// Appends the rows of a publication's events, and does them. What stands before them is counted already.
-fn write_publication(
-    out: &mut Vec<u8>,
+fn write_publication<S: Sink>(
+    out: &mut S,
     file: &mut RegFile,
     before: WriteSummary,
     publication: u64,
@@ -77,8 +90,8 @@ fn write_publication(
     requires room { before.events + length events.now < 2 ^ 64 }
     requires within { before.not_stored ≤ before.events }
     ensures written { IfOk result (λ after. AreWritten
-        (record { text = out.old.items; file = file.old; summary = before })
-        (record { text = out.new.items; file = file.new; summary = after })
+        (record { text = S.text out.old; file = file.old; summary = before })
+        (record { text = S.text out.new; file = file.new; summary = after })
         (placed publication lines.now events.now)) }
     ensures within { IfOk result (λ after. after.not_stored ≤ after.events) }
 {

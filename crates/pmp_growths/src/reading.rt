@@ -6,8 +6,8 @@ use crate::texts::{POLICY, SCRIPT, TRACE};
 use crate::worked::{page_load, writes};
 use pmp_core::{Access, AccessFault, Kind, Mode};
 use pmp_text::{
-    Demand, InputFault, Kinds, Modes, PolicyRow, Row, Script, ScriptKind, TraceKind, read_bytes,
-    read_policy, read_script, read_trace,
+    Demand, GrowingLog, InputFault, Kinds, Modes, PolicyRow, Row, Script, ScriptKind, TraceKind,
+    read_bytes, read_policy, read_script, read_trace,
 };
 use std::alloc::Global;
 use std::io;
@@ -62,7 +62,8 @@ fn is_script(script: &Script) -> bool {
 
 fn reads_script(alloc: Global) -> Tried {
     begin(alloc);
-    let answer = read_script(alloc, SCRIPT);
+    let mut log = GrowingLog::new(alloc);
+    let answer = read_script(&mut log, SCRIPT);
     end(alloc);
     match answer {
         Ok(script) => answered_if(is_script(&script), "the publications"),

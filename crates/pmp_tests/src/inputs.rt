@@ -1,8 +1,8 @@
 //! Readers that never end, and readers that fail.
 
 use pmp_text::{
-    InputFault, MAX_SCRIPT, MAX_TRACE, ScriptFault, ScriptKind, TraceFault, TraceKind, read_bytes,
-    read_script, read_trace,
+    GrowingLog, InputFault, MAX_SCRIPT, MAX_TRACE, ScriptFault, ScriptKind, TraceFault, TraceKind,
+    read_bytes, read_script, read_trace,
 };
 use std::alloc::Global;
 use std::io;
@@ -76,7 +76,8 @@ fn longer_texts_are_too_long(rt: HostRuntime) {
     let script = line_feeds(&rt, rt.alloc(), MAX_SCRIPT / 4096);
     let (kind, line) = (ScriptKind::TooLong, 0);
     assert!(rt;
-        read_script(rt.alloc(), script.as_slice()).err() == Some(ScriptFault { kind, line })
+        read_script(&mut GrowingLog::new(rt.alloc()), script.as_slice()).err()
+            == Some(ScriptFault { kind, line })
     );
     let trace = line_feeds(&rt, rt.alloc(), MAX_TRACE / 4096);
     let (kind, row) = (TraceKind::TooLong, 0);

@@ -29,12 +29,11 @@ six_texts old t₁ t₂ t₃ t₄ t₅ new a b c d e f first second third fourth
     (joined t₂ t₃ new c (d ++ (e ++ f)) third
     (joined t₃ t₄ new d (e ++ f) fourth (joined t₄ t₅ new e f fifth last))))
 
--- three texts that were appended to none
-pub three_texts : (none t₁ t₂ new a b c : List ℕ) → none ≡ [] → t₁ ≡ none ++ a → t₂ ≡ t₁ ++ b → new ≡ t₂ ++ c
-    → new ≡ a ++ (b ++ c)
-three_texts none t₁ t₂ new a b c empty first second last =
-    joined none t₁ new a (b ++ c) first (joined t₁ t₂ new b c second last)
-    ∙ ap (λ (l : List ℕ). l ++ (a ++ (b ++ c))) empty
+-- three texts that were appended one after another
+pub three_appended : (old t₁ t₂ new a b c : List ℕ) → t₁ ≡ old ++ a → t₂ ≡ t₁ ++ b → new ≡ t₂ ++ c
+    → new ≡ old ++ (a ++ (b ++ c))
+three_appended old t₁ t₂ new a b c first second last =
+    joined old t₁ new a (b ++ c) first (joined t₁ t₂ new b c second last)
 
 by_bits : (mml mmwp rlb : Bool) → let mseccfg : MseccfgFields =
     record { mml = mml; mmwp = mmwp; rlb = rlb } in mseccfg_fields (mseccfg_value mseccfg) ≡ mseccfg

@@ -7,6 +7,7 @@ pub mod Cutting
 pub mod Dumps
 pub mod Effects
 pub mod EntryRows
+pub mod EventLogs
 pub mod Hexadecimal
 pub mod Inputs
 pub mod Lines

@@ -2,5 +2,6 @@
 pub mod Cuts
 pub mod Marks
 pub mod Progress
+pub mod Reading
 pub mod Records
 pub mod Views

@@ -1,7 +1,6 @@
 //! Lines that join an output.
 
-ghost use Rattle.std.specs.Prelude.{◌≡◌, ◌+◌, ◌≤◌, ◌++◌, IfSome, OnErr, OnOk, length};
-ghost use Rattle.std.specs.Prelude.{vec_capacity, vec_len};
+ghost use Rattle.std.specs.Prelude.{◌≡◌, ◌++◌, IfOk, IfSome, OnErr, OnOk};
 
 mod changes;
 mod effects;
@@ -24,32 +23,33 @@ pub use report::write_row;
 pub use runs::write_runs;
 pub use since::Since;
 pub use verdict::{Breach, write_verdict};
-/// An allocation was refused, as the calls say that append texts.
+/// There is no room for more of a text, as the calls say that append texts.
+use crate::sink::Sink;
+use arrayvec::ArrayString;
 pub use std::alloc::AllocError as NoMemory;
 use std::alloc::AllocError;
-use std::fmt::Display;
+use std::fmt::{Display, Write};
 
-/// The room that a line, or a part of one, takes at first. One of a picture has at most 107 bytes, and no other has
-/// more; a longer one would ask for memory again.
+/// The most bytes of a line, or of a part of one that is appended at once: one of a picture has at most 107 bytes, and
+/// no other has more. For a longer one there would be no room.
 const LINE: usize = 128;
 
-/// Appends a text for which there is room.
-pub(crate) fn append_reserved(out: &mut Vec<u8>, text: &[u8])
-    requires { vec_len out.old + length text.now ≤ vec_capacity out.old }
-    ensures text { out.new.items ≡ out.old.items ++ text.now }
-    ensures len { vec_len out.new ≡ vec_len out.old + length text.now }
-    ensures room { vec_capacity out.old ≤ vec_capacity out.new }
+/// Appends a line, or nothing.
+pub fn append_line<S: Sink, L: Display + Drop>(out: &mut S, line: L) -> Result<(), AllocError>
+    ensures ok { OnOk result (IfSome (L.output line) (λ text. S.text out.new ≡ S.text out.old ++ text)) }
+    ensures err { OnErr result (S.text out.new ≡ S.text out.old) }
 {
-    let _ = out.extend_from_slice(text);
+    let text = line_of(line)?;
+    out.append(text.as_str().as_bytes())
 }
 
-/// Appends a line, or nothing.
-pub fn append_line<L: Display + Drop>(out: &mut Vec<u8>, line: L) -> Result<(), AllocError>
-    ensures ok { OnOk result (IfSome (L.output line) (λ text. out.new.items ≡ out.old.items ++ text)) }
-    ensures err { OnErr result (out.new.items ≡ out.old.items) }
+/// The line by itself.
+fn line_of<L: Display + Drop>(line: L) -> Result<ArrayString<LINE>, AllocError>
+    ensures { IfOk result (λ text. IfSome (L.output line) (λ bytes. text.bytes ≡ bytes)) }
 {
-    let mut text = String::with_capacity(*out.allocator(), LINE)?;
-    text.write(line)?;
-    out.extend_from_slice(text.as_bytes())?;
-    Ok(())
+    let mut text = ArrayString::new();
+    match text.write(line) {
+        Ok(()) => Ok(text),
+        Err(_) => Err(AllocError),
+    }
 }

@@ -1,6 +1,6 @@
 //! Scripts: the publications that a text describes, and why a text describes none.
 
-ghost use Rattle.std.specs.Prelude.{◌≡◌, suc, ◌+◌, ◌<◌, ◌≤◌, ◌∷◌, ◌++◌, [], IfErr, OnErr, OnOk, length, take};
+ghost use Rattle.std.specs.Prelude.{◌≡◌, suc, ◌+◌, ◌<◌, ◌≤◌, [], length, take};
 ghost use Rattle.std.specs.Prelude.{slice_index_or};
 ghost use Rattle.pmp_core.specs.declared.event.TheConstants.{BATCH_EVENTS};
 ghost use Rattle.pmp_core.specs.Histories.{joined};
@@ -15,9 +15,10 @@ mod significant;
 mod statement;
 mod words;
 
+use crate::event_log::EventLog;
 use pmp_core::{BATCH_EVENTS, Event, Size};
 pub use reader::{MAX_SCRIPT, read_script};
-use std::alloc::{AllocFailed, Global};
+use std::alloc::AllocError;
 use std::marker::Model;
 
 /// What is wrong with a script.
@@ -39,7 +40,7 @@ pub enum ScriptKind {
     Unpublished,
     /// The text has more than 1,048,576 bytes.
     TooLong,
-    /// A vector couldn't grow.
+    /// The log had no room for more.
     Memory,
 }
 
@@ -60,111 +61,78 @@ impl ScriptKind {
     }
 }
 
-impl<T: Drop> From<AllocFailed<T>> for ScriptFault {
+impl From<AllocError> for ScriptFault {
     ghost from_gives = { λ _ fault. fault ≡ record { kind = Memory; line = 0 } };
 
-    fn from(_failed: AllocFailed<T>) -> ScriptFault {
+    fn from(_: AllocError) -> ScriptFault {
         ScriptKind::Memory.at(0)
     }
 }
 
-/// The size of the unit that a script is for, and its publications, in their order. Each is a batch of at most
-/// [`BATCH_EVENTS`] events, perhaps empty.
+/// The size of the unit that a script is for, and its publications, in their order, which a log keeps. Each is a batch
+/// of at most [`BATCH_EVENTS`] events, perhaps empty.
 #[derive(Drop)]
-pub struct Script {
+pub struct Script<'a> {
     size: Size,
-    published: Published,
-}
-
-/// Publications, one behind the other.
-#[derive(Drop)]
-pub(crate) struct Published {
-    pub events: Vec<Event>,
+    events: &'a [Event],
     /// The line of each event.
-    pub lines: Vec<u64>,
+    lines: &'a [u64],
     /// How many events are published with each publication and those before it.
-    pub ends: Vec<usize>,
+    ends: &'a [usize],
 }
 
-impl Model for Script {
+impl<'a> Model for Script<'a> {
     ghost Value = { ScriptContents };
 
     ghost view = { λ script. record {
       size = script.size;
-      batches = cut_from 0 script.published.ends.items script.published.events.items;
-      lines = cut_from 0 script.published.ends.items script.published.lines.items;
+      batches = cut_from 0 script.ends.now script.events.now;
+      lines = cut_from 0 script.ends.now script.lines.now;
     } };
 
-    ghost invariant = { λ script. AreCut script.published.ends.items
-        (length script.published.events.items) (length script.published.lines.items) };
+    ghost invariant = { λ script. AreCut script.ends.now (length script.events.now) (length script.lines.now) };
 }
 
-impl Published {
-    pub(crate) fn new(alloc: Global) -> Published
-        ensures events { result.events.items ≡ [] }
-        ensures lines { result.lines.items ≡ [] }
-        ensures ends { result.ends.items ≡ [] }
-    {
-        Published {
-            events: Vec::new(alloc),
-            lines: Vec::new(alloc),
-            ends: Vec::new(alloc),
-        }
+/// How many events the first so many publications have.
+fn end_of(ends: &[usize], publications: usize) -> usize
+    requires { publications ≤ length ends.now }
+    ensures { result ≡ last_end 0 (take publications ends.now) }
+{
+    if publications == 0 {
+        return 0;
     }
-
-    /// Appends an event with its line, or nothing.
-    pub(crate) fn push(&mut self, line: u64, event: Event) -> Result<(), ScriptFault>
-        ensures ends { self.new.ends.items ≡ self.old.ends.items }
-        ensures ok { OnOk result ((self.new.events.items ≡ self.old.events.items ++ event ∷ [])
-            × (self.new.lines.items ≡ self.old.lines.items ++ line ∷ [])) }
-        ensures err { OnErr result ((self.new.events.items ≡ self.old.events.items)
-            × (self.new.lines.items ≡ self.old.lines.items)) }
-        ensures refused { IfErr result (λ fault. fault ≡ record { kind = Memory; line = 0 }) }
-    {
-        self.lines.push(line)?;
-        let pushed = self.events.push(event);
-        if pushed.is_err() {
-            self.lines.pop();
-        }
-        Ok(pushed?)
-    }
-
-    /// How many events the first so many publications have.
-    fn end(&self, publications: usize) -> usize
-        requires { publications ≤ length self.now.ends.items }
-        ensures { result ≡ last_end 0 (take publications self.now.ends.items) }
-    {
-        if publications == 0 {
-            return 0;
-        }
-        self.ends[publications - 1]
-    }
-
-    /// How many events come before the publication with this index, and how many with it.
-    fn bounds(&self, index: usize) -> (usize, usize)
-        requires index { index < length self.now.ends.items }
-        requires ascending { AreEnds 0 self.now.ends.items }
-        ensures start { result.0 ≡ last_end 0 (take index self.now.ends.items) }
-        ensures end { result.1 ≡ last_end 0 (take (suc index) self.now.ends.items) }
-        ensures forward { result.0 ≤ result.1 }
-        ensures few { result.1 ≤ result.0 + BATCH_EVENTS }
-        ensures inside { result.1 ≤ last_end 0 self.now.ends.items }
-    {
-        (self.end(index), self.end(index + 1))
-    }
+    ends[publications - 1]
 }
 
-impl Script {
-    pub(crate) fn new(size: Size, published: Published) -> Script
-        requires { AreCut published.ends.items (length published.events.items)
-            (length published.lines.items) }
-        ensures { result ≡ record {
+/// How many events come before the publication with this index, and how many with it.
+fn bounds_of(ends: &[usize], index: usize) -> (usize, usize)
+    requires index { index < length ends.now }
+    requires ascending { AreEnds 0 ends.now }
+    ensures start { result.0 ≡ last_end 0 (take index ends.now) }
+    ensures end { result.1 ≡ last_end 0 (take (suc index) ends.now) }
+    ensures forward { result.0 ≤ result.1 }
+    ensures few { result.1 ≤ result.0 + BATCH_EVENTS }
+    ensures inside { result.1 ≤ last_end 0 ends.now }
+{
+    (end_of(ends, index), end_of(ends, index + 1))
+}
+
+impl<'a> Script<'a> {
+    /// The script that a log keeps, all of whose events are published.
+    pub(crate) fn new<L: EventLog>(size: Size, log: &'a L) -> Script<'a>
+        requires { let kept = L.kept log.now in AreCut kept.ends (length kept.events) (length kept.lines) }
+        ensures { let kept = L.kept log.now in result ≡ record {
           size = size;
-          batches = cut_from 0 published.ends.items published.events.items;
-          lines = cut_from 0 published.ends.items published.lines.items;
+          batches = cut_from 0 kept.ends kept.events;
+          lines = cut_from 0 kept.ends kept.lines;
         } }
     {
-        Script { size, published }
+        Script {
+            size,
+            events: log.events(),
+            lines: log.lines(),
+            ends: log.ends(),
+        }
     }
 
     /// The size of the unit that the script is for.
@@ -178,14 +146,14 @@ impl Script {
     pub fn batches(&self) -> u64
         ensures { result ≡ length self.now.batches }
     {
-        self.published.ends.len() as u64
+        self.ends.len() as u64
     }
 
     /// All events, those of each publication behind those of the ones before it.
     pub fn events(&self) -> &[Event]
         ensures { result.now ≡ joined self.now.batches }
     {
-        self.published.events.as_slice()
+        self.events
     }
 
     /// How many events the first so many publications have.
@@ -193,7 +161,7 @@ impl Script {
         requires { publications ≤ length self.now.batches }
         ensures { result ≡ length (joined (take publications self.now.batches)) }
     {
-        self.published.end(publications as usize) as u64
+        end_of(self.ends, publications as usize) as u64
     }
 
     /// The line of each event of the publication with this index, from 0. Lines are numbered from 1.
@@ -201,8 +169,8 @@ impl Script {
         requires { index < length self.now.batches }
         ensures { result.now ≡ slice_index_or self.now.lines index [] }
     {
-        let (start, end) = self.published.bounds(index as usize);
-        &self.published.lines[start..end]
+        let (start, end) = bounds_of(self.ends, index as usize);
+        &self.lines[start..end]
     }
 
     /// The events of the publication with this index, from 0.
@@ -211,7 +179,7 @@ impl Script {
         ensures events { result.now ≡ slice_index_or self.now.batches index [] }
         ensures limit { length result.now ≤ BATCH_EVENTS }
     {
-        let (start, end) = self.published.bounds(index as usize);
-        &self.published.events[start..end]
+        let (start, end) = bounds_of(self.ends, index as usize);
+        &self.events[start..end]
     }
 }

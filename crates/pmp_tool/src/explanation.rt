@@ -19,7 +19,7 @@ use crate::kept::{Kept, KeptInput};
 use crate::refusal::Refusal;
 use advice::{remedy, wanted};
 use pmp_audit::Side;
-use pmp_text::{read_script, write_out};
+use pmp_text::{GrowingLog, read_script, write_out};
 use spot::{write_line, write_row};
 use std::alloc::{AllocError, Global};
 use std::io::Write;
@@ -130,7 +130,8 @@ fn counted_script<'a>(line: &FaultLine, kept: &'a Kept) -> Option<&'a KeptInput>
 /// Says how many publications a script has.
 fn write_count(alloc: Global, text: &mut String, input: &KeptInput) -> Result<(), AllocError> {
     let path = input.path.as_str();
-    if let Ok(script) = read_script(alloc, &input.bytes) {
+    let mut log = GrowingLog::new(alloc);
+    if let Ok(script) = read_script(&mut log, &input.bytes) {
         let count = script.batches();
         writeln!(text, "publications of {path}: {count}")?;
     }

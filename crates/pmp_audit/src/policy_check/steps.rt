@@ -19,7 +19,7 @@ pub enum Pace {
 /// The steps of a script.
 #[derive(Clone, Copy)]
 pub struct Steps<'a> {
-    pub script: &'a Script,
+    pub script: &'a Script<'a>,
     pub pace: Pace,
 }
 

@@ -8,6 +8,7 @@ ghost use Rattle.pmp_text.specs.Changes.{change_rows, change_text, goes_beyond, 
 use crate::lines::hexadecimal::{ADDRESS_DIGITS, Hex};
 use crate::lines::marks::Marks;
 use crate::lines::{NoMemory, append_line};
+use crate::sink::Sink;
 use pmp_core::{Kind, Perms};
 use pmp_map::{ModeRights, RightsRun};
 use std::alloc::AllocError;
@@ -84,9 +85,9 @@ fn change_word(change: Change) -> &'static str
 }
 
 #[tactic(auto, unfolding(crate::specs::Changes::change_row))]
-fn write_change(out: &mut Vec<u8>, run: &RightsRun, change: Change) -> Result<(), AllocError>
-    ensures ok { OnOk result (out.new.items ≡ out.old.items ++ change_row run.now change) }
-    ensures err { OnErr result (out.new.items ≡ out.old.items) }
+fn write_change<S: Sink>(out: &mut S, run: &RightsRun, change: Change) -> Result<(), AllocError>
+    ensures ok { OnOk result (S.text out.new ≡ S.text out.old ++ change_row run.now change) }
+    ensures err { OnErr result (S.text out.new ≡ S.text out.old) }
 {
     let first = Hex::<ADDRESS_DIGITS>::new(run.first);
     let last = Hex::<ADDRESS_DIGITS>::new(run.last);
@@ -105,10 +106,14 @@ fn write_change(out: &mut Vec<u8>, run: &RightsRun, change: Change) -> Result<()
 
 /// Appends the row of the run, if it has one, and answers whether it has.
 #[tactic(auto, unfolding(crate::specs::Changes::asked_row, crate::specs::Changes::has_row))]
-fn write_asked(out: &mut Vec<u8>, run: &RightsRun, only: Option<Only>) -> Result<bool, AllocError>
-    ensures ok { OnOk result (out.new.items ≡ out.old.items ++ asked_row only run.now) }
+fn write_asked<S: Sink>(
+    out: &mut S,
+    run: &RightsRun,
+    only: Option<Only>,
+) -> Result<bool, AllocError>
+    ensures ok { OnOk result (S.text out.new ≡ S.text out.old ++ asked_row only run.now) }
     ensures has { IfOk result (λ has. has ≡ has_row only run.now) }
-    ensures err { OnErr result (out.new.items ≡ out.old.items) }
+    ensures err { OnErr result (S.text out.new ≡ S.text out.old) }
 {
     match change_of(run) {
         Some(change) if is_asked(only, change) => {
@@ -119,10 +124,14 @@ fn write_asked(out: &mut Vec<u8>, run: &RightsRun, only: Option<Only>) -> Result
     }
 }
 
-fn write_all(out: &mut Vec<u8>, runs: &[RightsRun], only: Option<Only>) -> Result<u64, AllocError>
-    ensures ok { OnOk result (out.new.items ≡ out.old.items ++ change_rows only runs.now) }
+fn write_all<S: Sink>(
+    out: &mut S,
+    runs: &[RightsRun],
+    only: Option<Only>,
+) -> Result<u64, AllocError>
+    ensures ok { OnOk result (S.text out.new ≡ S.text out.old ++ change_rows only runs.now) }
     ensures counted { IfOk result (λ rows. rows ≡ change_count only runs.now) }
-    ensures err { OnErr result (StartsWith out.new.items out.old.items) }
+    ensures err { OnErr result (StartsWith (S.text out.new) (S.text out.old)) }
 {
     let mut rows = 0;
     for run in runs {
@@ -136,19 +145,19 @@ fn write_all(out: &mut Vec<u8>, runs: &[RightsRun], only: Option<Only>) -> Resul
 /// Appends a row for each run where the files differ as is asked, `FIRST,LAST,MOLD,SUOLD,MNEW,SUNEW,CHANGE` and LF: the
 /// first and the last byte in fourteen hexadecimal digits, what the old file lets machine mode do there and what the
 /// other two, the same of the new, and how they differ. Answers how many rows these are.
-pub fn write_changes(
-    out: &mut Vec<u8>,
+pub fn write_changes<S: Sink>(
+    out: &mut S,
     runs: &[RightsRun],
     only: Option<Only>,
 ) -> Result<u64, NoMemory>
-    ensures ok { OnOk result (out.new.items ≡ out.old.items ++ change_rows only runs.now) }
+    ensures ok { OnOk result (S.text out.new ≡ S.text out.old ++ change_rows only runs.now) }
     ensures counted { IfOk result (λ rows. rows ≡ change_count only runs.now) }
-    ensures err { OnErr result (out.new.items ≡ out.old.items) }
+    ensures err { OnErr result (S.text out.new ≡ S.text out.old) }
 {
-    let before = out.len();
+    let before = out.position();
     let written = write_all(out, runs, only);
     if written.is_err() {
-        out.truncate(before);
+        out.go_back(before);
     }
     written
 }

@@ -12,6 +12,7 @@ ghost use Rattle.pmp_text.specs.Reports.{fields_after};
 use crate::lines::hexadecimal::{Hex, VALUE_DIGITS};
 use crate::lines::{NoMemory, append_line};
 use crate::names::RegisterName;
+use crate::sink::Sink;
 use pmp_core::{Csr, Event, RegFile, WriteReason};
 use std::alloc::AllocError;
 
@@ -61,10 +62,10 @@ fn space_unless(is_first: bool) -> &'static str
 }
 
 /// Appends a comma, the register's name, a comma and the value.
-fn write_value(out: &mut Vec<u8>, csr: Csr, value: u64) -> Result<(), AllocError>
-    ensures ok { OnOk result (out.new.items ≡ out.old.items
+fn write_value<S: Sink>(out: &mut S, csr: Csr, value: u64) -> Result<(), AllocError>
+    ensures ok { OnOk result (S.text out.new ≡ S.text out.old
         ++ (codes "," ++ (register_name csr ++ (codes "," ++ value_text value)))) }
-    ensures err { OnErr result (out.new.items ≡ out.old.items) }
+    ensures err { OnErr result (S.text out.new ≡ S.text out.old) }
 {
     let name = RegisterName(csr);
     let value = Hex::<VALUE_DIGITS>::new(value);
@@ -72,8 +73,8 @@ fn write_value(out: &mut Vec<u8>, csr: Csr, value: u64) -> Result<(), AllocError
 }
 
 /// Appends what the register reads before the write and after it, and the effect, each after a comma.
-fn write_reading(
-    out: &mut Vec<u8>,
+fn write_reading<S: Sink>(
+    out: &mut S,
     file: &RegFile,
     next: &RegFile,
     csr: Csr,
@@ -82,9 +83,9 @@ fn write_reading(
     requires { next.now ≡ written file.now csr value }
     ensures ok { let before = register_value file.now csr in
         let after = register_value (written file.now csr value) csr in
-        OnOk result (out.new.items ≡ out.old.items ++ (codes "," ++ (value_text before ++ (codes ","
+        OnOk result (S.text out.new ≡ S.text out.old ++ (codes "," ++ (value_text before ++ (codes ","
         ++ (value_text after ++ (codes "," ++ effect_text value before after)))))) }
-    ensures err { OnErr result (out.new.items ≡ out.old.items) }
+    ensures err { OnErr result (S.text out.new ≡ S.text out.old) }
 {
     let before = file.read(csr);
     let after = next.read(csr);
@@ -95,14 +96,14 @@ fn write_reading(
 }
 
 /// Appends the reasons why the register doesn't read the value, parted by one space.
-fn write_reason_words(
-    out: &mut Vec<u8>,
+fn write_reason_words<S: Sink>(
+    out: &mut S,
     file: &RegFile,
     csr: Csr,
     value: u64,
 ) -> Result<(), AllocError>
-    ensures ok { OnOk result (out.new.items ≡ out.old.items ++ reasons_text file.now csr value) }
-    ensures err { OnErr result (StartsWith out.new.items out.old.items) }
+    ensures ok { OnOk result (S.text out.new ≡ S.text out.old ++ reasons_text file.now csr value) }
+    ensures err { OnErr result (StartsWith (S.text out.new) (S.text out.old)) }
 {
     let mut is_first = true;
     for reason in WriteReason::ALL {
@@ -117,14 +118,14 @@ fn write_reason_words(
 }
 
 /// Appends the entries that turn the value away, parted by one space.
-fn write_entry_numbers(
-    out: &mut Vec<u8>,
+fn write_entry_numbers<S: Sink>(
+    out: &mut S,
     file: &RegFile,
     csr: Csr,
     value: u64,
 ) -> Result<(), AllocError>
-    ensures ok { OnOk result (out.new.items ≡ out.old.items ++ entries_text file.now csr value) }
-    ensures err { OnErr result (StartsWith out.new.items out.old.items) }
+    ensures ok { OnOk result (S.text out.new ≡ S.text out.old ++ entries_text file.now csr value) }
+    ensures err { OnErr result (StartsWith (S.text out.new) (S.text out.old)) }
 {
     let mut is_first = true;
     for entry in 0..file.entries() {
@@ -138,10 +139,10 @@ fn write_entry_numbers(
 }
 
 /// Appends the reasons and then the entries, each after a comma, and LF.
-fn write_lists(out: &mut Vec<u8>, file: &RegFile, csr: Csr, value: u64) -> Result<(), AllocError>
-    ensures ok { OnOk result (out.new.items ≡ out.old.items
+fn write_lists<S: Sink>(out: &mut S, file: &RegFile, csr: Csr, value: u64) -> Result<(), AllocError>
+    ensures ok { OnOk result (S.text out.new ≡ S.text out.old
         ++ fields_after (reasons_text file.now csr value ∷ entries_text file.now csr value ∷ [])) }
-    ensures err { OnErr result (StartsWith out.new.items out.old.items) }
+    ensures err { OnErr result (StartsWith (S.text out.new) (S.text out.old)) }
 {
     append_line(out, ",")?;
     write_reason_words(out, file, csr, value)?;
@@ -151,17 +152,17 @@ fn write_lists(out: &mut Vec<u8>, file: &RegFile, csr: Csr, value: u64) -> Resul
 }
 
 /// Appends the fields of a write, each after a comma, and LF.
-fn write_fields(
-    out: &mut Vec<u8>,
+fn write_fields<S: Sink>(
+    out: &mut S,
     file: &RegFile,
     next: &RegFile,
     csr: Csr,
     value: u64,
 ) -> Result<(), AllocError>
     requires { next.now ≡ written file.now csr value }
-    ensures ok { OnOk result (out.new.items ≡ out.old.items
+    ensures ok { OnOk result (S.text out.new ≡ S.text out.old
         ++ fields_after (event_fields file.now (Event.Write csr value))) }
-    ensures err { OnErr result (StartsWith out.new.items out.old.items) }
+    ensures err { OnErr result (StartsWith (S.text out.new) (S.text out.old)) }
 {
     write_value(out, csr, value)?;
     write_reading(out, file, next, csr, value)?;
@@ -169,9 +170,9 @@ fn write_fields(
 }
 
 /// Appends the number of the event, a comma, that of its publication, a comma and that of its line.
-fn write_place(out: &mut Vec<u8>, place: &EventPlace) -> Result<(), AllocError>
-    ensures ok { OnOk result (out.new.items ≡ out.old.items ++ place_text place.now) }
-    ensures err { OnErr result (out.new.items ≡ out.old.items) }
+fn write_place<S: Sink>(out: &mut S, place: &EventPlace) -> Result<(), AllocError>
+    ensures ok { OnOk result (S.text out.new ≡ S.text out.old ++ place_text place.now) }
+    ensures err { OnErr result (S.text out.new ≡ S.text out.old) }
 {
     let EventPlace {
         number,
@@ -182,15 +183,15 @@ fn write_place(out: &mut Vec<u8>, place: &EventPlace) -> Result<(), AllocError>
 }
 
 /// Appends the fields of an event, each after a comma, and LF.
-fn write_event(
-    out: &mut Vec<u8>,
+fn write_event<S: Sink>(
+    out: &mut S,
     file: &RegFile,
     next: &RegFile,
     event: Event,
 ) -> Result<(), AllocError>
     requires { next.now ≡ step file.now event }
-    ensures ok { OnOk result (out.new.items ≡ out.old.items ++ fields_after (event_fields file.now event)) }
-    ensures err { OnErr result (StartsWith out.new.items out.old.items) }
+    ensures ok { OnOk result (S.text out.new ≡ S.text out.old ++ fields_after (event_fields file.now event)) }
+    ensures err { OnErr result (StartsWith (S.text out.new) (S.text out.old)) }
 {
     match event {
         Event::Write(csr, value) => write_fields(out, file, next, csr, value),
@@ -199,16 +200,16 @@ fn write_event(
 }
 
 #[tactic(auto, unfolding(crate::specs::Effects::effect_row))]
-fn write_all(
-    out: &mut Vec<u8>,
+fn write_all<S: Sink>(
+    out: &mut S,
     place: &EventPlace,
     file: &RegFile,
     next: &RegFile,
     event: Event,
 ) -> Result<(), AllocError>
     requires { next.now ≡ step file.now event }
-    ensures ok { OnOk result (out.new.items ≡ out.old.items ++ effect_row place.now file.now event) }
-    ensures err { OnErr result (StartsWith out.new.items out.old.items) }
+    ensures ok { OnOk result (S.text out.new ≡ S.text out.old ++ effect_row place.now file.now event) }
+    ensures err { OnErr result (StartsWith (S.text out.new) (S.text out.old)) }
 {
     write_place(out, place)?;
     write_event(out, file, next, event)
@@ -218,23 +219,23 @@ fn write_all(
 /// `EFFECT,REASONS,ENTRIES` and LF. EFFECT is `stored` where the register then reads what was written, `ignored` where
 /// it reads what it read before, and else `altered`. A reset has `reset` for REGISTER and EFFECT, and nothing for what
 /// a write has besides. Answers the file that the event leaves.
-pub fn write_effect(
-    out: &mut Vec<u8>,
+pub fn write_effect<S: Sink>(
+    out: &mut S,
     place: &EventPlace,
     file: &RegFile,
     event: Event,
 ) -> Result<RegFile, NoMemory>
-    ensures ok { OnOk result (out.new.items ≡ out.old.items ++ effect_row place.now file.now event) }
+    ensures ok { OnOk result (S.text out.new ≡ S.text out.old ++ effect_row place.now file.now event) }
     ensures next { IfOk result (λ next. next ≡ step file.now event) }
-    ensures err { OnErr result (out.new.items ≡ out.old.items) }
+    ensures err { OnErr result (S.text out.new ≡ S.text out.old) }
 {
-    let before = out.len();
+    let before = out.position();
     let mut next = *file;
     next.step(event);
     match write_all(out, place, file, &next, event) {
         Ok(()) => Ok(next),
         Err(refused) => {
-            out.truncate(before);
+            out.go_back(before);
             Err(refused)
         }
     }

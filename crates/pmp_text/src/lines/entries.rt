@@ -10,6 +10,7 @@ use crate::lines::hexadecimal::{ADDRESS_DIGITS, Hex};
 use crate::lines::marks::Marks;
 use crate::lines::since::Since;
 use crate::lines::{NoMemory, append_line};
+use crate::sink::Sink;
 use pmp_core::{AddressMatching, Lock, Mode, Perms, RegFile, Span};
 use std::alloc::AllocError;
 use std::fmt;
@@ -86,12 +87,17 @@ fn matching_word(matching: AddressMatching) -> &'static str
     }
 }
 
-fn write_entry(out: &mut Vec<u8>, file: &RegFile, entry: u8, since: Since) -> Result<(), AllocError>
+fn write_entry<S: Sink>(
+    out: &mut S,
+    file: &RegFile,
+    entry: u8,
+    since: Since,
+) -> Result<(), AllocError>
     requires { entry < length file.now.entries }
     ensures span { IsSpan file.now.entries entry (span_of file.now.entries entry) }
-    ensures ok { OnOk result (out.new.items
-        ≡ out.old.items ++ entry_row file.now entry (span_of file.now.entries entry) since) }
-    ensures err { OnErr result (out.new.items ≡ out.old.items) }
+    ensures ok { OnOk result (S.text out.new
+        ≡ S.text out.old ++ entry_row file.now entry (span_of file.now.entries entry) since) }
+    ensures err { OnErr result (S.text out.new ≡ S.text out.old) }
 {
     let matching = matching_word(file.matching(entry));
     let ends = Ends(file.span(entry));
@@ -109,11 +115,11 @@ fn write_entry(out: &mut Vec<u8>, file: &RegFile, entry: u8, since: Since) -> Re
     )
 }
 
-fn write_all(out: &mut Vec<u8>, file: &RegFile, since: &[Since]) -> Result<(), AllocError>
+fn write_all<S: Sink>(out: &mut S, file: &RegFile, since: &[Since]) -> Result<(), AllocError>
     requires { length file.now.entries ≤ length since.now }
     ensures ok { OnOk result
-        ((text : List ℕ) × IsEntryText file.now since.now text × (out.new.items ≡ out.old.items ++ text)) }
-    ensures err { OnErr result (StartsWith out.new.items out.old.items) }
+        ((text : List ℕ) × IsEntryText file.now since.now text × (S.text out.new ≡ S.text out.old ++ text)) }
+    ensures err { OnErr result (StartsWith (S.text out.new) (S.text out.old)) }
 {
     for entry in 0..file.entries() {
         write_entry(out, file, entry, since[usize::from(entry)])?;
@@ -128,16 +134,16 @@ fn write_all(out: &mut Vec<u8>, file: &RegFile, since: &[Since]) -> Result<(), A
 /// LOCK is `frozen` where writes leave the entry as it is, and `bypassed` where they would but for rule-locking bypass;
 /// ADDRESS is `frozen` where they leave its address register as it is. SINCE and HOLDS are the numbers in `since`, if
 /// any.
-pub fn write_entries(out: &mut Vec<u8>, file: &RegFile, since: &[Since]) -> Result<(), NoMemory>
+pub fn write_entries<S: Sink>(out: &mut S, file: &RegFile, since: &[Since]) -> Result<(), NoMemory>
     requires { length file.now.entries ≤ length since.now }
     ensures ok { OnOk result
-        ((text : List ℕ) × IsEntryText file.now since.now text × (out.new.items ≡ out.old.items ++ text)) }
-    ensures err { OnErr result (out.new.items ≡ out.old.items) }
+        ((text : List ℕ) × IsEntryText file.now since.now text × (S.text out.new ≡ S.text out.old ++ text)) }
+    ensures err { OnErr result (S.text out.new ≡ S.text out.old) }
 {
-    let before = out.len();
+    let before = out.position();
     let written = write_all(out, file, since);
     if written.is_err() {
-        out.truncate(before);
+        out.go_back(before);
     }
     written
 }

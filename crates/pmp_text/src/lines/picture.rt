@@ -2,6 +2,7 @@
 
 ghost use Rattle.std.specs.Prelude.{◌≡◌, ◌+◌, ◌<◌, ◌≤◌, ◌++◌, List, ℕ, length, decimal};
 ghost use Rattle.std.specs.Prelude.{IfSome, OnOk, OnErr, Some};
+ghost use Rattle.std.specs.Io.{StartsWith};
 ghost use Rattle.pmp_map.specs.declared.run.TheConstants.{RUNS};
 ghost use Rattle.pmp_map.specs.Runs.{AreRuns, HasOwnersBelow};
 ghost use Rattle.pmp_text.specs.Picture.{IsPicture, band, bands, ends, extent, head, lock_sign, owner_name};
@@ -11,6 +12,7 @@ ghost use Rattle.pmp_core.specs.declared.access.TheConstants.{ADDRESS_LIMIT};
 use crate::lines::hexadecimal::{ADDRESS_DIGITS, Hex};
 use crate::lines::marks::Marks;
 use crate::lines::{NoMemory, append_line};
+use crate::sink::Sink;
 use pmp_core::{ADDRESS_LIMIT, Csr, Mode, RegFile};
 use pmp_map::{RUNS, Run, RunMap, owned_rights};
 use std::alloc::AllocError;
@@ -181,12 +183,11 @@ fn lock_sign(file: &RegFile, owner: Option<u8>) -> &'static str
     }
 }
 
-fn append_text(out: &mut Vec<u8>, text: &str) -> Result<(), AllocError>
-    ensures ok { OnOk result (out.new.items ≡ out.old.items ++ text.now) }
-    ensures err { OnErr result (out.new.items ≡ out.old.items) }
+fn append_text<S: Sink>(out: &mut S, text: &str) -> Result<(), AllocError>
+    ensures ok { OnOk result (S.text out.new ≡ S.text out.old ++ text.now) }
+    ensures err { OnErr result (S.text out.new ≡ S.text out.old) }
 {
-    out.extend_from_slice(text.as_bytes())?;
-    Ok(())
+    out.append(text.as_bytes())
 }
 
 /// The bits of `mseccfg`.
@@ -211,8 +212,9 @@ fn read_switches(file: &RegFile) -> Switches
 }
 
 /// Appends the line of the bits of `mseccfg`.
-fn write_settings(out: &mut Vec<u8>, file: &RegFile) -> Result<(), AllocError>
-    ensures { OnOk result (out.new.items ≡ out.old.items ++ settings file.now.mseccfg) }
+fn write_settings<S: Sink>(out: &mut S, file: &RegFile) -> Result<(), AllocError>
+    ensures ok { OnOk result (S.text out.new ≡ S.text out.old ++ settings file.now.mseccfg) }
+    ensures err { OnErr result (S.text out.new ≡ S.text out.old) }
 {
     let switches = read_switches(file);
     let lockdown = switch_word(switches.lockdown);
@@ -228,14 +230,15 @@ fn write_settings(out: &mut Vec<u8>, file: &RegFile) -> Result<(), AllocError>
 }
 
 /// Appends what stands above so many bands.
-fn write_head(
-    out: &mut Vec<u8>,
+fn write_head<S: Sink>(
+    out: &mut S,
     file: &RegFile,
     publications: u64,
     bands: usize,
 ) -> Result<(), AllocError>
     requires { bands ≤ RUNS }
-    ensures { OnOk result (out.new.items ≡ out.old.items ++ head file.now publications bands) }
+    ensures ok { OnOk result (S.text out.new ≡ S.text out.old ++ head file.now publications bands) }
+    ensures err { OnErr result (StartsWith (S.text out.new) (S.text out.old)) }
 {
     let height = BAND * bands + 176;
     let title = Title(publications);
@@ -256,11 +259,12 @@ fn write_head(
 }
 
 /// Appends what a band says of its run: the first and the last byte, the size and the owner.
-fn write_extent(out: &mut Vec<u8>, run: &Run) -> Result<(), AllocError>
+fn write_extent<S: Sink>(out: &mut S, run: &Run) -> Result<(), AllocError>
     requires proper { run.now.first ≤ run.now.last }
     requires inside { run.now.last < ADDRESS_LIMIT }
-    ensures { OnOk result (out.new.items ≡ out.old.items ++ (ends run.now.first run.now.last
+    ensures ok { OnOk result (S.text out.new ≡ S.text out.old ++ (ends run.now.first run.now.last
         ++ extent (size_of run.now.first run.now.last) run.now.owner)) }
+    ensures err { OnErr result (StartsWith (S.text out.new) (S.text out.old)) }
 {
     let first = Hex::<ADDRESS_DIGITS>::new(run.first);
     let last = Hex::<ADDRESS_DIGITS>::new(run.last);
@@ -277,12 +281,18 @@ fn write_extent(out: &mut Vec<u8>, run: &Run) -> Result<(), AllocError>
 }
 
 /// Appends the band of the run in this place.
-fn write_band(out: &mut Vec<u8>, file: &RegFile, place: usize, run: &Run) -> Result<(), AllocError>
+fn write_band<S: Sink>(
+    out: &mut S,
+    file: &RegFile,
+    place: usize,
+    run: &Run,
+) -> Result<(), AllocError>
     requires place { place < RUNS }
     requires proper { run.now.first ≤ run.now.last }
     requires inside { run.now.last < ADDRESS_LIMIT }
     requires owner { IfSome run.now.owner (λ entry. entry < length file.now.entries) }
-    ensures { OnOk result (out.new.items ≡ out.old.items ++ band file.now place run.now) }
+    ensures ok { OnOk result (S.text out.new ≡ S.text out.old ++ band file.now place run.now) }
+    ensures err { OnErr result (StartsWith (S.text out.new) (S.text out.old)) }
 {
     let top = BAND * place;
     let machine = Marks(owned_rights(file, run.owner, Mode::M));
@@ -303,11 +313,12 @@ fn write_band(out: &mut Vec<u8>, file: &RegFile, place: usize, run: &Run) -> Res
 }
 
 /// Appends a band for each run, from the top down.
-fn write_bands(out: &mut Vec<u8>, file: &RegFile, runs: &[Run]) -> Result<(), AllocError>
+fn write_bands<S: Sink>(out: &mut S, file: &RegFile, runs: &[Run]) -> Result<(), AllocError>
     requires few { length runs.now ≤ RUNS }
     requires runs { AreRuns file.now.entries runs.now }
     requires owners { HasOwnersBelow (length file.now.entries) runs.now }
-    ensures { OnOk result (out.new.items ≡ out.old.items ++ bands file.now runs.now) }
+    ensures ok { OnOk result (S.text out.new ≡ S.text out.old ++ bands file.now runs.now) }
+    ensures err { OnErr result (StartsWith (S.text out.new) (S.text out.old)) }
 {
     for (place, run) in runs.iter().enumerate() {
         write_band(out, file, place, run)?;
@@ -315,26 +326,43 @@ fn write_bands(out: &mut Vec<u8>, file: &RegFile, runs: &[Run]) -> Result<(), Al
     Ok(())
 }
 
+fn write_all<S: Sink>(
+    out: &mut S,
+    file: &RegFile,
+    runs: &[Run],
+    publications: u64,
+) -> Result<(), AllocError>
+    requires few { length runs.now ≤ RUNS }
+    requires runs { AreRuns file.now.entries runs.now }
+    requires owners { HasOwnersBelow (length file.now.entries) runs.now }
+    ensures ok { OnOk result ((text : List ℕ) × IsPicture file.now publications text
+        × (S.text out.new ≡ S.text out.old ++ text)) }
+    ensures err { OnErr result (StartsWith (S.text out.new) (S.text out.old)) }
+{
+    write_head(out, file, publications, runs.len())?;
+    write_bands(out, file, runs)?;
+    append_text(out, FOOT)
+}
+
 /// Appends a picture of the register file's runs, an SVG document with one band for each from the top down, which shows
 /// what a line of `write_runs` says, its size, and whether its owner is held or frozen. It tells how many publications
 /// are done and which of lockdown, allow-list policy and rule-locking bypass are on. The map is the one that was built
 /// from this file.
-pub fn write_picture(
-    out: &mut Vec<u8>,
+pub fn write_picture<S: Sink>(
+    out: &mut S,
     file: &RegFile,
     map: &RunMap,
     publications: u64,
 ) -> Result<(), NoMemory>
     requires { map.now ≡ file.now }
-    ensures ok { OnOk result
-        ((text : List ℕ) × IsPicture file.now publications text × (out.new.items ≡ out.old.items ++ text)) }
-    ensures err { OnErr result (out.new.items ≡ out.old.items) }
+    ensures ok { OnOk result ((text : List ℕ) × IsPicture file.now publications text
+        × (S.text out.new ≡ S.text out.old ++ text)) }
+    ensures err { OnErr result (S.text out.new ≡ S.text out.old) }
 {
-    let runs = map.runs();
-    let mut text = Vec::new(*out.allocator());
-    write_head(&mut text, file, publications, runs.len())?;
-    write_bands(&mut text, file, runs)?;
-    append_text(&mut text, FOOT)?;
-    out.extend_from_slice(&text)?;
-    Ok(())
+    let before = out.position();
+    let written = write_all(out, file, map.runs(), publications);
+    if written.is_err() {
+        out.go_back(before);
+    }
+    written
 }

@@ -7,13 +7,14 @@ ghost use Rattle.pmp_text.specs.Dumps.{register_line, cfg_registers, addr_regist
 use crate::lines::hexadecimal::{Hex, VALUE_DIGITS};
 use crate::lines::{NoMemory, append_line};
 use crate::names::RegisterName;
+use crate::sink::Sink;
 use pmp_core::{Csr, RegFile};
 use std::alloc::AllocError;
 
 #[tactic(auto, unfolding(crate::specs::Dumps::register_line))]
-fn write_register(out: &mut Vec<u8>, file: &RegFile, csr: Csr) -> Result<(), AllocError>
-    ensures ok { OnOk result (out.new.items ≡ out.old.items ++ register_line file.now csr) }
-    ensures err { OnErr result (out.new.items ≡ out.old.items) }
+fn write_register<S: Sink>(out: &mut S, file: &RegFile, csr: Csr) -> Result<(), AllocError>
+    ensures ok { OnOk result (S.text out.new ≡ S.text out.old ++ register_line file.now csr) }
+    ensures err { OnErr result (S.text out.new ≡ S.text out.old) }
 {
     let name = RegisterName(csr);
     let value = Hex::<VALUE_DIGITS>::new(file.read(csr));
@@ -21,10 +22,10 @@ fn write_register(out: &mut Vec<u8>, file: &RegFile, csr: Csr) -> Result<(), All
 }
 
 /// Appends the lines of the configuration registers that hold an entry's byte. A register holds eight.
-fn write_cfg_registers(out: &mut Vec<u8>, file: &RegFile) -> Result<(), AllocError>
-    ensures ok { OnOk result (out.new.items ≡ out.old.items
+fn write_cfg_registers<S: Sink>(out: &mut S, file: &RegFile) -> Result<(), AllocError>
+    ensures ok { OnOk result (S.text out.new ≡ S.text out.old
         ++ flat_map (register_line file.now) (cfg_registers (length file.now.entries))) }
-    ensures err { OnErr result (StartsWith out.new.items out.old.items) }
+    ensures err { OnErr result (StartsWith (S.text out.new) (S.text out.old)) }
 {
     for place in 0..file.entries().div_ceil(8) {
         write_register(out, file, Csr::Cfg(2 * place))?;
@@ -33,10 +34,10 @@ fn write_cfg_registers(out: &mut Vec<u8>, file: &RegFile) -> Result<(), AllocErr
 }
 
 /// Appends the lines of the entries' address registers.
-fn write_addr_registers(out: &mut Vec<u8>, file: &RegFile) -> Result<(), AllocError>
-    ensures ok { OnOk result (out.new.items ≡ out.old.items
+fn write_addr_registers<S: Sink>(out: &mut S, file: &RegFile) -> Result<(), AllocError>
+    ensures ok { OnOk result (S.text out.new ≡ S.text out.old
         ++ flat_map (register_line file.now) (addr_registers (length file.now.entries))) }
-    ensures err { OnErr result (StartsWith out.new.items out.old.items) }
+    ensures err { OnErr result (StartsWith (S.text out.new) (S.text out.old)) }
 {
     for entry in 0..file.entries() {
         write_register(out, file, Csr::Addr(entry))?;
@@ -45,9 +46,9 @@ fn write_addr_registers(out: &mut Vec<u8>, file: &RegFile) -> Result<(), AllocEr
 }
 
 #[tactic(auto, unfolding(crate::specs::Dumps::dump_text))]
-fn write_all(out: &mut Vec<u8>, file: &RegFile) -> Result<(), AllocError>
-    ensures ok { OnOk result (out.new.items ≡ out.old.items ++ dump_text file.now) }
-    ensures err { OnErr result (StartsWith out.new.items out.old.items) }
+fn write_all<S: Sink>(out: &mut S, file: &RegFile) -> Result<(), AllocError>
+    ensures ok { OnOk result (S.text out.new ≡ S.text out.old ++ dump_text file.now) }
+    ensures err { OnErr result (StartsWith (S.text out.new) (S.text out.old)) }
 {
     write_cfg_registers(out, file)?;
     write_addr_registers(out, file)?;
@@ -55,14 +56,14 @@ fn write_all(out: &mut Vec<u8>, file: &RegFile) -> Result<(), AllocError>
 }
 
 /// Appends a line for each register: its name, a blank, `0x` and sixteen hexadecimal digits.
-pub fn write_registers(out: &mut Vec<u8>, file: &RegFile) -> Result<(), NoMemory>
-    ensures ok { OnOk result (out.new.items ≡ out.old.items ++ dump_text file.now) }
-    ensures err { OnErr result (out.new.items ≡ out.old.items) }
+pub fn write_registers<S: Sink>(out: &mut S, file: &RegFile) -> Result<(), NoMemory>
+    ensures ok { OnOk result (S.text out.new ≡ S.text out.old ++ dump_text file.now) }
+    ensures err { OnErr result (S.text out.new ≡ S.text out.old) }
 {
-    let before = out.len();
+    let before = out.position();
     let written = write_all(out, file);
     if written.is_err() {
-        out.truncate(before);
+        out.go_back(before);
     }
     written
 }

@@ -1,10 +1,12 @@
 //! The rows of a report.
 
 ghost use Rattle.std.specs.Prelude.{◌≡◌, ◌+◌, ◌≤◌, ◌++◌, OnOk, OnErr, Some, codes, length};
-ghost use Rattle.std.specs.Prelude.{vec_capacity, vec_len};
+ghost use Rattle.arrayvec.specs.ArrayVec.{array_vec_len};
 ghost use Rattle.pmp_text.specs.Reports.{answer_text, cause_text, entry_of, optional_text, report_row};
 
-use crate::lines::{NoMemory, append_reserved};
+use crate::lines::NoMemory;
+use crate::sink::Sink;
+use arrayvec::ArrayVec;
 use itoa::Buffer;
 use pmp_core::{Access, Cause, Decision, fault_code};
 
@@ -13,34 +15,51 @@ const ROW: usize = 64;
 
 /// Appends the row of an access with this number: `NUMBER,ANSWER,FAULT,CAUSE,ENTRY` and LF. FAULT, an exception
 /// code, is empty where the access is allowed, and ENTRY where no entry matches.
-pub fn write_row(
-    out: &mut Vec<u8>,
+pub fn write_row<S: Sink>(
+    out: &mut S,
     n: u64,
     access: &Access,
     decision: &Decision,
 ) -> Result<(), NoMemory>
-    ensures ok { OnOk result (out.new.items ≡ out.old.items ++ report_row n access.now decision.now) }
-    ensures err { OnErr result (out.new.items ≡ out.old.items) }
+    ensures ok { OnOk result (S.text out.new ≡ S.text out.old ++ report_row n access.now decision.now) }
+    ensures err { OnErr result (S.text out.new ≡ S.text out.old) }
 {
-    out.reserve(ROW)?;
-    append_reserved(out, Buffer::new().format(n).as_bytes());
-    append_reserved(out, answer_field(decision.allowed));
-    append_number(out, fault_code(access, decision));
-    append_reserved(out, cause_field(decision.cause));
-    append_number(out, deciding_entry(decision.cause));
-    append_reserved(out, b"\n");
-    Ok(())
+    let row = row_of(n, access, decision);
+    out.append(row.as_slice())
+}
+
+/// The row by itself.
+#[inline]
+fn row_of(n: u64, access: &Access, decision: &Decision) -> ArrayVec<u8, ROW>
+    ensures { result.items ≡ report_row n access.now decision.now }
+{
+    let mut row = ArrayVec::new();
+    append_reserved(&mut row, Buffer::new().format(n).as_bytes());
+    append_reserved(&mut row, answer_field(decision.allowed));
+    append_number(&mut row, fault_code(access, decision));
+    append_reserved(&mut row, cause_field(decision.cause));
+    append_number(&mut row, deciding_entry(decision.cause));
+    append_reserved(&mut row, b"\n");
+    row
+}
+
+/// Appends a text for which there is room.
+fn append_reserved(row: &mut ArrayVec<u8, ROW>, text: &[u8])
+    requires { array_vec_len row.old + length text.now ≤ ROW }
+    ensures text { row.new.items ≡ row.old.items ++ text.now }
+    ensures len { array_vec_len row.new ≡ array_vec_len row.old + length text.now }
+{
+    let _ = row.try_extend_from_slice(text);
 }
 
 /// Appends a number for which there is room, or nothing.
-fn append_number(out: &mut Vec<u8>, number: Option<u8>)
-    requires { vec_len out.old + 3 ≤ vec_capacity out.old }
-    ensures text { out.new.items ≡ out.old.items ++ optional_text number }
-    ensures len { vec_len out.new ≤ vec_len out.old + 3 }
-    ensures room { vec_capacity out.old ≤ vec_capacity out.new }
+fn append_number(row: &mut ArrayVec<u8, ROW>, number: Option<u8>)
+    requires { array_vec_len row.old + 3 ≤ ROW }
+    ensures text { row.new.items ≡ row.old.items ++ optional_text number }
+    ensures len { array_vec_len row.new ≤ array_vec_len row.old + 3 }
 {
     if let Some(number) = number {
-        append_reserved(out, Buffer::new().format(number).as_bytes());
+        append_reserved(row, Buffer::new().format(number).as_bytes());
     }
 }
 

@@ -7,6 +7,7 @@ ghost use Rattle.pmp_text.specs.RunLines.{IsMapText, owner_text, run_line};
 use crate::lines::hexadecimal::{ADDRESS_DIGITS, Hex};
 use crate::lines::marks::Marks;
 use crate::lines::{NoMemory, append_line};
+use crate::sink::Sink;
 use pmp_core::{Mode, RegFile};
 use pmp_map::{Run, RunMap, owned_rights};
 use std::alloc::AllocError;
@@ -28,10 +29,10 @@ impl fmt::Display for Owner {
 }
 
 #[tactic(auto, unfolding(crate::specs::RunLines::run_line), using(crate::proofs::RunLines::text_of_perms))]
-fn write_run(out: &mut Vec<u8>, file: &RegFile, run: &Run) -> Result<(), AllocError>
+fn write_run<S: Sink>(out: &mut S, file: &RegFile, run: &Run) -> Result<(), AllocError>
     requires { IfSome run.now.owner (λ entry. entry < length file.now.entries) }
-    ensures ok { OnOk result (out.new.items ≡ out.old.items ++ run_line file.now run.now) }
-    ensures err { OnErr result (out.new.items ≡ out.old.items) }
+    ensures ok { OnOk result (S.text out.new ≡ S.text out.old ++ run_line file.now run.now) }
+    ensures err { OnErr result (S.text out.new ≡ S.text out.old) }
 {
     let first = Hex::<ADDRESS_DIGITS>::new(run.first);
     let last = Hex::<ADDRESS_DIGITS>::new(run.last);
@@ -44,10 +45,10 @@ fn write_run(out: &mut Vec<u8>, file: &RegFile, run: &Run) -> Result<(), AllocEr
     )
 }
 
-fn write_all(out: &mut Vec<u8>, file: &RegFile, map: &RunMap) -> Result<(), AllocError>
+fn write_all<S: Sink>(out: &mut S, file: &RegFile, map: &RunMap) -> Result<(), AllocError>
     requires { map.now ≡ file.now }
-    ensures ok { OnOk result ((text : List ℕ) × IsMapText file.now text × (out.new.items ≡ out.old.items ++ text)) }
-    ensures err { OnErr result (StartsWith out.new.items out.old.items) }
+    ensures ok { OnOk result ((text : List ℕ) × IsMapText file.now text × (S.text out.new ≡ S.text out.old ++ text)) }
+    ensures err { OnErr result (StartsWith (S.text out.new) (S.text out.old)) }
 {
     for run in map.runs() {
         write_run(out, file, run)?;
@@ -58,15 +59,15 @@ fn write_all(out: &mut Vec<u8>, file: &RegFile, map: &RunMap) -> Result<(), Allo
 /// Appends a line for each run of the register file, `FIRST,LAST,OWNER,MRIGHTS,SURIGHTS` and LF: the first and the last
 /// byte in fourteen hexadecimal digits, the lowest-numbered entry that matches them or a dash, and what that gives
 /// machine mode and the other two. The map is the one that was built from this file.
-pub fn write_runs(out: &mut Vec<u8>, file: &RegFile, map: &RunMap) -> Result<(), NoMemory>
+pub fn write_runs<S: Sink>(out: &mut S, file: &RegFile, map: &RunMap) -> Result<(), NoMemory>
     requires { map.now ≡ file.now }
-    ensures ok { OnOk result ((text : List ℕ) × IsMapText file.now text × (out.new.items ≡ out.old.items ++ text)) }
-    ensures err { OnErr result (out.new.items ≡ out.old.items) }
+    ensures ok { OnOk result ((text : List ℕ) × IsMapText file.now text × (S.text out.new ≡ S.text out.old ++ text)) }
+    ensures err { OnErr result (S.text out.new ≡ S.text out.old) }
 {
-    let before = out.len();
+    let before = out.position();
     let written = write_all(out, file, map);
     if written.is_err() {
-        out.truncate(before);
+        out.go_back(before);
     }
     written
 }

@@ -6,6 +6,7 @@ ghost use Rattle.pmp_text.specs.Verdicts.{verdict_row};
 use crate::lines::hexadecimal::{ADDRESS_DIGITS, Hex};
 use crate::lines::runs::Owner;
 use crate::lines::{NoMemory, append_line};
+use crate::sink::Sink;
 use pmp_map::Run;
 
 /// Where a row of a policy doesn't hold.
@@ -21,9 +22,13 @@ pub struct Breach {
 /// `NUMBER,broken,DONE,FIRST,LAST,OWNER` and LF, with the first and the last byte in fourteen hexadecimal digits, and
 /// a dash for no owner.
 #[tactic(auto, unfolding(crate::specs::Verdicts::verdict_row))]
-pub fn write_verdict(out: &mut Vec<u8>, number: u64, breach: Option<Breach>) -> Result<(), NoMemory>
-    ensures ok { OnOk result (out.new.items ≡ out.old.items ++ verdict_row number breach) }
-    ensures err { OnErr result (out.new.items ≡ out.old.items) }
+pub fn write_verdict<S: Sink>(
+    out: &mut S,
+    number: u64,
+    breach: Option<Breach>,
+) -> Result<(), NoMemory>
+    ensures ok { OnOk result (S.text out.new ≡ S.text out.old ++ verdict_row number breach) }
+    ensures err { OnErr result (S.text out.new ≡ S.text out.old) }
 {
     let Some(Breach { done, run }) = breach else {
         return append_line(out, format_args!("{number},holds,,,,\n"));

@@ -7,12 +7,12 @@ ghost use Rattle.pmp_text.specs.Scripts.{size_named, size_of_version, for_unit, 
 ghost use Rattle.pmp_text.specs.Steps.Views.{lines_left};
 ghost use Rattle.std.specs.Prelude.{◌≡◌};
 
-use crate::script::progress::ScriptBuilder;
+use crate::event_log::EventLog;
+use crate::script::progress::OpenBatch;
 use crate::script::significant::SignificantLines;
 use crate::script::words::Words;
 use crate::script::{Script, ScriptFault, ScriptKind};
 use pmp_core::Size;
-use std::alloc::Global;
 
 /// The most bytes of a script.
 pub const MAX_SCRIPT: usize = 1 << 20;
@@ -47,23 +47,25 @@ fn read_version(line: &[u8]) -> Option<Size>
 }
 
 /// Reads the lines behind a script's first one.
-fn read_statements(
-    alloc: Global,
+fn read_statements<'a, L: EventLog>(
+    log: &'a mut L,
     size: Size,
     lines: SignificantLines,
-) -> Result<Script, ScriptFault>
+) -> Result<Script<'a>, ScriptFault>
     ensures { Gives (λ script. script) result (for_unit size (resumed nothing_read (lines_left lines.entry))) }
 {
-    let mut builder = ScriptBuilder::new(alloc);
+    log.clear();
+    let mut batch = OpenBatch::new();
     for line in lines {
-        builder.take_line(line)?;
+        batch.take_line(log, line)?;
     }
-    builder.finish(size)
+    batch.finish(log, size)
 }
 
-/// The script that a text describes, else its first fault. The time is linear in the text, and only the
-/// publications take memory: where they can't grow, `Memory` is answered in place of any fault further on.
-pub fn read_script(alloc: Global, text: &[u8]) -> Result<Script, ScriptFault>
+/// The script that a text describes, else its first fault. The time is linear in the text, and only the publications
+/// take room, in the log, which forgets what it had: where they have none, `Memory` is answered in place of any fault
+/// further on.
+pub fn read_script<'a, L: EventLog>(log: &'a mut L, text: &[u8]) -> Result<Script<'a>, ScriptFault>
     ensures { Gives (λ script. script) result (script_meaning text.now) }
 {
     if text.len() > MAX_SCRIPT {
@@ -76,5 +78,5 @@ pub fn read_script(alloc: Global, text: &[u8]) -> Result<Script, ScriptFault>
     let Some(size) = read_version(version.bytes) else {
         return Err(ScriptKind::BadVersion.at(version.number));
     };
-    read_statements(alloc, size, lines)
+    read_statements(log, size, lines)
 }

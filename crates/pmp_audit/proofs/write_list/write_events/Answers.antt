@@ -5,7 +5,7 @@ use Rattle.pmp_audit.proofs.WrittenEvents.{length-placed, events_more, written_t
 use Rattle.pmp_audit.proofs.write_list.write_events.Goals as goal
 
 pub loop-index-preserved : goal.loop-index-preserved
-loop-index-preserved c =
+loop-index-preserved g c =
     let index = c.loop-index.index in
     let written = c.in_ok-summary.ensures.written in
     let counted = written.counted in
@@ -19,15 +19,15 @@ loop-index-preserved c =
     }
 
 pub returns-clause-rows : goal.returns-clause-rows
-returns-clause-rows c =
+returns-clause-rows g c =
     let all : c.loop-index.index ≡ length c.args.script.now.batches =
     omega (arith, c.batches-index-end.ensures) in
     (rw all at c.loop-index.invariant.written.rows)
-    ∙ ap (λ (l : List ℕ). c.args.out.now.items ++ l)
+    ∙ ap (λ (l : List ℕ). (g.S.Sink.text c.args.out.now) ++ l)
     (rows_all (count_of c.args.script.now.size) (placed_events c.args.script.now))
 
 pub returns-clause-counted : goal.returns-clause-counted
-returns-clause-counted c =
+returns-clause-counted g c =
     let all : c.loop-index.index ≡ length c.args.script.now.batches =
     omega (arith, c.batches-index-end.ensures) in
     let written = rw all at c.loop-index.invariant.written in

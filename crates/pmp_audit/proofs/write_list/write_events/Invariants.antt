@@ -7,14 +7,14 @@ use Rattle.pmp_audit.proofs.write_list.write_events.Given as goal
 
 -- the publications so far are written, and each has at most 64 events
 abbrev pub invariant-loop-index : goal.invariant-loop-index
-invariant-loop-index l = record {
+invariant-loop-index g l = record {
   written : AreWritten
       (record {
-        text = l.initial.out.items;
+        text = (g.S.Sink.text l.initial.out);
         file = reset_file (count_of l.script.size);
         summary = record { events = 0; not_stored = 0 };
       })
-      (record { text = l.out.items; file = l.file; summary = l.summary })
+      (record { text = (g.S.Sink.text l.out); file = l.file; summary = l.summary })
       (events_of l.script l.index);
   few : l.summary.events ≤ 64 * l.index;
   within : l.summary.not_stored ≤ l.summary.events;

@@ -5,7 +5,7 @@ use Rattle.pmp_audit.proofs.WrittenEvents.{placed_more, all_placed, one_written,
 use Rattle.pmp_audit.proofs.write_list.write_publication.Goals as goal
 
 pub loop-line-preserved : goal.loop-line-preserved
-loop-line-preserved c =
+loop-line-preserved g c =
     let done = c.loop-line.yielded in
     let turn = zip_turn c.args.lines.now c.args.events.now done c.into_iter-line-iterator.result
     c.loop-line.line-iterator c.next.new.self c.next.result
@@ -22,7 +22,7 @@ loop-line-preserved c =
     }
 
 pub returns-clause-written : goal.returns-clause-written
-returns-clause-written c =
+returns-clause-written g c =
     let end = zip_end c.args.lines.now c.args.events.now c.loop-line.yielded c.into_iter-line-iterator.result
     c.loop-line.line-iterator c.next.new.self c.next.result
     (rw (c.into_iter-line-iterator.ensures.into_iter_gives, c.zip-line-items.ensures.first) c.iter.ensures.rest)

@@ -5,10 +5,10 @@ use Rattle.pmp_audit.proofs.write_list.write_publication.Given as goal
 
 -- the events so far are written
 abbrev pub invariant-loop-line : goal.invariant-loop-line
-invariant-loop-line l = record {
+invariant-loop-line g l = record {
   written : AreWritten
-      (record { text = l.fn.out.items; file = l.fn.file; summary = l.fn.before })
-      (record { text = l.out.items; file = l.file; summary = l.summary })
+      (record { text = (g.S.Sink.text l.fn.out); file = l.fn.file; summary = l.fn.before })
+      (record { text = (g.S.Sink.text l.out); file = l.file; summary = l.summary })
       (take (length l.yielded) (placed l.publication l.lines l.events));
   within : l.summary.not_stored ≤ l.summary.events;
 }

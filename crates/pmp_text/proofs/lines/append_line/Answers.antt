@@ -1,11 +1,13 @@
-use Rattle.std.proofs.Common.{◌++◌, ap, ◌∙◌, List, ℕ, string_bytes}
+use Rattle.std.proofs.Common.{ap, ◌++◌, ◌∙◌, List, ℕ}
+use Rattle.std.proofs.lemmas.Result.{on_ok_weaker}
 use Rattle.pmp_text.proofs.Appending.{line_appended}
 use Rattle.pmp_text.proofs.lines.append_line.Goals as goal
 
 pub returns-clause-ok : goal.returns-clause-ok
 returns-clause-ok g c =
-    line_appended (g.L.Display.output c.args.line) (string_bytes c.in_ok-text.text) (string_bytes c.write.new.self)
-    c.args.out.now.items c.extend_from_slice.new.self.items
-    c.in_ok-text.ensures.bytes c.in_ok-write.ensures.bytes
-    (c.in_ok-extend_from_slice.ensures.items
-    ∙ ap (λ (l : List ℕ). c.args.out.now.items ++ l) c.as_bytes.ensures.value)
+    on_ok_weaker c.append.result
+    (λ grown. line_appended (g.L.Display.output c.args.line) c.in_ok-text.text.bytes
+    (g.S.Sink.text c.args.out.now) (g.S.Sink.text c.append.new.self) c.in_ok-text.ensures
+    (grown ∙ ap (λ (l : List ℕ). g.S.Sink.text c.args.out.now ++ l)
+    (c.as_bytes.ensures.value ∙ c.as_str.ensures.value)))
+    c.append.ensures.ok

@@ -12,19 +12,19 @@ use Rattle.pmp_text.proofs.lines.effects.write_reason_words.Goals.{
 }
 
 pub loop-reason-preserved : goal.loop-reason-preserved
-loop-reason-preserved c =
+loop-reason-preserved g c =
     let loop = c.loop-reason in
-    let before = c.args.out.now.items in
+    let before = (g.S.Sink.text c.args.out.now) in
     let test : WriteReason → Bool = λ reason. is_reason reason c.args.file.now c.args.csr c.args.value in
     let done = take loop.reason-index all_reasons in
     let item = get_or all_reasons loop.reason-index Absent in
     rw (take_more all_reasons loop.reason-index Absent c.loop-reason-test.true) (elim c.if-is_reason.branch [
       | then-is_reason+in_ok-append_line w ↦
-          let grown : w.append_line.new.out.items ≡ loop.out.items ++ (space_unless loop.is_first ++ reason_text item) =
+          let grown : (g.S.Sink.text w.append_line.new.out) ≡ (g.S.Sink.text loop.out) ++ (space_unless loop.is_first ++ reason_text item) =
           rw (w.space_unless-space.ensures, w.reason_word-word.ensures) at w.in_ok-append_line.ensures.ok in
-          rw (w.out-is, w.is_first-is) (passed_more test reason_text before loop.out.items w.append_line.new.out.items
+          rw (w.out-is, w.is_first-is) (passed_more test reason_text before (g.S.Sink.text loop.out) (g.S.Sink.text w.append_line.new.out)
           loop.is_first done item (sym c.is_reason.ensures ∙ w.if-is_reason.true) loop.invariant grown)
       | else-is_reason w ↦
-          rw (w.out-is, w.is_first-is) (not_passed test reason_text before loop.out.items loop.is_first done item
+          rw (w.out-is, w.is_first-is) (not_passed test reason_text before (g.S.Sink.text loop.out) loop.is_first done item
           (sym c.is_reason.ensures ∙ w.if-is_reason.false) loop.invariant)
     ])

@@ -7,11 +7,11 @@ use Rattle.pmp_text.proofs.Prefixes.{on_err, starts_after}
 use Rattle.pmp_text.proofs.lines.entries.write_all.Goals as goal
 
 pub returns-in_err-write_entry-clause-err : goal.returns-in_err-write_entry-clause-err
-returns-in_err-write_entry-clause-err c =
+returns-in_err-write_entry-clause-err g c =
     on_err c.from_residual.result (starts_after _ _ _ _ c.loop-entry.invariant.rows c.in_err-write_entry.ensures.err)
 
 pub loop-entry-preserved : goal.loop-entry-preserved
-loop-entry-preserved c =
+loop-entry-preserved g c =
     let file = c.args.file.now in
     let since = c.args.since.now in
     record {
@@ -19,12 +19,12 @@ loop-entry-preserved c =
           c.loop-entry.invariant.spans c.write_entry.ensures.span;
       rows = rows_grow
           (λ i. entry_row file i (span_of file.entries i) (slice_index_or since i no_since))
-          c.args.out.now.items c.loop-entry.out.items _ c.loop-entry.entry
+          (g.S.Sink.text c.args.out.now) (g.S.Sink.text c.loop-entry.out) _ c.loop-entry.entry
           (rw c.from.ensures at c.in_ok-write_entry.ensures.ok) c.loop-entry.invariant.rows;
     }
 
 pub returns-clause-ok : goal.returns-clause-ok
-returns-clause-ok c =
+returns-clause-ok g c =
     let file = c.args.file.now in
     let since = c.args.since.now in
     let all : c.loop-entry.entry ≡ length file.entries = omega arith in (

@@ -11,11 +11,11 @@ use Rattle.pmp_text.proofs.RunLines.{text_of_perms}
 use Rattle.pmp_text.proofs.lines.entries.write_entry.Goals as goal
 
 pub returns-clause-ok : goal.returns-clause-ok
-returns-clause-ok c =
+returns-clause-ok g c =
     let file = c.args.file.now in
     let i = c.args.entry in
     let Written : List ℕ → Type 0 =
-    λ row. OnOk c.append_line.result (c.append_line.new.out.items ≡ c.args.out.now.items ++ row) in
+    λ row. OnOk c.append_line.result ((g.S.Sink.text c.append_line.new.out) ≡ (g.S.Sink.text c.args.out.now) ++ row) in
     let machine = ap perms_text c.rights.ensures.rights ∙ text_of_perms (rights file i M) in
     let others = ap perms_text c.rights-2.ensures.rights ∙ text_of_perms (rights file i U) in
     let row = row_of_pieces file i (span_of file.entries i) c.args.since c.matching_word-matching.result.now

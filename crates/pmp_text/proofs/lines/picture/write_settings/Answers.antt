@@ -3,8 +3,8 @@ use Rattle.std.proofs.lemmas.Result.{on_ok_weaker}
 use Rattle.pmp_text.specs.Picture.{settings_line, switch_text}
 use Rattle.pmp_text.proofs.lines.picture.write_settings.Goals as goal
 
-pub returns : goal.returns
-returns c =
+pub returns-clause-ok : goal.returns-clause-ok
+returns-clause-ok g c =
     let mseccfg = c.args.file.now.mseccfg in
     let policy = c.switch_word-policy.result.now in
     let bypass = c.switch_word-bypass.result.now in
@@ -16,5 +16,5 @@ returns c =
     ap (λ (l : List ℕ). settings_line l policy bypass) lockdown_is
     ∙ ap (λ (p : List ℕ). settings_line (switch_text mseccfg.mml) p bypass) policy_is
     ∙ ap (λ (b : List ℕ). settings_line (switch_text mseccfg.mml) (switch_text mseccfg.mmwp) b) bypass_is in
-    on_ok_weaker c.append_line.result (λ line. line ∙ ap (λ (l : List ℕ). c.args.out.now.items ++ l) line_is)
+    on_ok_weaker c.append_line.result (λ line. line ∙ ap (λ (l : List ℕ). (g.S.Sink.text c.args.out.now) ++ l) line_is)
     c.append_line.ensures.ok

@@ -5,10 +5,10 @@ use Rattle.pmp_text.proofs.Prefixes.{on_err, starts_after}
 use Rattle.pmp_text.proofs.lines.registers.write_addr_registers.Goals as goal
 
 pub returns-in_err-write_register-clause-err : goal.returns-in_err-write_register-clause-err
-returns-in_err-write_register-clause-err c =
+returns-in_err-write_register-clause-err g c =
     on_err c.from_residual.result (starts_after _ _ _ _ c.loop-entry.invariant c.in_err-write_register.ensures.err)
 
 pub loop-entry-preserved : goal.loop-entry-preserved
-loop-entry-preserved c =
-    lines_grow (register_line c.args.file.now) Addr c.args.out.now.items _ _ c.loop-entry.entry
+loop-entry-preserved g c =
+    lines_grow (register_line c.args.file.now) Addr (g.S.Sink.text c.args.out.now) _ _ c.loop-entry.entry
     c.in_ok-write_register.ensures.ok c.loop-entry.invariant

@@ -5,5 +5,5 @@ use Rattle.pmp_text.specs.Dumps.{register_line}
 use Rattle.pmp_text.proofs.lines.registers.write_addr_registers.Given as goal
 
 abbrev pub invariant-loop-entry : goal.invariant-loop-entry
-invariant-loop-entry l = l.out.items ≡ l.initial.out.items
+invariant-loop-entry g l = (g.S.Sink.text l.out) ≡ (g.S.Sink.text l.initial.out)
     ++ flat_map (register_line l.file) (map Addr (range_with_len 0 l.entry))

@@ -5,5 +5,5 @@ use Rattle.pmp_text.specs.Dumps.{register_line}
 use Rattle.pmp_text.proofs.lines.registers.write_cfg_registers.Given as goal
 
 abbrev pub invariant-loop-place : goal.invariant-loop-place
-invariant-loop-place l = l.out.items ≡ l.initial.out.items
+invariant-loop-place g l = (g.S.Sink.text l.out) ≡ (g.S.Sink.text l.initial.out)
     ++ flat_map (register_line l.file) (map (λ place. Cfg (2 * place)) (range_with_len 0 l.place))

@@ -11,13 +11,13 @@ abbrev none : Run
 none = record { first = 0; last = 0; owner = None }
 
 pub returns-in_err-write_run-clause-err : goal.returns-in_err-write_run-clause-err
-returns-in_err-write_run-clause-err c =
+returns-in_err-write_run-clause-err g c =
     on_err c.from_residual.result (starts_after _ _ _ _ c.loop-run.invariant c.in_err-write_run.ensures.err)
 
 pub loop-run-preserved : goal.loop-run-preserved
-loop-run-preserved c =
+loop-run-preserved g c =
     let line : Run → List ℕ = run_line c.args.file.now in
-    let before = c.args.out.now.items in
+    let before = (g.S.Sink.text c.args.out.now) in
     let i = c.loop-run.run-index in
     let runs = c.runs-run-items.result.now in
     c.in_ok-write_run.ensures.ok ∙ ap (λ (l : List ℕ). l ++ line (get_or runs i none)) c.loop-run.invariant
@@ -25,7 +25,7 @@ loop-run-preserved c =
     ∙ ap (λ written. before ++ flat_map line written) (sym (take_more runs i none c.loop-run-test.true))
 
 pub returns-clause-ok : goal.returns-clause-ok
-returns-clause-ok c =
+returns-clause-ok g c =
     let runs = c.runs-run-items.result.now in
     let all : c.loop-run.run-index ≡ length runs = omega arith in
     let whole : take c.loop-run.run-index runs ≡ runs = ap (λ (n : ℕ). take n runs) all ∙ take-length runs in (

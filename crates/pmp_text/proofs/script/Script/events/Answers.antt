@@ -6,7 +6,6 @@ use Rattle.pmp_text.proofs.script.Script.events.Goals as goal
 
 pub returns : goal.returns
 returns c =
-    c.as_slice.ensures.value
-    ∙ sym (all_pieces c.self.inside.published.events.items c.self.inside.published.ends.items
+    sym (all_pieces c.self.inside.events.now c.self.inside.ends.now
     c.self.invariant.ascending c.self.invariant.whole)
     ∙ ap (λ (script : ScriptContents). joined script.batches) c.self.view_is

@@ -1,10 +1,10 @@
-use Rattle.std.proofs.Common.{◌++◌, List, ℕ, append_assoc, refl}
+use Rattle.std.proofs.Common.{append_assoc, refl}
 use Rattle.pmp_text.specs.Reports.{report_row}
-use Rattle.pmp_text.proofs.lines.report.write_row.Goals as goal
+use Rattle.pmp_text.proofs.lines.report.row_of.Goals as goal
 
-pub returns-clause-ok : goal.returns-clause-ok
+pub returns : goal.returns
 unfolding report_row
-returns-clause-ok c =
+returns c =
     rw (
       c.append_reserved-4.ensures.text,
       c.append_number-2.ensures.text,
@@ -12,7 +12,7 @@ returns-clause-ok c =
       c.append_number.ensures.text,
       c.append_reserved-2.ensures.text,
       c.append_reserved.ensures.text,
-      c.reserve.ensures.items,
+      c.new-row.ensures,
       c.answer_field.ensures.text,
       c.cause_field.ensures.text,
       c.as_bytes.ensures.value,

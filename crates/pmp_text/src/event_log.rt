@@ -1,0 +1,44 @@
+//! Where the events of a script are kept.
+
+ghost use Rattle.std.specs.Prelude.{◌≡◌, ◌++◌, ◌∷◌, [], OnErr, OnOk, length};
+ghost use Rattle.pmp_text.specs.EventLogs.{Kept, nothing_kept, with_end, with_event};
+
+mod fixed;
+mod growing;
+
+pub use fixed::FixedLog;
+pub use growing::GrowingLog;
+use pmp_core::Event;
+use std::alloc::AllocError;
+
+/// What a script's events are kept in while it is read, and from then on: vectors that grow, or arrays that may be full.
+/// The events of each publication stand behind those of the ones before it.
+pub trait EventLog {
+    ghost kept: { Self → Kept };
+
+    /// Forgets all that is kept.
+    fn clear(&mut self)
+        ensures { kept self.new ≡ nothing_kept };
+
+    /// Appends an event with its line, or nothing.
+    fn push(&mut self, line: u64, event: Event) -> Result<(), AllocError>
+        ensures ok { OnOk result (kept self.new ≡ with_event (kept self.old) line event) }
+        ensures err { OnErr result (kept self.new ≡ kept self.old) };
+
+    /// Has a publication end behind the last event, or does nothing.
+    fn end(&mut self) -> Result<(), AllocError>
+        ensures ok { OnOk result (kept self.new ≡ with_end (kept self.old)) }
+        ensures err { OnErr result (kept self.new ≡ kept self.old) };
+
+    /// All events.
+    fn events(&self) -> &[Event]
+        ensures { result.now ≡ (kept self.now).events };
+
+    /// The line of each event.
+    fn lines(&self) -> &[u64]
+        ensures { result.now ≡ (kept self.now).lines };
+
+    /// How many events are published with each publication and those before it.
+    fn ends(&self) -> &[usize]
+        ensures { result.now ≡ (kept self.now).ends };
+}
