@@ -30,6 +30,7 @@ class Page {
         this.moment = {by: 'publication', at: 0};
         this.boot = null;
         this.name = '';
+        this.opened = Promise.resolve(); // what is being opened, until it is shown
         this.editor = new Editor(byId('script'), byId('gutter'));
         this.picture = new Picture(byId('picture'), data.darkPicture);
         const words = ['mode', 'kind', 'start', 'length'].map(byId);
@@ -42,7 +43,7 @@ class Page {
     listen() {
         byId('boot').addEventListener('change', (event) => this.openBoot(event.target.value));
         byId('file').addEventListener('change', (event) => {
-            this.openFile(event.target.files[0]);
+            this.opened = this.openFile(event.target.files[0]);
             event.target.value = '';
         });
         byId('script').addEventListener('input', () => this.edited());
@@ -72,9 +73,11 @@ class Page {
         addEventListener('drop', (event) => {
             if (event.dataTransfer.files.length === 0) return;
             event.preventDefault();
-            this.openFile(event.dataTransfer.files[0]);
+            this.opened = this.openFile(event.dataTransfer.files[0]);
         });
-        addEventListener('hashchange', () => this.openAddress());
+        addEventListener('hashchange', () => {
+            this.opened = this.openAddress();
+        });
     }
 
     // Whether there is a script, and none of its lines is at fault.
