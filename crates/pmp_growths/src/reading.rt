@@ -6,8 +6,8 @@ use crate::texts::{POLICY, SCRIPT, TRACE};
 use crate::worked::{page_load, writes};
 use pmp_core::{Access, AccessFault, Kind, Mode};
 use pmp_text::{
-    Demand, GrowingLog, InputFault, Kinds, Modes, PolicyRow, Row, Script, ScriptKind, TraceKind,
-    read_bytes, read_policy, read_script, read_trace,
+    Demand, GrowingLog, InputFault, Kinds, Modes, PolicyRow, Row, Script, ScriptFault, ScriptKind,
+    TraceKind, read_bytes, read_policy, read_script, read_trace,
 };
 use std::alloc::Global;
 use std::io;
@@ -60,13 +60,19 @@ fn is_script(script: &Script) -> bool {
         && script.batch(1) == writes(1).as_slice()
 }
 
+/// Whether the script is read as it is. The log is gone with its memory behind the call.
+fn reads_publications(alloc: Global) -> Result<bool, ScriptFault> {
+    let mut log = GrowingLog::new(alloc);
+    let script = read_script(&mut log, SCRIPT)?;
+    Ok(is_script(&script))
+}
+
 fn reads_script(alloc: Global) -> Tried {
     begin(alloc);
-    let mut log = GrowingLog::new(alloc);
-    let answer = read_script(&mut log, SCRIPT);
+    let answer = reads_publications(alloc);
     end(alloc);
     match answer {
-        Ok(script) => answered_if(is_script(&script), "the publications"),
+        Ok(is_read) => answered_if(is_read, "the publications"),
         Err(fault) => refused_if(matches!(fault.kind, ScriptKind::Memory) && fault.line == 0),
     }
 }
