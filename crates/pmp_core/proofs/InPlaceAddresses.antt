@@ -23,7 +23,7 @@ use Rattle.pmp_core.specs.declared.register_write.TheConstants.{WORD_ADDRESSES}
 use Rattle.pmp_core.specs.Mseccfg.{mseccfg_fields}
 use Rattle.pmp_core.specs.RegisterWrite.{is_tor, is_address_frozen, written}
 use Rattle.pmp_core.specs.RegisterFile.{RegisterFile, file_of, reset_entry, entry_at, is_frozen}
-use Rattle.pmp_core.specs.SavedRegisters.{restored_entry, restored_file, IsSetAt}
+use Rattle.pmp_core.specs.SavedRegisters.{fields_in, restored_entry, restored_file, IsSetAt}
 use Rattle.pmp_core.proofs.InPlace.{count_in, entry_in, entry_past, few_in, file_set, length_in, mseccfg_in}
 
 -- ---- frozen addresses
@@ -42,12 +42,12 @@ module _ (saved : SavedRegisters) (i : ℕ) (inside : i < count_in saved) where
   after = (entry_at (restored_file saved).entries (suc i)).configuration
 
   pub frozen_is : is_address_frozen (restored_file saved) i
-      ≡ frozen_by (mseccfg_fields saved.mseccfg).rlb (restored_entry saved i).configuration.locked after.locked
+      ≡ frozen_by (fields_in saved).rlb (restored_entry saved i).configuration.locked after.locked
       after.matching
   frozen_is =
       ap (λ (m : MseccfgFields). frozen_by m.rlb (entry_at (restored_file saved).entries i).configuration.locked
       after.locked after.matching) (mseccfg_in saved)
-      ∙ ap (λ (e : Entry). frozen_by (mseccfg_fields saved.mseccfg).rlb e.configuration.locked after.locked
+      ∙ ap (λ (e : Entry). frozen_by (fields_in saved).rlb e.configuration.locked after.locked
       after.matching) (entry_in saved i inside)
 
   pub after_is : suc i < count_in saved → after ≡ (restored_entry saved (suc i)).configuration
@@ -157,11 +157,11 @@ module _ (saved : SavedRegisters) (i value : ℕ) (reason : WriteReason) where
 
 module _ (saved : SavedRegisters) (i : ℕ) (inside : i < count_in saved) where
   pub frozen_in : is_frozen (restored_file saved) i
-      ≡ ((restored_entry saved i).configuration.locked && not (mseccfg_fields saved.mseccfg).rlb)
+      ≡ ((restored_entry saved i).configuration.locked && not (fields_in saved).rlb)
   frozen_in =
       ap (λ (m : MseccfgFields). (entry_at (restored_file saved).entries i).configuration.locked && not m.rlb)
       (mseccfg_in saved)
-      ∙ ap (λ (e : Entry). e.configuration.locked && not (mseccfg_fields saved.mseccfg).rlb) (entry_in saved i inside)
+      ∙ ap (λ (e : Entry). e.configuration.locked && not (fields_in saved).rlb) (entry_in saved i inside)
 
   pub own_changed : (value : ℕ) → is_changed (restored_file saved).entries (Addr i) value i
       ≡ not (value == (restored_entry saved i).address)

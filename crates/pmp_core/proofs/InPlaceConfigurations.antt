@@ -14,8 +14,7 @@ use Rattle.pmp_core.specs.Configuration.{configuration_of, byte_of, is_reserved}
 use Rattle.pmp_core.specs.Mseccfg.{mseccfg_fields}
 use Rattle.pmp_core.specs.RegisterWrite.{stored_over, configured, written}
 use Rattle.pmp_core.specs.RegisterFile.{RegisterFile, file_of, reset_entry, entry_at}
-use Rattle.pmp_core.specs.SavedRegisters.{saved_size, restored_entry, restored_file, IsSetAt}
-use Rattle.pmp_core.specs.Size.{count_of}
+use Rattle.pmp_core.specs.SavedRegisters.{fields_in, saved_hart, hart_in, restored_entry, restored_file, IsSetAt}
 use Rattle.pmp_core.proofs.Configuring.{Configured, configured_next, configured_more, all_configured, kept_odd}
 use Rattle.pmp_core.proofs.Configuring.{kept_below}
 use Rattle.pmp_core.proofs.Places.{entries_by}
@@ -26,7 +25,7 @@ use Rattle.pmp_core.proofs.InPlace.{count_in, eights_in, entries_set, entry_in, 
 
 module _ (saved : SavedRegisters) (i byte : ℕ) (new : Configuration) (inside : i < 64)
     (long : length saved.configurations ≡ 64) (is : byte ≡ byte_of new)
-    (unreserved : (mseccfg_fields saved.mseccfg).mml ≡ false → is_reserved new ≡ false) where
+    (unreserved : (fields_in saved).mml ≡ false → is_reserved new ≡ false) where
   abbrev pub with_byte : SavedRegisters
   with_byte = record saved { configurations = set saved.configurations i byte }
 
@@ -37,7 +36,7 @@ module _ (saved : SavedRegisters) (i byte : ℕ) (new : Configuration) (inside :
       record {
         here = rw get_or-set_same (rw (
           back,
-          stored_as_is (mseccfg_fields saved.mseccfg).mml reset_entry.configuration
+          stored_as_is (fields_in saved).mml reset_entry.configuration
               new unreserved,
         ) refl);
         others = λ k other. rw get_or-set_other refl;
@@ -95,7 +94,7 @@ either_true false other e = inr e
 module _ (old new next : SavedRegisters) (q value done : ℕ) (was is : Bool) (even : q % 2 ≡ 0) (near : done < 8)
     (inside : 4 * q < count_in old) (so_far : IsConfiguredTo old new q value done was) where
   abbrev stored_here : Configuration
-  stored_here = stored_over (mseccfg_fields new.mseccfg).mml (mseccfg_fields new.mseccfg).rlb
+  stored_here = stored_over (fields_in new).mml (fields_in new).rlb
       (restored_entry new (4 * q + done)).configuration (slice_index (to_le_bytes w64 value) done)
 
   module _ (is_set : IsSetAt new next (4 * q + done) (record (restored_entry new (4 * q + done)) {
@@ -111,7 +110,7 @@ module _ (old new next : SavedRegisters) (q value done : ℕ) (was is : Bool) (e
     at_new : entry_at (restored_file new).entries (4 * q + done) ≡ restored_entry new (4 * q + done)
     at_new = entry_in new (4 * q + done) within
 
-    fields : (restored_file old).mseccfg ≡ mseccfg_fields new.mseccfg
+    fields : (restored_file old).mseccfg ≡ fields_in new
     fields = mseccfg_in old ∙ ap mseccfg_fields (sym so_far.mseccfg)
 
     next_entry : record (restored_entry new (4 * q + done)) { configuration = stored_here }

@@ -13,7 +13,7 @@ use Rattle.pmp_core.specs.Configuration.{is_reserved}
 use Rattle.pmp_core.specs.Mseccfg.{mseccfg_fields, mseccfg_value}
 use Rattle.pmp_core.specs.RegisterWrite.{stored_over, is_any_locked}
 use Rattle.pmp_core.specs.RegisterFile.{file_of, reset_entry}
-use Rattle.pmp_core.specs.SavedRegisters.{restored_entry, restored_file}
+use Rattle.pmp_core.specs.SavedRegisters.{fields_in, restored_entry, restored_file}
 use Rattle.pmp_core.proofs.Legal.{stored_unreserved}
 use Rattle.pmp_core.proofs.Saved.{fields_back}
 use Rattle.pmp_core.proofs.InPlace.{count_in, entries_in, entry_in, length_in, mseccfg_in}
@@ -34,10 +34,10 @@ none_locked saved none =
     (λ i near. let inside : i < count_in saved = omega (arith, length_in saved) in
     ap (λ (e : Entry). e.configuration.locked) (entry_in saved i inside) ∙ none i inside))
 
-pub stored_unreserved_in : (saved : SavedRegisters) (i byte : ℕ) → (mseccfg_fields saved.mseccfg).mml ≡ false
-    → is_reserved (stored_over (mseccfg_fields saved.mseccfg).mml (mseccfg_fields saved.mseccfg).rlb
+pub stored_unreserved_in : (saved : SavedRegisters) (i byte : ℕ) → (fields_in saved).mml ≡ false
+    → is_reserved (stored_over (fields_in saved).mml (fields_in saved).rlb
     (restored_entry saved i).configuration byte) ≡ false
-stored_unreserved_in saved i byte off = rw off (stored_unreserved (mseccfg_fields saved.mseccfg).rlb _ byte
+stored_unreserved_in saved i byte off = rw off (stored_unreserved (fields_in saved).rlb _ byte
     (stored_unreserved true reset_entry.configuration (slice_index saved.configurations i) refl))
 
 -- ---- mseccfg written
@@ -47,7 +47,7 @@ fields_once one other same =
     sym (fields_back one.mml one.mmwp one.rlb) ∙ ap mseccfg_fields same ∙ fields_back other.mml other.mmwp other.rlb
 
 module _ (saved : SavedRegisters) (new : MseccfgFields) (value : ℕ) (is : value ≡ mseccfg_value new)
-    (kept : new.mml ≡ (mseccfg_fields saved.mseccfg).mml) where
+    (kept : new.mml ≡ (fields_in saved).mml) where
   abbrev pub with_mseccfg : SavedRegisters
   with_mseccfg = record saved { mseccfg = value }
 
@@ -56,7 +56,7 @@ module _ (saved : SavedRegisters) (new : MseccfgFields) (value : ℕ) (is : valu
 
   same_entry : (k : ℕ) → restored_entry with_mseccfg k ≡ restored_entry saved k
   same_entry k =
-      let mml : (mseccfg_fields value).mml ≡ (mseccfg_fields saved.mseccfg).mml =
+      let mml : (mseccfg_fields value).mml ≡ (fields_in saved).mml =
       ap (λ (m : MseccfgFields). m.mml) read_back ∙ kept in
       ap (λ (b : Bool). let e : Entry = record {
         configuration = stored_over b true reset_entry.configuration (slice_index saved.configurations k);

@@ -43,6 +43,8 @@ impl Model for Hart {
 }
 
 impl Hart {
+    ghost use Rattle.std.specs.Prelude.{◌/◌, ◌^◌};
+    ghost use Rattle.pmp_core.specs.SavedRegisters.{hart_number, saved_hart};
     ghost use Rattle.pmp_core.specs.Hart.{hart_fault, profile_by, profile_of, word_addresses};
 
     /// The hart with so many entries, 0 to 64, physical addresses of so many bits, 34 to 56, and Smepmp or not. The
@@ -74,6 +76,50 @@ impl Hart {
             entries: size.entries(),
             address_bits: MAX_ADDRESS_BITS,
             has_smepmp: true,
+        }
+    }
+
+    /// The hart as a number: of one that `of` gives how many entries there are; of another that in bits 7 to 0, how
+    /// many bits an address has in bits 15 to 8, and whether there is Smepmp in bit 16, with bit 32 set.
+    pub fn number(&self) -> u64
+        ensures { result ≡ hart_number self.now }
+    {
+        let is_wide = self.address_bits == MAX_ADDRESS_BITS && self.has_smepmp;
+        let entries = u64::from(self.entries);
+        if is_wide && (entries == 16 || entries == 64) {
+            entries
+        } else {
+            entries + (u64::from(self.address_bits) << 8) + (u64::from(self.has_smepmp) << 16) + (1 << 32)
+        }
+    }
+
+    /// The hart that a number spells; for 64, which spells none, that of sixty-four entries which `of` gives, and for
+    /// every other number that spells none that of sixteen.
+    #[inline]
+    pub fn from_number(number: u64) -> Hart
+        ensures { result ≡ saved_hart number }
+    {
+        if number == 64 {
+            Hart::of(Size::SixtyFour)
+        } else if number >> 32 == 1 {
+            Hart::spelled(number)
+        } else {
+            Hart::of(Size::Sixteen)
+        }
+    }
+
+    /// The hart that a number with bit 32 spells, or the usual one of sixteen entries.
+    #[cold]
+    #[inline(never)]
+    fn spelled(number: u64) -> Hart
+        requires { number / 2 ^ 32 ≡ 1 }
+        ensures { result ≡ saved_hart number }
+    {
+        let entries = number as u8;
+        let address_bits = (number >> 8) as u8;
+        match Hart::new(entries, address_bits, number / 65536 % 2 == 1) {
+            Ok(hart) => hart,
+            Err(_) => Hart::of(Size::Sixteen),
         }
     }
 

@@ -1,5 +1,4 @@
 use Rattle.std.proofs.Common.{sym, ◌∙◌, ap}
-use Rattle.pmp_core.specs.Size.{count_of}
 use Rattle.pmp_core.proofs.InPlace.{length_in}
 use Rattle.pmp_core.proofs.saved_registers.SavedRegisters.count.Goals as goal
 

@@ -3,7 +3,7 @@ use Rattle.pmp_core.specs.declared.mseccfg.MseccfgFields.{MseccfgFields}
 use Rattle.pmp_core.specs.Mseccfg.{mseccfg_fields, mseccfg_value, mseccfg_written}
 use Rattle.pmp_core.specs.RegisterFile.{RegisterFile, file_of}
 use Rattle.pmp_core.specs.RegisterWrite.{is_any_locked}
-use Rattle.pmp_core.specs.SavedRegisters.{restored_file}
+use Rattle.pmp_core.specs.SavedRegisters.{fields_in, restored_file}
 use Rattle.std.proofs.lemmas.Bool.{not-false}
 use Rattle.pmp_core.proofs.Saved.{fields_back}
 use Rattle.pmp_core.proofs.InPlace.{mseccfg_in}
@@ -55,7 +55,7 @@ returns-then-not-old-clause-changed c = λ e.
 pub returns-else-new-clause-written : goal.returns-else-new-clause-written
 returns-else-new-clause-written c =
     let w = (goal.at.returns-else-new-clause-written c).After-written-new in
-    let kept : c.written-new.result.mml ≡ (mseccfg_fields c.args.self.now.mseccfg).mml = elim c.else-new.branch [
+    let kept : c.written-new.result.mml ≡ (fields_in c.args.self.now).mml = elim c.else-new.branch [
       | else-new-via-then-new+else-not-old w ↦
           w.if-new.true ∙ sym (not-false _ w.if-not-old.false)
           ∙ ap (λ (m : MseccfgFields). m.mml) c.fields-old.ensures
