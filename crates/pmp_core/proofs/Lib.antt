@@ -1,5 +1,6 @@
 pub mod Napot
 pub mod Places
+mod Counts
 pub mod Configuring
 pub mod Passes
 pub mod Matches

@@ -1,15 +1,16 @@
 -- The registers of a unit as plain numbers, and the file that numbers stand for (Volume II, 3.7.1 and Smepmp).
-use Rattle.std.specs.Prelude.{◌≡◌, ◌≢◌, ℕ, ◌+◌, ◌*◌, ◌/◌, ◌%◌, ◌^◌, ◌==◌, nat_le, Bool, true, ◌&&◌, ◌||◌, if◌then◌else◌}
+use Rattle.std.specs.Prelude.{◌≡◌, ◌≢◌, ℕ, ◌+◌, ◌*◌, ◌/◌, ◌%◌, ◌^◌, ◌==◌, Bool, true, ◌&&◌, ◌||◌, if◌then◌else◌}
 use Rattle.std.specs.Prelude.{List, map, replicate, slice_index}
+use Rattle.std.specs.Option.{is_none}
 use Rattle.std.specs.List.{range_with_len}
 use Rattle.pmp_core.specs.declared.csr.Csr.TheVariants.{Mseccfg}
 use Rattle.pmp_core.specs.declared.entry.Entry.{Entry}
 use Rattle.pmp_core.specs.declared.saved_registers.SavedRegisters.{SavedRegisters}
 use Rattle.pmp_core.specs.declared.size.TheConstants.{MAX_ENTRIES}
 use Rattle.pmp_core.specs.declared.register_file.TheConstants.{ENTRIES}
-use Rattle.pmp_core.specs.declared.hart.TheConstants.{MIN_ADDRESS_BITS, MAX_ADDRESS_BITS}
+use Rattle.pmp_core.specs.declared.hart.TheConstants.{MAX_ADDRESS_BITS}
 use Rattle.pmp_core.specs.Configuration.{bit_of, byte_of}
-use Rattle.pmp_core.specs.Hart.{Profile, profile_by, profile_with, word_addresses}
+use Rattle.pmp_core.specs.Hart.{Profile, hart_fault, profile_by, profile_with, word_addresses}
 use Rattle.pmp_core.specs.Mseccfg.{mseccfg_fields}
 use Rattle.pmp_core.specs.declared.mseccfg.MseccfgFields.{MseccfgFields}
 use Rattle.pmp_core.specs.RegisterFile.{RegisterFile, file_of, reset_entry, reset_mseccfg, entry_at}
@@ -37,9 +38,7 @@ spelled_hart number = profile_by (number % 2 ^ 8) (number / 2 ^ 8 % 2 ^ 8) (numb
 -- bits 63 to 32 are 1, and there is such a hart
 abbrev pub spells_hart : (number : ℕ) → Bool
 spells_hart number =
-    let profile = spelled_hart number in
-    number / 2 ^ 32 == 1 && nat_le profile.entries MAX_ENTRIES
-    && nat_le MIN_ADDRESS_BITS profile.address_bits && nat_le profile.address_bits MAX_ADDRESS_BITS
+    number / 2 ^ 32 == 1 && is_none (hart_fault (spelled_hart number))
 
 -- the hart that a number stands for: one that it spells, for 64 the usual one of 64 entries, and else that of 16
 unfoldable pub saved_hart : (number : ℕ) → Profile

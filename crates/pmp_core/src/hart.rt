@@ -44,7 +44,7 @@ impl Model for Hart {
 
 impl Hart {
     ghost use Rattle.std.specs.Prelude.{◌/◌, ◌^◌};
-    ghost use Rattle.pmp_core.specs.SavedRegisters.{hart_number, saved_hart};
+    ghost use Rattle.pmp_core.specs.SavedRegisters.{is_usual, hart_number, saved_hart};
     ghost use Rattle.pmp_core.specs.Hart.{hart_fault, profile_by, profile_of, word_addresses};
 
     /// The hart with so many entries, 0 to 64, physical addresses of so many bits, 34 to 56, and Smepmp or not. The
@@ -79,17 +79,25 @@ impl Hart {
         }
     }
 
+    /// Whether `of` gives it.
+    fn is_usual(&self) -> bool
+        ensures { result ≡ is_usual self.now }
+    {
+        let is_one_of_two = self.entries == 16 || self.entries == 64;
+        is_one_of_two && self.address_bits == MAX_ADDRESS_BITS && self.has_smepmp
+    }
+
     /// The hart as a number: of one that `of` gives how many entries there are; of another that in bits 7 to 0, how
     /// many bits an address has in bits 15 to 8, and whether there is Smepmp in bit 16, with bit 32 set.
     pub fn number(&self) -> u64
         ensures { result ≡ hart_number self.now }
     {
-        let is_wide = self.address_bits == MAX_ADDRESS_BITS && self.has_smepmp;
         let entries = u64::from(self.entries);
-        if is_wide && (entries == 16 || entries == 64) {
+        if self.is_usual() {
             entries
         } else {
-            entries + (u64::from(self.address_bits) << 8) + (u64::from(self.has_smepmp) << 16) + (1 << 32)
+            let smepmp = u64::from(self.has_smepmp);
+            entries + 256 * u64::from(self.address_bits) + 65536 * smepmp + (1 << 32)
         }
     }
 
@@ -115,8 +123,8 @@ impl Hart {
         requires { number / 2 ^ 32 ≡ 1 }
         ensures { result ≡ saved_hart number }
     {
-        let entries = number as u8;
-        let address_bits = (number >> 8) as u8;
+        let entries = (number % 256) as u8;
+        let address_bits = (number / 256 % 256) as u8;
         match Hart::new(entries, address_bits, number / 65536 % 2 == 1) {
             Ok(hart) => hart,
             Err(_) => Hart::of(Size::Sixteen),

@@ -109,6 +109,7 @@ impl SavedRegisters {
 
     /// Whether entry `index` keeps its address: it is frozen, or the next entry is frozen and TOR.
     #[inline]
+    #[tactic(auto, using(crate::proofs::InPlace::few_in))]
     fn is_address_frozen(&self, index: usize) -> bool
         requires { index < (hart_in self.now).entries }
         ensures { result ≡ is_address_frozen (restored_file self.now) index }
@@ -128,6 +129,7 @@ impl SavedRegisters {
 
     /// Whether the entry is frozen.
     #[inline]
+    #[tactic(auto, using(crate::proofs::InPlace::few_in))]
     fn is_frozen(&self, index: usize) -> bool
         requires { index < (hart_in self.now).entries }
         ensures { result ≡ is_frozen (restored_file self.now) index }
@@ -137,6 +139,7 @@ impl SavedRegisters {
 
     /// Whether the entry isn't frozen, and its address is the low end of a frozen range.
     #[inline]
+    #[tactic(auto, using(crate::proofs::InPlace::few_in))]
     fn is_low_end(&self, index: usize) -> bool
         requires { index < (hart_in self.now).entries }
         ensures { result ≡ (not (is_frozen (restored_file self.now) index)
@@ -147,6 +150,7 @@ impl SavedRegisters {
 
     /// Whether this reason holds for the entry of the address register.
     #[inline]
+    #[tactic(auto, using(crate::proofs::InPlace::few_in))]
     fn is_own_entry_reason(&self, reason: WriteReason, index: usize, value: u64) -> bool
         requires { index < (hart_in self.now).entries }
         ensures { result ≡ is_entry_reason reason (restored_file self.now) (Csr.Addr index) value index }
@@ -238,6 +242,7 @@ impl SavedRegisters {
     }
 
     /// Whether some entry is locked, be it off or not.
+    #[tactic(auto, using(crate::proofs::InPlace::few_in))]
     fn is_any_locked(&self) -> bool
         ensures { result ≡ is_any_locked (restored_file self.now).entries }
     {
@@ -299,6 +304,7 @@ impl SavedRegisters {
 
     /// Where the entry matches.
     #[inline]
+    #[tactic(auto, using(crate::proofs::InPlace::few_in))]
     fn range(&self, index: usize) -> ByteRange
         requires { index < (hart_in self.now).entries }
         ensures { result ≡ range_of (restored_file self.now).entries index }
@@ -322,6 +328,7 @@ impl SavedRegisters {
 
     /// What the entry's rule allows the mode, where the entry matches every byte of an access.
     #[inline]
+    #[tactic(auto, using(crate::proofs::InPlace::few_in))]
     pub fn rights(&self, entry: u8, mode: Mode) -> Perms
         requires { entry < (hart_in self.now).entries }
         ensures { result ≡ perms_of (rights (restored_file self.now) entry mode) }
@@ -342,6 +349,7 @@ impl SavedRegisters {
     }
 
     /// The decision of the entry whose range is the first that the access touches.
+    #[tactic(auto, using(crate::proofs::InPlace::few_in))]
     fn decide_in(&self, index: usize, range: &ByteRange, access: &Access) -> Decision
         requires { index < (hart_in self.now).entries }
         ensures { result ≡ decision_in (restored_file self.now) access.now index range.now }

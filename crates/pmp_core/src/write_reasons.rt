@@ -1,6 +1,7 @@
 //! Why a register doesn't read what was written to it.
 
-ghost use Rattle.std.specs.Prelude.{◌≡◌, ◌*◌, ◌%◌, ◌<◌, ◌==◌, nat_lt, not, ◌&&◌, Some, None, length};
+ghost use Rattle.std.specs.Prelude.{◌≡◌, ℕ, ◌+◌, ◌*◌, ◌<◌, ◌≤◌, ◌==◌, nat_lt, not, ◌&&◌, Some, None, length};
+ghost use Rattle.pmp_core.specs.declared.register_write.TheConstants.{ENTRIES_PER_CFG};
 ghost use Rattle.std.specs.Prelude.{if◌then◌else◌};
 ghost use Rattle.std.specs.List.{list_any};
 ghost use Rattle.pmp_core.specs.Configuration.{configuration_of, is_reserved};
@@ -160,17 +161,34 @@ pub fn has_reason(
     ))
 }
 
+/// How many bytes of the configuration register are those of entries, of which there are so many. They are its lowest
+/// ones.
+fn bytes_there(count: usize, register: u8) -> usize
+    ensures there { (j : ℕ) → j < ENTRIES_PER_CFG
+        → (holds_byte_of register (4 * register + j) && nat_lt (4 * register + j) count) ≡ nat_lt j result }
+    ensures most { result ≤ ENTRIES_PER_CFG }
+{
+    let first = 4 * usize::from(register);
+    if register % 2 == 1 || first >= count {
+        0
+    } else {
+        ENTRIES_PER_CFG.min(count - first)
+    }
+}
+
+/// Whether one of the bytes isn't zero.
+fn has_some(bytes: &[u8]) -> bool
+    ensures { result ≡ list_any (λ byte. not (byte == 0)) bytes.now }
+{
+    bytes.iter().any(|byte| *byte != 0)
+}
+
 /// Whether the value has a byte other than zero for an entry past the first ones, so many as there are.
 fn has_absent_byte(count: usize, register: u8, value: u64) -> bool
     ensures { result ≡ has_absent_byte count register value }
 {
-    let first = 4 * usize::from(register);
-    let there = if register % 2 == 1 || first >= count {
-        0
-    } else {
-        ENTRIES_PER_CFG.min(count - first)
-    };
-    value.to_le_bytes()[there..].iter().any(|byte| *byte != 0)
+    let bytes = value.to_le_bytes();
+    has_some(&bytes[bytes_there(count, register)..])
 }
 
 /// Whether the value isn't zero for a register, or an entry, that the hart doesn't have.

@@ -1,10 +1,10 @@
-use Rattle.std.proofs.Common.{◌≡◌, ℕ, zero, suc, Bool, not, ◌==◌, nat_lt, length, refl, sym, ap, ◌∙◌, arith}
-use Rattle.std.proofs.lemmas.Bool.{ne_eqb, lt-ltb}
+use Rattle.std.proofs.Common.{Bool, not, length, sym, ap, ◌∙◌, arith}
 use Rattle.pmp_core.specs.declared.decision.Cause.TheVariants.{NoMatch}
 use Rattle.pmp_core.specs.declared.decision.Decision.{Decision}
 use Rattle.pmp_core.specs.RegisterFile.{file_of}
 use Rattle.pmp_core.specs.Ranges.{decision_from, decision_of}
 use Rattle.pmp_core.specs.Rights.{Rights, perms_of, default_rights_by}
+use Rattle.pmp_core.proofs.Counts.{not_empty}
 use Rattle.pmp_core.proofs.Places.{length-ranges_of}
 use Rattle.pmp_core.proofs.Passes.{pass_touched, pass_untouched, pass_end}
 use Rattle.pmp_core.proofs.decision_by_ranges.decide.Goals as goal
@@ -31,11 +31,6 @@ loop-index-preserved c =
     sym (pass_untouched file c.args.access.now c.args.ranges.now c.loop-index.index c.loop-index-test.true
     (sym c.is_touched.ensures ∙ c.if-is_touched.false))
     ∙ c.loop-index.invariant
-
--- there are none, or some
-not_empty : (n : ℕ) → not (n == 0) ≡ nat_lt 0 n
-not_empty zero = refl
-not_empty (suc n) = rw (ne_eqb (suc n) 0 (λ none. absurd (omega arith)), lt-ltb 0 (suc n) (omega arith)) refl
 
 pub returns : goal.returns
 returns c =
