@@ -1,5 +1,5 @@
 -- Registers that stay plain numbers: their entries, one of them set, and where they match.
-use Rattle.std.proofs.Common.{◌≡◌, ◌≢◌, ℕ, zero, suc, ◌-◌, ◌<◌, ◌≤◌, cond, List, length, refl}
+use Rattle.std.proofs.Common.{◌≡◌, ◌≢◌, ℕ, zero, suc, ◌-◌, ◌^◌, ◌<◌, ◌≤◌, cond, List, length, slice_index, refl}
 use Rattle.std.proofs.Common.{sym, ap, ◌∙◌, arith, inl, inr, get_or-set_other, get_or-set_same, length-set}
 use Rattle.std.proofs.Math.ListN.{set}
 use Rattle.std.proofs.lemmas.Bool.{cases_eq}
@@ -17,6 +17,10 @@ use Rattle.pmp_core.specs.SavedRegisters.{saved_hart, hart_in, fields_in, restor
 use Rattle.pmp_core.specs.SavedRegisters.{restored_file, IsSetAt}
 use Rattle.pmp_core.proofs.Saved.{restored_at, length-restored}
 use Rattle.pmp_core.proofs.HartNumbers.{is_hart}
+use Rattle.pmp_core.proofs.Legal.{zero_fits}
+use Rattle.std.proofs.Math.Nat.{mod-lt}
+use Rattle.std.proofs.Math.Pow.{pow_mono}
+use Rattle.pmp_core.specs.declared.register_write.TheConstants.{WORD_ADDRESSES}
 
 abbrev pub count_in : SavedRegisters → ℕ
 count_in saved = (hart_in saved).entries
@@ -46,6 +50,13 @@ module _ (saved : SavedRegisters) where
 
   pub entry_past : (i : ℕ) → count_in saved ≤ i → entry_at (restored_file saved).entries i ≡ reset_entry
   entry_past i past = get_or_past (restored_file saved).entries i reset_entry (omega (arith, length_in))
+
+-- an address has no more than 54 bits
+pub few_bits : (saved : SavedRegisters) (i : ℕ) → (restored_entry saved i).address < WORD_ADDRESSES
+few_bits saved i =
+    let most : 2 ^ ((hart_in saved).address_bits - 2) ≤ 2 ^ 54 =
+    pow_mono {i = (hart_in saved).address_bits - 2} {j = 54} (omega (arith, (is_hart saved.entries).narrow)) in
+    omega (arith, mod-lt (slice_index saved.addresses i) (zero_fits (hart_in saved)))
 
 -- ---- one entry set
 

@@ -182,7 +182,9 @@ impl RegFile {
     #[cold]
     #[inline(never)]
     fn reset_again(&mut self)
-        ensures { self.new ≡ reset_file self.old.profile }
+        ensures reset { self.new ≡ reset_file self.old.profile }
+        ensures legal { IsLegal self.new }
+        ensures entries { length self.new.entries ≡ length self.old.entries }
     {
         *self = RegFile::reset_on(self.hart);
     }
