@@ -2,7 +2,7 @@
 
 ghost use Rattle.std.specs.Prelude.{◌≡◌, ◌<◌, ◌≤◌, ◌↔◌, IsTrue, length, fold};
 ghost use Rattle.std.specs.List.{list_all};
-ghost use Rattle.pmp_core.specs.RegisterFile.{IsLegal, reset_file, entry_at, is_frozen, is_held};
+ghost use Rattle.pmp_core.specs.RegisterFile.{HasAddresses, IsLegal, reset_file, entry_at, is_frozen, is_held};
 ghost use Rattle.pmp_core.specs.Lock.{lock_of};
 ghost use Rattle.pmp_core.specs.Matching.{Matches};
 ghost use Rattle.pmp_core.specs.Span.{IsSpan, span_of};
@@ -365,6 +365,7 @@ impl RegFile {
         ensures ranges { AreRanges self.now.entries result.now }
         ensures most { length result.now ≤ MAX_ENTRIES }
         ensures legal { IsLegal self.now }
+        ensures addresses { HasAddresses self.now.entries }
     {
         self.decoded()
     }
