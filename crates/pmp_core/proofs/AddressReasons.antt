@@ -2,12 +2,14 @@
 use Rattle.std.proofs.Common.{◌≡◌, ℕ, ◌/◌, ◌%◌, ◌<◌, ◌≤◌, Bool, true, false, cond, not, ◌&&◌, ◌==◌, nat_lt, List}
 use Rattle.std.proofs.Common.{length, refl, sym, ap, ◌∙◌, inl, inr, arith, length-set, get_or-set_same}
 use Rattle.std.proofs.Math.ListN.{set}
+use Rattle.std.proofs.Math.Nat.{mod-lt, mod-eq_of_lt, div-eq_of_lt, lt-mul-div-succ}
+use Rattle.pmp_core.proofs.Legal.{zero_fits}
 use Rattle.std.proofs.lemmas.Bool.{cases_lt, cases_eq, cases_Bool, not-false, and_left, and_right, or_parts}
 use Rattle.std.proofs.lemmas.Bool.{eqb-true, eq-eqb, ne_eqb, lt-ltb, le-ltb}
 use Rattle.std.proofs.lemmas.List.{get_or_past}
 use Rattle.pmp_core.specs.declared.csr.Csr.TheVariants.{Addr}
 use Rattle.pmp_core.specs.declared.entry.Entry.{Entry}
-use Rattle.pmp_core.specs.declared.register_write.TheConstants.{WORD_ADDRESSES}
+use Rattle.pmp_core.specs.Hart.{word_addresses}
 use Rattle.pmp_core.specs.declared.write_reasons.WriteReason.TheVariants.{Frozen, Tor, Reserved, Lockdown}
 use Rattle.pmp_core.specs.RegisterFile.{RegisterFile, reset_entry, entry_at, is_frozen, IsLegal}
 use Rattle.pmp_core.specs.RegisterValue.{register_value}
@@ -17,11 +19,17 @@ use Rattle.pmp_core.proofs.Reasons.{none_at_entry, none_at_entries, HasNone}
 use Rattle.pmp_core.proofs.StoredBytes.{and_true, not_same}
 
 module _ (file : RegisterFile) (legal : IsLegal file) (i value : ℕ) where
+  abbrev words : ℕ
+  words = word_addresses file.profile
+
+  some : 0 < words
+  some = zero_fits file.profile
+
   abbrev address : ℕ
   address = (entry_at file.entries i).address
 
   abbrev set_address : List Entry
-  set_address = set file.entries i (record (entry_at file.entries i) { address = value % WORD_ADDRESSES })
+  set_address = set file.entries i (record (entry_at file.entries i) { address = value % word_addresses file.profile })
 
   -- what the register reads after the write: frozen, not there, or neither
   reads_frozen : is_address_frozen file i ≡ true
@@ -36,7 +44,7 @@ module _ (file : RegisterFile) (legal : IsLegal file) (i value : ℕ) where
       ]
 
   reads_value : is_address_frozen file i ≡ false → i < length file.entries
-      → (entry_at (written file (Addr i) value).entries i).address ≡ value % WORD_ADDRESSES
+      → (entry_at (written file (Addr i) value).entries i).address ≡ value % words
   reads_value free inside = rw free (rw get_or-set_same refl)
 
   changed_here : is_changed file.entries (Addr i) value i ≡ not (value == address)
@@ -59,8 +67,9 @@ module _ (file : RegisterFile) (legal : IsLegal file) (i value : ℕ) where
     zero_value past =
         eqb-true value 0 (not-false _ (and_true _ (rw (le-ltb i (length file.entries) past) at none.absent)))
 
-    mod_value : value % WORD_ADDRESSES ≡ value
-    mod_value = let few : value / WORD_ADDRESSES ≡ 0 = eqb-true _ 0 (not-false _ none.bits) in omega arith
+    mod_value : value % words ≡ value
+    mod_value = let few : value / words ≡ 0 = eqb-true _ 0 (not-false _ none.bits) in
+        mod-eq_of_lt (omega (arith, rw few at (lt-mul-div-succ value some)))
 
     pub address_stored : register_value (written file (Addr i) value) (Addr i) ≡ value
     address_stored = elim (cases_lt i (length file.entries)) [
@@ -72,12 +81,12 @@ module _ (file : RegisterFile) (legal : IsLegal file) (i value : ℕ) where
     ]
 
   module _ (same : register_value (written file (Addr i) value) (Addr i) ≡ value) where
-    few_bits : value < WORD_ADDRESSES
+    few_bits : value < words
     few_bits = elim (cases_lt i (length file.entries)) [
-      | inr past ↦ omega (arith, sym (reads_nothing past) ∙ same)
+      | inr past ↦ rw (sym same ∙ reads_nothing past) some
       | inl inside ↦ elim (cases_Bool (is_address_frozen file i)) [
-        | inl frozen ↦ omega (arith, sym (reads_frozen frozen) ∙ same, legal.addresses i)
-        | inr free ↦ omega (arith, sym (reads_value free inside) ∙ same)
+        | inl frozen ↦ rw (sym same ∙ reads_frozen frozen) (legal.words i)
+        | inr free ↦ rw (sym same ∙ reads_value free inside) (mod-lt value some)
       ]
     ]
 
@@ -114,7 +123,7 @@ module _ (file : RegisterFile) (legal : IsLegal file) (i value : ℕ) where
     pub address_reasonless : HasNone file (Addr i) value
     address_reasonless = record {
       absent = reads_absent;
-      bits = not_same (value / WORD_ADDRESSES) 0 (let few : value < WORD_ADDRESSES = few_bits in omega arith);
+      bits = not_same (value / words) 0 (div-eq_of_lt few_bits);
       frozen = none_at_entries Frozen file (Addr i) value (λ k inside. (fine k).0);
       tor = none_at_entries Tor file (Addr i) value (λ k inside. (fine k).1);
       reserved = none_at_entries Reserved file (Addr i) value (λ k inside. refl);

@@ -1,5 +1,6 @@
 pub mod Napot
 pub mod Places
+mod Counts
 pub mod Configuring
 pub mod Passes
 pub mod Matches
@@ -18,6 +19,7 @@ pub mod Changes
 pub mod Stored
 pub mod Spans
 pub mod StoredBytes
+mod HartNumbers
 pub mod Saved
 pub mod InPlace
 mod InPlaceAddresses

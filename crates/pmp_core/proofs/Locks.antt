@@ -15,7 +15,8 @@ use Rattle.pmp_core.specs.declared.csr.Csr.TheVariants.{Cfg, Addr, Mseccfg}
 use Rattle.pmp_core.specs.declared.entry.Entry.{Entry}
 use Rattle.pmp_core.specs.declared.event.Event.{Event}
 use Rattle.pmp_core.specs.declared.event.Event.TheVariants.{Write, Reset}
-use Rattle.pmp_core.specs.declared.register_write.TheConstants.{WORD_ADDRESSES}
+use Rattle.pmp_core.specs.Hart.{word_addresses}
+use Rattle.pmp_core.specs.Mseccfg.{mseccfg_written}
 use Rattle.pmp_core.specs.RegisterFile.{RegisterFile, reset_entry, entry_at, is_frozen}
 use Rattle.pmp_core.specs.Matching.{low_address, MatchesBy, Matches}
 use Rattle.pmp_core.specs.RegisterWrite.{stored, holds_byte_of, configured, is_tor, is_address_frozen, address_written}
@@ -45,7 +46,7 @@ configured_address file q value k =
 pub other_address : (file : RegisterFile) (j value k : ℕ) → k ≢ j
     → entry_at (address_written file j value) k ≡ entry_at file.entries k
 other_address file j value k other =
-    let new = set file.entries j (record (entry_at file.entries j) { address = value % WORD_ADDRESSES }) in
+    let new = set file.entries j (record (entry_at file.entries j) { address = value % word_addresses file.profile }) in
     elim (is_address_frozen file j) as (λ kept. entry_at (cond kept file.entries new) k ≡ entry_at file.entries k) [
       | true ↦ refl
       | false ↦ rw get_or-set_other refl
@@ -124,12 +125,16 @@ module _ (file : RegisterFile) (i : ℕ) (frozen : is_frozen file i ≡ true) wh
   after_write Mseccfg value = record {
     entry = refl;
     low = λ tor. refl;
-    bypass = and_right (value / 4 % 2 == 1) (file.mseccfg.rlb || not (is_any_locked file.entries))
-        (rw (
-          no_bypass,
-          list_any_at (λ (entry : Entry). entry.configuration.locked) file.entries i reset_entry inside
-              locked,
-        ) refl);
+    bypass = elim file.profile.has_smepmp as
+        (λ has. (cond has (mseccfg_written file.mseccfg (is_any_locked file.entries) value) file.mseccfg).rlb ≡ false) [
+          | true ↦ and_right (value / 4 % 2 == 1) (file.mseccfg.rlb || not (is_any_locked file.entries))
+              (rw (
+                no_bypass,
+                list_any_at (λ (entry : Entry). entry.configuration.locked) file.entries i reset_entry inside
+                    locked,
+              ) refl)
+          | false ↦ no_bypass
+        ];
   }
 
 -- ---- any writes

@@ -17,13 +17,13 @@ use Rattle.pmp_core.specs.declared.decision.Cause.TheVariants.{Rule, Split, NoMa
 use Rattle.pmp_core.specs.declared.entry.Entry.{Entry}
 use Rattle.pmp_core.specs.declared.event.Event.{Event}
 use Rattle.pmp_core.specs.declared.event.Event.TheVariants.{Write, Reset}
-use Rattle.pmp_core.specs.declared.register_write.TheConstants.{WORD_ADDRESSES}
+use Rattle.pmp_core.specs.Hart.{word_addresses}
 use Rattle.pmp_core.specs.Configuration.{configuration_of}
 use Rattle.pmp_core.specs.Decision.{IsDecisionBy}
 use Rattle.pmp_core.specs.RegisterFile.{RegisterFile, reset_entry, entry_at, is_frozen}
 use Rattle.pmp_core.specs.RegisterWrite.{admitted, configured, holds_byte_of, is_address_frozen, step, stored_over}
 use Rattle.pmp_core.specs.RegisterWrite.{written}
-use Rattle.pmp_core.specs.Rights.{allows, default_rights_by, is_barred, lockdown_rights, rule_rights}
+use Rattle.pmp_core.specs.Rights.{allows, has_entries, default_rights_by, is_barred, lockdown_rights, rule_rights}
 use Rattle.pmp_core.specs.LockLaw.{StaysFrozen}
 use Rattle.pmp_core.specs.Histories.{is_write}
 use Rattle.pmp_core.specs.ProtectionLaw.{MachineCodeLaw}
@@ -58,9 +58,9 @@ barred_locked true r w x h = refl
 barred_locked false r w x h = absurd (false≢true h)
 
 -- and not where no entry matches
-none_by_default : (mmwp : Bool) → (default_rights_by true mmwp M).execute ≡ true → ⊥
-none_by_default true h = false≢true h
-none_by_default false h = false≢true h
+none_by_default : (some mmwp : Bool) → (default_rights_by some true mmwp M).execute ≡ true → ⊥
+none_by_default some true h = false≢true h
+none_by_default some false h = false≢true h
 
 -- ---- one write adds no barred rule
 
@@ -114,8 +114,12 @@ module _ (file : RegisterFile) (mml : file.mseccfg.mml ≡ true) (rlb : file.mse
       ≡ (entry_at file.entries i).configuration
   addressed_configuration j value = elim (cases_eq i j) [
     | inl same ↦ rw (← same) (elim (is_address_frozen file i) as (λ kept. (entry_at (cond kept file.entries
-        (set file.entries i (record (entry_at file.entries i) { address = value % WORD_ADDRESSES }))) i).configuration
-        ≡ (entry_at file.entries i).configuration) [ true ↦ refl | false ↦ own_configuration (value % WORD_ADDRESSES) ])
+        (set file.entries i (record (entry_at file.entries i) {
+          address = value % word_addresses file.profile;
+        }))) i).configuration ≡ (entry_at file.entries i).configuration) [
+          | true ↦ refl
+          | false ↦ own_configuration (value % word_addresses file.profile)
+        ])
     | inr other ↦ ap (λ (e : Entry). e.configuration) (other_address file j value i other)
   ]
 
@@ -164,7 +168,7 @@ module _ (file : RegisterFile) (k : ℕ) (events : List Event) (mml : file.msecc
 
   by_frozen : (allowed : Bool) (cause : Cause) → IsDecisionBy later access allowed cause → allowed ≡ true
       → (i : ℕ) × (cause ≡ Rule i) × (is_frozen file i ≡ true) × StaysFrozen file later i
-  by_frozen allowed NoMatch (none, by_default) granted = absurd (none_by_default later.mseccfg.mmwp
+  by_frozen allowed NoMatch (none, by_default) granted = absurd (none_by_default (has_entries later) later.mseccfg.mmwp
       (rw (mml_stays file events writes mml, machine, fetch) at (sym by_default ∙ granted)))
   by_frozen allowed (Split i) (decider, lacks, refused) granted = absurd (false≢true (sym refused ∙ granted))
   by_frozen allowed (Rule i) (decider, all, by_rule) granted =

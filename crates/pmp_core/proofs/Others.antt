@@ -84,7 +84,8 @@ IsSame one other access i = (¬ (Touches one.entries access i) × ¬ (Touches ot
     ⊎ ((entry_at other.entries i ≡ entry_at one.entries i)
     × ((byte : ℕ) → Matches other.entries i byte ↔ Matches one.entries i byte))
 
-module _ (one other : RegisterFile) (mseccfg : other.mseccfg ≡ one.mseccfg) (access : Access)
+module _ (one other : RegisterFile) (mseccfg : other.mseccfg ≡ one.mseccfg)
+    (count : length other.entries ≡ length one.entries) (access : Access)
     (same : (i : ℕ) → IsSame one other access i) where
   touches : (i : ℕ) → Touches one.entries access i → Touches other.entries access i
   touches i touched = elim (same i) [
@@ -109,7 +110,7 @@ module _ (one other : RegisterFile) (mseccfg : other.mseccfg ≡ one.mseccfg) (a
 
   decided_by : (allowed : Bool) (cause : Cause) → IsDecisionBy one access allowed cause
       → IsDecisionBy other access allowed cause
-  decided_by allowed NoMatch h = (decider None h.0, rw mseccfg h.1)
+  decided_by allowed NoMatch h = (decider None h.0, rw (mseccfg, count) h.1)
   decided_by allowed (Split i) h = (
     decider (Some i) h.0,
     (λ covers. h.1 (λ byte inside. ((alike i h.0).1 byte).0 (covers byte inside))),
@@ -140,5 +141,5 @@ others_law file csr value = record {
           λ byte. bytes_kept file value csr i byte stays,
         )
       ] in
-      decided_by file after (mseccfg_kept file csr value other) access same decision.allowed decision.cause decided;
+      decided_by file after (mseccfg_kept file csr value other) (length-written file csr value) access same decision.allowed decision.cause decided;
 }

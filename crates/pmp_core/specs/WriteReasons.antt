@@ -10,8 +10,9 @@ use Rattle.pmp_core.specs.declared.mseccfg.MseccfgFields.{MseccfgFields}
 use Rattle.pmp_core.specs.declared.write_reasons.WriteReason.{WriteReason}
 use Rattle.pmp_core.specs.declared.write_reasons.WriteReason.TheVariants.{Absent, Bits, Frozen, Tor, Reserved, Lockdown}
 use Rattle.pmp_core.specs.declared.write_reasons.WriteReason.TheVariants.{Sticky, Bypass}
-use Rattle.pmp_core.specs.declared.register_write.TheConstants.{ENTRIES_PER_CFG, WORD_ADDRESSES}
+use Rattle.pmp_core.specs.declared.register_write.TheConstants.{ENTRIES_PER_CFG}
 use Rattle.pmp_core.specs.Configuration.{configuration_of, byte_of, is_reserved}
+use Rattle.pmp_core.specs.Hart.{Profile, word_addresses}
 use Rattle.pmp_core.specs.Mseccfg.{mseccfg_fields}
 use Rattle.pmp_core.specs.RegisterFile.{RegisterFile, entry_at, is_frozen}
 use Rattle.pmp_core.specs.RegisterWrite.{holds_byte_of, is_address_frozen, is_any_locked}
@@ -83,23 +84,27 @@ entries_with_reasons file csr value =
 
 -- ---- the whole register
 
--- the value isn't zero for an entry, or a register, that a unit of n entries doesn't have (3.7.1)
-abbrev pub is_absent : (n : ℕ) → Csr → (value : ℕ) → Bool
-is_absent n (Cfg q) value =
+-- the value has a byte other than zero for an entry past the first n (3.7.1)
+abbrev pub has_absent_byte : (n q value : ℕ) → Bool
+has_absent_byte n q value =
     list_any (λ i. not (byte_for q value i == 0) && not (holds_byte_of q i && nat_lt i n))
     (range_with_len (4 * q) ENTRIES_PER_CFG)
-is_absent n (Addr i) value = not (value == 0) && not (nat_lt i n)
-is_absent n Mseccfg value = false
+
+-- the value isn't zero for an entry, or a register, that the hart doesn't have (3.7.1)
+abbrev pub is_absent : RegisterFile → Csr → (value : ℕ) → Bool
+is_absent file (Cfg q) value = has_absent_byte (length file.entries) q value
+is_absent file (Addr i) value = not (value == 0) && not (nat_lt i (length file.entries))
+is_absent file Mseccfg value = not (value == 0) && not file.profile.has_smepmp
 
 -- bit 6 or 5 (3.7.1)
 abbrev pub has_bit_6_or_5 : (byte : ℕ) → Bool
 has_bit_6_or_5 byte = not (byte / 32 % 4 == 0)
 
--- bits 6 and 5 of a byte, 63 to 54 of an address, 63 to 3 of mseccfg (3.7.1 and Smepmp)
-abbrev pub has_other_bits : Csr → (value : ℕ) → Bool
-has_other_bits (Cfg q) value = list_any has_bit_6_or_5 (to_le_bytes w64 value)
-has_other_bits (Addr i) value = not (value / WORD_ADDRESSES == 0)
-has_other_bits Mseccfg value = not (value / 8 == 0)
+-- bits 6 and 5 of a byte, those of an address above its hart's, 63 to 3 of mseccfg (3.7.1 and Smepmp)
+abbrev pub has_other_bits : Profile → Csr → (value : ℕ) → Bool
+has_other_bits profile (Cfg q) value = list_any has_bit_6_or_5 (to_le_bytes w64 value)
+has_other_bits profile (Addr i) value = not (value / word_addresses profile == 0)
+has_other_bits profile Mseccfg value = not (value / 8 == 0)
 
 -- MML or MMWP is to be cleared (Smepmp)
 abbrev pub clears_sticky : MseccfgFields → Csr → (value : ℕ) → Bool
@@ -123,8 +128,8 @@ is_some_entry_reason reason file csr value =
 
 -- whether this is a reason why the register doesn't read the value
 abbrev pub is_reason : WriteReason → RegisterFile → Csr → (value : ℕ) → Bool
-is_reason Absent file csr value = is_absent (length file.entries) csr value
-is_reason Bits file csr value = has_other_bits csr value
+is_reason Absent file csr value = is_absent file csr value
+is_reason Bits file csr value = has_other_bits file.profile csr value
 is_reason Frozen file csr value = is_some_entry_reason Frozen file csr value
 is_reason Tor file csr value = is_some_entry_reason Tor file csr value
 is_reason Reserved file csr value = is_some_entry_reason Reserved file csr value

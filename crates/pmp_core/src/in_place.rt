@@ -3,14 +3,12 @@
 
 ghost use Rattle.std.specs.Prelude.{◌≡◌, ◌≢◌, ◌*◌, ◌<◌, ◌≤◌, ◌&&◌, not, true, false, length};
 ghost use Rattle.pmp_core.specs.Configuration.{byte_of};
-ghost use Rattle.pmp_core.specs.Mseccfg.{mseccfg_fields};
 ghost use Rattle.pmp_core.specs.RegisterFile.{entry_at, is_frozen};
 ghost use Rattle.pmp_core.specs.RegisterValue.{configuration_word, register_value};
 ghost use Rattle.pmp_core.specs.RegisterWrite.{stored_over, is_address_frozen, is_any_locked, written};
 ghost use Rattle.pmp_core.specs.Ranges.{decision_in, decision_of, range_of, ranges_of};
 ghost use Rattle.pmp_core.specs.Rights.{perms_of, rights, default_rights};
-ghost use Rattle.pmp_core.specs.SavedRegisters.{restored_entry, restored_file, saved_size, IsSetAt};
-ghost use Rattle.pmp_core.specs.Size.{count_of};
+ghost use Rattle.pmp_core.specs.SavedRegisters.{hart_in, fields_in, restored_entry, restored_file, IsSetAt};
 ghost use Rattle.pmp_core.specs.WriteReasons.{is_reason, is_entry_reason};
 
 use crate::access::{Access, Mode};
@@ -22,7 +20,7 @@ use crate::mseccfg::MseccfgFields;
 use crate::perms::Perms;
 use crate::range::{ByteRange, range_by};
 use crate::register_file::RegFile;
-use crate::register_write::{ENTRIES_PER_CFG, WORD_ADDRESSES, stored_over, without_reserved};
+use crate::register_write::{ENTRIES_PER_CFG, stored_over, without_reserved};
 use crate::rights::{default_rights_by, rule_rights};
 use crate::saved_registers::SavedRegisters;
 use crate::size::MAX_ENTRIES;
@@ -32,18 +30,11 @@ impl SavedRegisters {
     /// How many entries the unit has.
     #[inline]
     pub fn count(&self) -> usize
-        ensures count { result ≡ count_of (saved_size self.now.entries) }
+        ensures count { result ≡ (hart_in self.now).entries }
         ensures entries { result ≡ length (restored_file self.now).entries }
         ensures most { result ≤ MAX_ENTRIES }
     {
-        usize::from(self.size().entries())
-    }
-
-    #[inline]
-    fn fields(&self) -> MseccfgFields
-        ensures { result ≡ mseccfg_fields self.now.mseccfg }
-    {
-        MseccfgFields::from_value(self.mseccfg)
+        usize::from(self.hart().entries())
     }
 
     #[inline]
@@ -64,7 +55,7 @@ impl SavedRegisters {
         requires { place < MAX_ENTRIES }
         ensures { result ≡ (restored_entry self.now place).address }
     {
-        self.addresses[place] % WORD_ADDRESSES
+        self.addresses[place] % self.hart().word_addresses()
     }
 
     /// The configuration byte of the entry, if there is one.
@@ -118,8 +109,9 @@ impl SavedRegisters {
 
     /// Whether entry `index` keeps its address: it is frozen, or the next entry is frozen and TOR.
     #[inline]
+    #[tactic(auto, using(crate::proofs::InPlace::few_in))]
     fn is_address_frozen(&self, index: usize) -> bool
-        requires { index < count_of (saved_size self.now.entries) }
+        requires { index < (hart_in self.now).entries }
         ensures { result ≡ is_address_frozen (restored_file self.now) index }
     {
         if self.fields().rlb {
@@ -137,8 +129,9 @@ impl SavedRegisters {
 
     /// Whether the entry is frozen.
     #[inline]
+    #[tactic(auto, using(crate::proofs::InPlace::few_in))]
     fn is_frozen(&self, index: usize) -> bool
-        requires { index < count_of (saved_size self.now.entries) }
+        requires { index < (hart_in self.now).entries }
         ensures { result ≡ is_frozen (restored_file self.now) index }
     {
         self.configuration(index).locked && !self.fields().rlb
@@ -146,8 +139,9 @@ impl SavedRegisters {
 
     /// Whether the entry isn't frozen, and its address is the low end of a frozen range.
     #[inline]
+    #[tactic(auto, using(crate::proofs::InPlace::few_in))]
     fn is_low_end(&self, index: usize) -> bool
-        requires { index < count_of (saved_size self.now.entries) }
+        requires { index < (hart_in self.now).entries }
         ensures { result ≡ (not (is_frozen (restored_file self.now) index)
             && is_address_frozen (restored_file self.now) index) }
     {
@@ -156,8 +150,9 @@ impl SavedRegisters {
 
     /// Whether this reason holds for the entry of the address register.
     #[inline]
+    #[tactic(auto, using(crate::proofs::InPlace::few_in))]
     fn is_own_entry_reason(&self, reason: WriteReason, index: usize, value: u64) -> bool
-        requires { index < count_of (saved_size self.now.entries) }
+        requires { index < (hart_in self.now).entries }
         ensures { result ≡ is_entry_reason reason (restored_file self.now) (Csr.Addr index) value index }
     {
         let is_other = value != self.address(index);
@@ -177,7 +172,7 @@ impl SavedRegisters {
         let is_there = index < self.count();
         match reason {
             WriteReason::Absent => value != 0 && !is_there,
-            WriteReason::Bits => value / WORD_ADDRESSES != 0,
+            WriteReason::Bits => value / self.hart().word_addresses() != 0,
             _ if is_there => self.is_own_entry_reason(reason, index, value),
             _ => false,
         }
@@ -191,7 +186,7 @@ impl SavedRegisters {
         ensures changed { result ≡ true → restored_file self.new ≢ restored_file self.old }
     {
         let index = usize::from(register);
-        let address = value % WORD_ADDRESSES;
+        let address = value % self.hart().word_addresses();
         if index >= self.count() {
             return false;
         }
@@ -209,7 +204,7 @@ impl SavedRegisters {
     #[inline]
     fn write_configuration(&mut self, place: usize, byte: u8) -> bool
         requires { place < MAX_ENTRIES }
-        ensures set { let entry = restored_entry self.old place in let fields = mseccfg_fields self.old.mseccfg in
+        ensures set { let entry = restored_entry self.old place in let fields = fields_in self.old in
             IsSetAt self.old self.new place
             (record entry { configuration = stored_over fields.mml fields.rlb entry.configuration byte }) }
         ensures same { result ≡ false → self.new ≡ self.old }
@@ -239,7 +234,7 @@ impl SavedRegisters {
         }
         let bytes = value.to_le_bytes();
         let mut is_changed = false;
-        for place in 0..ENTRIES_PER_CFG {
+        for place in 0..ENTRIES_PER_CFG.min(self.count() - first) {
             let is_new = self.write_configuration(first + place, bytes[place]);
             is_changed |= is_new;
         }
@@ -247,6 +242,7 @@ impl SavedRegisters {
     }
 
     /// Whether some entry is locked, be it off or not.
+    #[tactic(auto, using(crate::proofs::InPlace::few_in))]
     fn is_any_locked(&self) -> bool
         ensures { result ≡ is_any_locked (restored_file self.now).entries }
     {
@@ -276,6 +272,9 @@ impl SavedRegisters {
         ensures same { result ≡ false → self.new ≡ self.old }
         ensures changed { result ≡ true → restored_file self.new ≢ restored_file self.old }
     {
+        if !self.hart().has_smepmp() {
+            return false;
+        }
         let old = self.fields();
         let new = old.written(value, self.is_any_locked());
         if new.value() == old.value() {
@@ -305,8 +304,9 @@ impl SavedRegisters {
 
     /// Where the entry matches.
     #[inline]
+    #[tactic(auto, using(crate::proofs::InPlace::few_in))]
     fn range(&self, index: usize) -> ByteRange
-        requires { index < count_of (saved_size self.now.entries) }
+        requires { index < (hart_in self.now).entries }
         ensures { result ≡ range_of (restored_file self.now).entries index }
     {
         let low = match index.checked_sub(1) {
@@ -328,8 +328,9 @@ impl SavedRegisters {
 
     /// What the entry's rule allows the mode, where the entry matches every byte of an access.
     #[inline]
+    #[tactic(auto, using(crate::proofs::InPlace::few_in))]
     pub fn rights(&self, entry: u8, mode: Mode) -> Perms
-        requires { entry < count_of (saved_size self.now.entries) }
+        requires { entry < (hart_in self.now).entries }
         ensures { result ≡ perms_of (rights (restored_file self.now) entry mode) }
     {
         rule_rights(
@@ -344,12 +345,13 @@ impl SavedRegisters {
     pub fn default_rights(&self, mode: Mode) -> Perms
         ensures { result ≡ perms_of (default_rights (restored_file self.now) mode) }
     {
-        default_rights_by(mode, &self.fields())
+        default_rights_by(self.count() != 0, mode, &self.fields())
     }
 
     /// The decision of the entry whose range is the first that the access touches.
+    #[tactic(auto, using(crate::proofs::InPlace::few_in))]
     fn decide_in(&self, index: usize, range: &ByteRange, access: &Access) -> Decision
-        requires { index < count_of (saved_size self.now.entries) }
+        requires { index < (hart_in self.now).entries }
         ensures { result ≡ decision_in (restored_file self.now) access.now index range.now }
     {
         let number = index as u8;

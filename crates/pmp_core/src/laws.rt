@@ -5,6 +5,7 @@ ghost use Rattle.pmp_core.specs.declared.access.Access.{Access};
 ghost use Rattle.pmp_core.specs.declared.decision.Decision.{Decision};
 ghost use Rattle.pmp_core.specs.declared.entry.Entry.{Entry};
 ghost use Rattle.pmp_core.specs.declared.saved_registers.SavedRegisters.{SavedRegisters};
+ghost use Rattle.pmp_core.specs.Hart.{profile_with};
 ghost use Rattle.pmp_core.specs.RegisterFile.{RegisterFile, HasAddresses, IsLegal, reset_file};
 ghost use Rattle.pmp_core.specs.Matching.{Matches};
 ghost use Rattle.pmp_core.specs.Decision.{IsOwner, IsDecider, IsDecision};
@@ -52,7 +53,7 @@ pub fn law_one_span()
     ensures { OneSpanLaw }
 {}
 
-/// Whatever events follow a reset, the register file is legal, for any number of entries.
+/// Whatever events follow a reset, the register file is legal, on any hart.
 pub fn law_legal()
     ensures { LegalLaw }
 {}
@@ -87,12 +88,12 @@ pub fn law_write_reasons()
     ensures { WriteReasonsLaw }
 {}
 
-/// The saving law: the registers of a legal file of sixteen or of sixty-four entries restore it. Whatever numbers are
-/// restored, the file is legal; zeros are the unit of sixteen after reset.
+/// The saving law: the registers of a legal file restore it. Whatever numbers are restored, the file is legal; zeros are
+/// the unit of sixteen after reset.
 pub fn law_saved()
     ensures kept { SavedLaw }
     ensures legal { (saved : SavedRegisters) → IsLegal (restored_file saved) }
-    ensures zero { restored_file zero_registers ≡ reset_file ENTRIES }
+    ensures zero { restored_file zero_registers ≡ reset_file (profile_with ENTRIES) }
 {}
 
 /// Lockdown gives no rule a right that it hasn't without, but for those of W without R, which are reserved without.
@@ -115,7 +116,8 @@ pub fn law_machine_code()
     ensures { MachineCodeLaw }
 {}
 
-/// MML and MMWP stay set through every list of writes, and with MMWP nothing is open where no entry matches.
+/// MML and MMWP stay set through every list of writes, and with MMWP nothing is open where no entry matches, on a hart
+/// that has one.
 pub fn law_sticky()
     ensures { StickyLaw }
 {}
@@ -137,8 +139,8 @@ pub fn law_others()
     ensures { OthersLaw }
 {}
 
-/// Every legal register file of sixteen or sixty-four entries is one that a reset and events give. So what is restored
-/// is never a state that a hart can't have.
+/// Every legal register file is one that a reset and events give. So what is restored is never a state that a hart can't
+/// have.
 pub fn law_reachable()
     ensures { ReachableLaw }
 {}

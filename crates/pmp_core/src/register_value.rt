@@ -6,6 +6,7 @@ ghost use Rattle.pmp_core.specs.RegisterValue.{configuration_word, register_valu
 
 use crate::csr::Csr;
 use crate::entry::Entry;
+use crate::hart::Hart;
 use crate::mseccfg::MseccfgFields;
 
 /// Packs the bytes of the eight entries that the configuration register holds, if there are any.
@@ -24,8 +25,8 @@ fn configuration_word(entries: &[Entry], register: u8) -> u64
 }
 
 /// The value of a register.
-pub fn read(entries: &[Entry], mseccfg: &MseccfgFields, csr: Csr) -> u64
-    ensures { result ≡ register_value (file_of mseccfg.now entries.now) csr }
+pub fn read(hart: Hart, entries: &[Entry], mseccfg: &MseccfgFields, csr: Csr) -> u64
+    ensures { result ≡ register_value (file_of hart mseccfg.now entries.now) csr }
 {
     match csr {
         Csr::Cfg(register) if register % 2 == 1 => 0,

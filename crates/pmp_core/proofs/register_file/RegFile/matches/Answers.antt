@@ -1,6 +1,7 @@
 use Rattle.std.proofs.Common.{◌≡◌, ◌↔◌, IsTrue, length, slice_index_or, ap, arith}
 use Rattle.pmp_core.specs.Ranges.{IsInRange, range_of}
 use Rattle.pmp_core.proofs.Matches.{matches_range}
+use Rattle.pmp_core.proofs.Legal.{legal_addresses}
 use Rattle.pmp_core.proofs.Places.{no_range, range_at, length-ranges_of}
 use Rattle.pmp_core.proofs.register_file.RegFile.matches.Goals as goal
 
@@ -20,5 +21,5 @@ returns c =
     rw c.decoded.ensures.ranges (range_at entries c.args.entry c.requires.entry) in
     let tested : IsTrue c.contains.result ↔ IsInRange (range_of entries c.args.entry) c.args.byte =
     rw (c.from.ensures, here) at c.contains.ensures in
-    let meant = matches_range entries c.args.entry c.args.byte c.decoded.ensures.legal.addresses in
+    let meant = matches_range entries c.args.entry c.args.byte (legal_addresses c.args.self.now c.decoded.ensures.legal) in
     (λ h. meant.1 (tested.0 h), λ m. tested.1 (meant.0 m))

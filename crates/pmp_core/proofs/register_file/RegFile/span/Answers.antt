@@ -2,6 +2,7 @@ use Rattle.std.proofs.Common.{◌≡◌, length, slice_index_or, ap, ◌∙◌, 
 use Rattle.pmp_core.specs.declared.range.ByteRange.{ByteRange}
 use Rattle.pmp_core.specs.Ranges.{range_of}
 use Rattle.pmp_core.specs.Span.{span_in, span_of}
+use Rattle.pmp_core.proofs.Legal.{legal_addresses}
 use Rattle.pmp_core.proofs.Places.{no_range, range_at, length-ranges_of}
 use Rattle.pmp_core.proofs.Spans.{is_span}
 use Rattle.pmp_core.proofs.register_file.RegFile.span.Goals as goal
@@ -27,7 +28,7 @@ computed c =
 pub returns-clause-by_bytes : goal.returns-clause-by_bytes
 returns-clause-by_bytes c =
     rw (computed (goal.at.returns-clause-by_bytes c).After-span_in)
-    (is_span c.args.self.now.entries c.args.entry c.decoded.ensures.legal.addresses)
+    (is_span c.args.self.now.entries c.args.entry (legal_addresses c.args.self.now c.decoded.ensures.legal))
 
 pub returns-clause-computed : goal.returns-clause-computed
 returns-clause-computed c = computed (goal.at.returns-clause-computed c).After-span_in

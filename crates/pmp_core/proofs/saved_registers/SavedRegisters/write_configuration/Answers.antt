@@ -5,7 +5,7 @@ use Rattle.pmp_core.specs.declared.mseccfg.MseccfgFields.{MseccfgFields}
 use Rattle.pmp_core.specs.Configuration.{byte_of}
 use Rattle.pmp_core.specs.Mseccfg.{mseccfg_fields}
 use Rattle.pmp_core.specs.RegisterWrite.{stored_over}
-use Rattle.pmp_core.specs.SavedRegisters.{restored_entry, IsSetAt}
+use Rattle.pmp_core.specs.SavedRegisters.{fields_in, restored_entry, IsSetAt}
 use Rattle.pmp_core.proofs.InPlaceConfigurations.{configuration_set, with_byte, set_as_is, byte_once}
 use Rattle.pmp_core.proofs.InPlaceSecurity.{stored_unreserved_in}
 use Rattle.pmp_core.proofs.saved_registers.SavedRegisters.write_configuration.Goals as goal
@@ -13,14 +13,14 @@ use Rattle.pmp_core.proofs.saved_registers.SavedRegisters.write_configuration.Go
 
 module _ (c : After-byte) where
   abbrev stored_here : Configuration
-  stored_here = stored_over (mseccfg_fields c.args.self.now.mseccfg).mml (mseccfg_fields c.args.self.now.mseccfg).rlb
+  stored_here = stored_over (fields_in c.args.self.now).mml (fields_in c.args.self.now).rlb
       (restored_entry c.args.self.now c.args.place).configuration c.args.byte
 
   stored_is : c.stored_over.result ≡ stored_here
   stored_is = c.stored_over.ensures
       ∙ ap (λ (m : MseccfgFields). stored_over m.mml m.rlb c.configuration-old.result c.args.byte) c.fields.ensures
-      ∙ ap (λ (k : Configuration). stored_over (mseccfg_fields c.args.self.now.mseccfg).mml
-      (mseccfg_fields c.args.self.now.mseccfg).rlb k c.args.byte) c.configuration-old.ensures
+      ∙ ap (λ (k : Configuration). stored_over (fields_in c.args.self.now).mml
+      (fields_in c.args.self.now).rlb k c.args.byte) c.configuration-old.ensures
 
   is_set : IsSetAt c.args.self.now (with_byte c.args.self.now c.args.place c.byte-new.result stored_here c.requires
       (let told = c.told-self in told.1) (c.byte-new.ensures ∙ ap byte_of stored_is)
