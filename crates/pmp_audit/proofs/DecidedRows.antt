@@ -10,12 +10,14 @@ use Rattle.std.proofs.lemmas.List.Sums.{sum_by_more_le}
 use Rattle.pmp_core.specs.declared.access.Access.{Access}
 use Rattle.pmp_core.specs.declared.decision.Decision.{Decision}
 use Rattle.pmp_core.specs.declared.event.Event.{Event}
-use Rattle.pmp_core.specs.Size.{count_of}
+use Rattle.pmp_core.specs.Hart.{profile_of}
 use Rattle.pmp_core.specs.Decision.{IsDecision}
 use Rattle.pmp_core.specs.Histories.{joined}
 use Rattle.pmp_core.specs.ReachableLaw.{LegalLaw}
 use Rattle.pmp_core.specs.Ranges.{decision_of}
 use Rattle.pmp_core.specs.RegisterFile.{HasAddresses, RegisterFile, reset_file}
+use Rattle.pmp_core.proofs.HartNumbers.{is_profile_of}
+use Rattle.pmp_core.proofs.Legal.{legal_addresses}
 use Rattle.pmp_share.specs.declared.room.TheConstants.{HISTORY_LIMIT}
 use Rattle.pmp_share.specs.Batches.{Batches, event_count, file_from}
 use Rattle.pmp_share.specs.Room.{has_room}
@@ -80,7 +82,7 @@ module _ (script : ScriptContents) where
         ∙ ap (λ (l : List Row). take n rows ++ l) (drop-take n m rows)
 
     pub decided_next : (after : ℕ) (base : RegisterFile) (published : Batches) (decided new : List Decision)
-        → AreDecidedSoFar script rows after decided → base ≡ reset_file (count_of script.size)
+        → AreDecidedSoFar script rows after decided → base ≡ reset_file (profile_of script.size)
         → published ≡ take after script.batches
         → new ≡ decided ++ decided_in (file_from base published) (asking after (drop (length decided) rows))
         → AreDecidedSoFar script rows (after + 1) new
@@ -93,7 +95,7 @@ module _ (script : ScriptContents) where
         let f = decision_for script in
         let now : new ≡ decided ++ map f front =
         added ∙ ap (λ (f : RegisterFile). decided ++ decided_in (file_from f published) front) based
-        ∙ ap (λ (p : Batches). decided ++ decided_in (file_from (reset_file (count_of script.size)) p) front) done
+        ∙ ap (λ (p : Batches). decided ++ decided_in (file_from (reset_file (profile_of script.size)) p) front) done
         ∙ ap (λ (l : List Decision). decided ++ l) next.decisions in
         let many : length new ≡ n + m =
         ap (λ (l : List Decision). length l) now ∙ length-append decided (map f front)
@@ -149,6 +151,7 @@ pub are_decided : LegalLaw → ByRanges → (script : ScriptContents) (rows : Li
 are_decided legal by_ranges script [] = tt
 are_decided legal by_ranges script (row ∷ rows) = (
   by_ranges (file_of_script script row.after) row.access
-      (legal (count_of script.size) (joined (take row.after script.batches))).addresses,
+      (legal_addresses (file_of_script script row.after)
+      (legal (profile_of script.size) (joined (take row.after script.batches)) (is_profile_of script.size))),
   are_decided legal by_ranges script rows,
 )

@@ -5,7 +5,7 @@ use Rattle.std.specs.List.{flat_map, range_with_len, slice_index_or}
 use Rattle.pmp_core.specs.declared.event.Event.{Event}
 use Rattle.pmp_core.specs.declared.span.Span.{Span}
 use Rattle.pmp_core.specs.RegisterFile.{RegisterFile, is_frozen, is_held}
-use Rattle.pmp_core.specs.Size.{count_of}
+use Rattle.pmp_core.specs.Hart.{Profile, profile_of}
 use Rattle.pmp_core.specs.SpanLaw.{OneSpanLaw}
 use Rattle.pmp_core.proofs.Decisions.{least_once}
 use Rattle.pmp_text.specs.declared.lines.since.Since.{Since}
@@ -27,13 +27,13 @@ same_pieces one other from (suc count) same =
     let rest = same_pieces one other (from + 1) count (λ i below. same i (omega arith)) in
     cc
 
-one_since : (n : ℕ) (batches : List (List Event)) (i : ℕ) (one other : Since) → IsSince n batches i one
-    → IsSince n batches i other → one ≡ other
-one_since n batches i one other is also =
+one_since : (hart : Profile) (batches : List (List Event)) (i : ℕ) (one other : Since) → IsSince hart batches i one
+    → IsSince hart batches i other → one ≡ other
+one_since hart batches i one other is also =
     ap (λ (k : Option ℕ). record one { frozen = k })
-    (least_once (IsFrom is_frozen n batches i) one.frozen other.frozen is.frozen also.frozen)
+    (least_once (IsFrom is_frozen hart batches i) one.frozen other.frozen is.frozen also.frozen)
     ∙ ap (λ (k : Option ℕ). record other { held = k })
-    (least_once (IsFrom is_held n batches i) one.held other.held is.held also.held)
+    (least_once (IsFrom is_held hart batches i) one.held other.held is.held also.held)
 
 module _ (one_span : OneSpanLaw) where
   module _ (script : ScriptContents) (done : ℕ) (text other : List ℕ) (one : IsEntryList script done text)
@@ -48,11 +48,11 @@ module _ (one_span : OneSpanLaw) where
         → row_shown i (one.rows.span i) (slice_index_or one.since i no_since)
         ≡ row_shown i (two.rows.span i) (slice_index_or two.since i no_since)
     same_row i below =
-        let n = count_of script.size in
+        let hart = profile_of script.size in
         let batches = take done script.batches in
-        let inside : i < n = omega (arith, length-file_after n batches) in
+        let inside : i < hart.entries = omega (arith, length-file_after hart batches) in
         let span = one_span file_shown.entries i _ _ (one.rows.spans i below) (two.rows.spans i below) in
-        let since = one_since n batches i _ _ (one.since_are i inside) (two.since_are i inside) in
+        let since = one_since hart batches i _ _ (one.since_are i inside) (two.since_are i inside) in
         ap (λ (s : Option Span). row_shown i s (slice_index_or one.since i no_since)) span
         ∙ ap (λ (s : Since). row_shown i (two.rows.span i) s) since
 

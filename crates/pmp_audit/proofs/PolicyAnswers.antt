@@ -14,7 +14,7 @@ use Rattle.pmp_core.specs.Matching.{Matches}
 use Rattle.pmp_core.specs.declared.size.Size.{Size}
 use Rattle.pmp_core.specs.declared.size.Size.TheVariants.{Sixteen, SixtyFour}
 use Rattle.pmp_core.specs.RegisterFile.{RegisterFile, is_frozen, is_held}
-use Rattle.pmp_core.specs.Size.{count_of}
+use Rattle.pmp_core.specs.Hart.{profile_of}
 use Rattle.pmp_core.proofs.Decisions.{least_once}
 use Rattle.pmp_map.specs.Answers.{owned_rights}
 use Rattle.pmp_map.specs.OpenBytes.{IsAnswered, holds}
@@ -107,13 +107,5 @@ module _ (file : RegisterFile) (row : PolicyRow) (byte : ℕ) (owner : Option �
   no_by_owner question.IsLoose answer free = free (owner, owned, not-false _ answer)
 
 -- where all entries up to the last are frozen, all are
-pub held_or_all : (file : RegisterFile) (owner : Option ℕ) (last place : ℕ) → last + 1 ≡ length file.entries
-    → place ≡ unwrap_or owner last → is_held file place ≡ holds file owner
-held_or_all file None last place count at =
-    ap (λ (n : ℕ). list_all (is_frozen file) (range_with_len 0 (n + 1))) at
-    ∙ ap (λ (n : ℕ). list_all (is_frozen file) (range_with_len 0 n)) count
-held_or_all file (Some i) last place count at = ap (is_held file) at
-
-pub one_entry_at_least : (size : Size) → 1 ≤ count_of size
-one_entry_at_least Sixteen = omega arith
-one_entry_at_least SixtyFour = omega arith
+pub all_up_to : (file : RegisterFile) (last : ℕ) → last + 1 ≡ length file.entries → is_held file last ≡ holds file None
+all_up_to file last count = ap (λ (n : ℕ). list_all (is_frozen file) (range_with_len 0 n)) count

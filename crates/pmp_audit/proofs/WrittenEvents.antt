@@ -8,6 +8,7 @@ use Rattle.std.proofs.lemmas.List.Concat.{flat_map-append}
 use Rattle.std.proofs.lemmas.List.Sums.{sum_by-cons}
 use Rattle.std.proofs.lemmas.Slice.Zip.{length-zip, get_or-zip}
 use Rattle.pmp_core.specs.declared.event.Event.{Event}
+use Rattle.pmp_core.specs.Hart.{Profile}
 use Rattle.pmp_core.specs.RegisterFile.{RegisterFile, reset_file}
 use Rattle.pmp_core.specs.RegisterWrite.{step}
 use Rattle.pmp_text.specs.Contents.{ScriptContents}
@@ -98,34 +99,34 @@ one_written from to it row file counted turned = record {
 
 -- ---- by places
 
-module _ (n : ℕ) where
+module _ (hart : Profile) where
   abbrev row_at : List PlacedEvent → (k : ℕ) → PlacedEvent → List ℕ
   row_at events k it = effect_row (record {
     number = k + 1;
     publication = it.publication;
     line = it.line;
-  }) (file_before n events k) it.event
+  }) (file_before hart events k) it.event
 
   there : (before rest : List PlacedEvent) (it : PlacedEvent)
-      → file_before n (before ++ it ∷ rest) (length before) ≡ file_left (reset_file n) before
+      → file_before hart (before ++ it ∷ rest) (length before) ≡ file_left (reset_file hart) before
   there before rest it =
-      ap (file_left (reset_file n)) (take-append-le (length before) before (it ∷ rest) (omega arith)
+      ap (file_left (reset_file hart)) (take-append-le (length before) before (it ∷ rest) (omega arith)
       ∙ take_all (length before) before (omega arith))
 
   module _ (it : PlacedEvent) (before rest : List PlacedEvent) where
     moved : (before ++ it ∷ []) ++ rest ≡ before ++ it ∷ rest
     moved = append_assoc before (it ∷ []) rest
 
-    next_file : file_left (reset_file n) (before ++ it ∷ []) ≡ step (file_left (reset_file n) before) it.event
-    next_file = left-append (reset_file n) before (it ∷ [])
+    next_file : file_left (reset_file hart) (before ++ it ∷ []) ≡ step (file_left (reset_file hart) before) it.event
+    next_file = left-append (reset_file hart) before (it ∷ [])
 
   rows_by_place : (before rest : List PlacedEvent)
       → flat_map (λ (k, it). row_at (before ++ rest) k it) (enumerate_from (length before) rest)
-      ≡ rows_from (length before + 1) (file_left (reset_file n) before) rest
+      ≡ rows_from (length before + 1) (file_left (reset_file hart) before) rest
   rows_by_place before [] = refl
   rows_by_place before (it ∷ rest) =
       let all = before ++ it ∷ rest in
-      let file = file_left (reset_file n) before in
+      let file = file_left (reset_file hart) before in
       let row : RegisterFile → List ℕ = λ f. effect_row (record {
         number = length before + 1;
         publication = it.publication;
@@ -140,33 +141,33 @@ module _ (n : ℕ) where
       ∙ ap (λ (l : List ℕ). row file ++ l) tail
 
   turned_by_place : (before rest : List PlacedEvent)
-      → count_by (λ (k, it). is_not_stored (file_before n (before ++ rest) k) it.event)
+      → count_by (λ (k, it). is_not_stored (file_before hart (before ++ rest) k) it.event)
       (enumerate_from (length before) rest)
-      ≡ turned_from (file_left (reset_file n) before) rest
+      ≡ turned_from (file_left (reset_file hart) before) rest
   turned_by_place before [] = refl
   turned_by_place before (it ∷ rest) =
       let all = before ++ it ∷ rest in
-      let file = file_left (reset_file n) before in
-      let more = count_by (λ (k, x). is_not_stored (file_before n all k) x.event)
+      let file = file_left (reset_file hart) before in
+      let more = count_by (λ (k, x). is_not_stored (file_before hart all k) x.event)
       (enumerate_from (length before + 1) rest) in
       let tail : more ≡ turned_from (step file it.event) rest =
       rw (moved it before rest, length_push before it, next_file it before rest) at
       (turned_by_place (before ++ it ∷ []) rest) in
-      sum_by-cons (λ (k, x). cond (is_not_stored (file_before n all k) x.event) 1 0)
+      sum_by-cons (λ (k, x). cond (is_not_stored (file_before hart all k) x.event) 1 0)
       (length before, it) (enumerate_from (length before + 1) rest)
       ∙ ap (λ (f : RegisterFile). cond (is_not_stored f it.event) 1 0 + more) (there before rest it)
       ∙ ap (λ (m : ℕ). cond (is_not_stored file it.event) 1 0 + m) tail
 
-  pub rows_all : (events : List PlacedEvent) → rows_from 1 (reset_file n) events ≡ rows_text n events
+  pub rows_all : (events : List PlacedEvent) → rows_from 1 (reset_file hart) events ≡ rows_text hart events
   unfolding rows_text
   rows_all events = sym (rows_by_place [] events)
 
   pub summary_all : (events : List PlacedEvent) (summary : WriteSummary) → summary.events ≡ 0 + length events
-      → summary.not_stored ≡ 0 + turned_from (reset_file n) events → summary ≡ write_summary n events
+      → summary.not_stored ≡ 0 + turned_from (reset_file hart) events → summary ≡ write_summary hart events
   unfolding write_summary
   summary_all events summary all_counted all_turned =
       let counted : summary.events ≡ length events = omega arith in
-      let turned : summary.not_stored ≡ turned_from (reset_file n) events = omega arith in
+      let turned : summary.not_stored ≡ turned_from (reset_file hart) events = omega arith in
       ap (λ (m : ℕ). record { events = m; not_stored = summary.not_stored }) counted
       ∙ ap (λ (m : ℕ). record { events = length events; not_stored = m })
       (turned ∙ sym (turned_by_place [] events))

@@ -3,6 +3,7 @@ use Rattle.std.specs.Prelude.{◌≡◌, ℕ, ◌≤◌, false, List, take, Opti
 use Rattle.pmp_core.specs.declared.decision.Decision.{Decision}
 use Rattle.pmp_core.specs.declared.event.Event.{Event}
 use Rattle.pmp_core.specs.RegisterFile.{is_frozen, is_held}
+use Rattle.pmp_core.specs.Hart.{Profile, IsProfile}
 use Rattle.pmp_core.specs.Histories.{file_after}
 use Rattle.pmp_core.specs.LockLaw.{StaysFrozen}
 use Rattle.pmp_core.specs.ProtectionLaw.{StaysProtected}
@@ -48,18 +49,18 @@ OneEntryListLaw = (script : List ℕ) (after : Option ℕ) (text other : List �
 
 -- with no number the entry isn't frozen in the end; with one, it is frozen after the first k batches and after any
 -- number from there on, with the same configuration and the same bytes
-abbrev pub IsKept : (n : ℕ) → List (List Event) → (i : ℕ) → Option ℕ → Type 0
-IsKept n batches i None = is_frozen (file_after n batches) i ≡ false
-IsKept n batches i (Some k) =
-    (done : ℕ) → k ≤ done → StaysFrozen (file_after n (take k batches)) (file_after n (take done batches)) i
+abbrev pub IsKept : (hart : Profile) → List (List Event) → (i : ℕ) → Option ℕ → Type 0
+IsKept hart batches i None = is_frozen (file_after hart batches) i ≡ false
+IsKept hart batches i (Some k) =
+    (done : ℕ) → k ≤ done → StaysFrozen (file_after hart (take k batches)) (file_after hart (take done batches)) i
 
 -- with no number the entry isn't held in the end; with one, what it and the entries before it decide after the first k
 -- batches is protected from there on
-abbrev pub Protects : (n : ℕ) → List (List Event) → (i : ℕ) → Option ℕ → Type 0
-Protects n batches i None = is_held (file_after n batches) i ≡ false
-Protects n batches i (Some k) =
-    (done : ℕ) → k ≤ done → StaysProtected (file_after n (take k batches)) (file_after n (take done batches)) i
+abbrev pub Protects : (hart : Profile) → List (List Event) → (i : ℕ) → Option ℕ → Type 0
+Protects hart batches i None = is_held (file_after hart batches) i ≡ false
+Protects hart batches i (Some k) =
+    (done : ℕ) → k ≤ done → StaysProtected (file_after hart (take k batches)) (file_after hart (take done batches)) i
 
 abbrev pub SinceLaw : Type 0
-SinceLaw = (n : ℕ) (batches : List (List Event)) (i : ℕ) (since : Since)
-    → IsSince n batches i since → IsKept n batches i since.frozen × Protects n batches i since.held
+SinceLaw = (hart : Profile) (batches : List (List Event)) (i : ℕ) (since : Since)
+    → IsProfile hart → IsSince hart batches i since → IsKept hart batches i since.frozen × Protects hart batches i since.held

@@ -9,7 +9,7 @@ use Rattle.pmp_core.specs.declared.event.Event.{Event}
 use Rattle.pmp_core.specs.Decision.{IsOwner}
 use Rattle.pmp_core.specs.Histories.{file_after, joined}
 use Rattle.pmp_core.specs.RegisterFile.{RegisterFile}
-use Rattle.pmp_core.specs.Size.{count_of}
+use Rattle.pmp_core.specs.Hart.{profile_of}
 use Rattle.pmp_map.specs.declared.run.Run.{Run}
 use Rattle.pmp_map.specs.OpenBytes.{IsAnswered, IsHeldByte}
 use Rattle.pmp_map.specs.Runs.{IsInRun}
@@ -43,7 +43,7 @@ step_count Events batches publications = length (joined (take publications batch
 
 -- the register file after so many steps
 abbrev pub state_after : Pace → ScriptContents → (done : ℕ) → RegisterFile
-state_after pace script done = file_after (count_of script.size) (take done (steps_of pace script.batches))
+state_after pace script done = file_after (profile_of script.size) (take done (steps_of pace script.batches))
 
 -- ---- one state
 

@@ -4,7 +4,7 @@ ghost use Rattle.std.specs.Prelude.{◌≡◌, ◌<◌, ◌≤◌, ℕ, length, 
 ghost use Rattle.std.specs.List.{list_all, slice_index_or};
 ghost use Rattle.pmp_core.specs.Histories.{is_write};
 ghost use Rattle.pmp_core.specs.RegisterFile.{is_frozen, is_held};
-ghost use Rattle.pmp_core.specs.Size.{count_of};
+ghost use Rattle.pmp_core.specs.Hart.{profile_of};
 ghost use Rattle.pmp_text.specs.EntryRows.{no_since};
 ghost use Rattle.pmp_audit.specs.Since.{AreSince};
 ghost use Rattle.pmp_audit.specs.SinceStep.{since_after};
@@ -55,7 +55,7 @@ fn count_in(since: &mut [Since], file: &RegFile, are_writes: bool, done: u64)
 pub fn since_of<'a>(script: &'a Script<'a>, count: u64) -> (Replay<'a>, [Since; MAX_ENTRIES])
     requires { count ≤ length script.now.batches }
     ensures position { result.0 ≡ record { script = script.now; done = count } }
-    ensures since { AreSince (count_of script.now.size) (take count script.now.batches) result.1 }
+    ensures since { AreSince (profile_of script.now.size) (take count script.now.batches) result.1 }
 {
     let none = Since {
         frozen: None,

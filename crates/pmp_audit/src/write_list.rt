@@ -3,7 +3,7 @@
 ghost use Rattle.std.specs.Prelude.{◌≡◌, ◌+◌, ◌^◌, ◌<◌, ◌≤◌, IfOk, IfErr, ◌++◌, length, if◌then◌else◌};
 ghost use Rattle.pmp_core.specs.RegisterFile.{RegisterFile};
 ghost use Rattle.pmp_core.specs.RegisterWrite.{step};
-ghost use Rattle.pmp_core.specs.Size.{count_of};
+ghost use Rattle.pmp_core.specs.Hart.{profile_of};
 ghost use Rattle.pmp_text.specs.declared.script.reader.TheConstants.{MAX_SCRIPT};
 ghost use Rattle.pmp_text.specs.Sizes.{script_size};
 ghost use Rattle.pmp_audit.specs.Answers.{Declines, IsAppended, IsWritten, IsRefused};
@@ -64,9 +64,9 @@ pub fn append_writes<L: EventLog, S: Sink>(
 fn write_events<S: Sink>(out: &mut S, script: &Script) -> Result<WriteSummary, AllocError>
     requires { script_size script.now.batches ≤ MAX_SCRIPT }
     ensures rows { IfOk result (λ _. S.text out.new ≡ S.text out.old
-        ++ rows_text (count_of script.now.size) (placed_events script.now)) }
+        ++ rows_text (profile_of script.now.size) (placed_events script.now)) }
     ensures counted { IfOk result
-        (λ summary. summary ≡ write_summary (count_of script.now.size) (placed_events script.now)) }
+        (λ summary. summary ≡ write_summary (profile_of script.now.size) (placed_events script.now)) }
 {
     let mut file = RegFile::reset_of(script.size());
     let mut summary = WriteSummary::default();

@@ -7,13 +7,19 @@ use Rattle.pmp_core.specs.declared.hart.HartFault.TheVariants.{Entries, AddressB
 use Rattle.std.proofs.Common.{refl, sym, ap, ◌∙◌, inl, inr, arith}
 use Rattle.std.proofs.lemmas.Bool.{cases_Bool, cases_eq, and_parts, or_cases, eqb-true, eq-eqb, ne_eqb, le-ltb}
 use Rattle.pmp_core.specs.Configuration.{bit_of}
-use Rattle.pmp_core.specs.Hart.{Profile, IsProfile, hart_fault, profile_with}
+use Rattle.pmp_core.specs.Hart.{Profile, IsProfile, hart_fault, profile_with, profile_of}
+use Rattle.pmp_core.specs.declared.size.Size.{Size}
+use Rattle.pmp_core.specs.declared.size.Size.TheVariants.{Sixteen, SixtyFour}
 use Rattle.pmp_core.specs.SavedRegisters.{is_usual, hart_number, spelled_hart, spells_hart, saved_hart}
 use Rattle.pmp_core.proofs.MseccfgReasons.{bit_back}
 use Rattle.pmp_core.proofs.StoredBytes.{bit_le}
 
-usual : (n : ℕ) → n ≤ 64 → IsProfile (profile_with n)
+pub usual : (n : ℕ) → n ≤ 64 → IsProfile (profile_with n)
 usual n few = record { few = few; wide = omega arith; narrow = omega arith }
+
+pub is_profile_of : (size : Size) → IsProfile (profile_of size)
+is_profile_of Sixteen = usual 16 (omega arith)
+is_profile_of SixtyFour = usual 64 (omega arith)
 
 -- ---- whether there is a hart
 

@@ -19,7 +19,7 @@ pub mod Changes
 pub mod Stored
 pub mod Spans
 pub mod StoredBytes
-mod HartNumbers
+pub mod HartNumbers
 pub mod Saved
 pub mod InPlace
 mod InPlaceAddresses

@@ -15,7 +15,7 @@ use Rattle.pmp_core.specs.declared.decision.Decision.{Decision}
 use Rattle.pmp_core.specs.declared.entry.Entry.{Entry}
 use Rattle.pmp_core.specs.declared.event.Event.{Event}
 use Rattle.pmp_core.specs.declared.event.Event.TheVariants.{Write, Reset}
-use Rattle.pmp_core.specs.Hart.{Profile, IsProfile, profile_with, word_addresses}
+use Rattle.pmp_core.specs.Hart.{Profile, profile_with, word_addresses}
 use Rattle.pmp_core.specs.Rights.{has_entries}
 use Rattle.pmp_core.specs.RegisterFile.{RegisterFile, reset_entry, reset_file, entry_at}
 use Rattle.pmp_core.specs.Matching.{low_address, Matches}
@@ -27,6 +27,7 @@ use Rattle.pmp_core.specs.Ranges.{decision_of}
 use Rattle.pmp_core.proofs.Configuring.{kept_above}
 use Rattle.pmp_core.proofs.Decisions.{decided_by_ranges, one_decision}
 use Rattle.pmp_core.proofs.Legal.{reset_at, configured_place, length-written, length-step, profile-step, legal_law}
+use Rattle.pmp_core.proofs.HartNumbers.{usual}
 use Rattle.pmp_core.proofs.Legal.{legal_addresses}
 use Rattle.pmp_core.proofs.Locks.{other_address, low_kept}
 
@@ -222,10 +223,6 @@ module _ (one other : RegisterFile) (first : HasRoom one) (second : HasRoom othe
 
   decision_alike : (decision : Decision) → IsDecision one access decision → IsDecision other access decision
   decision_alike decision h = decision_alike_by decision.allowed decision.cause h
-
--- the widest addresses, and so many entries
-pub usual : (n : ℕ) → n ≤ 64 → IsProfile (profile_with n)
-usual n few = record { few = few; wide = omega arith; narrow = omega arith }
 
 pub size_law : SizeLaw
 size_law events access named =

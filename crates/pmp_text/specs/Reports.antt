@@ -10,7 +10,7 @@ use Rattle.pmp_core.specs.Decision.{IsDecision}
 use Rattle.pmp_core.specs.FaultCode.{fault_of}
 use Rattle.pmp_core.specs.Histories.{file_after}
 use Rattle.pmp_core.specs.RegisterFile.{RegisterFile}
-use Rattle.pmp_core.specs.Size.{count_of}
+use Rattle.pmp_core.specs.Hart.{profile_of}
 use Rattle.pmp_text.specs.declared.trace.Row.{Row}
 use Rattle.pmp_text.specs.Contents.{ScriptContents}
 use Rattle.pmp_text.specs.Traces.{row_fields, trace_meaning}
@@ -50,7 +50,7 @@ report_row number access decision =
 
 -- the register file after the first publications of a script, which is for a unit of its size
 abbrev pub file_of_script : ScriptContents → (done : ℕ) → RegisterFile
-file_of_script script done = file_after (count_of script.size) (take done script.batches)
+file_of_script script done = file_after (profile_of script.size) (take done script.batches)
 
 -- a decision for each row, each the manual's in the file after the publications that the row asks for (3.7.1.3)
 abbrev pub AreDecided : ScriptContents → List Row → List Decision → Type 0

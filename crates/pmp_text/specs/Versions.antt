@@ -4,9 +4,9 @@ use Rattle.std.specs.Prelude.{Result, Ok, Err, nat_lt, codes, bytes_eq, if◌the
 use Rattle.std.specs.List.{AllZip, list_all}
 use Rattle.pmp_core.specs.declared.decision.Decision.{Decision}
 use Rattle.pmp_core.specs.declared.event.Event.{Event}
-use Rattle.pmp_core.specs.declared.register_file.TheConstants.{ENTRIES}
 use Rattle.pmp_core.specs.declared.size.Size.TheVariants.{Sixteen, SixtyFour}
 use Rattle.pmp_core.specs.Decision.{IsDecision}
+use Rattle.pmp_core.specs.Hart.{profile_of}
 use Rattle.pmp_core.specs.Histories.{joined, file_after}
 use Rattle.pmp_core.specs.SizeLaw.{writes_sixteen}
 use Rattle.pmp_text.specs.declared.script.ScriptFault.{ScriptFault}
@@ -55,7 +55,7 @@ pub record IsReportInOne (batches : List (List Event)) (trace text : List ℕ) :
   pub rows : List Row
   pub decisions : List Decision
   pub trace_means : trace_meaning (length batches) trace ≡ Ok (map row_fields rows)
-  pub decided : AllZip (λ row decision. IsDecision (file_after ENTRIES (take row.after batches)) row.access decision)
+  pub decided : AllZip (λ row decision. IsDecision (file_after (profile_of Sixteen) (take row.after batches)) row.access decision)
       rows decisions
   pub report : text ≡ report_text rows decisions
 
@@ -65,7 +65,7 @@ pub record MeansAsInOne (text : List ℕ) : Type 0 where
   pub meaning : script_meaning text ≡ for_unit Sixteen (meaning_in_one text)
   pub files : (batches : List (List Event)) (lines : List (List ℕ)) (done : ℕ)
       → file_of_script (record { size = Sixteen; batches = batches; lines = lines }) done
-      ≡ file_after ENTRIES (take done batches)
+      ≡ file_after (profile_of Sixteen) (take done batches)
   pub reports : (batches : List (List Event)) (lines : List (List ℕ)) (trace text : List ℕ)
       → IsReport (record { size = Sixteen; batches = batches; lines = lines }) trace text
       ↔ IsReportInOne batches trace text

@@ -2,7 +2,7 @@
 
 ghost use Rattle.std.specs.Prelude.{◌≡◌, ◌<◌, ◌≤◌, [], IfOk, IfErr, All, length, map};
 ghost use Rattle.pmp_core.specs.RegisterFile.{reset_file};
-ghost use Rattle.pmp_core.specs.Size.{count_of};
+ghost use Rattle.pmp_core.specs.Hart.{profile_of};
 ghost use Rattle.pmp_share.specs.declared.opening.TheConstants.{CHECKERS};
 ghost use Rattle.pmp_share.specs.declared.room.TheConstants.{HISTORY_LIMIT};
 ghost use Rattle.pmp_share.specs.Object.{no_batches};
@@ -36,7 +36,7 @@ fn decide_rows<R: Threads + Wait + Sync, G: Gate + Sync>(
     requires some { 0 < length checkers.items }
     requires few { length checkers.items ≤ CHECKERS }
     requires same_unit { All (λ checker. checker.unit ≡ publisher.old.unit) checkers.items }
-    requires base { publisher.old.unit.base ≡ reset_file (count_of script.now.size) }
+    requires base { publisher.old.unit.base ≡ reset_file (profile_of script.now.size) }
     requires published { publisher.old.published ≡ no_batches }
     requires pending { publisher.old.pending ≡ [] }
     requires size { script_size script.now.batches ≤ HISTORY_LIMIT }

@@ -3,7 +3,7 @@ use Rattle.std.specs.List.{list_all}
 use Rattle.pmp_core.specs.Histories.{file_after}
 use Rattle.pmp_core.specs.Histories.{is_write}
 use Rattle.pmp_core.specs.RegisterFile.{is_frozen, is_held}
-use Rattle.pmp_core.specs.Size.{count_of}
+use Rattle.pmp_core.specs.Hart.{profile_of}
 use Rattle.pmp_text.specs.EntryRows.{no_since}
 use Rattle.pmp_audit.specs.Replay.{Position, file_at}
 use Rattle.pmp_audit.proofs.EntriesSince.{few_entries, frozen_lasts, held_lasts, nothing_at}
@@ -14,7 +14,7 @@ use Rattle.pmp_audit.proofs.since.since_of.Goals as goal
 pub loop-index-init : goal.loop-index-init
 loop-index-init c = record {
   position = c.new-replay.ensures;
-  so_far = λ i inside. rw (nothing_at 64 i) (since-none (count_of c.args.script.now.size) i);
+  so_far = λ i inside. rw (nothing_at 64 i) (since-none (profile_of c.args.script.now.size) i);
 }
 
 pub count_in-requires : goal.count_in-requires
@@ -30,7 +30,7 @@ count_in-requires c =
 pub loop-index-preserved : goal.loop-index-preserved
 loop-index-preserved c =
     let script = c.args.script.now in
-    let n = count_of script.size in
+    let n = profile_of script.size in
     let loop = c.loop-index in
     let position : c.advance.new.self ≡ record { script = script; done = loop.index + 1 } = c.advance.ensures
     ∙ ap (λ (p : Position). record p { done = loop.index + 1 }) loop.invariant.position in
