@@ -12,7 +12,7 @@ use Rattle.pmp_core.specs.SavedRegisters.{restored_file}
 use Rattle.pmp_core.proofs.Matches.{are_ranges}
 use Rattle.pmp_core.proofs.Places.{length-ranges_of}
 use Rattle.pmp_core.proofs.InPlace.{count_in, few_in, length_in}
-use Rattle.pmp_core.proofs.Saved.{restored_legal}
+use Rattle.pmp_core.proofs.Saved.{restored_addresses}
 use Rattle.pmp_map.specs.declared.run.Run.{Run}
 use Rattle.pmp_map.specs.declared.run.TheConstants.{RUNS}
 use Rattle.pmp_map.specs.declared.search.TheConstants.{PLACES}
@@ -156,7 +156,7 @@ module _ (saved : SavedRegisters) where
       → IsSweptTo file tables.starts tables.rows ADDRESS_LIMIT place
       → ((k : ℕ) → place ≤ k → k < PLACES → slice_index tables.starts k ≡ ADDRESS_LIMIT) → AreTables file tables
   swept_tables tables place runs swept padded =
-      let addresses = (restored_legal saved).addresses in
+      let addresses = (restored_addresses saved) in
       record {
         list = swept.list;
         addresses = addresses;

@@ -21,7 +21,7 @@ use Rattle.pmp_core.specs.SavedRegisters.{restored_file}
 use Rattle.pmp_core.specs.declared.saved_registers.SavedRegisters.{SavedRegisters}
 use Rattle.pmp_core.specs.Rights.{perms_of, allows}
 use Rattle.pmp_core.proofs.Matches.{are_ranges}
-use Rattle.pmp_core.proofs.Saved.{restored_legal}
+use Rattle.pmp_core.proofs.Saved.{restored_addresses}
 use Rattle.pmp_core.proofs.Decisions.{decided_by_ranges, least_once, one_decision}
 use Rattle.pmp_map.specs.declared.search.TheConstants.{PLACES}
 use Rattle.pmp_map.specs.Answers.{owned_rights, decision_by}
@@ -236,7 +236,7 @@ module _ (saved : SavedRegisters) where
   of_saved = restored_file saved
 
   decoded : AreRanges of_saved.entries (ranges_of of_saved.entries)
-  decoded = are_ranges of_saved.entries (restored_legal saved).addresses
+  decoded = are_ranges of_saved.entries (restored_addresses saved)
 
   to_entries : (byte : ℕ) (owner : Option ℕ) → IsOwnerIn (ranges_of of_saved.entries) byte owner
       → IsOwner of_saved.entries byte owner
@@ -251,13 +251,13 @@ module _ (saved : SavedRegisters) where
     pub stretch_rights : start + size ≤ end → (number : ℕ)
         → number ≡ (perms_of (owned_rights of_saved owner mode)).0 → AreRangeRights of_saved mode start size number
     stretch_rights short number is =
-        rights_by_owner of_saved (restored_legal saved).addresses mode start size full owner
+        rights_by_owner of_saved (restored_addresses saved) mode start size full owner
         (λ byte from to. to_entries byte owner (owned byte from (omega arith))) number is
 
     pub stretch_mixed : end < start + size
         → ((other : Option ℕ) → IsOwnerIn (ranges_of of_saved.entries) end other → owner ≢ other)
         → AreRangeRights of_saved mode start size mixed_number
-    stretch_mixed long apart = rights_of_two of_saved (restored_legal saved).addresses mode start size full owner end
+    stretch_mixed long apart = rights_of_two of_saved (restored_addresses saved) mode start size full owner end
         (to_entries start owner (owned start (omega arith) above)) (omega arith) long
         (λ other is. apart other (to_ranges end other is))
 

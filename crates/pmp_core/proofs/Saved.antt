@@ -17,7 +17,7 @@ use Rattle.pmp_core.specs.declared.range.ByteRange.{ByteRange}
 use Rattle.pmp_core.specs.Configuration.{configuration_of, byte_of, bit_of, field_of, matching_of, is_reserved}
 use Rattle.pmp_core.specs.Mseccfg.{mseccfg_value, mseccfg_fields}
 use Rattle.pmp_core.specs.RegisterFile.{RegisterFile, file_of, reset_entry, reset_mseccfg, reset_file, entry_at}
-use Rattle.pmp_core.specs.RegisterFile.{IsLegal}
+use Rattle.pmp_core.specs.RegisterFile.{HasAddresses, IsLegal}
 use Rattle.pmp_core.specs.RegisterWrite.{admitted}
 use Rattle.pmp_core.specs.Ranges.{ranges_of}
 use Rattle.pmp_core.specs.Hart.{Profile, IsProfile, profile_with, word_addresses}
@@ -26,7 +26,7 @@ use Rattle.pmp_core.specs.SavedRegisters.{restored_file, zero_registers}
 use Rattle.pmp_core.specs.SavedLaw.{SavedLaw}
 use Rattle.pmp_core.specs.Storage.{IsStored}
 use Rattle.pmp_core.proofs.HartNumbers.{is_hart, number_back}
-use Rattle.pmp_core.proofs.Legal.{stored_unreserved, zero_fits}
+use Rattle.pmp_core.proofs.Legal.{stored_unreserved, zero_fits, legal_addresses}
 use Rattle.pmp_core.proofs.Places.{entries_by}
 use Rattle.pmp_core.proofs.Stored.{stored_again}
 use Rattle.pmp_core.proofs.StoredBytes.{bit_le, field_le}
@@ -89,6 +89,9 @@ module _ (saved : SavedRegisters) where
         unreserved = restored_unreserved n;
         plain = no_fields;
       }
+
+pub restored_addresses : (saved : SavedRegisters) → HasAddresses (restored_file saved).entries
+restored_addresses saved = legal_addresses (restored_file saved) (restored_legal saved)
 
 pub restored_zero : restored_file zero_registers ≡ reset_file (profile_with 16)
 unfolding restored_file saved_hart
