@@ -5,6 +5,8 @@
 # make uninstall PREFIX=..  takes it away
 # make dist                 writes a release of what is built to dist/
 # make dist-test            makes one, and wants each tool that its check asks for
+# make page                 builds the page for a browser, web/out/pmp.html, and its module
+# make page-test            compares in headless Chromium what it answers and shows with what the program answers
 # make soak SECONDS=..      lets a publisher and eight checkers run so long, and compares each answer with a replay
 # make conformance          tries QEMU's unit, or that of HART="simulator ELF", by cases of each rule
 # make qemu                 builds QEMU 7.2 as it is and over the library, boots OpenSBI and U-Boot on both, and compares
@@ -23,8 +25,8 @@ export PREFIX DESTDIR
 # ci has one process for each, which is less work than several for one.
 LANES = $(shell awk -v most="$$(nproc)" '/^MemAvailable/ { n = int($$2 / 3500000); print n < 1 ? 1 : n < most ? n : most }' /proc/meminfo)
 
-.PHONY: build library test conformance qemu install install-program install-library uninstall dist dist-test soak stress \
-    bench bench-decide bench-threads bench-limits bench-audit
+.PHONY: build library page page-test test conformance qemu install install-program install-library uninstall dist \
+    dist-test soak stress bench bench-decide bench-threads bench-limits bench-audit bench-page
 
 # The launcher builds the program, and then the program says its version.
 build:
@@ -32,6 +34,15 @@ build:
 
 library:
 	@release/library
+
+page:
+	@web/module
+	@web/build
+
+page-test:
+	@command -v chromium >/dev/null || { echo "there is no chromium; Debian's package is chromium" >&2; exit 2; }
+	@$(MAKE) build page
+	checks/page $(PROGRAM)
 
 # rt ci proves and builds all from nothing. What comes after it goes over the libraries that it leaves, so no others may
 # stand in their places, and the launcher takes the program that it leaves, with the sums of the sources from before.
@@ -56,6 +67,8 @@ test:
 	checks/hostile $(PROGRAM)
 	checks/machines $(PROGRAM)
 	checks/growths $(GROWTHS)
+	@if command -v chromium >/dev/null; then RT=$(CURDIR)/checks/over-proved $(MAKE) page; fi
+	checks/page $(PROGRAM)
 
 # Ends with status 1 where something differs.
 conformance:
@@ -86,7 +99,7 @@ dist-test: build library
 	checks/release --all
 
 # Proves and builds the library and the program, and compares their times with plain C.
-bench: bench-decide bench-threads bench-limits bench-audit
+bench: bench-decide bench-threads bench-limits bench-audit bench-page
 
 bench-decide: library
 	@mkdir -p bench/out
@@ -108,6 +121,9 @@ bench-audit: build
 	@mkdir -p bench/out
 	gcc -O2 -std=c11 -Wall -Wextra bench/audit.c -o bench/out/audit
 	bench/out/audit $(PROGRAM)
+
+bench-page: page
+	@command -v chromium >/dev/null || { echo "there is no chromium, so the page isn't timed"; exit; }; bench/page
 
 soak: stress
 	bench/most-memory $(STRESS) soak $(SECONDS)

@@ -1,0 +1,192 @@
+// What checks/page asks of the page, where it runs beside the page's own script.
+
+const asList = ({status, line, text}) => [status, line, text];
+
+function answersOf(text, moments, accesses) {
+    const script = encodeText(text);
+    const unit = page.unit;
+    const at = (after) => {
+        const views = ['map', 'picture', 'entries', 'registers'].map((it) => [it, asList(unit[it](script, after))]);
+        const checks = accesses.map(([mode, kind, start, length]) =>
+            asList(unit.check(script, after, mode, kind, BigInt(start), BigInt(length))));
+        return {...Object.fromEntries(views), checks};
+    };
+    return {
+        publications: asList(unit.publications(script)),
+        writes: asList(unit.writes(script)),
+        moments: moments.map(at),
+    };
+}
+
+// A script as one types it.
+function type(text) {
+    byId('script').value = text;
+    page.edited();
+}
+
+const tellInput = (element) => element.dispatchEvent(new Event('input', {bubbles: true}));
+const selected = () => byId('script').value.slice(byId('script').selectionStart, byId('script').selectionEnd);
+const isSeen = (element) => element.checkVisibility();
+
+function faultShown(text) {
+    byId('script').value = text;
+    page.boot = null;
+    page.rename('');
+    page.editor.count();
+    page.read();
+    byId('script').setSelectionRange(0, 0);
+    byId('fault-go').click();
+    const seen = isSeen(byId('fault'));
+    return {
+        line: seen ? byId('fault-line').textContent : null,
+        advice: byId('fault-advice').textContent,
+        answers: isSeen(byId('answers')),
+        selected: selected(),
+    };
+}
+
+function choose(words) {
+    ['mode', 'kind', 'start', 'length'].forEach((it, place) => { byId(it).value = words[place]; });
+    tellInput(byId('start'));
+}
+
+function accessShown(text, words) {
+    type(text);
+    choose(words);
+    return byId('access-now').textContent;
+}
+
+function openBoot(name) {
+    byId('boot').value = name;
+    byId('boot').dispatchEvent(new Event('change'));
+    for (const it of ['runs-part', 'registers-part']) byId(it).open = true;
+    byId('all-entries').checked = true;
+    byId('all-entries').dispatchEvent(new Event('change'));
+    return page.editor.text;
+}
+
+function slide(by, at) {
+    byId(by).value = at;
+    tellInput(byId(by));
+}
+
+// What is said of a moment, and whether its answers are shown.
+function momentShown(by, at) {
+    slide(by, at);
+    return `${byId('moment').textContent} ${isSeen(byId('shown')) ? 'shown' : 'hidden'}`;
+}
+
+const rowsOf = (id) => [...byId(id).tBodies[0].rows].filter(isSeen)
+    .map((row) => [...row.cells].map((cell) => cell.textContent));
+const linesShown = (id, parting) => rowsOf(id).map((cells) => `${cells.join(parting)}\n`).join('');
+
+function shownAt(by, at) {
+    slide(by, at);
+    page.showRuns();
+    page.showRegisters();
+    return {
+        map: linesShown('runs', ','),
+        picture: page.picture.text,
+        drawn: [...page.picture.root.querySelectorAll('text')].map((it) => it.textContent),
+        entries: linesShown('entries', ','),
+        registers: linesShown('registers', ' '),
+        writes: rowsOf('writes').map((cells) => cells.join(',')),
+        sliders: [byId('publication').value, byId('write').value],
+    };
+}
+
+// The answer after each moment, from the groups of the table.
+async function decisionsShown(by, words) {
+    slide(by, 0);
+    choose(words);
+    await page.access.finished;
+    return rowsOf('decisions').flatMap(([range, ...fields]) => {
+        const [from, to] = range.split(' to ').map(Number);
+        return new Array((to ?? from) - from + 1).fill(fields.join(','));
+    });
+}
+
+function linesGoneTo() {
+    return [...byId('writes').querySelectorAll('button')].map((button) => {
+        button.click();
+        return selected();
+    });
+}
+
+const reasonsShown = () => [...byId('reasons').querySelectorAll('dt')].map((it) => it.textContent);
+const noticeShown = () => (isSeen(byId('notice')) ? byId('notice').textContent : '');
+
+function stateShown() {
+    return {
+        address: location.hash,
+        text: page.editor.text,
+        boot: byId('boot').value,
+        moment: page.moment,
+        access: page.access.state,
+        picture: page.picture.text,
+        now: byId('access-now').textContent,
+    };
+}
+
+async function goTo(name, text, by, at, access) {
+    if (text === null) openBoot(name);
+    else type(text);
+    choose(access);
+    slide(by, at);
+    await page.noteAddress();
+    return stateShown();
+}
+
+// The page for people.
+
+const parts = (color) => color.match(/[\d.]+/g).map(Number);
+
+function lightness(color) {
+    const [red, green, blue] = parts(color).map((it) => it / 255)
+        .map((it) => (it <= 0.04045 ? it / 12.92 : ((it + 0.055) / 1.055) ** 2.4));
+    return 0.2126 * red + 0.7152 * green + 0.0722 * blue;
+}
+
+function contrast(one, other) {
+    const [dark, light] = [lightness(one), lightness(other)].sort((a, b) => a - b);
+    return (light + 0.05) / (dark + 0.05);
+}
+
+function groundOf(element) {
+    for (let it = element; it; it = it.parentElement) {
+        const ground = getComputedStyle(it).backgroundColor;
+        if ((parts(ground)[3] ?? 1) > 0) return ground;
+    }
+    return 'rgb(255, 255, 255)';
+}
+
+// Each text that is seen, with the contrast that it has with its ground.
+function contrasts() {
+    const found = [];
+    const walk = document.createTreeWalker(document.body, NodeFilter.SHOW_TEXT);
+    while (walk.nextNode()) {
+        const element = walk.currentNode.parentElement;
+        const text = walk.currentNode.data.trim();
+        if (text === '' || !isSeen(element) || element.closest('script, option, .skip')) continue;
+        found.push([text.slice(0, 30), contrast(getComputedStyle(element).color, groundOf(element))]);
+    }
+    for (const text of page.picture.root.querySelectorAll('text')) {
+        const ground = text.parentElement.querySelector('rect') ?? page.picture.root.querySelector('rect');
+        found.push([text.textContent, contrast(getComputedStyle(text).fill, getComputedStyle(ground).fill)]);
+    }
+    return found;
+}
+
+// What has the focus, and whether one sees that.
+function focusShown() {
+    const element = document.activeElement;
+    const shown = element.id === 'file' ? document.querySelector('label[for=file]') : element;
+    const ring = element.closest('.editor') ?? shown;
+    const place = ring.getBoundingClientRect();
+    return {
+        what: element === document.body ? '' : element.id || `${element.tagName} ${element.textContent.slice(0, 20)}`
+            + (element.ariaLabel ?? ''),
+        ringed: getComputedStyle(ring).outlineStyle !== 'none',
+        seen: place.width > 1 && place.height > 1,
+    };
+}

@@ -1,0 +1,48 @@
+-- What an export answers, by its status and the room of its answer.
+use Rattle.std.specs.Prelude.{◌≡◌, ◌⊎◌, ℕ, List, length, Ok, Option, Some, None, decimal}
+use Rattle.pmp_core.specs.declared.access.Access.{Access}
+use Rattle.pmp_core.specs.declared.decision.Decision.{Decision}
+use Rattle.pmp_text.specs.Contents.{ScriptContents}
+use Rattle.pmp_text.specs.Scripts.{script_meaning}
+use Rattle.pmp_audit.specs.declared.fault.AuditFault.{AuditFault}
+use Rattle.pmp_audit.specs.declared.write_list.WriteSummary.{WriteSummary}
+use Rattle.pmp_audit.specs.AccessCheck.{CheckSays}
+use Rattle.pmp_audit.specs.Answers.{Declines}
+use Rattle.pmp_audit.specs.AskedFile.{FileRefuses}
+use Rattle.pmp_audit.specs.WriteList.{WritesSay}
+use Rattle.pmp_web.specs.declared.rooms.Answer.{Answer}
+use Rattle.pmp_web.specs.Request.{IsNamed, no_access}
+use Rattle.pmp_web.specs.Rooms.{text_in}
+use Rattle.pmp_web.specs.Status.{line_of, number_of}
+
+-- the call refuses, with the number of the refusal and its line
+pub record IsRefusal (Refuses : AuditFault → Type 0) (status : ℕ) (answer : Answer) : Type 0 where
+  pub fault : AuditFault
+  pub why : Declines Refuses fault
+  pub number : status ≡ number_of fault
+  pub line : answer.line ≡ line_of fault
+
+-- the room holds a text of which Says is true, or the call refuses
+abbrev pub Answers : (Says : List ℕ → Type 0) → (Refuses : AuditFault → Type 0) → (status : ℕ) → Answer → Type 0
+Answers Says Refuses status answer = ((status ≡ 0) × Says (text_in answer)) ⊎ IsRefusal Refuses status answer
+
+-- the script means this, and the text is the number of its publications
+pub record CountSays (script text : List ℕ) : Type 0 where
+  pub contents : ScriptContents
+  pub script_means : script_meaning script ≡ Ok contents
+  pub text_is : text ≡ decimal (length contents.batches)
+
+-- the text has a row for each event
+abbrev pub RowsSay : (script text : List ℕ) → Type 0
+RowsSay script text = (summary : WriteSummary) × WritesSay script summary text
+
+-- the text has the row of the decision
+abbrev pub CheckAnswerSays : (script : List ℕ) → Access → (after : ℕ) → (text : List ℕ) → Type 0
+CheckAnswerSays script access after text = (decision : Decision) × CheckSays script access (Some after) decision text
+
+-- the numbers name an access, and it is answered, or they name none
+abbrev pub AnswersCheck : (script : List ℕ) → (after mode kind start length status : ℕ) → Answer → Type 0
+AnswersCheck script after mode kind start length status answer =
+    ((access : Access) × IsNamed access mode kind start length × (no_access mode kind start length ≡ None)
+    × Answers (CheckAnswerSays script access after) (FileRefuses script (Some after)) status answer)
+    ⊎ (no_access mode kind start length ≡ Some status)

@@ -1,0 +1,100 @@
+//! The answers of the page, in the memory of a module that a browser runs.
+//!
+//! No function has a condition on what the rooms hold: whatever it is, the answer is defined. A script is the first
+//! bytes of its room, and an answer those of its own. The status is 0 where there is one, and else the number of the
+//! refusal, whose line stands beside the answer. The definitions that the contracts cite are those of the program's
+//! answers, in `specs/` of `pmp_audit`.
+//!
+//! An access is named as in the C library: by its mode (0 user, 1 supervisor, 3 machine), its kind (0 fetch, 1 load,
+//! 2 store), the byte address of its first byte, and its length in bytes.
+#![tactic(auto)]
+
+ghost use Rattle.std.specs.Prelude.{Some};
+ghost use Rattle.pmp_audit.specs.AskedFile.{FileRefuses};
+ghost use Rattle.pmp_audit.specs.View.{ViewSays};
+ghost use Rattle.pmp_audit.specs.WriteList.{WritesRefuse};
+ghost use Rattle.pmp_audit.specs.declared.view.View.TheVariants.{Entries, Picture, Registers, Runs};
+ghost use Rattle.pmp_web.specs.Answers.{Answers, AnswersCheck, CountSays, RowsSay};
+ghost use Rattle.pmp_web.specs.Rooms.{script_in, text_in};
+
+mod answering;
+mod request;
+mod rooms;
+mod status;
+
+use pmp_audit::View;
+pub use rooms::{Answer, Script};
+
+/// How many publications the script has, in decimal.
+#[unsafe(no_mangle)]
+pub extern "C" fn tilvenka_page_publications(script: &Script, answer: &mut Answer) -> u32
+    ensures { let script = script_in script.now in
+        Answers (CountSays script) (WritesRefuse script) result answer.new }
+{
+    answering::count(script, answer)
+}
+
+/// The runs after so many publications, as `pmp map` writes them.
+#[unsafe(no_mangle)]
+pub extern "C" fn tilvenka_page_map(script: &Script, after: u64, answer: &mut Answer) -> u32
+    ensures { let script = script_in script.now in
+        Answers (ViewSays Runs script (Some after) tt) (FileRefuses script (Some after)) result answer.new }
+{
+    answering::view(View::Runs, script, after, answer)
+}
+
+/// The picture of the runs, as `pmp picture` writes it.
+#[unsafe(no_mangle)]
+pub extern "C" fn tilvenka_page_picture(script: &Script, after: u64, answer: &mut Answer) -> u32
+    ensures { let script = script_in script.now in
+        Answers (ViewSays Picture script (Some after) tt) (FileRefuses script (Some after)) result answer.new }
+{
+    answering::view(View::Picture, script, after, answer)
+}
+
+/// The entries, as `pmp entries` writes them.
+#[unsafe(no_mangle)]
+pub extern "C" fn tilvenka_page_entries(script: &Script, after: u64, answer: &mut Answer) -> u32
+    ensures { let script = script_in script.now in
+        Answers (ViewSays Entries script (Some after) tt) (FileRefuses script (Some after)) result answer.new }
+{
+    answering::view(View::Entries, script, after, answer)
+}
+
+/// The registers, as `pmp dump` writes them.
+#[unsafe(no_mangle)]
+pub extern "C" fn tilvenka_page_registers(script: &Script, after: u64, answer: &mut Answer) -> u32
+    ensures { let script = script_in script.now in
+        Answers (ViewSays Registers script (Some after) tt) (FileRefuses script (Some after)) result answer.new }
+{
+    answering::view(View::Registers, script, after, answer)
+}
+
+/// What each event of the script did to a register, as `pmp writes` writes it.
+#[unsafe(no_mangle)]
+pub extern "C" fn tilvenka_page_writes(script: &Script, answer: &mut Answer) -> u32
+    ensures { let script = script_in script.now in
+        Answers (RowsSay script) (WritesRefuse script) result answer.new }
+{
+    answering::writes(script, answer)
+}
+
+/// One access after so many publications, as `pmp check` writes its row. Numbers that name no access are told before
+/// the script is read: 24 where the mode or the kind is none, 3 or 4 as `pmp check` refuses them.
+#[unsafe(no_mangle)]
+pub extern "C" fn tilvenka_page_check(
+    script: &Script,
+    after: u64,
+    mode: u32,
+    kind: u32,
+    start: u64,
+    length: u64,
+    answer: &mut Answer,
+) -> u32
+    ensures { AnswersCheck (script_in script.now) after mode kind start length result answer.new }
+{
+    match request::access_of(mode, kind, start, length) {
+        Ok(access) => answering::check(script, after, &access, answer),
+        Err(number) => number,
+    }
+}

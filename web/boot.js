@@ -1,0 +1,78 @@
+// A boot: a script, what the unit says of it as a whole, and the moments that may be asked of. A moment is {by, at}: at
+// publications are done, or where by is "write" so many events, each as if it were a publication of its own.
+
+class Boot {
+    constructor(unit, text) {
+        this.unit = unit;
+        this.script = encodeText(text);
+        this.fault = null;
+        this.events = []; // in order, each with the line that says it
+        this.places = new Map(); // of a line's event in that list
+        this.ends = [0];
+        const publications = unit.publications(this.script);
+        if (publications.status !== 0) {
+            this.fault = publications;
+            return;
+        }
+        const writes = unit.writes(this.script);
+        if (writes.status !== 0) {
+            this.fault = writes;
+            return;
+        }
+        this.events = linesOf(writes.text, ',').map(readEvent);
+        this.places = new Map(this.events.map((event, place) => [event.line, place]));
+        this.ends = endsOf(this.events, Number(publications.text));
+    }
+
+    get publications() {
+        return this.ends.length - 1;
+    }
+
+    // How many moments there are but the first.
+    last(by) {
+        return by === 'write' ? this.events.length : this.publications;
+    }
+
+    // How many events are done.
+    eventsAt(moment) {
+        return moment.by === 'write' ? moment.at : this.ends[moment.at];
+    }
+
+    // How many publications are done whole.
+    publicationsAt(moment) {
+        if (moment.by === 'publication') return moment.at;
+        return this.ends.findLastIndex((end) => end <= moment.at);
+    }
+
+    scriptBy(by) {
+        if (by === 'publication') return this.script;
+        this.singly ??= encodeText(this.eachWrite());
+        return this.singly;
+    }
+
+    // The script with a publish behind each event, and no other.
+    eachWrite() {
+        const entries = linesOf(this.unit.entries(this.script, 0).text, ',').length;
+        const statements = this.events.map((event) => `${event.statement}\npublish\n`);
+        return `pmp ${entries === 16 ? 1 : 2}\n${statements.join('')}`;
+    }
+}
+
+function readEvent(fields) {
+    const [, publication, line, register, written, , , effect] = fields;
+    const statement = register === 'reset' ? 'reset' : `write ${register} ${shortNumber(written)}`;
+    return {fields, publication: Number(publication), line: Number(line), register, effect, statement};
+}
+
+// 0x0000000000000019 as 0x19, so that scripts of single writes stay short.
+function shortNumber(value) {
+    return `0x${BigInt(value).toString(16)}`;
+}
+
+// For each number of publications, how many events are done then.
+function endsOf(events, publications) {
+    const ends = new Array(publications + 1).fill(0);
+    for (const event of events) ends[event.publication] += 1;
+    for (let place = 1; place <= publications; place++) ends[place] += ends[place - 1];
+    return ends;
+}

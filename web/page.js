@@ -1,0 +1,316 @@
+// The page: what is asked of the unit at the moment that the sliders name, and where it is shown.
+
+const byId = (id) => document.getElementById(id);
+const data = JSON.parse(byId('data').textContent);
+const MEMORY = 40;
+const MOST_WRITES = 500;
+const SHORT_SCRIPT = 65536; // as many letters are asked of at each key; with more the page waits for a pause
+const PAUSE = 300;
+const SIGNS = {ignored: '✕', altered: '≠', wrong: '!', done: '●'};
+
+function sayRefusal({status, line}) {
+    if (status === NO_ANSWER.status) return 'No answer';
+    const place = line > 0 ? `Script line ${line}: refused` : 'Refused';
+    return `${place} ${status} ${data.refusals[status].name}`;
+}
+
+// What to do about a refusal. The program has as much memory as there is, the page has limits of its own.
+function sayAdvice({status}) {
+    if (status === NO_ANSWER.status) return '';
+    if (status !== MEMORY) return data.refusals[status].advice;
+    const {EVENTS, PUBLICATIONS, MAX_ANSWER} = data.limits;
+    return `The page has room for ${counted(EVENTS, 'event')}, for ${counted(PUBLICATIONS, 'publication')}, of which `
+        + 'each single write is one where these are asked of, and for an answer of '
+        + `${counted(MAX_ANSWER, 'byte')}. The program has no such limits.`;
+}
+
+class Page {
+    constructor(unit) {
+        this.unit = unit;
+        this.moment = {by: 'publication', at: 0};
+        this.boot = null;
+        this.name = '';
+        this.opened = Promise.resolve(); // what is being opened, until it is shown
+        this.editor = new Editor(byId('script'), byId('gutter'));
+        this.picture = new Picture(byId('picture'), data.darkPicture);
+        const words = ['mode', 'kind', 'start', 'length'].map(byId);
+        this.access = new Access(unit, words, byId('access-now'), byId('decisions'));
+        for (const name of Object.keys(data.boots)) byId('boot').add(new Option(name, name));
+        byId('boot').add(new Option('your own', ''));
+        this.listen();
+    }
+
+    listen() {
+        byId('boot').addEventListener('change', (event) => this.openBoot(event.target.value));
+        byId('file').addEventListener('change', (event) => {
+            this.opened = this.openFile(event.target.files[0]);
+            event.target.value = '';
+        });
+        byId('script').addEventListener('input', () => this.edited());
+        for (const by of ['publication', 'write']) {
+            byId(by).addEventListener('input', (event) => {
+                if (this.isAnswered) this.moveTo({by, at: Number(event.target.value)});
+            });
+            byId(by).addEventListener('change', () => this.noteAddress());
+        }
+        byId('access').addEventListener('input', () => this.isAnswered && this.accessChanged());
+        byId('access').addEventListener('submit', (event) => event.preventDefault());
+        byId('runs-part').addEventListener('toggle', () => this.isAnswered && this.showRuns());
+        byId('registers-part').addEventListener('toggle', () => this.isAnswered && this.showRegisters());
+        byId('all-entries').addEventListener('change', (event) => {
+            byId('entries').className = event.target.checked ? '' : 'some';
+        });
+        byId('runs-part').open = matchMedia('(max-width: 900px)').matches;
+        byId('save').addEventListener('click', () => this.picture.save(`pmp-${this.moment.by}-${this.moment.at}.svg`));
+        byId('fault-go').addEventListener('click', () => this.editor.goTo(this.boot.fault.line));
+        byId('skip').addEventListener('click', (event) => {
+            event.preventDefault();
+            byId('answers').focus();
+        });
+        addEventListener('dragover', (event) => {
+            if (event.dataTransfer.types.includes('Files')) event.preventDefault();
+        });
+        addEventListener('drop', (event) => {
+            if (event.dataTransfer.files.length === 0) return;
+            event.preventDefault();
+            this.opened = this.openFile(event.dataTransfer.files[0]);
+        });
+        addEventListener('hashchange', () => {
+            this.opened = this.openAddress();
+        });
+    }
+
+    // Whether there is a script, and none of its lines is at fault.
+    get isAnswered() {
+        return this.boot !== null && this.boot.fault === null;
+    }
+
+    // What is opened.
+
+    async openAddress() {
+        let state = null;
+        let unread = '';
+        try {
+            state = await readAddress(location.hash);
+        } catch {
+            unread = 'The address has no state that this page can read.';
+        }
+        if (state?.access) this.access.state = state.access;
+        const own = state?.text !== undefined;
+        const known = Object.hasOwn(data.boots, state?.boot);
+        const name = known ? state.boot : Object.keys(data.boots)[0];
+        if (state !== null && !own && !known) unread = 'The address names a boot that this page doesn’t have.';
+        this.open(own ? '' : name, own ? state.text : data.boots[name], state ?? {});
+        if (unread !== '') tell(unread);
+    }
+
+    openBoot(name) {
+        this.open(name, name === '' ? this.editor.text : data.boots[name]);
+        this.noteAddress();
+    }
+
+    async openFile(file) {
+        if (!file) return;
+        if (file.size > data.limits.MAX_SCRIPT) {
+            const fault = {status: TOO_LONG, line: 0};
+            tell(`${file.name}: ${sayRefusal(fault)}. ${sayAdvice(fault)}`);
+            return;
+        }
+        const text = decodeText(await file.arrayBuffer());
+        this.open('', text);
+        if (/\r(?!\n)/.test(text)) tell('The editor has no lone CR: each is a line’s end here.');
+        if (text.includes('\ufffd')) tell('Bytes that are no UTF-8 are U+FFFD here.');
+        this.noteAddress();
+    }
+
+    // Shows the script, at the moment that is wanted, or after all its publications.
+    open(name, text, wanted = {}) {
+        this.editor.text = text;
+        this.moment = {by: wanted.by ?? 'publication', at: wanted.at ?? Infinity};
+        this.rename(name);
+        this.read();
+    }
+
+    rename(name) {
+        this.name = name;
+        byId('boot').value = name;
+    }
+
+    edited() {
+        clearTimeout(this.waiting);
+        const read = () => {
+            this.rename('');
+            this.editor.count();
+            const last = this.boot.last(this.moment.by);
+            if (this.moment.at === last) this.moment = {by: this.moment.by, at: Infinity};
+            this.read();
+            this.noteAddress();
+        };
+        if (this.editor.text.length <= SHORT_SCRIPT) read();
+        else this.waiting = setTimeout(read, PAUSE);
+    }
+
+    // What is asked.
+
+    read() {
+        tell('');
+        this.boot = new Boot(this.unit, this.editor.text);
+        this.showFault(this.boot.fault);
+        byId('answers').hidden = this.boot.fault !== null;
+        byId('refused').hidden = this.boot.fault === null;
+        if (this.boot.fault === null) {
+            this.showWrites();
+            this.moveTo(this.moment);
+        } else {
+            this.access.stop();
+            const wrong = {kind: 'wrong', sign: SIGNS.wrong};
+            this.editor.mark((line) => (line === this.boot.fault.line ? wrong : undefined), 0);
+        }
+    }
+
+    moveTo(moment) {
+        const by = moment.by;
+        const anew = by !== this.moment.by || this.boot !== this.shown;
+        this.moment = {by, at: Math.min(moment.at, this.boot.last(by))};
+        this.shown = this.boot;
+        if (anew) this.access.ask(this.boot, by);
+        this.showMoment();
+        this.showAnswers();
+        this.markLines(this.boot.eventsAt(this.moment));
+    }
+
+    accessChanged() {
+        this.access.ask(this.boot, this.moment.by);
+        this.access.show(this.moment.at);
+        this.noteAddress();
+    }
+
+    ask(call) {
+        return this.unit[call](this.boot.scriptBy(this.moment.by), this.moment.at);
+    }
+
+    // What is shown.
+
+    showFault(fault) {
+        byId('fault').hidden = fault === null;
+        if (fault === null) return;
+        byId('fault-line').textContent = sayRefusal(fault);
+        byId('fault-advice').textContent = sayAdvice(fault);
+        byId('fault-go').hidden = fault.line === 0;
+    }
+
+    showMoment() {
+        const {boot, moment} = this;
+        const done = {publication: boot.publicationsAt(moment), write: boot.eventsAt(moment)};
+        for (const by of ['publication', 'write']) {
+            byId(by).max = boot.last(by);
+            byId(by).value = done[by];
+            byId(by).ariaValueText = `${done[by]} of ${boot.last(by)}`;
+            byId(`${by}-at`).textContent = byId(by).ariaValueText;
+        }
+        byId('write-help').hidden = moment.by !== 'write';
+    }
+
+    // The last of all, since to scroll the script lays the page out.
+    markLines(done) {
+        const {events, places} = this.boot;
+        const now = events[done - 1]?.line ?? 0;
+        this.editor.mark((line) => {
+            const place = places.get(line);
+            const kind = events[place]?.effect in SIGNS ? events[place].effect : place < done ? 'done' : '';
+            return kind === '' ? undefined : {kind, sign: SIGNS[kind]};
+        }, now);
+        if (now > 0 && done < events.length) this.editor.show(now);
+    }
+
+    showAnswers() {
+        const picture = this.ask('picture');
+        byId('shown').hidden = picture.status !== 0;
+        if (picture.status !== 0) {
+            byId('moment').textContent = `${sayRefusal(picture)}. ${sayAdvice(picture)}`;
+            return;
+        }
+        this.picture.show(picture.text);
+        this.showRuns();
+        this.showEntries();
+        this.showRegisters();
+        this.access.show(this.moment.at);
+        this.sayMoment();
+    }
+
+    sayMoment() {
+        const {by, at} = this.moment;
+        const last = by === 'write' && at > 0 ? ` (${sayEvent(this.boot.events[at - 1])})` : '';
+        const frozen = byId('entries-count').textContent;
+        byId('moment').textContent = `After ${by} ${at}${last}: ${frozen}`;
+    }
+
+    showRuns() {
+        if (!byId('runs-part').open) return;
+        fillTable(byId('runs'), linesOf(this.ask('map').text, ','), (row, fields) => {
+            row.className = `su${fields[4]}`;
+        });
+    }
+
+    showEntries() {
+        const lines = linesOf(this.ask('entries').text, ',');
+        fillTable(byId('entries'), lines, (row, fields) => {
+            row.className = classOfEntry(fields);
+        });
+        const frozen = lines.filter((fields) => fields[6] === 'frozen').length;
+        const hold = lines.filter((fields) => fields[9] !== '').length;
+        const verb = hold === 1 ? 'holds' : 'hold';
+        byId('entries-count').textContent = `${frozen} of ${lines.length} entries frozen; ${hold} ${verb}.`;
+    }
+
+    showRegisters() {
+        if (byId('registers-part').open) fillTable(byId('registers'), linesOf(this.ask('registers').text, ' '));
+    }
+
+    showWrites() {
+        const wrong = this.boot.events.filter((event) => event.effect in SIGNS);
+        byId('writes-count').textContent = wrong.length === 0
+            ? `All of ${counted(this.boot.events.length, 'event')} are stored as written.`
+            : `${wrong.length} of ${counted(this.boot.events.length, 'event')}`
+                + (wrong.length > MOST_WRITES ? `; the first ${MOST_WRITES}:` : ':');
+        const lines = wrong.slice(0, MOST_WRITES).map((event) => event.fields);
+        byId('writes').hidden = lines.length === 0;
+        fillTable(byId('writes'), lines, (row, fields) => {
+            const line = Number(fields[2]);
+            row.className = fields[7];
+            makeButton(row.cells[2], `Line ${line} of the script`, () => this.editor.goTo(line));
+        });
+        this.showReasons(new Set(lines.flatMap((fields) => fields[8].split(' '))));
+    }
+
+    showReasons(reasons) {
+        const items = [...reasons].flatMap((reason) => {
+            const [name, when] = [document.createElement('dt'), document.createElement('dd')];
+            [name.textContent, when.textContent] = [reason, data.reasons[reason]];
+            return [name, when];
+        });
+        byId('reasons').replaceChildren(...items);
+    }
+
+    async noteAddress() {
+        const state = {boot: this.name, text: this.editor.text, ...this.moment, access: this.access.state};
+        const address = await addressOf(state);
+        history.replaceState(null, '', address === '' ? location.pathname + location.search : address);
+        if (address === '') tell('The script is too long for the address: send it beside a link.');
+    }
+}
+
+function sayEvent({line, register, effect}) {
+    return `line ${line}: ${register}${register === effect ? '' : ` ${effect}`}`;
+}
+
+function classOfEntry([, matching, , , , , lock, address, , holds]) {
+    if (lock === '-' && address === '-' && matching === 'off') return 'open-off';
+    if (holds !== '') return 'holds';
+    return lock;
+}
+
+function tell(text) {
+    byId('notice').textContent = text;
+    byId('notice').hidden = text === '';
+}

@@ -1,0 +1,45 @@
+// Lines of an answer as the rows of a table. A cell's text is the field's.
+
+// linesOf("a,b\nc,d\n", ","): [["a", "b"], ["c", "d"]]
+function linesOf(text, parting) {
+    return text === '' ? [] : text.slice(0, -1).split('\n').map((line) => line.split(parting));
+}
+
+function addCell(row, column, name) {
+    const cell = document.createElement(column === 0 ? 'th' : 'td');
+    if (column === 0) cell.scope = 'row';
+    cell.dataset.name = name;
+    row.append(cell);
+    return cell;
+}
+
+// Rows and cells that are there stay, and only texts that differ are set: a move of the slider changes few of them. On
+// a narrow screen a cell shows the name of its column.
+function fillTable(table, lines, dress = () => {}) {
+    const body = table.tBodies[0];
+    const names = [...table.tHead.rows[0].cells].map((cell) => cell.textContent);
+    while (body.rows.length > lines.length) body.deleteRow(-1);
+    lines.forEach((fields, place) => {
+        const row = body.rows[place] ?? body.insertRow();
+        fields.forEach((field, column) => {
+            const cell = row.cells[column] ?? addCell(row, column, names[column]);
+            if (cell.textContent !== field) cell.textContent = field;
+        });
+        dress(row, fields);
+    });
+}
+
+// A cell's text as a button.
+function makeButton(cell, label, act) {
+    const button = document.createElement('button');
+    button.type = 'button';
+    button.textContent = cell.textContent;
+    button.setAttribute('aria-label', label);
+    button.addEventListener('click', act);
+    cell.replaceChildren(button);
+}
+
+// counted(1, "run"): "1 run"; counted(2, "run"): "2 runs"
+function counted(number, word) {
+    return `${number.toLocaleString('en')} ${word}${number === 1 ? '' : 's'}`;
+}
