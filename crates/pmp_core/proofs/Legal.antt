@@ -133,8 +133,10 @@ module _ (file : RegisterFile) (legal : IsLegal file) where
     | inr over ↦ past _ i (simp length-set over)
     | inl inside ↦ elim (cases_eq i j) [
       | inl same ↦ let here : j < length file.entries = omega arith in
-          rw same (rw get_or-set_same (mod-lt value (zero_fits file.profile),
-          λ off. legal.unreserved off j))
+          rw same (rw get_or-set_same (
+            mod-lt value (zero_fits file.profile),
+            λ off. legal.unreserved off j,
+          ))
       | inr other ↦ rw get_or-set_other (legal_place i)
     ]
   ]

@@ -38,49 +38,49 @@ padded_again rest xs ys h =
 -- ---- a register file in its arrays
 
 module _ (file : RegisterFile) (entries : List Entry) (ranges : List ByteRange) (stored : IsStored file entries ranges)
-    where
-  abbrev n : ℕ
-  n = file.profile.entries
+  where
+    abbrev n : ℕ
+    n = file.profile.entries
 
-  few : n ≤ 64
-  few = stored.legal.profile.few
+    few : n ≤ 64
+    few = stored.legal.profile.few
 
-  length-decoded : length (ranges_of file.entries) ≡ n
-  length-decoded = length-ranges_of file.entries ∙ stored.legal.count
+    length-decoded : length (ranges_of file.entries) ≡ n
+    length-decoded = length-ranges_of file.entries ∙ stored.legal.count
 
-  -- the ranges in use are those of the file
-  pub used_ranges : take n ranges ≡ ranges_of file.entries
-  used_ranges = ap (take n) stored.ranges_are ∙ used_padded n empty_range (ranges_of file.entries) length-decoded
+    -- the ranges in use are those of the file
+    pub used_ranges : take n ranges ≡ ranges_of file.entries
+    used_ranges = ap (take n) stored.ranges_are ∙ used_padded n empty_range (ranges_of file.entries) length-decoded
 
-  pub used_entries : take n entries ≡ file.entries
-  used_entries = ap (take n) stored.entries_are ∙ used_padded n reset_entry file.entries stored.legal.count
+    pub used_entries : take n entries ≡ file.entries
+    used_entries = ap (take n) stored.entries_are ∙ used_padded n reset_entry file.entries stored.legal.count
 
-  pub few_used : length (take n ranges) ≤ 64
-  few_used = omega (arith, ap length used_ranges, length-decoded, few)
+    pub few_used : length (take n ranges) ≤ 64
+    few_used = omega (arith, ap length used_ranges, length-decoded, few)
 
-  pub all_entries : length entries ≡ 64
-  all_entries = ap length stored.entries_are
-      ∙ length-padded reset_entry file.entries (omega (arith, stored.legal.count, few))
+    pub all_entries : length entries ≡ 64
+    all_entries = ap length stored.entries_are
+        ∙ length-padded reset_entry file.entries (omega (arith, stored.legal.count, few))
 
-  pub all_ranges : length ranges ≡ 64
-  all_ranges = ap length stored.ranges_are
-      ∙ length-padded empty_range (ranges_of file.entries) (omega (arith, length-decoded, few))
+    pub all_ranges : length ranges ≡ 64
+    all_ranges = ap length stored.ranges_are
+        ∙ length-padded empty_range (ranges_of file.entries) (omega (arith, length-decoded, few))
 
-  -- the entries in use replaced by as many others of the same hart, and their ranges by those of the others
-  pub stored_again : (mseccfg : MseccfgFields) (new : List Entry) → length new ≡ n
-      → IsLegal (file_of file.profile mseccfg new)
-      → IsStored (file_of file.profile mseccfg (take n (new ++ drop n entries))) (new ++ drop n entries)
-      (ranges_of new ++ drop n ranges)
-  stored_again mseccfg new count legal =
-      let in_use : take n (new ++ drop n entries) ≡ new = take_at new (drop n entries) n count in
-      rw in_use (record {
-        legal = legal;
-        entries_are = rw (stored.entries_are, ← stored.legal.count)
-            (padded_again reset_entry file.entries new (count ∙ sym stored.legal.count));
-        ranges_are = rw (stored.ranges_are, ← length-decoded)
-            (padded_again empty_range (ranges_of file.entries) (ranges_of new)
-            (length-ranges_of new ∙ count ∙ sym length-decoded));
-      })
+    -- the entries in use replaced by as many others of the same hart, and their ranges by those of the others
+    pub stored_again : (mseccfg : MseccfgFields) (new : List Entry) → length new ≡ n
+        → IsLegal (file_of file.profile mseccfg new)
+        → IsStored (file_of file.profile mseccfg (take n (new ++ drop n entries))) (new ++ drop n entries)
+        (ranges_of new ++ drop n ranges)
+    stored_again mseccfg new count legal =
+        let in_use : take n (new ++ drop n entries) ≡ new = take_at new (drop n entries) n count in
+        rw in_use (record {
+          legal = legal;
+          entries_are = rw (stored.entries_are, ← stored.legal.count)
+              (padded_again reset_entry file.entries new (count ∙ sym stored.legal.count));
+          ranges_are = rw (stored.ranges_are, ← length-decoded)
+              (padded_again empty_range (ranges_of file.entries) (ranges_of new)
+              (length-ranges_of new ∙ count ∙ sym length-decoded));
+        })
 
 -- ---- reset
 

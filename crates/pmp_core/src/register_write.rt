@@ -53,7 +53,13 @@ pub fn stored_over(old: Configuration, byte: u8, mseccfg: &MseccfgFields) -> Con
 }
 
 /// Writes the configuration register with this number, the lowest byte to the lowest entry.
-fn write_configurations(hart: Hart, entries: &mut [Entry], mseccfg: &MseccfgFields, register: u8, value: u64)
+fn write_configurations(
+    hart: Hart,
+    entries: &mut [Entry],
+    mseccfg: &MseccfgFields,
+    register: u8,
+    value: u64,
+)
     ensures { entries.new ≡ configurations_written (file_of hart mseccfg.now entries.old) register value }
 {
     let first = 4 * usize::from(register);
@@ -68,7 +74,12 @@ fn write_configurations(hart: Hart, entries: &mut [Entry], mseccfg: &MseccfgFiel
 }
 
 /// Whether entry `index` keeps its address: it is frozen, or the next entry is frozen and TOR.
-pub fn is_address_frozen(hart: Hart, entries: &[Entry], mseccfg: &MseccfgFields, index: usize) -> bool
+pub fn is_address_frozen(
+    hart: Hart,
+    entries: &[Entry],
+    mseccfg: &MseccfgFields,
+    index: usize,
+) -> bool
     requires { index < length entries.now }
     ensures { result ≡ is_address_frozen (file_of hart mseccfg.now entries.now) index }
 {
@@ -87,7 +98,13 @@ pub fn is_address_frozen(hart: Hart, entries: &[Entry], mseccfg: &MseccfgFields,
 }
 
 /// Writes the address register with this number.
-fn write_address(hart: Hart, entries: &mut [Entry], mseccfg: &MseccfgFields, register: u8, value: u64)
+fn write_address(
+    hart: Hart,
+    entries: &mut [Entry],
+    mseccfg: &MseccfgFields,
+    register: u8,
+    value: u64,
+)
     ensures { entries.new ≡ address_written (file_of hart mseccfg.now entries.old) register value }
 {
     let index = usize::from(register);
@@ -104,7 +121,12 @@ pub fn is_any_locked(entries: &[Entry]) -> bool
 }
 
 /// What a write of `mseccfg` leaves, if the hart has it.
-fn write_security(hart: Hart, entries: &[Entry], mseccfg: &MseccfgFields, value: u64) -> MseccfgFields
+fn write_security(
+    hart: Hart,
+    entries: &[Entry],
+    mseccfg: &MseccfgFields,
+    value: u64,
+) -> MseccfgFields
     ensures { result ≡ security_written (file_of hart mseccfg.now entries.now) value }
 {
     if hart.has_smepmp() {

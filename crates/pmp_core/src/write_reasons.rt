@@ -141,7 +141,9 @@ fn is_some_entry_reason(
 ) -> bool
     ensures { result ≡ is_some_entry_reason reason (file_of hart mseccfg.now entries.now) csr value }
 {
-    (0..entries.len()).any(|index| is_entry_reason(reason, hart, entries, mseccfg, csr, value, index))
+    (0..entries.len()).any(|index| is_entry_reason(
+        reason, hart, entries, mseccfg, csr, value, index,
+    ))
 }
 
 /// Whether some reason holds for the entry.

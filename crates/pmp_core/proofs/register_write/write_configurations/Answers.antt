@@ -31,8 +31,14 @@ loop-place-preserved c =
     loop.entries loop.place c.stored_over-entry.result (omega (arith, c.if-register-eq1.false)) near loop.invariant
     (rw (c.from-first.ensures, c.to_le_bytes-bytes.ensures) at c.stored_over-entry.ensures) in
     let inside : 4 * c.args.register + loop.place < length loop.entries =
-    omega (arith, c.min-place-end.ensures, c.from-first.ensures, c.if-first-entries.false, loop.auto.entries,
-    c.loop-place-test.true) in
+    omega (
+      arith,
+      c.min-place-end.ensures,
+      c.from-first.ensures,
+      c.if-first-entries.false,
+      loop.auto.entries,
+      c.loop-place-test.true,
+    ) in
     rw c.from-first.ensures (configured_more (file_of c.args.hart c.args.mseccfg.now c.args.entries.now) c.args.register
     c.args.value loop.entries loop.place _ loop.invariant inside next)
 

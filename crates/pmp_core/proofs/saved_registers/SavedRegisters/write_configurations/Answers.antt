@@ -22,8 +22,15 @@ loop-place-preserved c =
     let loop = c.loop-place in
     let near : loop.place < 8 = omega (arith, c.min-place-end.ensures, c.loop-place-test.true) in
     let inside : 4 * c.args.register + loop.place < count_in c.args.self.now =
-    omega (arith, c.min-place-end.ensures, c.loop-place-test.true, c.if-first-count.false, c.count.ensures.count,
-    c.count-2.ensures.count, c.from-first.ensures) in
+    omega (
+      arith,
+      c.min-place-end.ensures,
+      c.loop-place-test.true,
+      c.if-first-count.false,
+      c.count.ensures.count,
+      c.count-2.ensures.count,
+      c.from-first.ensures,
+    ) in
     configured_step c.args.self.now loop.self c.write_configuration-is_new.new.self c.args.register c.args.value
     loop.place loop.is_changed c.write_configuration-is_new.result (omega (arith, c.if-register-eq1.false))
     near inside loop.invariant
@@ -35,8 +42,14 @@ pub returns : goal.returns
 returns c =
     let loop = c.loop-place in
     let many : loop.place ≡ min 8 (count_in c.args.self.now - 4 * c.args.register) =
-    omega (arith, c.min-place-end.ensures, c.loop-place-test.false, loop.auto.place-end, c.count-2.ensures.count,
-    c.from-first.ensures) in
+    omega (
+      arith,
+      c.min-place-end.ensures,
+      c.loop-place-test.false,
+      loop.auto.place-end,
+      c.count-2.ensures.count,
+      c.from-first.ensures,
+    ) in
     record {
       written = configurations_written_is c.args.self.now loop.self c.args.register c.args.value loop.place
           loop.is_changed loop.invariant many;
