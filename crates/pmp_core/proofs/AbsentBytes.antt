@@ -1,10 +1,10 @@
 -- Bytes for no entry of the unit.
-use Rattle.std.proofs.Common.{◌≡◌, ℕ, ◌+◌, ◌-◌, ◌*◌, ◌%◌, ◌^◌, ◌<◌, ◌≤◌, Bool, true, false, not, ◌&&◌, ◌==◌, nat_lt}
+use Rattle.std.proofs.Common.{◌≡◌, ℕ, ◌+◌, ◌-◌, ◌*◌, ◌%◌, ◌<◌, ◌≤◌, Bool, true, false, not, ◌&&◌, ◌==◌, nat_lt}
 use Rattle.std.proofs.Common.{◌⊎◌, min, List, length, drop, length-drop, slice_index, refl, sym, ◌∙◌, inl, inr, arith}
 use Rattle.std.specs.Int.{w64, to_le_bytes}
 use Rattle.std.specs.List.{list_any}
-use Rattle.std.proofs.lemmas.Bool.{cases_eq, cases_Bool, not-false, and_left, and_right, and_parts, and_from}
-use Rattle.std.proofs.lemmas.Bool.{not_from_true, not_from_false, true_from_ne_false, eqb-true, ne_eqb, ltb-true}
+use Rattle.std.proofs.lemmas.Bool.{not-false, and_left, and_right, and_parts}
+use Rattle.std.proofs.lemmas.Bool.{eqb-true, ltb-true}
 use Rattle.std.proofs.lemmas.Bool.{cases_lt, lt-ltb, le-ltb}
 use Rattle.std.proofs.lemmas.List.{get_or-drop}
 use Rattle.std.proofs.lemmas.Bool.Decides.{nat_tests}

@@ -19,9 +19,9 @@ use Rattle.pmp_core.specs.declared.csr.Csr.TheVariants.{Addr}
 use Rattle.pmp_core.specs.declared.entry.Entry.{Entry}
 use Rattle.pmp_core.specs.declared.saved_registers.SavedRegisters.{SavedRegisters}
 use Rattle.pmp_core.specs.declared.mseccfg.MseccfgFields.{MseccfgFields}
-use Rattle.pmp_core.specs.Hart.{Profile, word_addresses}
+use Rattle.pmp_core.specs.Hart.{word_addresses}
 use Rattle.pmp_core.specs.RegisterWrite.{is_tor, is_address_frozen, written}
-use Rattle.pmp_core.specs.RegisterFile.{RegisterFile, file_of, reset_entry, entry_at, is_frozen}
+use Rattle.pmp_core.specs.RegisterFile.{RegisterFile, reset_entry, entry_at, is_frozen}
 use Rattle.pmp_core.specs.SavedRegisters.{hart_in, fields_in, restored_entry, restored_file, IsSetAt}
 use Rattle.pmp_core.proofs.InPlace.{count_in, entry_in, entry_past, few_in, file_set, length_in, mseccfg_in}
 use Rattle.pmp_core.proofs.InPlace.{profile_in}

@@ -1,10 +1,9 @@
 -- Registers that stay plain numbers: configurations that are written, one of them and eight.
 use Rattle.std.proofs.Common.{◌≡◌, ◌≢◌, ℕ, ◌+◌, ◌*◌, ◌%◌, ◌<◌, ◌≤◌, Bool, true, false, ◌||◌, ◌⊎◌, List, length}
 use Rattle.std.proofs.Common.{◌-◌, min, slice_index, refl}
-use Rattle.std.proofs.Common.{sym, ap, ◌∙◌, arith, inl, inr, get_or-set_other, get_or-set_same, map}
+use Rattle.std.proofs.Common.{sym, ap, ◌∙◌, arith, inl, inr, get_or-set_other, get_or-set_same}
 use Rattle.std.proofs.Math.ListN.{set}
 use Rattle.std.specs.Int.{w64, to_le_bytes}
-use Rattle.std.specs.List.{range_with_len}
 use Rattle.pmp_core.specs.declared.configuration.Configuration.{Configuration}
 use Rattle.pmp_core.specs.declared.csr.Csr.TheVariants.{Cfg}
 use Rattle.pmp_core.specs.declared.entry.Entry.{Entry}
@@ -12,10 +11,9 @@ use Rattle.pmp_core.specs.declared.saved_registers.SavedRegisters.{SavedRegister
 use Rattle.pmp_core.specs.declared.mseccfg.MseccfgFields.{MseccfgFields}
 use Rattle.pmp_core.specs.Configuration.{configuration_of, byte_of, is_reserved}
 use Rattle.pmp_core.specs.Hart.{Profile}
-use Rattle.pmp_core.specs.Mseccfg.{mseccfg_fields}
 use Rattle.pmp_core.specs.RegisterWrite.{stored_over, configured, written}
-use Rattle.pmp_core.specs.RegisterFile.{RegisterFile, file_of, reset_entry, entry_at}
-use Rattle.pmp_core.specs.SavedRegisters.{fields_in, saved_hart, hart_in, restored_entry, restored_file, IsSetAt}
+use Rattle.pmp_core.specs.RegisterFile.{RegisterFile, reset_entry, entry_at}
+use Rattle.pmp_core.specs.SavedRegisters.{fields_in, hart_in, restored_entry, restored_file, IsSetAt}
 use Rattle.pmp_core.proofs.Configuring.{Configured, configured_next, configured_more, all_configured, kept_odd}
 use Rattle.pmp_core.proofs.Configuring.{kept_below}
 use Rattle.pmp_core.proofs.Places.{entries_by}

@@ -1,5 +1,5 @@
 -- Registers saved and restored.
-use Rattle.std.proofs.Common.{◌≡◌, ℕ, ◌+◌, ◌*◌, ◌/◌, ◌%◌, ◌<◌, ◌≤◌, Bool, true, false, List, length, map, replicate}
+use Rattle.std.proofs.Common.{◌≡◌, ℕ, ◌+◌, ◌*◌, ◌/◌, ◌%◌, ◌<◌, ◌≤◌, Bool, true, false, List, length, map}
 use Rattle.std.proofs.Common.{cond, take}
 use Rattle.std.proofs.Math.Nat.{mod-lt, mod-eq_of_lt}
 use Rattle.std.proofs.Common.{slice_index, ◌++◌, drop, refl, sym, ap, ◌∙◌, inl, inr, arith}
@@ -11,7 +11,6 @@ use Rattle.pmp_core.specs.declared.configuration.AddressMatching.{AddressMatchin
 use Rattle.pmp_core.specs.declared.configuration.AddressMatching.TheVariants.{Off, Tor, Na4, Napot}
 use Rattle.pmp_core.specs.declared.configuration.Configuration.{Configuration}
 use Rattle.pmp_core.specs.declared.entry.Entry.{Entry}
-use Rattle.pmp_core.specs.declared.mseccfg.MseccfgFields.{MseccfgFields}
 use Rattle.pmp_core.specs.declared.saved_registers.SavedRegisters.{SavedRegisters}
 use Rattle.pmp_core.specs.declared.range.ByteRange.{ByteRange}
 use Rattle.pmp_core.specs.Configuration.{configuration_of, byte_of, bit_of, field_of, matching_of, is_reserved}
@@ -20,7 +19,7 @@ use Rattle.pmp_core.specs.RegisterFile.{RegisterFile, file_of, reset_entry, rese
 use Rattle.pmp_core.specs.RegisterFile.{HasAddresses, IsLegal}
 use Rattle.pmp_core.specs.RegisterWrite.{admitted}
 use Rattle.pmp_core.specs.Ranges.{ranges_of}
-use Rattle.pmp_core.specs.Hart.{Profile, IsProfile, profile_with, word_addresses}
+use Rattle.pmp_core.specs.Hart.{profile_with, word_addresses}
 use Rattle.pmp_core.specs.SavedRegisters.{saved_registers, saved_hart, hart_in, fields_in, restored_entry, restored_entries}
 use Rattle.pmp_core.specs.SavedRegisters.{restored_file, zero_registers}
 use Rattle.pmp_core.specs.SavedLaw.{SavedLaw}

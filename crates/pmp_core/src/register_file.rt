@@ -237,14 +237,8 @@ impl RegFile {
         requires { entry < length self.now.entries }
         ensures { result ≡ has_reason self.now csr value entry }
     {
-        write_reasons::has_reason(
-            self.hart,
-            self.in_use(),
-            &self.mseccfg,
-            csr,
-            value,
-            usize::from(entry),
-        )
+        let index = usize::from(entry);
+        write_reasons::has_reason(self.hart, self.in_use(), &self.mseccfg, csr, value, index)
     }
 
     /// Decides an access, in one pass over the entries. For sixteen of them, and for sixty-four, there is a pass of its
@@ -317,12 +311,8 @@ impl RegFile {
         requires { entry < length self.now.entries }
         ensures { result ≡ is_address_frozen self.now entry }
     {
-        register_write::is_address_frozen(
-            self.hart,
-            self.in_use(),
-            &self.mseccfg,
-            usize::from(entry),
-        )
+        let index = usize::from(entry);
+        register_write::is_address_frozen(self.hart, self.in_use(), &self.mseccfg, index)
     }
 
     /// How the entry's address register is read.

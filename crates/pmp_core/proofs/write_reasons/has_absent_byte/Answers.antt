@@ -1,4 +1,4 @@
-use Rattle.std.proofs.Common.{◌-◌, drop, length-drop, not, ◌==◌, ℕ, List, ap, sym, ◌∙◌, arith}
+use Rattle.std.proofs.Common.{◌-◌, drop, length-drop, not, ◌==◌, ℕ, List, ap, ◌∙◌, arith}
 use Rattle.std.specs.Int.{w64, to_le_bytes}
 use Rattle.std.specs.List.{list_any}
 use Rattle.std.proofs.lemmas.List.{take_all}

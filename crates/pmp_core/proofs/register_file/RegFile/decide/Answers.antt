@@ -1,8 +1,8 @@
-use Rattle.std.proofs.Common.{◌≡◌, ℕ, sym, ◌∙◌, ap, arith}
+use Rattle.std.proofs.Common.{sym, ◌∙◌, ap, arith}
 use Rattle.std.proofs.lemmas.List.{take_all}
 use Rattle.pmp_core.specs.declared.access.Access.{Access}
 use Rattle.pmp_core.specs.Decision.{IsDecision}
-use Rattle.pmp_core.specs.RegisterFile.{RegisterFile, file_of}
+use Rattle.pmp_core.specs.RegisterFile.{RegisterFile}
 use Rattle.pmp_core.specs.Ranges.{ranges_of, decision_of}
 use Rattle.pmp_core.specs.Storage.{IsStored}
 use Rattle.pmp_core.proofs.Decisions.{decided_by_ranges}

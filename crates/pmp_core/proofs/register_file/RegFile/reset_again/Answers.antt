@@ -1,4 +1,4 @@
-use Rattle.std.proofs.Common.{◌≡◌, length, ap, sym, ◌∙◌}
+use Rattle.std.proofs.Common.{length, ap, sym, ◌∙◌}
 use Rattle.std.proofs.lemmas.List.{length-replicate}
 use Rattle.pmp_core.specs.RegisterFile.{RegisterFile, reset_entry}
 use Rattle.pmp_core.proofs.register_file.RegFile.reset_again.Goals as goal

@@ -1,5 +1,4 @@
-use Rattle.std.proofs.Common.{◌≡◌, ap, sym, ◌∙◌}
-use Rattle.pmp_core.specs.Hart.{IsProfile}
+use Rattle.std.proofs.Common.{ap}
 use Rattle.pmp_core.specs.RegisterFile.{file_of}
 use Rattle.pmp_core.specs.SavedRegisters.{hart_in, fields_in, restored_file}
 use Rattle.pmp_core.proofs.HartNumbers.{is_hart}

@@ -1,7 +1,7 @@
-use Rattle.std.proofs.Common.{◌≡◌, ℕ, Bool, not, ◌==◌, nat_lt, sym, ◌∙◌, ap}
+use Rattle.std.proofs.Common.{◌≡◌, ℕ, Bool, not, ◌==◌, sym, ◌∙◌, ap}
 use Rattle.pmp_core.specs.declared.mseccfg.MseccfgFields.{MseccfgFields}
 use Rattle.pmp_core.specs.Rights.{perms_of, default_rights_by, has_entries}
-use Rattle.pmp_core.specs.SavedRegisters.{fields_in, restored_file}
+use Rattle.pmp_core.specs.SavedRegisters.{restored_file}
 use Rattle.pmp_core.proofs.Counts.{not_empty}
 use Rattle.pmp_core.proofs.InPlace.{mseccfg_in}
 use Rattle.pmp_core.proofs.saved_registers.SavedRegisters.default_rights.Goals as goal

@@ -5,7 +5,6 @@ use Rattle.pmp_core.specs.declared.configuration.AddressMatching.{AddressMatchin
 use Rattle.pmp_core.specs.declared.configuration.AddressMatching.TheVariants.{Off, Tor, Na4, Napot}
 use Rattle.pmp_core.specs.declared.configuration.Configuration.{Configuration}
 use Rattle.pmp_core.specs.declared.mseccfg.MseccfgFields.{MseccfgFields}
-use Rattle.pmp_core.specs.Mseccfg.{mseccfg_fields}
 use Rattle.pmp_core.specs.RegisterFile.{reset_entry}
 use Rattle.pmp_core.specs.RegisterWrite.{is_tor, is_address_frozen}
 use Rattle.pmp_core.specs.SavedRegisters.{fields_in, restored_entry, restored_file}

@@ -1,7 +1,6 @@
 use Rattle.std.proofs.Common.{Bool, not, ◌&&◌, sym, ap, ◌∙◌}
 use Rattle.pmp_core.specs.declared.configuration.Configuration.{Configuration}
 use Rattle.pmp_core.specs.declared.mseccfg.MseccfgFields.{MseccfgFields}
-use Rattle.pmp_core.specs.Mseccfg.{mseccfg_fields}
 use Rattle.pmp_core.specs.SavedRegisters.{fields_in}
 use Rattle.pmp_core.proofs.InPlaceAddresses.{frozen_in}
 use Rattle.pmp_core.proofs.saved_registers.SavedRegisters.is_frozen.Goals as goal

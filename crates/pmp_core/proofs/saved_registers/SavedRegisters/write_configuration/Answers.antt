@@ -3,7 +3,6 @@ use Rattle.pmp_core.specs.declared.configuration.Configuration.{Configuration}
 use Rattle.pmp_core.specs.declared.entry.Entry.{Entry}
 use Rattle.pmp_core.specs.declared.mseccfg.MseccfgFields.{MseccfgFields}
 use Rattle.pmp_core.specs.Configuration.{byte_of}
-use Rattle.pmp_core.specs.Mseccfg.{mseccfg_fields}
 use Rattle.pmp_core.specs.RegisterWrite.{stored_over}
 use Rattle.pmp_core.specs.SavedRegisters.{fields_in, restored_entry, IsSetAt}
 use Rattle.pmp_core.proofs.InPlaceConfigurations.{configuration_set, with_byte, set_as_is, byte_once}
