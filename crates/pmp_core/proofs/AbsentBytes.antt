@@ -1,16 +1,17 @@
 -- Bytes for no entry of the unit.
-use Rattle.std.proofs.Common.{◌≡◌, ℕ, ◌+◌, ◌-◌, ◌*◌, ◌%◌, ◌^◌, ◌<◌, ◌≤◌, Bool, true, false, not, ◌&&◌, ◌==◌, nat_lt}
-use Rattle.std.proofs.Common.{refl, sym, ◌∙◌, inl, inr, arith}
-use Rattle.std.specs.List.{range_with_len, list_any}
-use Rattle.std.proofs.lemmas.Bool.{cases_eq, cases_Bool, not-false, and_left, and_right, and_parts, and_from}
-use Rattle.std.proofs.lemmas.Bool.{not_from_true, not_from_false, true_from_ne_false, eqb-true, ne_eqb, ltb-true}
-use Rattle.std.proofs.lemmas.Bool.{lt-ltb}
+use Rattle.std.proofs.Common.{◌≡◌, ℕ, ◌+◌, ◌-◌, ◌*◌, ◌%◌, ◌<◌, ◌≤◌, Bool, true, false, not, ◌&&◌, ◌==◌, nat_lt}
+use Rattle.std.proofs.Common.{◌⊎◌, min, List, length, drop, length-drop, slice_index, refl, sym, ◌∙◌, inl, inr, arith}
+use Rattle.std.specs.Int.{w64, to_le_bytes}
+use Rattle.std.specs.List.{list_any}
+use Rattle.std.proofs.lemmas.Bool.{not-false, and_left, and_right, and_parts}
+use Rattle.std.proofs.lemmas.Bool.{eqb-true, ltb-true}
+use Rattle.std.proofs.lemmas.Bool.{cases_lt, lt-ltb, le-ltb}
+use Rattle.std.proofs.lemmas.List.{get_or-drop}
 use Rattle.std.proofs.lemmas.Bool.Decides.{nat_tests}
 use Rattle.pmp_core.specs.RegisterWrite.{holds_byte_of}
-use Rattle.pmp_core.specs.WriteReasons.{byte_for}
-use Rattle.pmp_core.proofs.Reasons.{none_between, none_at}
+use Rattle.pmp_core.specs.WriteReasons.{byte_for, has_absent_byte}
+use Rattle.pmp_core.proofs.Reasons.{none_between, none_at, none_in, none_of}
 use Rattle.pmp_core.proofs.StoredBytes.{and_true, not_same}
-use Rattle.pmp_core.proofs.WordBytes.{word_from, word_gives}
 
 -- the byte isn't zero, and a unit of n entries has none that pmpcfg q holds it for
 abbrev pub is_absent_byte : (n q value i : ℕ) → Bool
@@ -27,49 +28,72 @@ module _ (n q value i : ℕ) where
       → byte_for q value i ≡ 0
   beside_zero none no_entry = eqb-true _ 0 (not-false _ (and_true _ (rw no_entry at none)))
 
--- ---- where each register is there as a whole
+-- ---- the bytes from the first one on that is for no entry
 
-module _ (n q value : ℕ) (whole : n % 8 ≡ 0) where
-  abbrev is_there : Bool
-  is_there = q % 2 == 0 && nat_lt (4 * q) n
+abbrev is_some_byte : ℕ → Bool
+is_some_byte b = not (b == 0)
 
-  there : is_there ≡ true → (i : ℕ) → 4 * q ≤ i → i < 4 * q + 8 → is_absent_byte n q value i ≡ false
-  there h i low high =
-      let parts = and_parts (q % 2 == 0) (nat_lt (4 * q) n) h in
-      let even : q % 2 ≡ 0 = eqb-true (q % 2) 0 parts.0 in
-      let below : 4 * q < n = ltb-true (4 * q) n parts.1 in
-      let holds : holds_byte_of q i ≡ true = grind (arith, nat_tests) in
-      entry_byte n q value i holds (omega arith)
+-- each is false where the other is
+alike : (one other : Bool) → (one ≡ false → other ≡ false) → (other ≡ false → one ≡ false) → one ≡ other
+alike true true h k = refl
+alike false false h k = refl
+alike true false h k = k refl
+alike false true h k = sym (h refl)
 
-  not_there : is_there ≡ false → (i : ℕ) → 4 * q ≤ i → i < 4 * q + 8 → (holds_byte_of q i && nat_lt i n) ≡ false
-  not_there h i low high = grind (arith, nat_tests)
+-- the first bytes of a register are for entries, so many of them, and the others for none
+abbrev pub AreThere : (n q first : ℕ) → Type 0
+AreThere n q first = (j : ℕ) → j < 8 → (holds_byte_of q (4 * q + j) && nat_lt (4 * q + j) n) ≡ nat_lt j first
 
-  all_zero : value ≡ 0 → (i : ℕ) → 4 * q ≤ i → i < 4 * q + 8 → is_absent_byte n q value i ≡ false
-  all_zero none i low high =
-      let empty : byte_for q value i ≡ 0 =
-      rw none (word_gives (λ j. 0) 0 (λ j near. omega arith) refl (i - 4 * q) (omega arith)) in
-      zero_byte n q value i empty
+module _ (n q value first : ℕ) (there : AreThere n q first) where
+  abbrev bytes : List ℕ
+  bytes = to_le_bytes w64 value
 
-  abbrev is_any_absent : Bool
-  is_any_absent = list_any (is_absent_byte n q value) (range_with_len (4 * q) 8)
+  byte_here : (j : ℕ) → byte_for q value (4 * q + j) ≡ slice_index bytes j
+  byte_here j = let place : 4 * q + j - 4 * q ≡ j = omega arith in rw place refl
 
-  -- of a register that isn't there every byte is absent or zero
-  zero_value : value < 2 ^ 64 → is_there ≡ false → is_any_absent ≡ false → value ≡ 0
-  zero_value small h none = sym (word_from (λ j. 0) value small (λ j near.
-      let here = none_at (is_absent_byte n q value) (4 * q) 8 (4 * q + j) none (omega arith) (omega arith) in
-      let no_entry = not_there h (4 * q + j) (omega arith) (omega arith) in
-      let place : 4 * q + j - 4 * q ≡ j = omega arith in
-      rw place at (beside_zero n q value (4 * q + j) here no_entry)))
-
-  pub absent_word : value < 2 ^ 64 → is_any_absent ≡ (not (value == 0) && not is_there)
-  absent_word small = elim (cases_Bool is_there) [
-    | inl h ↦ none_between (is_absent_byte n q value) (4 * q) 8 (there h)
-        ∙ sym (and_right (not (value == 0)) (not is_there) (not_from_true is_there h))
-    | inr h ↦ elim (cases_eq value 0) [
-      | inl none ↦ none_between (is_absent_byte n q value) (4 * q) 8 (all_zero none)
-          ∙ sym (and_left (not (value == 0)) (not is_there) (not_same value 0 none))
-      | inr some ↦ true_from_ne_false _ (λ none. some (zero_value small h none))
-          ∙ sym (and_from (not (value == 0)) (not is_there) (not_from_false _ (ne_eqb value 0 some))
-          (not_from_false is_there h))
-    ]
+  absent_at : list_any is_some_byte (drop first bytes) ≡ false → (j : ℕ) → j < 8
+      → is_absent_byte n q value (4 * q + j) ≡ false
+  absent_at h j near = elim (cases_lt j first) [
+    | inl below ↦
+        let parts = and_parts _ _ (there j near ∙ lt-ltb j first below) in
+        entry_byte n q value (4 * q + j) parts.0 (ltb-true (4 * q + j) n parts.1)
+    | inr far ↦
+        let at : first + (j - first) ≡ j = omega arith in
+        let inside : j - first < length (drop first bytes) = simp length-drop (omega arith) in
+        let here = none_of is_some_byte (drop first bytes) (j - first) h inside in
+        let dropped = rw (get_or-drop first bytes (j - first) 0, at) at here in
+        zero_byte n q value (4 * q + j) (byte_here j ∙ eqb-true (slice_index bytes j) 0 (not-false _ dropped))
   ]
+
+  absent_if : list_any is_some_byte (drop first bytes) ≡ false → has_absent_byte n q value ≡ false
+  absent_if h = none_between (is_absent_byte n q value) (4 * q) 8 (λ i low high.
+      let place : 4 * q + (i - 4 * q) ≡ i = omega arith in
+      rw place at (absent_at h (i - 4 * q) (omega arith)))
+
+  absent_only_if : has_absent_byte n q value ≡ false → list_any is_some_byte (drop first bytes) ≡ false
+  absent_only_if h = none_in is_some_byte (drop first bytes) (λ j near.
+      let inside : first + j < 8 = omega (arith, simp length-drop at near) in
+      let here = none_at (is_absent_byte n q value) (4 * q) 8 (4 * q + (first + j)) h (omega arith) (omega arith) in
+      let zero_here = sym (byte_here (first + j))
+      ∙ beside_zero n q value (4 * q + (first + j)) here
+      (there (first + j) inside ∙ le-ltb (first + j) first (omega arith)) in
+      rw (get_or-drop first bytes j 0) (not_same (slice_index bytes (first + j)) 0 zero_here))
+
+  pub absent_bytes : list_any is_some_byte (drop first bytes) ≡ has_absent_byte n q value
+  absent_bytes = alike _ _ absent_if absent_only_if
+
+-- ---- how many bytes are for entries
+
+pub none_there : (n q : ℕ) → (q % 2 ≡ 1) ⊎ (n ≤ 4 * q) → AreThere n q 0
+none_there n q (inl odd) j near = grind (arith, nat_tests)
+none_there n q (inr past) j near = grind (arith, nat_tests)
+
+pub some_there : (n q : ℕ) → q % 2 ≡ 0 → 4 * q < n → AreThere n q (min 8 (n - 4 * q))
+some_there n q even inside j near = elim (cases_lt (4 * q + j) n) [
+  | inl below ↦
+      let holds : holds_byte_of q (4 * q + j) ≡ true = grind (arith, nat_tests) in
+      rw (holds, lt-ltb (4 * q + j) n below, lt-ltb j (min 8 (n - 4 * q)) (omega arith)) refl
+  | inr past ↦
+      and_right (holds_byte_of q (4 * q + j)) _ (le-ltb (4 * q + j) n past)
+      ∙ sym (le-ltb j (min 8 (n - 4 * q)) (omega arith))
+]

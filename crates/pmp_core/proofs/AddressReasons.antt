@@ -1,85 +1,132 @@
 -- An address register is stored as written exactly where there is no reason.
-use Rattle.std.proofs.Common.{◌≡◌, ℕ, ◌/◌, ◌%◌, ◌<◌, ◌≤◌, Bool, true, false, cond, not, ◌&&◌, ◌==◌, nat_lt, List}
+use Rattle.std.proofs.Common.{◌≡◌, ℕ, ◌-◌, ◌/◌, ◌%◌, ◌<◌, ◌≤◌, Bool, true, false, cond, not, ◌&&◌, ◌==◌, nat_lt, List}
 use Rattle.std.proofs.Common.{length, refl, sym, ap, ◌∙◌, inl, inr, arith, length-set, get_or-set_same}
 use Rattle.std.proofs.Math.ListN.{set}
+use Rattle.std.proofs.Math.Nat.{mod-lt, mod-eq_of_lt, div-eq_of_lt, lt-mul-div-succ}
+use Rattle.pmp_core.proofs.Legal.{zero_fits}
 use Rattle.std.proofs.lemmas.Bool.{cases_lt, cases_eq, cases_Bool, not-false, and_left, and_right, or_parts}
 use Rattle.std.proofs.lemmas.Bool.{eqb-true, eq-eqb, ne_eqb, lt-ltb, le-ltb}
 use Rattle.std.proofs.lemmas.List.{get_or_past}
 use Rattle.pmp_core.specs.declared.csr.Csr.TheVariants.{Addr}
 use Rattle.pmp_core.specs.declared.entry.Entry.{Entry}
-use Rattle.pmp_core.specs.declared.register_write.TheConstants.{WORD_ADDRESSES}
-use Rattle.pmp_core.specs.declared.write_reasons.WriteReason.TheVariants.{Frozen, Tor, Reserved, Lockdown}
+use Rattle.pmp_core.specs.Grain.{read_address}
+use Rattle.pmp_core.specs.Hart.{word_addresses}
+use Rattle.pmp_core.specs.declared.write_reasons.WriteReason.TheVariants.{Frozen, Tor, Reserved, Lockdown, Grain}
 use Rattle.pmp_core.specs.RegisterFile.{RegisterFile, reset_entry, entry_at, is_frozen, IsLegal}
 use Rattle.pmp_core.specs.RegisterValue.{register_value}
 use Rattle.pmp_core.specs.RegisterWrite.{is_address_frozen, written}
-use Rattle.pmp_core.specs.WriteReasons.{is_changed, changes_frozen, is_low_end}
+use Rattle.pmp_core.specs.WriteReasons.{is_changed, changes_frozen, is_low_end, is_too_fine}
+use Rattle.pmp_core.proofs.Grains.{read_again, read_within, tor_most}
 use Rattle.pmp_core.proofs.Reasons.{none_at_entry, none_at_entries, HasNone}
 use Rattle.pmp_core.proofs.StoredBytes.{and_true, not_same}
 
 module _ (file : RegisterFile) (legal : IsLegal file) (i value : ℕ) where
-  abbrev address : ℕ
-  address = (entry_at file.entries i).address
+  abbrev words : ℕ
+  words = word_addresses file.profile
+
+  some : 0 < words
+  some = zero_fits file.profile
+
+  -- what the register reads of an address, by the entry's mode
+  abbrev reads : ℕ → ℕ
+  reads address = read_address file.profile.grain (entry_at file.entries i).configuration.matching address
+
+  abbrev now : ℕ
+  now = reads (entry_at file.entries i).address
 
   abbrev set_address : List Entry
-  set_address = set file.entries i (record (entry_at file.entries i) { address = value % WORD_ADDRESSES })
+  set_address = set file.entries i (record (entry_at file.entries i) { address = value % word_addresses file.profile })
+
+  -- the grain divides the words
+  fits : file.profile.grain - 1 ≤ file.profile.address_bits - 2
+  fits = omega (arith, legal.profile.fine, legal.profile.wide)
+
+  within : (address : ℕ) → address < words → reads address < words
+  within address small =
+      read_within file.profile.grain (file.profile.address_bits - 2) (entry_at file.entries i).configuration.matching
+      address fits small
+
+  nothing : (entry : Entry) → entry ≡ reset_entry
+      → read_address file.profile.grain entry.configuration.matching entry.address ≡ 0
+  nothing entry is = rw is (omega (arith, tor_most file.profile.grain 0))
 
   -- what the register reads after the write: frozen, not there, or neither
-  reads_frozen : is_address_frozen file i ≡ true
-      → (entry_at (written file (Addr i) value).entries i).address ≡ address
+  reads_frozen : is_address_frozen file i ≡ true → register_value (written file (Addr i) value) (Addr i) ≡ now
   reads_frozen frozen = rw frozen refl
 
-  reads_nothing : length file.entries ≤ i → (entry_at (written file (Addr i) value).entries i).address ≡ 0
+  reads_nothing : length file.entries ≤ i → register_value (written file (Addr i) value) (Addr i) ≡ 0
   reads_nothing past = elim (is_address_frozen file i) as
-      (λ frozen. (entry_at (cond frozen file.entries set_address) i).address ≡ 0) [
-        | true ↦ rw (get_or_past file.entries i reset_entry past) refl
-        | false ↦ rw (get_or_past set_address i reset_entry (simp length-set past)) refl
+      (λ frozen. (let entry = entry_at (cond frozen file.entries set_address) i in
+      read_address file.profile.grain entry.configuration.matching entry.address) ≡ 0) [
+        | true ↦ nothing _ (get_or_past file.entries i reset_entry past)
+        | false ↦ nothing _ (get_or_past set_address i reset_entry (simp length-set past))
       ]
 
   reads_value : is_address_frozen file i ≡ false → i < length file.entries
-      → (entry_at (written file (Addr i) value).entries i).address ≡ value % WORD_ADDRESSES
+      → register_value (written file (Addr i) value) (Addr i) ≡ reads (value % words)
   reads_value free inside = rw free (rw get_or-set_same refl)
 
-  changed_here : is_changed file.entries (Addr i) value i ≡ not (value == address)
-  changed_here = ap (λ (b : Bool). b && not (value == address)) (eq-eqb i i refl)
+  changed_here : is_changed file (Addr i) value i ≡ not (value == now)
+  changed_here = ap (λ (b : Bool). b && not (value == now)) (eq-eqb i i refl)
 
-  is_same : not (value == address) ≡ false → address ≡ value
-  is_same h = sym (eqb-true value address (not-false _ h))
+  fine_here : is_too_fine file (Addr i) value i ≡ not (reads value == value)
+  fine_here = ap (λ (b : Bool). b && not (reads value == value)) (eq-eqb i i refl)
+
+  is_same : (n : ℕ) → not (value == n) ≡ false → n ≡ value
+  is_same n h = sym (eqb-true value n (not-false _ h))
 
   module _ (none : HasNone file (Addr i) value) where
-    unchanged : is_address_frozen file i ≡ true → i < length file.entries → address ≡ value
+    unchanged : is_address_frozen file i ≡ true → i < length file.entries → now ≡ value
     unchanged frozen inside =
         let entry = none_at_entry Frozen file (Addr i) value none.frozen i inside in
         let low_end = none_at_entry Tor file (Addr i) value none.tor i inside in
-        is_same (sym changed_here ∙ elim (cases_Bool (is_frozen file i)) [
+        is_same now (sym changed_here ∙ elim (cases_Bool (is_frozen file i)) [
           | inl own ↦ rw own at entry
           | inr other ↦ rw (frozen, other) at low_end
         ])
+
+    reads_so : i < length file.entries → reads value ≡ value
+    reads_so inside =
+        eqb-true (reads value) value
+        (not-false _ (sym fine_here ∙ none_at_entry Grain file (Addr i) value none.grain i inside))
 
     zero_value : length file.entries ≤ i → value ≡ 0
     zero_value past =
         eqb-true value 0 (not-false _ (and_true _ (rw (le-ltb i (length file.entries) past) at none.absent)))
 
-    mod_value : value % WORD_ADDRESSES ≡ value
-    mod_value = let few : value / WORD_ADDRESSES ≡ 0 = eqb-true _ 0 (not-false _ none.bits) in omega arith
+    mod_value : value % words ≡ value
+    mod_value = let few : value / words ≡ 0 = eqb-true _ 0 (not-false _ none.bits) in
+        mod-eq_of_lt (omega (arith, rw few at (lt-mul-div-succ value some)))
 
     pub address_stored : register_value (written file (Addr i) value) (Addr i) ≡ value
     address_stored = elim (cases_lt i (length file.entries)) [
       | inr past ↦ reads_nothing past ∙ sym (zero_value past)
       | inl inside ↦ elim (cases_Bool (is_address_frozen file i)) [
         | inl frozen ↦ reads_frozen frozen ∙ unchanged frozen inside
-        | inr free ↦ reads_value free inside ∙ mod_value
+        | inr free ↦ reads_value free inside ∙ ap reads mod_value ∙ reads_so inside
       ]
     ]
 
   module _ (same : register_value (written file (Addr i) value) (Addr i) ≡ value) where
-    few_bits : value < WORD_ADDRESSES
+    few_bits : value < words
     few_bits = elim (cases_lt i (length file.entries)) [
-      | inr past ↦ omega (arith, sym (reads_nothing past) ∙ same)
+      | inr past ↦ rw (sym same ∙ reads_nothing past) some
       | inl inside ↦ elim (cases_Bool (is_address_frozen file i)) [
-        | inl frozen ↦ omega (arith, sym (reads_frozen frozen) ∙ same, legal.addresses i)
-        | inr free ↦ omega (arith, sym (reads_value free inside) ∙ same)
+        | inl frozen ↦ rw (sym same ∙ reads_frozen frozen) (within _ (legal.words i))
+        | inr free ↦ rw (sym same ∙ reads_value free inside) (within _ (mod-lt value some))
       ]
     ]
+
+    -- the value is what the register reads of some address, and so of itself
+    reads_again : i < length file.entries → reads value ≡ value
+    reads_again inside =
+        let again : (address : ℕ) → reads address ≡ value → reads value ≡ value =
+        λ address is. ap reads (sym is)
+        ∙ read_again file.profile.grain (entry_at file.entries i).configuration.matching address ∙ is in
+        elim (cases_Bool (is_address_frozen file i)) [
+          | inl frozen ↦ again _ (sym (reads_frozen frozen) ∙ same)
+          | inr free ↦ again _ (sym (reads_value free inside) ∙ same)
+        ]
 
     reads_absent : (not (value == 0) && not (nat_lt i (length file.entries))) ≡ false
     reads_absent = elim (cases_lt i (length file.entries)) [
@@ -88,9 +135,9 @@ module _ (file : RegisterFile) (legal : IsLegal file) (i value : ℕ) where
     ]
 
     -- where the address is frozen, the value changes no entry
-    unchanged_at : (k : ℕ) → is_address_frozen file i ≡ true → is_changed file.entries (Addr i) value k ≡ false
+    unchanged_at : (k : ℕ) → is_address_frozen file i ≡ true → is_changed file (Addr i) value k ≡ false
     unchanged_at k frozen = elim (cases_eq i k) [
-      | inl here ↦ rw (← here) (changed_here ∙ not_same value address (sym same ∙ reads_frozen frozen))
+      | inl here ↦ rw (← here) (changed_here ∙ not_same value now (sym same ∙ reads_frozen frozen))
       | inr other ↦ rw (ne_eqb i k other) refl
     ]
 
@@ -111,14 +158,21 @@ module _ (file : RegisterFile) (legal : IsLegal file) (i value : ℕ) where
       | inr free ↦ free_at k free
     ]
 
+    coarse : (k : ℕ) → k < length file.entries → is_too_fine file (Addr i) value k ≡ false
+    coarse k inside = elim (cases_eq i k) [
+      | inl here ↦ rw (← here) (fine_here ∙ not_same (reads value) value (reads_again (rw here inside)))
+      | inr other ↦ rw (ne_eqb i k other) refl
+    ]
+
     pub address_reasonless : HasNone file (Addr i) value
     address_reasonless = record {
       absent = reads_absent;
-      bits = not_same (value / WORD_ADDRESSES) 0 (let few : value < WORD_ADDRESSES = few_bits in omega arith);
+      bits = not_same (value / words) 0 (div-eq_of_lt few_bits);
       frozen = none_at_entries Frozen file (Addr i) value (λ k inside. (fine k).0);
       tor = none_at_entries Tor file (Addr i) value (λ k inside. (fine k).1);
       reserved = none_at_entries Reserved file (Addr i) value (λ k inside. refl);
       lockdown = none_at_entries Lockdown file (Addr i) value (λ k inside. refl);
       sticky = refl;
       bypass = refl;
+      grain = none_at_entries Grain file (Addr i) value coarse;
     }

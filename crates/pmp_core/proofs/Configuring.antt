@@ -1,5 +1,6 @@
 -- A configuration register written entry by entry.
 use Rattle.std.proofs.Common.{◌≡◌, ◌≢◌, ℕ, ◌+◌, ◌-◌, ◌*◌, ◌%◌, ◌<◌, ◌≤◌, inl, inr, true, false, List, length, map}
+use Rattle.std.proofs.Common.{min}
 use Rattle.std.proofs.Common.{slice_index, get_or-set_other, get_or-set_same, length-set, sym, ap, ◌∙◌, arith, refl}
 use Rattle.std.proofs.Math.ListN.{set}
 use Rattle.std.proofs.lemmas.Bool.{cases_lt}
@@ -38,7 +39,7 @@ module _ (file : RegisterFile) (q value : ℕ) where
       ≡ (let entry = entry_at file.entries (4 * q + place) in
       record entry {
         configuration =
-            stored_over file.mseccfg.mml file.mseccfg.rlb entry.configuration
+            stored_over file.profile.grain file.mseccfg.mml file.mseccfg.rlb entry.configuration
             (slice_index (to_le_bytes w64 value) place);
       })
   configured_at place even near =
@@ -48,14 +49,14 @@ module _ (file : RegisterFile) (q value : ℕ) where
 
   pub configured_next : (entries : List Entry) (place : ℕ) (configuration : Configuration) → q % 2 ≡ 0 → place < 8
       → Configured file q value entries place
-      → configuration ≡ stored_over file.mseccfg.mml file.mseccfg.rlb (entry_at entries (4 * q
+      → configuration ≡ stored_over file.profile.grain file.mseccfg.mml file.mseccfg.rlb (entry_at entries (4 * q
       + place)).configuration (slice_index (to_le_bytes w64 value) place)
       → (let entry = entry_at entries (4 * q + place) in record entry { configuration = configuration })
       ≡ configured file q value (4 * q + place)
   configured_next entries place configuration even near so_far stored =
       let with_byte : Entry → Entry = λ e. record e {
         configuration =
-            stored_over file.mseccfg.mml file.mseccfg.rlb e.configuration (slice_index (to_le_bytes w64 value) place);
+            stored_over file.profile.grain file.mseccfg.mml file.mseccfg.rlb e.configuration (slice_index (to_le_bytes w64 value) place);
       } in
       rw stored (ap with_byte (so_far.rest (4 * q + place) (omega arith)) ∙ sym (configured_at place even near))
 
@@ -72,13 +73,17 @@ module _ (file : RegisterFile) (q value : ℕ) where
     rest = λ k high. let other : k ≢ 4 * q + done = omega arith in rw get_or-set_other (so_far.rest k (omega arith));
   }
 
-  pub all_configured : (entries : List Entry) → Configured file q value entries 8
+  -- all eight, or all that there are
+  pub all_configured : (entries : List Entry) (many : ℕ) → many ≡ min 8 (length file.entries - 4 * q)
+      → Configured file q value entries many
       → entries ≡ map (configured file q value) (range_with_len 0 (length file.entries))
-  all_configured entries done = fill_by_all (configured file q value) entries (length file.entries) reset_entry done.len
+  all_configured entries many is done =
+      fill_by_all (configured file q value) entries (length file.entries) reset_entry done.len
       (λ k h. elim (cases_lt k (4 * q)) [
         | inl lt ↦ done.below k lt ∙ sym (kept_below file q value k lt)
-        | inr le ↦ elim (cases_lt k (4 * q + 8)) [
+        | inr le ↦ elim (cases_lt k (4 * q + many)) [
           | inl near ↦ done.new k le near
-          | inr far ↦ done.rest k far ∙ sym (kept_above file q value k far)
+          | inr far ↦ let past : 4 * q + 8 ≤ k = omega arith in
+              done.rest k far ∙ sym (kept_above file q value k past)
         ]
       ])

@@ -10,7 +10,6 @@ use Rattle.pmp_core.specs.declared.access.Access.{Access}
 use Rattle.pmp_core.specs.declared.decision.Cause.{Cause}
 use Rattle.pmp_core.specs.declared.decision.Cause.TheVariants.{Rule, Split, NoMatch}
 use Rattle.pmp_core.specs.declared.decision.Decision.{Decision}
-use Rattle.pmp_core.specs.declared.entry.Entry.{Entry}
 use Rattle.pmp_core.specs.declared.range.ByteRange.{ByteRange}
 use Rattle.pmp_core.specs.RegisterFile.{RegisterFile, reset_entry, HasAddresses}
 use Rattle.pmp_core.specs.Matching.{Matches}
@@ -39,51 +38,51 @@ ends_covered : (access : Access) (range : ByteRange) → is_covered access range
     → (range.start ≤ access.start) × (access.start + access.length ≤ range.end)
 ends_covered access range h = (grind (arith, nat_tests), grind (arith, nat_tests))
 
-module _ (entries : List Entry) (access : Access) (small : HasAddresses entries) (i : ℕ) where
-  touches_range : Touches entries access i → is_touched access (range_of entries i) ≡ true
+module _ (file : RegisterFile) (access : Access) (small : HasAddresses file) (i : ℕ) where
+  touches_range : Touches file access i → is_touched access (range_of file i) ≡ true
   touches_range (byte, inside, matched) =
-      touched_byte access (range_of entries i) byte inside.0 inside.1 ((matches_range entries i byte small).0 matched)
+      touched_byte access (range_of file i) byte inside.0 inside.1 ((matches_range file i byte small).0 matched)
 
-  range_touches : is_touched access (range_of entries i) ≡ true → Touches entries access i
+  range_touches : is_touched access (range_of file i) ≡ true → Touches file access i
   range_touches h =
-      let t = touched_from access (range_of entries i) h in
-      (max (range_of entries i).start access.start, (omega arith, t.1), (matches_range entries i _ small).1 t.0)
+      let t = touched_from access (range_of file i) h in
+      (max (range_of file i).start access.start, (omega arith, t.1), (matches_range file i _ small).1 t.0)
 
-  covers_range : Covers entries access i → is_covered access (range_of entries i) ≡ true
+  covers_range : Covers file access i → is_covered access (range_of file i) ≡ true
   covers_range h =
       let full : 0 < access.length = access.not_empty in
-      let first = (matches_range entries i access.start small).0 (h access.start (omega arith, omega arith)) in
-      let last = (matches_range entries i (access.start + access.length - 1) small).0 (h (access.start
+      let first = (matches_range file i access.start small).0 (h access.start (omega arith, omega arith)) in
+      let last = (matches_range file i (access.start + access.length - 1) small).0 (h (access.start
       + access.length - 1) (omega arith, omega arith)) in
-      covered_ends access (range_of entries i) first.0 (omega (arith, last.1))
+      covered_ends access (range_of file i) first.0 (omega (arith, last.1))
 
-  range_covers : is_covered access (range_of entries i) ≡ true → Covers entries access i
+  range_covers : is_covered access (range_of file i) ≡ true → Covers file access i
   range_covers h byte inside =
-      let ends = ends_covered access (range_of entries i) h in
-      (matches_range entries i byte small).1 (omega (arith, ends.0, inside.0), omega (arith, ends.1, inside.1))
+      let ends = ends_covered access (range_of file i) h in
+      (matches_range file i byte small).1 (omega (arith, ends.0, inside.0), omega (arith, ends.1, inside.1))
 
-untouched_past : (entries : List Entry) (access : Access) (i : ℕ) → length entries ≤ i → ¬ (Touches entries access i)
-untouched_past entries access i past touches = let matched = touches.2 in
-    absurd (rw (get_or_past entries i reset_entry past) at matched)
+untouched_past : (file : RegisterFile) (access : Access) (i : ℕ) → length file.entries ≤ i → ¬ (Touches file access i)
+untouched_past file access i past touches = let matched = touches.2 in
+    absurd (rw (get_or_past file.entries i reset_entry past) at matched)
 
 -- ---- one pass
 
-module _ (file : RegisterFile) (access : Access) (small : HasAddresses file.entries) where
-  decided_by_cover : (i : ℕ) → IsDecider file.entries access (Some i) → (covered : Bool)
-      → is_covered access (range_of file.entries i) ≡ covered
-      → IsDecision file access (decision_in file access i (range_of file.entries i))
-  decided_by_cover i first true e = rw e (first, range_covers file.entries access small i e, refl)
+module _ (file : RegisterFile) (access : Access) (small : HasAddresses file) where
+  decided_by_cover : (i : ℕ) → IsDecider file access (Some i) → (covered : Bool)
+      → is_covered access (range_of file i) ≡ covered
+      → IsDecision file access (decision_in file access i (range_of file i))
+  decided_by_cover i first true e = rw e (first, range_covers file access small i e, refl)
   decided_by_cover i first false e = rw e (
     first,
-    (λ h. false≢true (sym e ∙ covers_range file.entries access small i h)),
+    (λ h. false≢true (sym e ∙ covers_range file access small i h)),
     refl,
   )
 
   -- ranges from entry i on, where no entry before it is touched
   decided_from : (i : ℕ) (ranges : List ByteRange)
-      → ((k : ℕ) → k < length ranges → slice_index_or ranges k no_range ≡ range_of file.entries (i + k))
-      → ((j : ℕ) → j < i → ¬ (Touches file.entries access j))
-      → ((j : ℕ) → i + length ranges ≤ j → ¬ (Touches file.entries access j))
+      → ((k : ℕ) → k < length ranges → slice_index_or ranges k no_range ≡ range_of file (i + k))
+      → ((j : ℕ) → j < i → ¬ (Touches file access j))
+      → ((j : ℕ) → i + length ranges ≤ j → ¬ (Touches file access j))
       → IsDecision file access (decision_from file access i ranges)
   unfolding decision_from
   decided_from i [] here before after = (
@@ -95,36 +94,36 @@ module _ (file : RegisterFile) (access : Access) (small : HasAddresses file.entr
     refl,
   )
   decided_from i (range ∷ ranges) here before after =
-      let is_head : range_of file.entries i ≡ range =
-      sym (here 0 (omega arith) ∙ ap (range_of file.entries) (add-zero i)) in
-      let more : is_touched access range ≡ false → (j : ℕ) → j < i + 1 → ¬ (Touches file.entries access j) =
+      let is_head : range_of file i ≡ range =
+      sym (here 0 (omega arith) ∙ ap (range_of file) (add-zero i)) in
+      let more : is_touched access range ≡ false → (j : ℕ) → j < i + 1 → ¬ (Touches file access j) =
       λ untouched. below_more _ _ before
       (λ touches. false≢true (sym untouched ∙ ap (is_touched access) (sym is_head)
-      ∙ touches_range file.entries access small i touches)) in
+      ∙ touches_range file access small i touches)) in
       elim (is_touched access range) as (λ touched. is_touched access range ≡ touched
       → IsDecision file access (cond touched (decision_in file access i range)
       (decision_from file access (suc i) ranges))) [
         | true ↦ λ touched.
             let found = decided_by_cover i (
-              range_touches file.entries access small i (ap (is_touched access) is_head
+              range_touches file access small i (ap (is_touched access) is_head
                   ∙ touched),
               before,
-            ) (is_covered access (range_of file.entries i)) refl in
+            ) (is_covered access (range_of file i)) refl in
             rw is_head at found
         | false ↦ λ untouched. decided_from (suc i) ranges
-            (λ k inside. here (suc k) (omega arith) ∙ ap (range_of file.entries) (omega arith))
+            (λ k inside. here (suc k) (omega arith) ∙ ap (range_of file) (omega arith))
             (λ j below. more untouched j (omega arith))
             (λ j above. after j (omega arith))
       ] refl
 
-pub decided_by_ranges : (file : RegisterFile) (access : Access) → HasAddresses file.entries
+pub decided_by_ranges : (file : RegisterFile) (access : Access) → HasAddresses file
     → IsDecision file access (decision_of file access)
 unfolding decision_of
-decided_by_ranges file access small = decided_from file access small 0 (ranges_of file.entries)
-    (λ k inside. get_or-map-range_with_len (range_of file.entries) 0 (length file.entries) k (0
-    + k) no_range (omega (arith, length-ranges_of file.entries)) refl)
+decided_by_ranges file access small = decided_from file access small 0 (ranges_of file)
+    (λ k inside. get_or-map-range_with_len (range_of file) 0 (length file.entries) k (0
+    + k) no_range (omega (arith, length-ranges_of file.profile file.entries)) refl)
     (λ j below. absurd (omega arith))
-    (λ j above touches. untouched_past file.entries access j (omega (arith, length-ranges_of file.entries)) touches)
+    (λ j above touches. untouched_past file access j (omega (arith, length-ranges_of file.profile file.entries)) touches)
 
 -- ---- one decision
 
@@ -138,8 +137,8 @@ least_once P (Some i) (Some j) p q = elim (cases_lt i j) [
 ]
 
 module _ (file : RegisterFile) (access : Access) where
-  pub one_decider : (i j : ℕ) → IsDecider file.entries access (Some i) → IsDecider file.entries access (Some j) → i ≡ j
-  one_decider i j p q = let same = least_once (Touches file.entries access) (Some i) (Some j) p q in cc
+  pub one_decider : (i j : ℕ) → IsDecider file access (Some i) → IsDecider file access (Some j) → i ≡ j
+  one_decider i j p q = let same = least_once (Touches file access) (Some i) (Some j) p q in cc
 
   decided_once : (one other : Bool) (why because : Cause) → IsDecisionBy file access one why
       → IsDecisionBy file access other because → (one ≡ other) × (why ≡ because)
@@ -164,12 +163,12 @@ one_decision file access one other p q =
 
 -- ---- one byte
 
-module _ (entries : List Entry) (access : Access) (single : access.length ≡ 1) where
-  matches_single : (i : ℕ) → Touches entries access i → Matches entries i access.start
+module _ (file : RegisterFile) (access : Access) (single : access.length ≡ 1) where
+  matches_single : (i : ℕ) → Touches file access i → Matches file i access.start
   matches_single i (byte, inside, matched) = let here : byte ≡ access.start = omega (arith, inside.0, inside.1) in
       rw here at matched
 
-  pub owner_decides : (owner : Option ℕ) → IsOwner entries access.start owner → IsDecider entries access owner
+  pub owner_decides : (owner : Option ℕ) → IsOwner file access.start owner → IsDecider file access owner
   owner_decides None unowned = λ i touches. unowned i (matches_single i touches)
   owner_decides (Some i) owned = (
     (access.start, (omega arith, omega arith), owned.0),

@@ -1,5 +1,5 @@
 -- Registers that stay plain numbers: their entries, one of them set, and where they match.
-use Rattle.std.proofs.Common.{◌≡◌, ◌≢◌, ℕ, zero, suc, ◌-◌, ◌%◌, ◌<◌, ◌≤◌, List, length, refl}
+use Rattle.std.proofs.Common.{◌≡◌, ◌≢◌, ℕ, zero, suc, ◌-◌, ◌^◌, ◌<◌, ◌≤◌, cond, List, length, slice_index, refl}
 use Rattle.std.proofs.Common.{sym, ap, ◌∙◌, arith, inl, inr, get_or-set_other, get_or-set_same, length-set}
 use Rattle.std.proofs.Math.ListN.{set}
 use Rattle.std.proofs.lemmas.Bool.{cases_eq}
@@ -8,36 +8,36 @@ use Rattle.std.proofs.lemmas.List.FromFn.{fill_by_all}
 use Rattle.pmp_core.specs.declared.entry.Entry.{Entry}
 use Rattle.pmp_core.specs.declared.range.ByteRange.{ByteRange}
 use Rattle.pmp_core.specs.declared.saved_registers.SavedRegisters.{SavedRegisters}
-use Rattle.pmp_core.specs.declared.size.Size.{Size}
-use Rattle.pmp_core.specs.declared.size.Size.TheVariants.{Sixteen, SixtyFour}
+use Rattle.pmp_core.specs.Hart.{Profile}
 use Rattle.pmp_core.specs.Mseccfg.{mseccfg_fields}
-use Rattle.pmp_core.specs.RegisterFile.{file_of, reset_entry, entry_at}
+use Rattle.pmp_core.specs.RegisterFile.{RegisterFile, file_of, reset_entry, reset_mseccfg, entry_at}
 use Rattle.pmp_core.specs.Matching.{low_address}
-use Rattle.pmp_core.specs.Ranges.{range_by, range_of}
-use Rattle.pmp_core.specs.SavedRegisters.{saved_size, restored_entry, restored_entries, restored_file, IsSetAt}
-use Rattle.pmp_core.specs.Size.{count_of}
+use Rattle.pmp_core.specs.Ranges.{range_by, range_on, range_of}
+use Rattle.pmp_core.specs.SavedRegisters.{saved_hart, hart_in, fields_in, restored_entry, restored_entries}
+use Rattle.pmp_core.specs.SavedRegisters.{restored_file, IsSetAt}
 use Rattle.pmp_core.proofs.Saved.{restored_at, length-restored}
-use Rattle.pmp_core.proofs.Stored.{few}
+use Rattle.pmp_core.proofs.HartNumbers.{is_hart}
+use Rattle.pmp_core.proofs.Legal.{zero_fits}
+use Rattle.std.proofs.Math.Nat.{mod-lt}
+use Rattle.std.proofs.Math.Pow.{pow_mono}
+use Rattle.pmp_core.specs.declared.register_write.TheConstants.{WORD_ADDRESSES}
 
 abbrev pub count_in : SavedRegisters → ℕ
-count_in saved = count_of (saved_size saved.entries)
-
-by_eight : (size : Size) → count_of size % 8 ≡ 0
-by_eight Sixteen = refl
-by_eight SixtyFour = refl
+count_in saved = (hart_in saved).entries
 
 module _ (saved : SavedRegisters) where
   pub few_in : count_in saved ≤ 64
-  few_in = few (saved_size saved.entries)
+  few_in = (is_hart saved.entries).few
 
-  pub eights_in : count_in saved % 8 ≡ 0
-  eights_in = by_eight (saved_size saved.entries)
+  pub profile_in : (restored_file saved).profile ≡ hart_in saved
+  unfolding restored_file
+  profile_in = refl
 
   pub entries_in : (restored_file saved).entries ≡ restored_entries saved (count_in saved)
   unfolding restored_file
   entries_in = refl
 
-  pub mseccfg_in : (restored_file saved).mseccfg ≡ mseccfg_fields saved.mseccfg
+  pub mseccfg_in : (restored_file saved).mseccfg ≡ fields_in saved
   unfolding restored_file
   mseccfg_in = refl
 
@@ -51,11 +51,28 @@ module _ (saved : SavedRegisters) where
   pub entry_past : (i : ℕ) → count_in saved ≤ i → entry_at (restored_file saved).entries i ≡ reset_entry
   entry_past i past = get_or_past (restored_file saved).entries i reset_entry (omega (arith, length_in))
 
+-- an address has no more than 54 bits
+pub few_bits : (saved : SavedRegisters) (i : ℕ) → (restored_entry saved i).address < WORD_ADDRESSES
+few_bits saved i =
+    let most : 2 ^ ((hart_in saved).address_bits - 2) ≤ 2 ^ 54 =
+    pow_mono {i = (hart_in saved).address_bits - 2} {j = 54} (omega (arith, (is_hart saved.entries).narrow)) in
+    omega (arith, mod-lt (slice_index saved.addresses i) (zero_fits (hart_in saved)))
+
 -- ---- one entry set
 
+pub file_parts : (file : RegisterFile) → file_of file.profile file.mseccfg file.entries ≡ file
+file_parts file = refl
+
 module _ (old new : SavedRegisters) (i : ℕ) (entry : Entry) (is_set : IsSetAt old new i entry) where
+  pub same_hart : hart_in new ≡ hart_in old
+  same_hart = ap saved_hart is_set.count
+
   pub same_count : count_in new ≡ count_in old
-  same_count = ap (λ (n : ℕ). count_of (saved_size n)) is_set.count
+  same_count = ap (λ (p : Profile). p.entries) same_hart
+
+  pub same_fields : fields_in new ≡ fields_in old
+  same_fields = ap (λ (p : Profile). cond p.has_smepmp (mseccfg_fields new.mseccfg) reset_mseccfg) same_hart
+      ∙ ap (λ (v : ℕ). cond (hart_in old).has_smepmp (mseccfg_fields v) reset_mseccfg) is_set.mseccfg
 
   pub entries_set : i < count_in old → (restored_file new).entries ≡ set (restored_file old).entries i entry
   entries_set inside =
@@ -71,12 +88,19 @@ module _ (old new : SavedRegisters) (i : ℕ) (entry : Entry) (is_set : IsSetAt 
       ]))
 
   pub mseccfg_set : (restored_file new).mseccfg ≡ (restored_file old).mseccfg
-  mseccfg_set = mseccfg_in new ∙ ap mseccfg_fields is_set.mseccfg ∙ sym (mseccfg_in old)
+  mseccfg_set = mseccfg_in new ∙ same_fields ∙ sym (mseccfg_in old)
+
+  pub profile_set : (restored_file new).profile ≡ (restored_file old).profile
+  profile_set = profile_in new ∙ same_hart ∙ sym (profile_in old)
 
   pub file_set : i < count_in old
       → restored_file new ≡ record (restored_file old) { entries = set (restored_file old).entries i entry }
-  file_set inside = ap (λ (entries : List Entry). file_of (restored_file new).mseccfg entries) (entries_set inside)
-      ∙ ap (λ (m : _). file_of m (set (restored_file old).entries i entry)) mseccfg_set
+  file_set inside = rw (
+    ← file_parts (restored_file new),
+    profile_set,
+    mseccfg_set,
+    entries_set inside,
+  ) refl
 
 -- ---- ranges
 
@@ -102,10 +126,13 @@ module _ (saved : SavedRegisters) where
   low_first (suc j) first = absurd (omega arith)
 
   pub range_in_place : (low i : ℕ) → i < count_in saved → low ≡ low_in i
-      → range_by (restored_entry saved i).configuration.matching low (restored_entry saved i).address
-      ≡ range_of (restored_file saved).entries i
-  unfolding range_of
+      → range_by (hart_in saved).grain (restored_entry saved i).configuration.matching low
+      (restored_entry saved i).address ≡ range_of (restored_file saved) i
+  unfolding range_on
   range_in_place low i inside is =
-      let by : Entry → ℕ → ByteRange = λ e n. range_by e.configuration.matching n e.address in
+      let by : Entry → ℕ → ByteRange = λ e n. range_by (hart_in saved).grain e.configuration.matching n e.address in
+      let entry = entry_at (restored_file saved).entries i in
       ap (by (restored_entry saved i)) (is ∙ sym (low_is i inside))
       ∙ ap (λ (e : Entry). by e (low_address (restored_file saved).entries i)) (sym (entry_in saved i inside))
+      ∙ ap (λ (p : Profile). range_by p.grain entry.configuration.matching (low_address (restored_file saved).entries i)
+      entry.address) (sym (profile_in saved))

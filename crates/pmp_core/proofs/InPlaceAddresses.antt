@@ -10,8 +10,8 @@ use Rattle.std.proofs.lemmas.List.Folds.{list_any_at}
 use Rattle.std.proofs.lemmas.List.FromFn.{length-range_with_len, get_or-range_with_len}
 use Rattle.pmp_core.specs.declared.write_reasons.WriteReason.{WriteReason}
 use Rattle.pmp_core.specs.declared.write_reasons.WriteReason.TheVariants.{Absent, Bits, Frozen, Tor, Reserved, Lockdown}
-use Rattle.pmp_core.specs.declared.write_reasons.WriteReason.TheVariants.{Sticky, Bypass}
-use Rattle.pmp_core.specs.WriteReasons.{is_changed, is_reason, is_entry_reason, is_some_entry_reason}
+use Rattle.pmp_core.specs.declared.write_reasons.WriteReason.TheVariants.{Sticky, Bypass, Grain}
+use Rattle.pmp_core.specs.WriteReasons.{is_changed, is_reason, is_entry_reason, is_some_entry_reason, is_too_fine}
 use Rattle.pmp_core.proofs.Reasons.{none_between}
 use Rattle.pmp_core.specs.declared.configuration.AddressMatching.{AddressMatching}
 use Rattle.pmp_core.specs.declared.configuration.Configuration.{Configuration}
@@ -19,12 +19,16 @@ use Rattle.pmp_core.specs.declared.csr.Csr.TheVariants.{Addr}
 use Rattle.pmp_core.specs.declared.entry.Entry.{Entry}
 use Rattle.pmp_core.specs.declared.saved_registers.SavedRegisters.{SavedRegisters}
 use Rattle.pmp_core.specs.declared.mseccfg.MseccfgFields.{MseccfgFields}
-use Rattle.pmp_core.specs.declared.register_write.TheConstants.{WORD_ADDRESSES}
-use Rattle.pmp_core.specs.Mseccfg.{mseccfg_fields}
+use Rattle.pmp_core.specs.Grain.{read_address}
+use Rattle.pmp_core.specs.Hart.{Profile, word_addresses}
+use Rattle.pmp_core.specs.RegisterValue.{register_value}
 use Rattle.pmp_core.specs.RegisterWrite.{is_tor, is_address_frozen, written}
-use Rattle.pmp_core.specs.RegisterFile.{RegisterFile, file_of, reset_entry, entry_at, is_frozen}
-use Rattle.pmp_core.specs.SavedRegisters.{restored_entry, restored_file, IsSetAt}
+use Rattle.pmp_core.specs.RegisterFile.{RegisterFile, reset_entry, entry_at, is_frozen}
+use Rattle.pmp_core.specs.SavedRegisters.{hart_in, fields_in, restored_entry, restored_file, IsSetAt}
 use Rattle.pmp_core.proofs.InPlace.{count_in, entry_in, entry_past, few_in, file_set, length_in, mseccfg_in}
+use Rattle.pmp_core.proofs.InPlace.{profile_in}
+use Rattle.pmp_core.proofs.Legal.{zero_fits}
+use Rattle.std.proofs.Math.Nat.{mod-lt, mod-eq_of_lt}
 
 -- ---- frozen addresses
 
@@ -42,12 +46,12 @@ module _ (saved : SavedRegisters) (i : ℕ) (inside : i < count_in saved) where
   after = (entry_at (restored_file saved).entries (suc i)).configuration
 
   pub frozen_is : is_address_frozen (restored_file saved) i
-      ≡ frozen_by (mseccfg_fields saved.mseccfg).rlb (restored_entry saved i).configuration.locked after.locked
+      ≡ frozen_by (fields_in saved).rlb (restored_entry saved i).configuration.locked after.locked
       after.matching
   frozen_is =
       ap (λ (m : MseccfgFields). frozen_by m.rlb (entry_at (restored_file saved).entries i).configuration.locked
       after.locked after.matching) (mseccfg_in saved)
-      ∙ ap (λ (e : Entry). frozen_by (mseccfg_fields saved.mseccfg).rlb e.configuration.locked after.locked
+      ∙ ap (λ (e : Entry). frozen_by (fields_in saved).rlb e.configuration.locked after.locked
       after.matching) (entry_in saved i inside)
 
   pub after_is : suc i < count_in saved → after ≡ (restored_entry saved (suc i)).configuration
@@ -62,13 +66,19 @@ module _ (saved : SavedRegisters) (i value : ℕ) where
   abbrev file : RegisterFile
   file = restored_file saved
 
+  abbrev pub words : ℕ
+  words = word_addresses (hart_in saved)
+
+  words_in : word_addresses file.profile ≡ words
+  words_in = ap word_addresses (profile_in saved)
+
   pub address_absent : count_in saved ≤ i → file ≡ written file (Addr i) value
   address_absent past = elim (is_address_frozen file i) as (λ frozen. file ≡ record file {
     entries = cond frozen file.entries
-        (set file.entries i (record (entry_at file.entries i) { address = value % WORD_ADDRESSES }));
+        (set file.entries i (record (entry_at file.entries i) { address = value % word_addresses file.profile }));
   }) [
     | true ↦ refl
-    | false ↦ ap (λ (entries : List Entry). file_of file.mseccfg entries)
+    | false ↦ ap (λ (entries : List Entry). record file { entries = entries })
         (sym (set_past file.entries i _ (omega (arith, length_in saved))))
   ]
 
@@ -76,23 +86,23 @@ module _ (saved : SavedRegisters) (i value : ℕ) where
   address_kept frozen = rw frozen refl
 
   pub address_same : i < count_in saved → is_address_frozen file i ≡ false
-      → (restored_entry saved i).address ≡ value % WORD_ADDRESSES → file ≡ written file (Addr i) value
+      → (restored_entry saved i).address ≡ value % words → file ≡ written file (Addr i) value
   address_same inside free same =
-      let at : (entry_at file.entries i).address ≡ value % WORD_ADDRESSES =
+      let at : (entry_at file.entries i).address ≡ value % words =
       ap (λ (e : Entry). e.address) (entry_in saved i inside) ∙ same in
-      rw (free, ← at) (ap (λ (entries : List Entry). file_of file.mseccfg entries)
+      rw (free, words_in, ← at) (ap (λ (entries : List Entry). record file { entries = entries })
       (sym (set-get_or file.entries i reset_entry)))
 
   abbrev pub with_address : SavedRegisters
-  with_address = record saved { addresses = set saved.addresses i (value % WORD_ADDRESSES) }
+  with_address = record saved { addresses = set saved.addresses i (value % words) }
 
   module _ (inside : i < count_in saved) (long : length saved.addresses ≡ 64) where
-    address_set : IsSetAt saved with_address i (record (restored_entry saved i) { address = value % WORD_ADDRESSES })
+    address_set : IsSetAt saved with_address i (record (restored_entry saved i) { address = value % words })
     address_set =
         let within : i < length saved.addresses = omega (arith, few_in saved) in
         record {
-          here = rw get_or-set_same (let again : value % WORD_ADDRESSES % WORD_ADDRESSES ≡ value % WORD_ADDRESSES =
-              omega arith in rw again refl);
+          here = rw get_or-set_same (let again : value % words % words ≡ value % words =
+              mod-eq_of_lt (mod-lt value (zero_fits (hart_in saved))) in rw again refl);
           others = λ k other. rw get_or-set_other refl;
           mseccfg = refl;
           count = refl;
@@ -100,12 +110,12 @@ module _ (saved : SavedRegisters) (i value : ℕ) where
 
     pub address_written_is : is_address_frozen file i ≡ false
         → restored_file with_address ≡ written file (Addr i) value
-    address_written_is free = rw free (file_set saved with_address i _ address_set inside
+    address_written_is free = rw (free, words_in) (file_set saved with_address i _ address_set inside
         ∙ ap (λ (e : Entry). record file {
-          entries = set file.entries i (record e { address = value % WORD_ADDRESSES });
+          entries = set file.entries i (record e { address = value % words });
         }) (sym (entry_in saved i inside)))
 
-    pub address_changed : (restored_entry saved i).address ≢ value % WORD_ADDRESSES
+    pub address_changed : (restored_entry saved i).address ≢ value % words
         → restored_file with_address ≢ file
     address_changed differs same =
         let at : restored_entry with_address i ≡ restored_entry saved i =
@@ -142,6 +152,7 @@ own_alone Reserved file i value k other = refl
 own_alone Lockdown file i value k other = refl
 own_alone Sticky file i value k other = refl
 own_alone Bypass file i value k other = refl
+own_alone Grain file i value k other = rw (ne_eqb i k (λ e. other (sym e))) refl
 
 module _ (saved : SavedRegisters) (i value : ℕ) (reason : WriteReason) where
   pub own_turned : i < count_in saved → is_some_entry_reason reason (restored_file saved) (Addr i) value
@@ -157,17 +168,40 @@ module _ (saved : SavedRegisters) (i value : ℕ) (reason : WriteReason) where
 
 module _ (saved : SavedRegisters) (i : ℕ) (inside : i < count_in saved) where
   pub frozen_in : is_frozen (restored_file saved) i
-      ≡ ((restored_entry saved i).configuration.locked && not (mseccfg_fields saved.mseccfg).rlb)
+      ≡ ((restored_entry saved i).configuration.locked && not (fields_in saved).rlb)
   frozen_in =
       ap (λ (m : MseccfgFields). (entry_at (restored_file saved).entries i).configuration.locked && not m.rlb)
       (mseccfg_in saved)
-      ∙ ap (λ (e : Entry). e.configuration.locked && not (mseccfg_fields saved.mseccfg).rlb) (entry_in saved i inside)
+      ∙ ap (λ (e : Entry). e.configuration.locked && not (fields_in saved).rlb) (entry_in saved i inside)
 
-  pub own_changed : (value : ℕ) → is_changed (restored_file saved).entries (Addr i) value i
-      ≡ not (value == (restored_entry saved i).address)
+  -- what the address register reads of an address, by the entry's mode
+  abbrev pub reads_in : ℕ → ℕ
+  reads_in address = read_address (hart_in saved).grain (restored_entry saved i).configuration.matching address
+
+  reads_same : (address : ℕ) → read_address (restored_file saved).profile.grain
+      (entry_at (restored_file saved).entries i).configuration.matching address ≡ reads_in address
+  reads_same address =
+      ap (λ (p : Profile). read_address p.grain (entry_at (restored_file saved).entries i).configuration.matching
+      address) (profile_in saved)
+      ∙ ap (λ (e : Entry). read_address (hart_in saved).grain e.configuration.matching address)
+      (entry_in saved i inside)
+
+  pub reads_entry : register_value (restored_file saved) (Addr i) ≡ reads_in (restored_entry saved i).address
+  reads_entry = reads_same (entry_at (restored_file saved).entries i).address
+      ∙ ap (λ (e : Entry). reads_in e.address) (entry_in saved i inside)
+
+  pub own_changed : (value : ℕ) → is_changed (restored_file saved) (Addr i) value i
+      ≡ not (value == reads_in (restored_entry saved i).address)
   own_changed value =
-      ap (λ (b : Bool). b && not (value == (entry_at (restored_file saved).entries i).address)) (eq-eqb i i refl)
-      ∙ ap (λ (e : Entry). not (value == e.address)) (entry_in saved i inside)
+      ap (λ (b : Bool). b && not (value == register_value (restored_file saved) (Addr i))) (eq-eqb i i refl)
+      ∙ ap (λ (n : ℕ). not (value == n)) reads_entry
+
+  pub own_too_fine : (value : ℕ) → is_too_fine (restored_file saved) (Addr i) value i
+      ≡ not (reads_in value == value)
+  own_too_fine value =
+      ap (λ (b : Bool). b && not (read_address (restored_file saved).profile.grain
+      (entry_at (restored_file saved).entries i).configuration.matching value == value)) (eq-eqb i i refl)
+      ∙ ap (λ (n : ℕ). not (n == value)) (reads_same value)
 
 module _ (saved : SavedRegisters) (i value : ℕ) where
   pub turned_inside : i < count_in saved → (reason : WriteReason) → reason ≢ Absent → reason ≢ Bits
@@ -181,6 +215,7 @@ module _ (saved : SavedRegisters) (i value : ℕ) where
   turned_inside inside Lockdown absent bits = sym (own_turned saved i value Lockdown inside)
   turned_inside inside Sticky absent bits = refl
   turned_inside inside Bypass absent bits = refl
+  turned_inside inside Grain absent bits = sym (own_turned saved i value Grain inside)
 
   pub turned_past : count_in saved ≤ i → (reason : WriteReason) → reason ≢ Absent → reason ≢ Bits
       → false ≡ is_reason reason (restored_file saved) (Addr i) value
@@ -192,3 +227,4 @@ module _ (saved : SavedRegisters) (i value : ℕ) where
   turned_past past Lockdown absent bits = sym (none_turned saved i value Lockdown past)
   turned_past past Sticky absent bits = refl
   turned_past past Bypass absent bits = refl
+  turned_past past Grain absent bits = sym (none_turned saved i value Grain past)

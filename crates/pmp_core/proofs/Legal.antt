@@ -1,5 +1,5 @@
--- Every step keeps a register file legal, and as long as it is.
-use Rattle.std.proofs.Common.{◌≡◌, ℕ, ◌-◌, ◌*◌, ◌%◌, ◌<◌, ◌≤◌, Bool, true, false, cond, not, ◌&&◌, ◌==◌}
+-- Every step keeps a register file legal, its hart, and as many entries as it has.
+use Rattle.std.proofs.Common.{◌≡◌, ℕ, ◌-◌, ◌*◌, ◌%◌, ◌<◌, ◌≤◌, Bool, true, false, cond, not, ◌&&◌, ◌==◌, ◌^◌, sym, ap}
 use Rattle.std.proofs.Common.{List, [], ◌∷◌, fold, length, replicate, slice_index, refl, inl, inr, arith, ◌∙◌}
 use Rattle.std.proofs.Common.{length-set}
 use Rattle.std.proofs.Common.{get_or-set_other, get_or-set_same}
@@ -14,13 +14,19 @@ use Rattle.pmp_core.specs.declared.csr.Csr.TheVariants.{Cfg, Addr, Mseccfg}
 use Rattle.pmp_core.specs.declared.entry.Entry.{Entry}
 use Rattle.pmp_core.specs.declared.event.Event.{Event}
 use Rattle.pmp_core.specs.declared.event.Event.TheVariants.{Write, Reset}
-use Rattle.pmp_core.specs.declared.register_write.TheConstants.{WORD_ADDRESSES}
+use Rattle.std.proofs.Math.Nat.{mod-lt}
+use Rattle.std.proofs.Math.Pow.{pow_pos, pow_mono}
+use Rattle.pmp_core.specs.Hart.{Profile, IsProfile, word_addresses}
+use Rattle.pmp_core.specs.Mseccfg.{mseccfg_written}
 use Rattle.pmp_core.specs.Configuration.{configuration_of, is_reserved}
-use Rattle.pmp_core.specs.RegisterFile.{RegisterFile, reset_entry, reset_file, entry_at, IsLegal}
+use Rattle.pmp_core.specs.RegisterFile.{RegisterFile, reset_entry, reset_mseccfg, reset_file, entry_at}
+use Rattle.pmp_core.specs.RegisterFile.{HasAddresses, IsLegal}
 use Rattle.pmp_core.specs.Histories.{joined, file_after}
 use Rattle.pmp_core.specs.ReachableLaw.{LegalLaw}
-use Rattle.pmp_core.specs.RegisterWrite.{without_reserved, stored_over, stored, holds_byte_of, configured}
-use Rattle.pmp_core.specs.RegisterWrite.{is_address_frozen, written, step}
+use Rattle.pmp_core.specs.Grain.{selectable}
+use Rattle.pmp_core.specs.RegisterWrite.{admitted, without_reserved, stored_over, stored, holds_byte_of, configured}
+use Rattle.pmp_core.specs.RegisterWrite.{is_address_frozen, is_any_locked, written, step}
+use Rattle.pmp_core.proofs.Grains.{selectable_again, selectable_other, selectable_reserved}
 
 -- ---- reset
 
@@ -30,11 +36,28 @@ reset_at n i = elim (cases_lt i n) [
   | inr le ↦ get_or_past (replicate n reset_entry) i reset_entry (omega (arith, length-replicate n reset_entry))
 ]
 
-pub reset_legal : (n : ℕ) → IsLegal (reset_file n)
-reset_legal n = record {
-  addresses = λ i. rw (reset_at n i) (omega arith);
-  unreserved = λ off i. rw (reset_at n i) refl;
+-- an address register can hold 0
+pub zero_fits : (profile : Profile) → 0 < word_addresses profile
+zero_fits profile = pow_pos (profile.address_bits - 2)
+
+pub reset_legal : (profile : Profile) → IsProfile profile → IsLegal (reset_file profile)
+reset_legal profile is = record {
+  profile = is;
+  count = length-replicate profile.entries reset_entry;
+  words = λ i. rw (reset_at profile.entries i) (zero_fits profile);
+  unreserved = λ off i. rw (reset_at profile.entries i) refl;
+  chosen = λ i. rw (reset_at profile.entries i) (selectable_other profile.grain reset_entry.configuration refl);
+  plain = λ none. refl;
 }
+
+-- an address of the hart has no more than 54 bits
+pub legal_addresses : (file : RegisterFile) → IsLegal file → HasAddresses file
+legal_addresses file legal = (
+  legal.profile.fine,
+  λ i. let most : 2 ^ (file.profile.address_bits - 2) ≤ 2 ^ 54 =
+      pow_mono {i = file.profile.address_bits - 2} {j = 54} (omega (arith, legal.profile.narrow)) in
+      omega (arith, legal.words i),
+)
 
 -- ---- a configuration
 
@@ -46,13 +69,24 @@ unreserved c = by_test (is_reserved c) refl
     by_test true e = rw e refl
     by_test false e = rw e e
 
-pub stored_unreserved : (rlb : Bool) (old : Configuration) (byte : ℕ) → is_reserved old ≡ false
-    → is_reserved (stored_over false rlb old byte) ≡ false
-stored_unreserved rlb old byte h =
-    elim (old.locked && not rlb) as (λ kept. is_reserved (cond kept old (without_reserved (configuration_of byte)))
-    ≡ false) [
+pub stored_unreserved : (grain : ℕ) (rlb : Bool) (old : Configuration) (byte : ℕ) → is_reserved old ≡ false
+    → is_reserved (stored_over grain false rlb old byte) ≡ false
+stored_unreserved grain rlb old byte h =
+    let new = without_reserved (configuration_of byte) in
+    elim (old.locked && not rlb) as (λ kept. is_reserved (cond kept old (selectable grain new)) ≡ false) [
       | true ↦ h
-      | false ↦ unreserved (configuration_of byte)
+      | false ↦ selectable_reserved grain new ∙ unreserved (configuration_of byte)
+    ]
+
+-- nor NA4 where it can't be chosen
+pub stored_chosen : (grain : ℕ) (mml rlb : Bool) (old : Configuration) (byte : ℕ) → selectable grain old ≡ old
+    → selectable grain (stored_over grain mml rlb old byte) ≡ stored_over grain mml rlb old byte
+stored_chosen grain mml rlb old byte h =
+    let new = admitted mml rlb old (configuration_of byte) in
+    elim (old.locked && not rlb) as (λ kept. selectable grain (cond kept old (selectable grain new))
+    ≡ cond kept old (selectable grain new)) [
+      | true ↦ h
+      | false ↦ selectable_again grain new
     ]
 
 -- ---- a write, entry by entry
@@ -68,59 +102,74 @@ pub length-written : (file : RegisterFile) (csr : Csr) (value : ℕ)
 length-written file (Cfg q) value = length-map-range_with_len (configured file q value) 0 (length file.entries)
 length-written file (Addr i) value = elim (is_address_frozen file i) as
     (λ frozen. length (cond frozen file.entries (set file.entries i (record (entry_at file.entries i) {
-      address = value % WORD_ADDRESSES;
+      address = value % word_addresses file.profile;
     }))) ≡ length file.entries) [
       | true ↦ refl
       | false ↦ simp length-set
     ]
 length-written file Mseccfg value = refl
 
--- what a legal file has at each place
-abbrev IsLegalEntry : Bool → Entry → Type 0
-IsLegalEntry mml entry = (entry.address < WORD_ADDRESSES) × (mml ≡ false → is_reserved entry.configuration ≡ false)
+-- the hart is kept
+pub profile-written : (file : RegisterFile) (csr : Csr) (value : ℕ) → (written file csr value).profile ≡ file.profile
+profile-written file (Cfg q) value = refl
+profile-written file (Addr i) value = refl
+profile-written file Mseccfg value = refl
 
-reset_entry_legal : (mml : Bool) → IsLegalEntry mml reset_entry
-reset_entry_legal mml = (omega arith, λ off. refl)
+-- what a legal file has at each place
+abbrev IsLegalEntry : Profile → Bool → Entry → Type 0
+IsLegalEntry profile mml entry =
+    (entry.address < word_addresses profile) × (mml ≡ false → is_reserved entry.configuration ≡ false)
+    × (selectable profile.grain entry.configuration ≡ entry.configuration)
+
+reset_entry_legal : (profile : Profile) (mml : Bool) → IsLegalEntry profile mml reset_entry
+reset_entry_legal profile mml =
+    (zero_fits profile, λ off. refl, selectable_other profile.grain reset_entry.configuration refl)
 
 module _ (file : RegisterFile) (legal : IsLegal file) where
-  legal_place : (i : ℕ) → IsLegalEntry file.mseccfg.mml (entry_at file.entries i)
-  legal_place i = (legal.addresses i, λ off. legal.unreserved off i)
+  legal_place : (i : ℕ) → IsLegalEntry file.profile file.mseccfg.mml (entry_at file.entries i)
+  legal_place i = (legal.words i, λ off. legal.unreserved off i, legal.chosen i)
 
-  configured_legal : (q value i : ℕ) → IsLegalEntry file.mseccfg.mml (configured file q value i)
+  configured_legal : (q value i : ℕ) → IsLegalEntry file.profile file.mseccfg.mml (configured file q value i)
   configured_legal q value i =
       let entry = entry_at file.entries i in
       let byte = slice_index (to_le_bytes w64 value) (i - 4 * q) in
       let kept : file.mseccfg.mml ≡ false → is_reserved (stored file i byte) ≡ false =
-      λ off. rw off (stored_unreserved file.mseccfg.rlb entry.configuration byte (legal.unreserved off i)) in
+      λ off. rw off (stored_unreserved file.profile.grain file.mseccfg.rlb entry.configuration byte (legal.unreserved off i)) in
+      let chosen = stored_chosen file.profile.grain file.mseccfg.mml file.mseccfg.rlb entry.configuration byte
+      (legal.chosen i) in
       cond_both (holds_byte_of q i) (record entry { configuration = stored file i byte }) entry
-      (IsLegalEntry file.mseccfg.mml) (λ _. (legal.addresses i, kept)) (λ _. legal_place i)
+      (IsLegalEntry file.profile file.mseccfg.mml) (λ _. (legal.words i, kept, chosen)) (λ _. legal_place i)
 
-  past : (entries : List Entry) (i : ℕ) → length entries ≤ i → IsLegalEntry file.mseccfg.mml (entry_at entries i)
-  past entries i over = rw (get_or_past entries i reset_entry over) (reset_entry_legal file.mseccfg.mml)
+  past : (entries : List Entry) (i : ℕ) → length entries ≤ i → IsLegalEntry file.profile file.mseccfg.mml (entry_at entries i)
+  past entries i over = rw (get_or_past entries i reset_entry over) (reset_entry_legal file.profile file.mseccfg.mml)
 
   addressed_legal : (j value i : ℕ)
-      → IsLegalEntry file.mseccfg.mml (entry_at (set file.entries j (record (entry_at file.entries j) {
-        address = value % WORD_ADDRESSES;
+      → IsLegalEntry file.profile file.mseccfg.mml (entry_at (set file.entries j (record (entry_at file.entries j) {
+        address = value % word_addresses file.profile;
       })) i)
   addressed_legal j value i = elim (cases_lt i (length file.entries)) [
     | inr over ↦ past _ i (simp length-set over)
     | inl inside ↦ elim (cases_eq i j) [
       | inl same ↦ let here : j < length file.entries = omega arith in
-          rw same (rw get_or-set_same (omega arith, λ off. legal.unreserved off j))
+          rw same (rw get_or-set_same (
+            mod-lt value (zero_fits file.profile),
+            λ off. legal.unreserved off j,
+            legal.chosen j,
+          ))
       | inr other ↦ rw get_or-set_other (legal_place i)
     ]
   ]
 
   written_legal : (csr : Csr) (value i : ℕ)
-      → IsLegalEntry file.mseccfg.mml (entry_at (written file csr value).entries i)
+      → IsLegalEntry file.profile file.mseccfg.mml (entry_at (written file csr value).entries i)
   written_legal (Cfg q) value i = elim (cases_lt i (length file.entries)) [
     | inl inside ↦ rw (configured_place file q value i inside) (configured_legal q value i)
     | inr over ↦ past (written file (Cfg q) value).entries i (omega (arith, length-written file (Cfg q) value))
   ]
   written_legal (Addr j) value i =
-      let new = set file.entries j (record (entry_at file.entries j) { address = value % WORD_ADDRESSES }) in
+      let new = set file.entries j (record (entry_at file.entries j) { address = value % word_addresses file.profile }) in
       elim (is_address_frozen file j) as
-      (λ frozen. IsLegalEntry file.mseccfg.mml (entry_at (cond frozen file.entries new) i)) [
+      (λ frozen. IsLegalEntry file.profile file.mseccfg.mml (entry_at (cond frozen file.entries new) i)) [
         | true ↦ legal_place i
         | false ↦ addressed_legal j value i
       ]
@@ -130,30 +179,62 @@ module _ (file : RegisterFile) (legal : IsLegal file) where
   was_off : (csr : Csr) (value : ℕ) → (written file csr value).mseccfg.mml ≡ false → file.mseccfg.mml ≡ false
   was_off (Cfg q) value off = off
   was_off (Addr j) value off = off
-  was_off Mseccfg value off = (or_parts file.mseccfg.mml (value % 2 == 1) off).0
+  was_off Mseccfg value off =
+      let new = mseccfg_written file.mseccfg (is_any_locked file.entries) value in
+      elim file.profile.has_smepmp as (λ has. (cond has new file.mseccfg).mml ≡ false → file.mseccfg.mml ≡ false) [
+        | true ↦ λ h. (or_parts file.mseccfg.mml (value % 2 == 1) h).0
+        | false ↦ λ h. h
+      ] off
+
+  -- a hart without Smepmp has no mseccfg, whatever is written
+  still_plain : (csr : Csr) (value : ℕ) → file.profile.has_smepmp ≡ false
+      → (written file csr value).mseccfg ≡ reset_mseccfg
+  still_plain (Cfg q) value none = legal.plain none
+  still_plain (Addr j) value none = legal.plain none
+  still_plain Mseccfg value none = rw none (legal.plain none)
 
   pub step_legal : (event : Event) → IsLegal (step file event)
-  step_legal Reset = reset_legal (length file.entries)
+  step_legal Reset = reset_legal file.profile legal.profile
   step_legal (Write csr value) = record {
-    addresses = λ i. (written_legal csr value i).0;
+    profile = rw (profile-written file csr value) legal.profile;
+    count = length-written file csr value ∙ legal.count ∙ ap (λ (p : Profile). p.entries)
+        (sym (profile-written file csr value));
+    words = λ i. rw (profile-written file csr value) (written_legal csr value i).0;
     unreserved = λ off i. (written_legal csr value i).1 (was_off csr value off);
+    chosen = λ i. rw (profile-written file csr value) (written_legal csr value i).2;
+    plain = λ none. still_plain csr value (rw (profile-written file csr value) at none);
   }
 
-pub length-step : (file : RegisterFile) (event : Event) → length (step file event).entries ≡ length file.entries
-length-step file Reset = length-replicate (length file.entries) reset_entry
-length-step file (Write csr value) = length-written file csr value
+pub profile-step : (file : RegisterFile) (event : Event) → (step file event).profile ≡ file.profile
+profile-step file Reset = refl
+profile-step file (Write csr value) = profile-written file csr value
 
-pub length-fold : (file : RegisterFile) (events : List Event)
+pub profile-fold : (file : RegisterFile) (events : List Event) → (fold step file events).profile ≡ file.profile
+profile-fold file [] = refl
+profile-fold file (event ∷ events) = profile-fold (step file event) events ∙ profile-step file event
+
+pub length-step : (file : RegisterFile) → length file.entries ≡ file.profile.entries → (event : Event)
+    → length (step file event).entries ≡ length file.entries
+length-step file count Reset = length-replicate file.profile.entries reset_entry ∙ sym count
+length-step file count (Write csr value) = length-written file csr value
+
+pub length-fold : (file : RegisterFile) → length file.entries ≡ file.profile.entries → (events : List Event)
     → length (fold step file events).entries ≡ length file.entries
-length-fold file [] = refl
-length-fold file (event ∷ events) = length-fold (step file event) events ∙ length-step file event
+length-fold file count [] = refl
+length-fold file count (event ∷ events) =
+    let kept = length-step file count event in
+    length-fold (step file event) (kept ∙ count ∙ ap (λ (p : Profile). p.entries) (sym (profile-step file event))) events
+    ∙ kept
 
-pub length-file_after : (n : ℕ) (batches : List (List Event)) → length (file_after n batches).entries ≡ n
-length-file_after n batches = length-fold (reset_file n) (joined batches) ∙ length-replicate n reset_entry
+pub length-file_after : (profile : Profile) (batches : List (List Event))
+    → length (file_after profile batches).entries ≡ profile.entries
+length-file_after profile batches =
+    let count = length-replicate profile.entries reset_entry in
+    length-fold (reset_file profile) count (joined batches) ∙ count
 
-replay_legal_from : (file : RegisterFile) → IsLegal file → (events : List Event) → IsLegal (fold step file events)
+pub replay_legal_from : (file : RegisterFile) → IsLegal file → (events : List Event) → IsLegal (fold step file events)
 replay_legal_from file legal [] = legal
 replay_legal_from file legal (event ∷ events) = replay_legal_from (step file event) (step_legal file legal event) events
 
 pub legal_law : LegalLaw
-legal_law n events = replay_legal_from (reset_file n) (reset_legal n) events
+legal_law profile events is = replay_legal_from (reset_file profile) (reset_legal profile is) events

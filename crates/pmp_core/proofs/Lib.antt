@@ -1,11 +1,13 @@
 pub mod Napot
 pub mod Places
+mod Counts
 pub mod Configuring
 pub mod Passes
 pub mod Matches
 pub mod Decisions
 pub mod Legal
 pub mod Flags
+pub mod Grains
 pub mod Locks
 pub mod Sticky
 pub mod Parts
@@ -18,11 +20,13 @@ pub mod Changes
 pub mod Stored
 pub mod Spans
 pub mod StoredBytes
+pub mod HartNumbers
 pub mod Saved
 pub mod InPlace
 mod InPlaceAddresses
 mod InPlaceConfigurations
 mod InPlaceSecurity
+pub mod Today
 pub mod Reasons
 pub mod WordBytes
 pub mod AbsentBytes

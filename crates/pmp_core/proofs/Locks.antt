@@ -15,7 +15,8 @@ use Rattle.pmp_core.specs.declared.csr.Csr.TheVariants.{Cfg, Addr, Mseccfg}
 use Rattle.pmp_core.specs.declared.entry.Entry.{Entry}
 use Rattle.pmp_core.specs.declared.event.Event.{Event}
 use Rattle.pmp_core.specs.declared.event.Event.TheVariants.{Write, Reset}
-use Rattle.pmp_core.specs.declared.register_write.TheConstants.{WORD_ADDRESSES}
+use Rattle.pmp_core.specs.Hart.{word_addresses}
+use Rattle.pmp_core.specs.Mseccfg.{mseccfg_written}
 use Rattle.pmp_core.specs.RegisterFile.{RegisterFile, reset_entry, entry_at, is_frozen}
 use Rattle.pmp_core.specs.Matching.{low_address, MatchesBy, Matches}
 use Rattle.pmp_core.specs.RegisterWrite.{stored, holds_byte_of, configured, is_tor, is_address_frozen, address_written}
@@ -30,6 +31,7 @@ pub record Held (before after : RegisterFile) (i : ℕ) : Type 0 where
   pub low : is_tor (entry_at before.entries i).configuration.matching ≡ true
       → low_address after.entries i ≡ low_address before.entries i
   pub bypass : after.mseccfg.rlb ≡ false
+  pub hart : after.profile ≡ before.profile
 
 -- ---- one write
 
@@ -45,7 +47,7 @@ configured_address file q value k =
 pub other_address : (file : RegisterFile) (j value k : ℕ) → k ≢ j
     → entry_at (address_written file j value) k ≡ entry_at file.entries k
 other_address file j value k other =
-    let new = set file.entries j (record (entry_at file.entries j) { address = value % WORD_ADDRESSES }) in
+    let new = set file.entries j (record (entry_at file.entries j) { address = value % word_addresses file.profile }) in
     elim (is_address_frozen file j) as (λ kept. entry_at (cond kept file.entries new) k ≡ entry_at file.entries k) [
       | true ↦ refl
       | false ↦ rw get_or-set_other refl
@@ -111,6 +113,7 @@ module _ (file : RegisterFile) (i : ℕ) (frozen : is_frozen file i ≡ true) wh
           | inr other ↦ other_address file j value k other
         ]));
     bypass = no_bypass;
+    hart = refl;
   }
 
   after_write : (csr : Csr) (value : ℕ) → Held file (written file csr value) i
@@ -119,17 +122,23 @@ module _ (file : RegisterFile) (i : ℕ) (frozen : is_frozen file i ≡ true) wh
     low = λ tor. low_kept file.entries (written file (Cfg q) value).entries i
         (λ k above. low_configured k q value (omega (arith, inside, above)));
     bypass = no_bypass;
+    hart = refl;
   }
   after_write (Addr j) value = after_address j value
   after_write Mseccfg value = record {
     entry = refl;
     low = λ tor. refl;
-    bypass = and_right (value / 4 % 2 == 1) (file.mseccfg.rlb || not (is_any_locked file.entries))
-        (rw (
-          no_bypass,
-          list_any_at (λ (entry : Entry). entry.configuration.locked) file.entries i reset_entry inside
-              locked,
-        ) refl);
+    bypass = elim file.profile.has_smepmp as
+        (λ has. (cond has (mseccfg_written file.mseccfg (is_any_locked file.entries) value) file.mseccfg).rlb ≡ false) [
+          | true ↦ and_right (value / 4 % 2 == 1) (file.mseccfg.rlb || not (is_any_locked file.entries))
+              (rw (
+                no_bypass,
+                list_any_at (λ (entry : Entry). entry.configuration.locked) file.entries i reset_entry inside
+                    locked,
+              ) refl)
+          | false ↦ no_bypass
+        ];
+    hart = refl;
   }
 
 -- ---- any writes
@@ -143,11 +152,12 @@ held_then a b c i first second = record {
   entry = second.entry ∙ first.entry;
   low = λ tor. second.low (rw first.entry tor) ∙ first.low tor;
   bypass = second.bypass;
+  hart = second.hart ∙ first.hart;
 }
 
 pub held_on : (file : RegisterFile) (i : ℕ) (events : List Event) → is_frozen file i ≡ true
     → list_all is_write events ≡ true → Held file (fold step file events) i
-held_on file i [] frozen writes = record { entry = refl; low = λ tor. refl; bypass = no_bypass file i frozen }
+held_on file i [] frozen writes = record { entry = refl; low = λ tor. refl; bypass = no_bypass file i frozen; hart = refl }
 held_on file i (Reset ∷ events) frozen writes = absurd (false≢true writes)
 held_on file i (Write csr value ∷ events) frozen writes =
     let first = after_write file i frozen csr value in
@@ -157,20 +167,20 @@ held_on file i (Write csr value ∷ events) frozen writes =
 
 -- ---- the bytes
 
-pub same_bytes : (mode : AddressMatching) (low other address byte : ℕ) → (is_tor mode ≡ true → low ≡ other)
-    → MatchesBy mode low address byte → MatchesBy mode other address byte
-same_bytes Off low other address byte same h = h
-same_bytes Tor low other address byte same h = rw (← same refl) h
-same_bytes Na4 low other address byte same h = h
-same_bytes Napot low other address byte same h = h
+pub same_bytes : (grain : ℕ) (mode : AddressMatching) (low other address byte : ℕ) → (is_tor mode ≡ true → low ≡ other)
+    → MatchesBy grain mode low address byte → MatchesBy grain mode other address byte
+same_bytes grain Off low other address byte same h = h
+same_bytes grain Tor low other address byte same h = rw (← same refl) h
+same_bytes grain Na4 low other address byte same h = h
+same_bytes grain Napot low other address byte same h = h
 
 held_bytes : (before after : RegisterFile) (i byte : ℕ) → Held before after i
-    → Matches after.entries i byte ↔ Matches before.entries i byte
+    → Matches after i byte ↔ Matches before i byte
 held_bytes before after i byte held =
     let entry = entry_at before.entries i in
-    rw held.entry (
-      same_bytes entry.configuration.matching _ _ entry.address byte held.low,
-      same_bytes entry.configuration.matching _ _ entry.address byte (λ tor. sym (held.low tor)),
+    rw (held.entry, held.hart) (
+      same_bytes before.profile.grain entry.configuration.matching _ _ entry.address byte held.low,
+      same_bytes before.profile.grain entry.configuration.matching _ _ entry.address byte (λ tor. sym (held.low tor)),
     )
 
 pub lock_law : LockLaw

@@ -1,5 +1,5 @@
 -- Where machine mode executes under lockdown.
-use Rattle.std.proofs.Common.{◌≡◌, ℕ, ◌≤◌, ◌%◌, ◌-◌, ◌*◌, Bool, true, false, cond, ◌&&◌, List, [], ◌∷◌, fold, length}
+use Rattle.std.proofs.Common.{nat_lt, ◌≡◌, ℕ, ◌≤◌, ◌%◌, ◌-◌, ◌*◌, Bool, true, false, cond, ◌&&◌, List, [], ◌∷◌, fold, length}
 use Rattle.std.proofs.Common.{slice_index, refl, sym, ap, ◌∙◌, inl, inr, arith, get_or-set_same, length-set}
 use Rattle.std.specs.List.{list_all}
 use Rattle.std.specs.Int.{w64, to_le_bytes}
@@ -9,6 +9,7 @@ use Rattle.std.proofs.lemmas.List.{get_or_past}
 use Rattle.pmp_core.specs.declared.access.Access.{Access}
 use Rattle.pmp_core.specs.declared.access.Kind.TheVariants.{Fetch}
 use Rattle.pmp_core.specs.declared.access.Mode.TheVariants.{M}
+use Rattle.pmp_core.specs.declared.configuration.AddressMatching.TheVariants.{Off}
 use Rattle.pmp_core.specs.declared.configuration.Configuration.{Configuration}
 use Rattle.pmp_core.specs.declared.csr.Csr.{Csr}
 use Rattle.pmp_core.specs.declared.csr.Csr.TheVariants.{Cfg, Addr, Mseccfg}
@@ -17,13 +18,14 @@ use Rattle.pmp_core.specs.declared.decision.Cause.TheVariants.{Rule, Split, NoMa
 use Rattle.pmp_core.specs.declared.entry.Entry.{Entry}
 use Rattle.pmp_core.specs.declared.event.Event.{Event}
 use Rattle.pmp_core.specs.declared.event.Event.TheVariants.{Write, Reset}
-use Rattle.pmp_core.specs.declared.register_write.TheConstants.{WORD_ADDRESSES}
+use Rattle.pmp_core.specs.Hart.{word_addresses}
 use Rattle.pmp_core.specs.Configuration.{configuration_of}
 use Rattle.pmp_core.specs.Decision.{IsDecisionBy}
 use Rattle.pmp_core.specs.RegisterFile.{RegisterFile, reset_entry, entry_at, is_frozen}
+use Rattle.pmp_core.specs.Grain.{is_na4, selectable}
 use Rattle.pmp_core.specs.RegisterWrite.{admitted, configured, holds_byte_of, is_address_frozen, step, stored_over}
 use Rattle.pmp_core.specs.RegisterWrite.{written}
-use Rattle.pmp_core.specs.Rights.{allows, default_rights_by, is_barred, lockdown_rights, rule_rights}
+use Rattle.pmp_core.specs.Rights.{allows, has_entries, default_rights_by, is_barred, lockdown_rights, rule_rights}
 use Rattle.pmp_core.specs.LockLaw.{StaysFrozen}
 use Rattle.pmp_core.specs.Histories.{is_write}
 use Rattle.pmp_core.specs.ProtectionLaw.{MachineCodeLaw}
@@ -58,9 +60,9 @@ barred_locked true r w x h = refl
 barred_locked false r w x h = absurd (false≢true h)
 
 -- and not where no entry matches
-none_by_default : (mmwp : Bool) → (default_rights_by true mmwp M).execute ≡ true → ⊥
-none_by_default true h = false≢true h
-none_by_default false h = false≢true h
+none_by_default : (some mmwp : Bool) → (default_rights_by some true mmwp M).execute ≡ true → ⊥
+none_by_default some true h = false≢true h
+none_by_default some false h = false≢true h
 
 -- ---- one write adds no barred rule
 
@@ -70,14 +72,25 @@ kept_barred : (old new : Configuration) (barred : Bool) → is_barred_rule new �
 kept_barred old new true e h = h
 kept_barred old new false e h = absurd (false≢true (sym e ∙ h))
 
-stored_barred : (old : Configuration) (byte : ℕ) → is_barred_rule (stored_over true false old byte) ≡ true
+stored_barred : (grain : ℕ) (old : Configuration) (byte : ℕ) → is_barred_rule (stored_over grain true false old byte) ≡ true
     → is_barred_rule old ≡ true
-stored_barred old byte h = by_test (old.locked && true) h
+stored_barred grain old byte h = by_test (old.locked && true) h
   where
-    by_test : (kept : Bool) → is_barred_rule (cond kept old (admitted true false old (configuration_of byte))) ≡ true
-        → is_barred_rule old ≡ true
+    admits : Configuration
+    admits = admitted true false old (configuration_of byte)
+
+    selected : is_barred_rule (selectable grain admits) ≡ is_barred_rule admits
+    selected = elim (nat_lt 0 grain && is_na4 admits.matching) as
+        (λ (coarse : Bool). is_barred_rule (cond coarse (record admits { matching = Off }) admits)
+        ≡ is_barred_rule admits) [
+          | true ↦ refl
+          | false ↦ refl
+        ]
+
+    by_test : (kept : Bool) → is_barred_rule (cond kept old (selectable grain admits)) ≡ true → is_barred_rule old ≡ true
     by_test true h = h
-    by_test false h = kept_barred old (configuration_of byte) (is_barred_rule (configuration_of byte)) refl h
+    by_test false h =
+        kept_barred old (configuration_of byte) (is_barred_rule (configuration_of byte)) refl (sym selected ∙ h)
 
 module _ (file : RegisterFile) (mml : file.mseccfg.mml ≡ true) (rlb : file.mseccfg.rlb ≡ false) (i : ℕ) where
   configured_barred : (q value : ℕ) → is_barred_rule (configured file q value i).configuration ≡ true
@@ -85,10 +98,10 @@ module _ (file : RegisterFile) (mml : file.mseccfg.mml ≡ true) (rlb : file.mse
   configured_barred q value h = by_test (holds_byte_of q i) h
     where
       by_test : (holds : Bool) → is_barred_rule (cond holds (record (entry_at file.entries i) {
-        configuration = stored_over file.mseccfg.mml file.mseccfg.rlb (entry_at file.entries i).configuration
+        configuration = stored_over file.profile.grain file.mseccfg.mml file.mseccfg.rlb (entry_at file.entries i).configuration
             (slice_index (to_le_bytes w64 value) (i - 4 * q));
       }) (entry_at file.entries i)).configuration ≡ true → is_barred_rule (entry_at file.entries i).configuration ≡ true
-      by_test true h = stored_barred (entry_at file.entries i).configuration
+      by_test true h = stored_barred file.profile.grain (entry_at file.entries i).configuration
           (slice_index (to_le_bytes w64 value) (i - 4 * q)) (rw (mml, rlb) at h)
       by_test false h = h
 
@@ -114,8 +127,12 @@ module _ (file : RegisterFile) (mml : file.mseccfg.mml ≡ true) (rlb : file.mse
       ≡ (entry_at file.entries i).configuration
   addressed_configuration j value = elim (cases_eq i j) [
     | inl same ↦ rw (← same) (elim (is_address_frozen file i) as (λ kept. (entry_at (cond kept file.entries
-        (set file.entries i (record (entry_at file.entries i) { address = value % WORD_ADDRESSES }))) i).configuration
-        ≡ (entry_at file.entries i).configuration) [ true ↦ refl | false ↦ own_configuration (value % WORD_ADDRESSES) ])
+        (set file.entries i (record (entry_at file.entries i) {
+          address = value % word_addresses file.profile;
+        }))) i).configuration ≡ (entry_at file.entries i).configuration) [
+          | true ↦ refl
+          | false ↦ own_configuration (value % word_addresses file.profile)
+        ])
     | inr other ↦ ap (λ (e : Entry). e.configuration) (other_address file j value i other)
   ]
 
@@ -164,7 +181,7 @@ module _ (file : RegisterFile) (k : ℕ) (events : List Event) (mml : file.msecc
 
   by_frozen : (allowed : Bool) (cause : Cause) → IsDecisionBy later access allowed cause → allowed ≡ true
       → (i : ℕ) × (cause ≡ Rule i) × (is_frozen file i ≡ true) × StaysFrozen file later i
-  by_frozen allowed NoMatch (none, by_default) granted = absurd (none_by_default later.mseccfg.mmwp
+  by_frozen allowed NoMatch (none, by_default) granted = absurd (none_by_default (has_entries later) later.mseccfg.mmwp
       (rw (mml_stays file events writes mml, machine, fetch) at (sym by_default ∙ granted)))
   by_frozen allowed (Split i) (decider, lacks, refused) granted = absurd (false≢true (sym refused ∙ granted))
   by_frozen allowed (Rule i) (decider, all, by_rule) granted =

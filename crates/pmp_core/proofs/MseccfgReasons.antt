@@ -1,15 +1,17 @@
 -- mseccfg is stored as written exactly where there is no reason.
 use Rattle.std.proofs.Common.{◌≡◌, ℕ, zero, suc, ◌+◌, ◌*◌, ◌/◌, ◌%◌, ◌<◌, Bool, true, false, not}
-use Rattle.std.proofs.Common.{◌&&◌, ◌||◌, ◌==◌, refl, sym, ap, ◌∙◌, arith}
-use Rattle.std.proofs.lemmas.Bool.{not-false, and_right, or_parts, or_from, eqb-true}
+use Rattle.std.proofs.Common.{◌&&◌, ◌||◌, ◌==◌, refl, sym, ap, ◌∙◌, inl, inr, arith}
+use Rattle.std.proofs.lemmas.Bool.{cases_Bool, not-false, and_right, or_parts, or_from, eqb-true}
 use Rattle.pmp_core.specs.declared.csr.Csr.TheVariants.{Mseccfg}
-use Rattle.pmp_core.specs.declared.write_reasons.WriteReason.TheVariants.{Frozen, Tor, Reserved, Lockdown}
+use Rattle.pmp_core.specs.declared.write_reasons.WriteReason.TheVariants.{Frozen, Tor, Reserved, Lockdown, Grain}
 use Rattle.pmp_core.specs.Configuration.{bit_of}
-use Rattle.pmp_core.specs.RegisterFile.{RegisterFile, is_frozen}
+use Rattle.pmp_core.specs.declared.mseccfg.MseccfgFields.{MseccfgFields}
+use Rattle.pmp_core.specs.Mseccfg.{mseccfg_value, mseccfg_written}
+use Rattle.pmp_core.specs.RegisterFile.{RegisterFile, reset_mseccfg, is_frozen, IsLegal}
 use Rattle.pmp_core.specs.RegisterValue.{register_value}
 use Rattle.pmp_core.specs.RegisterWrite.{is_any_locked, written}
 use Rattle.pmp_core.proofs.Reasons.{none_at_entries, HasNone}
-use Rattle.pmp_core.proofs.StoredBytes.{not_same}
+use Rattle.pmp_core.proofs.StoredBytes.{and_true, bit_back, not_same}
 
 bit_is : (r : ℕ) → r < 2 → bit_of (r == 1) ≡ r
 bit_is zero low = refl
@@ -57,10 +59,6 @@ bit_low : (b : Bool) → bit_of b < 2
 bit_low true = omega arith
 bit_low false = omega arith
 
-pub bit_back : (b : Bool) → (bit_of b == 1) ≡ b
-bit_back true = refl
-bit_back false = refl
-
 bits_of_value : (a b c : Bool) (value : ℕ) → bit_of a + 2 * bit_of b + 4 * bit_of c ≡ value
     → (a ≡ (value % 2 == 1)) × (b ≡ (value / 2 % 2 == 1)) × (c ≡ (value / 4 % 2 == 1)) × (value / 8 ≡ 0)
 bits_of_value a b c value same =
@@ -71,9 +69,19 @@ bits_of_value a b c value same =
       sym (ap (λ (n : ℕ). n / 8) same) ∙ each.3,
     )
 
-module _ (file : RegisterFile) (value : ℕ) where
-  pub mseccfg_stored : HasNone file Mseccfg value → register_value (written file Mseccfg value) Mseccfg ≡ value
-  mseccfg_stored none =
+module _ (file : RegisterFile) (legal : IsLegal file) (value : ℕ) where
+  abbrev new : MseccfgFields
+  new = mseccfg_written file.mseccfg (is_any_locked file.entries) value
+
+  -- what the write leaves, on a hart that has the register and on one that hasn't
+  left : file.profile.has_smepmp ≡ true → (written file Mseccfg value).mseccfg ≡ new
+  left has = rw has refl
+
+  left_plain : file.profile.has_smepmp ≡ false → (written file Mseccfg value).mseccfg ≡ reset_mseccfg
+  left_plain has = rw has (legal.plain has)
+
+  stored_there : HasNone file Mseccfg value → mseccfg_value new ≡ value
+  stored_there none =
       let sticky = or_parts _ _ none.sticky in
       rw (
         stays file.mseccfg.mml (value % 2 == 1) sticky.0,
@@ -81,12 +89,19 @@ module _ (file : RegisterFile) (value : ℕ) where
         rises file.mseccfg.rlb (is_any_locked file.entries) (value / 4 % 2 == 1) none.bypass,
       ) (three_bits value (eqb-true _ 0 (not-false _ none.bits)))
 
-  pub mseccfg_reasonless : register_value (written file Mseccfg value) Mseccfg ≡ value → HasNone file Mseccfg value
-  mseccfg_reasonless same =
+  pub mseccfg_stored : HasNone file Mseccfg value → register_value (written file Mseccfg value) Mseccfg ≡ value
+  mseccfg_stored none = elim (cases_Bool file.profile.has_smepmp) [
+    | inl has ↦ ap mseccfg_value (left has) ∙ stored_there none
+    | inr has ↦ ap mseccfg_value (left_plain has)
+        ∙ sym (eqb-true value 0 (not-false _ (and_true _ (rw has at none.absent))))
+  ]
+
+  reasonless_there : file.profile.has_smepmp ≡ true → mseccfg_value new ≡ value → HasNone file Mseccfg value
+  reasonless_there has same =
       let each = bits_of_value (file.mseccfg.mml || (value % 2 == 1)) (file.mseccfg.mmwp || (value / 2 % 2 == 1))
       ((value / 4 % 2 == 1) && (file.mseccfg.rlb || not (is_any_locked file.entries))) value same in
       record {
-        absent = refl;
+        absent = rw has (and_right _ false refl);
         bits = not_same (value / 8) 0 each.3;
         frozen = none_at_entries Frozen file Mseccfg value (λ k inside. and_right (is_frozen file k) false refl);
         tor = none_at_entries Tor file Mseccfg value (λ k inside. refl);
@@ -94,4 +109,25 @@ module _ (file : RegisterFile) (value : ℕ) where
         lockdown = none_at_entries Lockdown file Mseccfg value (λ k inside. refl);
         sticky = or_from _ _ (was_kept _ _ each.0) (was_kept _ _ each.1);
         bypass = has_risen _ _ _ each.2;
+        grain = none_at_entries Grain file Mseccfg value (λ k inside. refl);
       }
+
+  -- without Smepmp nothing but zero is stored, and zero has no reason
+  reasonless_zero : file.mseccfg ≡ reset_mseccfg → value ≡ 0 → HasNone file Mseccfg value
+  reasonless_zero plain zero_value = rw zero_value (record {
+    absent = refl;
+    bits = refl;
+    frozen = none_at_entries Frozen file Mseccfg 0 (λ k inside. and_right (is_frozen file k) false refl);
+    tor = none_at_entries Tor file Mseccfg 0 (λ k inside. refl);
+    reserved = none_at_entries Reserved file Mseccfg 0 (λ k inside. refl);
+    lockdown = none_at_entries Lockdown file Mseccfg 0 (λ k inside. refl);
+    sticky = rw plain refl;
+    bypass = refl;
+    grain = none_at_entries Grain file Mseccfg 0 (λ k inside. refl);
+  })
+
+  pub mseccfg_reasonless : register_value (written file Mseccfg value) Mseccfg ≡ value → HasNone file Mseccfg value
+  mseccfg_reasonless same = elim (cases_Bool file.profile.has_smepmp) [
+    | inl has ↦ reasonless_there has (ap mseccfg_value (sym (left has)) ∙ same)
+    | inr has ↦ reasonless_zero (legal.plain has) (sym same ∙ ap mseccfg_value (left_plain has))
+  ]

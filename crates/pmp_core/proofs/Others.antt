@@ -14,7 +14,7 @@ use Rattle.pmp_core.specs.RegisterWrite.{holds_byte_of, is_tor, written}
 use Rattle.pmp_core.specs.Matching.{Matches, low_address}
 use Rattle.pmp_core.specs.Decision.{IsDecider, IsDecisionBy, Touches}
 use Rattle.pmp_core.specs.OthersLaw.{OthersLaw, holds, may_move}
-use Rattle.pmp_core.proofs.Legal.{configured_place, length-written}
+use Rattle.pmp_core.proofs.Legal.{configured_place, length-written, profile-written}
 use Rattle.pmp_core.proofs.Locks.{configured_address, low_kept, other_address, same_bytes}
 use Rattle.pmp_core.proofs.Sizes.{least_alike}
 
@@ -68,48 +68,49 @@ module _ (file : RegisterFile) (value : ℕ) where
   holds_none Mseccfg i none = refl
 
   bytes_kept : (csr : Csr) (i byte : ℕ) → may_move file csr i ≡ false
-      → Matches (written file csr value).entries i byte ↔ Matches file.entries i byte
+      → Matches (written file csr value) i byte ↔ Matches file i byte
   bytes_kept csr i byte none =
       let entry = entry_at file.entries i in
-      rw (entry_kept csr i (holds_none csr i none)) (
-        same_bytes entry.configuration.matching _ _ entry.address byte (low_same csr i none),
-        same_bytes entry.configuration.matching _ _ entry.address byte (λ tor. sym (low_same csr i none tor)),
+      rw (entry_kept csr i (holds_none csr i none), profile-written file csr value) (
+        same_bytes file.profile.grain entry.configuration.matching _ _ entry.address byte (low_same csr i none),
+        same_bytes file.profile.grain entry.configuration.matching _ _ entry.address byte (λ tor. sym (low_same csr i none tor)),
       )
 
 -- ---- decisions
 
 -- entry i matches no byte of the access in either file, or is the same in both
 abbrev IsSame : (one other : RegisterFile) → Access → ℕ → Type 0
-IsSame one other access i = (¬ (Touches one.entries access i) × ¬ (Touches other.entries access i))
+IsSame one other access i = (¬ (Touches one access i) × ¬ (Touches other access i))
     ⊎ ((entry_at other.entries i ≡ entry_at one.entries i)
-    × ((byte : ℕ) → Matches other.entries i byte ↔ Matches one.entries i byte))
+    × ((byte : ℕ) → Matches other i byte ↔ Matches one i byte))
 
-module _ (one other : RegisterFile) (mseccfg : other.mseccfg ≡ one.mseccfg) (access : Access)
+module _ (one other : RegisterFile) (mseccfg : other.mseccfg ≡ one.mseccfg)
+    (count : length other.entries ≡ length one.entries) (access : Access)
     (same : (i : ℕ) → IsSame one other access i) where
-  touches : (i : ℕ) → Touches one.entries access i → Touches other.entries access i
+  touches : (i : ℕ) → Touches one access i → Touches other access i
   touches i touched = elim (same i) [
     | inl clear ↦ absurd (clear.0 touched)
     | inr alike ↦ (touched.0, touched.1, (alike.1 touched.0).1 touched.2)
   ]
 
-  touched_before : (i : ℕ) → Touches other.entries access i → Touches one.entries access i
+  touched_before : (i : ℕ) → Touches other access i → Touches one access i
   touched_before i touched = elim (same i) [
     | inl clear ↦ absurd (clear.1 touched)
     | inr alike ↦ (touched.0, touched.1, (alike.1 touched.0).0 touched.2)
   ]
 
-  decider : (found : Option ℕ) → IsDecider one.entries access found → IsDecider other.entries access found
-  decider = least_alike (Touches one.entries access) (Touches other.entries access) touches touched_before
+  decider : (found : Option ℕ) → IsDecider one access found → IsDecider other access found
+  decider = least_alike (Touches one access) (Touches other access) touches touched_before
 
   -- the entry that decides is the same in both files
-  alike : (i : ℕ) → IsDecider one.entries access (Some i)
+  alike : (i : ℕ) → IsDecider one access (Some i)
       → (entry_at other.entries i ≡ entry_at one.entries i)
-      × ((byte : ℕ) → Matches other.entries i byte ↔ Matches one.entries i byte)
+      × ((byte : ℕ) → Matches other i byte ↔ Matches one i byte)
   alike i found = elim (same i) [ inl clear ↦ absurd (clear.0 found.0) | inr is ↦ is ]
 
   decided_by : (allowed : Bool) (cause : Cause) → IsDecisionBy one access allowed cause
       → IsDecisionBy other access allowed cause
-  decided_by allowed NoMatch h = (decider None h.0, rw mseccfg h.1)
+  decided_by allowed NoMatch h = (decider None h.0, rw (mseccfg, count) h.1)
   decided_by allowed (Split i) h = (
     decider (Some i) h.0,
     (λ covers. h.1 (λ byte inside. ((alike i h.0).1 byte).0 (covers byte inside))),
@@ -140,5 +141,5 @@ others_law file csr value = record {
           λ byte. bytes_kept file value csr i byte stays,
         )
       ] in
-      decided_by file after (mseccfg_kept file csr value other) access same decision.allowed decision.cause decided;
+      decided_by file after (mseccfg_kept file csr value other) (length-written file csr value) access same decision.allowed decision.cause decided;
 }

@@ -15,7 +15,7 @@ module _ (file : RegisterFile) (access part : Access) (is : IsPart part access) 
   inside : (byte : ℕ) → IsByteOf part byte → IsByteOf access byte
   inside byte (from, to) = let first = is.from in let last = is.to in (omega arith, omega arith)
 
-  touched : (i : ℕ) → Touches file.entries part i → Touches file.entries access i
+  touched : (i : ℕ) → Touches file part i → Touches file access i
   touched i (byte, own, matches) = (byte, inside byte own, matches)
 
   first_byte : IsByteOf part part.start

@@ -5,34 +5,37 @@ use Rattle.std.proofs.lemmas.List.FromFn.{fill_by_all, length-map-range_with_len
 use Rattle.pmp_core.specs.declared.entry.Entry.{Entry}
 use Rattle.pmp_core.specs.declared.range.ByteRange.{ByteRange}
 use Rattle.pmp_core.specs.declared.register_write.TheConstants.{WORD_ADDRESSES}
-use Rattle.pmp_core.specs.RegisterFile.{reset_entry, entry_at, HasAddresses}
+use Rattle.pmp_core.specs.Hart.{Profile}
+use Rattle.pmp_core.specs.RegisterFile.{reset_entry, entry_at, AreWords}
 use Rattle.pmp_core.specs.Matching.{low_address}
-use Rattle.pmp_core.specs.Ranges.{range_of, ranges_of}
+use Rattle.pmp_core.specs.Ranges.{range_on, ranges_on}
 
 abbrev pub no_range : ByteRange
 no_range = record { start = 0; end = 0 }
 
 -- the ranges of the entries below this place are decoded
-abbrev pub Decoded : List Entry → List ByteRange → ℕ → Type 0
-Decoded entries ranges place = (k : ℕ) → k < place → slice_index_or ranges k no_range ≡ range_of entries k
+abbrev pub Decoded : Profile → List Entry → List ByteRange → ℕ → Type 0
+Decoded profile entries ranges place =
+    (k : ℕ) → k < place → slice_index_or ranges k no_range ≡ range_on profile entries k
 
-pub all_decoded : (entries : List Entry) (ranges : List ByteRange) → length ranges ≡ length entries
-    → Decoded entries ranges (length entries) → ranges ≡ ranges_of entries
-all_decoded entries ranges len done = fill_by_all (range_of entries) ranges (length entries) no_range len done
+pub all_decoded : (profile : Profile) (entries : List Entry) (ranges : List ByteRange) → length ranges ≡ length entries
+    → Decoded profile entries ranges (length entries) → ranges ≡ ranges_on profile entries
+all_decoded profile entries ranges len done =
+    fill_by_all (range_on profile entries) ranges (length entries) no_range len done
 
-pub low_address_below : (entries : List Entry) (i : ℕ) → HasAddresses entries → low_address entries i < WORD_ADDRESSES
+pub low_address_below : (entries : List Entry) (i : ℕ) → AreWords entries → low_address entries i < WORD_ADDRESSES
 low_address_below entries zero h = omega arith
 low_address_below entries (suc i) h = h i
 
-pub length-ranges_of : (entries : List Entry) → length (ranges_of entries) ≡ length entries
-length-ranges_of entries = length-map-range_with_len (range_of entries) 0 (length entries)
+pub length-ranges_of : (profile : Profile) (entries : List Entry) → length (ranges_on profile entries) ≡ length entries
+length-ranges_of profile entries = length-map-range_with_len (range_on profile entries) 0 (length entries)
 
 -- entries of which f gives each by its place
 pub entries_by : (entries : List Entry) (f : ℕ → Entry) → ((k : ℕ) → k < length entries → entry_at entries k ≡ f k)
     → entries ≡ map f (range_with_len 0 (length entries))
 entries_by entries f h = fill_by_all f entries (length entries) reset_entry refl h
 
-pub range_at : (entries : List Entry) (i : ℕ) → i < length entries
-    → slice_index_or (ranges_of entries) i no_range ≡ range_of entries i
-range_at entries i inside =
-    get_or-map-range_with_len (range_of entries) 0 (length entries) i i no_range inside (omega arith)
+pub range_at : (profile : Profile) (entries : List Entry) (i : ℕ) → i < length entries
+    → slice_index_or (ranges_on profile entries) i no_range ≡ range_on profile entries i
+range_at profile entries i inside =
+    get_or-map-range_with_len (range_on profile entries) 0 (length entries) i i no_range inside (omega arith)

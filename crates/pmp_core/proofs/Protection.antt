@@ -27,7 +27,7 @@ use Rattle.pmp_core.proofs.Sticky.{mml_stays}
 -- entries 0 to i have the same configuration in both, and match the same bytes
 record Agree (one other : RegisterFile) (i : ℕ) : Type 0 where
   configuration : (j : ℕ) → j ≤ i → (entry_at other.entries j).configuration ≡ (entry_at one.entries j).configuration
-  bytes : (j : ℕ) → j ≤ i → (byte : ℕ) → Matches other.entries j byte ↔ Matches one.entries j byte
+  bytes : (j : ℕ) → j ≤ i → (byte : ℕ) → Matches other j byte ↔ Matches one j byte
 
 turned : (one other : RegisterFile) (i : ℕ) → Agree one other i → Agree other one i
 turned one other i same = record {
@@ -36,27 +36,27 @@ turned one other i same = record {
 }
 
 module _ (one other : RegisterFile) (i : ℕ) (same : Agree one other i) (access : Access) where
-  touches : (j : ℕ) → j ≤ i → Touches one.entries access j → Touches other.entries access j
+  touches : (j : ℕ) → j ≤ i → Touches one access j → Touches other access j
   touches j within (byte, inside, matches) = (byte, inside, (same.bytes j within byte).1 matches)
 
-  touched : (j : ℕ) → j ≤ i → Touches other.entries access j → Touches one.entries access j
+  touched : (j : ℕ) → j ≤ i → Touches other access j → Touches one access j
   touched j within (byte, inside, matches) = (byte, inside, (same.bytes j within byte).0 matches)
 
-  decides : (j : ℕ) → j ≤ i → IsDecider one.entries access (Some j) → IsDecider other.entries access (Some j)
+  decides : (j : ℕ) → j ≤ i → IsDecider one access (Some j) → IsDecider other access (Some j)
   decides j within (here, before) = (
     touches j within here,
     λ k less found. before k less (touched k (omega arith) found),
   )
 
-  covers : (j : ℕ) → j ≤ i → Covers one.entries access j → Covers other.entries access j
+  covers : (j : ℕ) → j ≤ i → Covers one access j → Covers other access j
   covers j within all byte inside = (same.bytes j within byte).1 (all byte inside)
 
-  covered : (j : ℕ) → j ≤ i → Covers other.entries access j → Covers one.entries access j
+  covered : (j : ℕ) → j ≤ i → Covers other access j → Covers one access j
   covered j within all byte inside = (same.bytes j within byte).0 (all byte inside)
 
 module _ (one other : RegisterFile) (i : ℕ) (same : Agree one other i) (mml : other.mseccfg.mml ≡ one.mseccfg.mml)
     (access : Access) (decided : IsDecidedWithin one access i) where
-  within : (k : ℕ) → IsDecider one.entries access (Some k) → k ≤ i
+  within : (k : ℕ) → IsDecider one access (Some k) → k ≤ i
   within k decider =
       let same = one_decider one access decided.0 k decided.2 decider in let less = decided.1 in omega arith
 
@@ -127,7 +127,7 @@ module _ (fewer : FewerRightsLaw) (file : RegisterFile) (i : ℕ) (events : List
   same_entries : Agree file later i
   same_entries = agree_after file i events held writes
 
-  still_decided : IsDecider later.entries access (Some decided.0)
+  still_decided : IsDecider later access (Some decided.0)
   still_decided = decides file later i same_entries access decided.0 decided.1 decided.2
 
   rights_fewer : (k : ℕ) → k ≤ i → allows (rights file k access.mode) access.kind ≡ false
@@ -138,13 +138,13 @@ module _ (fewer : FewerRightsLaw) (file : RegisterFile) (i : ℕ) (events : List
       access.mode access.kind closed)
 
   -- the rule of entry k allowed nothing where it was the decider and refused
-  was_closed : (k : ℕ) → IsDecider file.entries access (Some k) → Covers file.entries access k → (allowed : Bool)
+  was_closed : (k : ℕ) → IsDecider file access (Some k) → Covers file access k → (allowed : Bool)
       (cause : Cause) → IsDecisionBy file access allowed cause → allowed ≡ false
       → allows (rights file k access.mode) access.kind ≡ false
   was_closed k decider all allowed NoMatch (none, by_default) refused = absurd (none k decider.0)
   was_closed k decider all allowed (Split j) (other, lacks, is) refused =
       let same = one_decider file access k j decider other in
-      absurd (lacks (subst (Covers file.entries access) same all))
+      absurd (lacks (subst (Covers file access) same all))
   was_closed k decider all allowed (Rule j) (other, covers, by_rule) refused =
       let same = one_decider file access k j decider other in
       ap (λ (n : ℕ). allows (rights file n access.mode) access.kind) same ∙ sym by_rule ∙ refused
@@ -156,8 +156,8 @@ module _ (fewer : FewerRightsLaw) (file : RegisterFile) (i : ℕ) (events : List
   stays_closed before was refused allowed (Rule k) (decider, all, by_rule) =
       let same = one_decider later access decided.0 k still_decided decider in
       let less : k ≤ i = let within = decided.1 in omega arith in
-      let own : IsDecider file.entries access (Some k) =
-      subst (λ (n : ℕ). IsDecider file.entries access (Some n)) same decided.2 in
+      let own : IsDecider file access (Some k) =
+      subst (λ (n : ℕ). IsDecider file access (Some n)) same decided.2 in
       by_rule ∙ rights_fewer k less (was_closed k own (covered file later i same_entries access k less all)
       before.allowed before.cause was refused)
 

@@ -1,51 +1,39 @@
 -- Writes that give a legal register file from reset: bypass on, addresses, configurations, and then its mseccfg.
-use Rattle.std.proofs.Common.{◌≡◌, ℕ, zero, suc, ◌+◌, ◌-◌, ◌*◌, ◌/◌, ◌%◌, ◌<◌, ◌≤◌, Bool, true, false, not, ◌&&◌, ◌||◌}
+use Rattle.std.proofs.Common.{◌≡◌, ℕ, zero, suc, ◌+◌, ◌-◌, ◌*◌, ◌/◌, ◌%◌, ◌<◌, ◌≤◌, Bool, true, false}
+use Rattle.std.proofs.Common.{cond, replicate}
+use Rattle.std.proofs.Math.Nat.{mod-eq_of_lt}
 use Rattle.std.proofs.Common.{List, [], ◌∷◌, ◌++◌, length, map, fold, slice_index, refl, sym, ap, ◌∙◌, inl, inr, arith}
 use Rattle.std.specs.List.{range_with_len}
 use Rattle.std.specs.Int.{w64, to_le_bytes}
 use Rattle.std.proofs.lemmas.Bool.{cases_lt}
 use Rattle.std.proofs.lemmas.Bool.Decides.{nat_tests}
-use Rattle.std.proofs.lemmas.List.{get_or_past, get_or-replicate, length-replicate}
+use Rattle.std.proofs.lemmas.List.{get_or_past, length-replicate}
 use Rattle.std.proofs.lemmas.List.Sums.{fold-append}
 use Rattle.pmp_core.specs.declared.csr.Csr.TheVariants.{Cfg, Addr, Mseccfg}
 use Rattle.pmp_core.specs.declared.entry.Entry.{Entry}
 use Rattle.pmp_core.specs.declared.event.Event.{Event}
 use Rattle.pmp_core.specs.declared.event.Event.TheVariants.{Write}
 use Rattle.pmp_core.specs.declared.mseccfg.MseccfgFields.{MseccfgFields}
-use Rattle.pmp_core.specs.declared.size.Size.{Size}
-use Rattle.pmp_core.specs.declared.size.Size.TheVariants.{Sixteen, SixtyFour}
-use Rattle.pmp_core.specs.declared.register_write.TheConstants.{WORD_ADDRESSES}
-use Rattle.pmp_core.specs.Configuration.{byte_of}
+use Rattle.pmp_core.specs.Hart.{word_addresses}
+use Rattle.pmp_core.specs.declared.configuration.Configuration.{Configuration}
+use Rattle.pmp_core.specs.Configuration.{byte_of, is_reserved}
 use Rattle.pmp_core.specs.Mseccfg.{mseccfg_value, mseccfg_written}
-use Rattle.pmp_core.specs.RegisterFile.{RegisterFile, entry_at, reset_entry, reset_file, IsLegal}
+use Rattle.pmp_core.specs.RegisterFile.{RegisterFile, entry_at, reset_entry, reset_mseccfg, reset_file, IsLegal}
 use Rattle.pmp_core.specs.RegisterValue.{configuration_word}
-use Rattle.pmp_core.specs.RegisterWrite.{configured, holds_byte_of, is_address_frozen, is_any_locked, step, written}
-use Rattle.pmp_core.specs.Size.{count_of}
+use Rattle.pmp_core.specs.RegisterWrite.{admitted, configured, holds_byte_of, is_address_frozen, is_any_locked}
+use Rattle.pmp_core.specs.RegisterWrite.{security_written, step, written}
 use Rattle.pmp_core.specs.Histories.{replay}
 use Rattle.pmp_core.specs.ReachableLaw.{ReachableLaw}
 use Rattle.pmp_core.proofs.Configuring.{configured_at}
-use Rattle.pmp_core.proofs.Legal.{configured_place, length-written}
+use Rattle.pmp_core.proofs.InPlaceSecurity.{none_any}
+use Rattle.pmp_core.proofs.Legal.{reset_at, configured_place, length-written}
 use Rattle.pmp_core.proofs.Locks.{other_address}
 use Rattle.pmp_core.proofs.Others.{entry_kept}
 use Rattle.pmp_core.proofs.Places.{entries_by}
-use Rattle.pmp_core.proofs.Saved.{configuration_back, stored_as_is}
+use Rattle.pmp_core.proofs.Saved.{stored_as_is}
 use Rattle.pmp_core.proofs.Sizes.{own_address_written}
-use Rattle.pmp_core.proofs.StoredBytes.{byte_plain}
+use Rattle.pmp_core.proofs.StoredBytes.{byte_plain, configuration_back}
 use Rattle.pmp_core.proofs.WordBytes.{word_gives}
-
--- with bypass on no address is frozen
-thawed_by : (here next top : Bool) → ((here && not true) || ((next && not true) && top)) ≡ false
-thawed_by true true top = refl
-thawed_by true false top = refl
-thawed_by false true top = refl
-thawed_by false false top = refl
-
-thawed : (file : RegisterFile) (i : ℕ) → file.mseccfg.rlb ≡ true → is_address_frozen file i ≡ false
-thawed file i bypass = rw bypass (thawed_by _ _ _)
-
-unlocked : (size : Size) → is_any_locked (reset_file (count_of size)).entries ≡ false
-unlocked Sixteen = refl
-unlocked SixtyFour = refl
 
 -- with bypass on a last write of mseccfg gives any fields; and a first one, after reset, any with bypass on
 settled : (mml mmwp rlb is_any : Bool)
@@ -70,20 +58,35 @@ opened false true = refl
 opened true false = refl
 opened true true = refl
 
-eights : (size : Size) → 8 * (count_of size / 8) ≡ count_of size
-eights Sixteen = refl
-eights SixtyFour = refl
+module _ (file : RegisterFile) (legal : IsLegal file) where
+  abbrev n : ℕ
+  n = file.profile.entries
 
-module _ (file : RegisterFile) (n : ℕ) (legal : IsLegal file) (count : length file.entries ≡ n) where
-  -- the file's mseccfg, with bypass on
+  -- the file's mseccfg, with bypass on, if the hart has it
+  abbrev wanted : MseccfgFields
+  wanted = record { mml = file.mseccfg.mml; mmwp = file.mseccfg.mmwp; rlb = true }
+
   abbrev open_fields : MseccfgFields
-  open_fields = record { mml = file.mseccfg.mml; mmwp = file.mseccfg.mmwp; rlb = true }
+  open_fields = cond file.profile.has_smepmp wanted reset_mseccfg
+
+  -- where a legal configuration is stored over an unlocked one
+  stored_open : (c : Configuration) → (file.mseccfg.mml ≡ false → is_reserved c ≡ false)
+      → admitted open_fields.mml open_fields.rlb reset_entry.configuration c ≡ c
+  stored_open c unreserved = by_test file.profile.has_smepmp refl
+    where
+      by_test : (has : Bool) → file.profile.has_smepmp ≡ has
+          → (let fields = cond has wanted reset_mseccfg in
+          admitted fields.mml fields.rlb reset_entry.configuration c ≡ c)
+      by_test true e = stored_as_is file.mseccfg.mml reset_entry.configuration c unreserved
+      by_test false e =
+          stored_as_is false reset_entry.configuration c (λ off. unreserved (ap (λ (m : MseccfgFields). m.mml)
+          (legal.plain e)))
 
   abbrev addressed_entry : ℕ → Entry
   addressed_entry i = record reset_entry { address = (entry_at file.entries i).address }
 
   past_file : (i : ℕ) → n ≤ i → entry_at file.entries i ≡ reset_entry
-  past_file i past = get_or_past file.entries i reset_entry (omega (arith, count))
+  past_file i past = get_or_past file.entries i reset_entry (omega (arith, legal.count))
 
   -- ---- addresses
 
@@ -92,20 +95,26 @@ module _ (file : RegisterFile) (n : ℕ) (legal : IsLegal file) (count : length 
   address_events (suc k) = address_events k ++ Write (Addr k) (entry_at file.entries k).address ∷ []
 
   record IsAddressed (now : RegisterFile) (k : ℕ) : Type 0 where
+    hart : now.profile ≡ file.profile
     fields : now.mseccfg ≡ open_fields
     many : length now.entries ≡ n
     done : (i : ℕ) → i < k → entry_at now.entries i ≡ addressed_entry i
     rest : (i : ℕ) → k ≤ i → entry_at now.entries i ≡ reset_entry
 
+  -- no address is frozen before configurations are written
+  thawed : (now : RegisterFile) (k : ℕ) → IsAddressed now k → is_address_frozen now k ≡ false
+  thawed now k before = rw (before.rest k (omega arith), before.rest (suc k) (omega arith)) refl
+
   address_next : (now : RegisterFile) (k : ℕ) → k < n → IsAddressed now k
       → IsAddressed (written now (Addr k) (entry_at file.entries k).address) (suc k)
   address_next now k inside before =
       let value = (entry_at file.entries k).address in
-      let small : value % WORD_ADDRESSES ≡ value = omega (arith, legal.addresses k) in
+      let small : value % word_addresses now.profile ≡ value = rw before.hart (mod-eq_of_lt (legal.words k)) in
       let own : entry_at (written now (Addr k) value).entries k ≡ addressed_entry k =
       own_address_written now k value (omega (arith, before.many))
-      ∙ rw (thawed now k (ap (λ (m : MseccfgFields). m.rlb) before.fields), before.rest k (omega arith), small) refl in
+      ∙ rw (thawed now k before, before.rest k (omega arith), small) refl in
       record {
+        hart = before.hart;
         fields = before.fields;
         many = length-written now (Addr k) value ∙ before.many;
         done = λ i below. elim (cases_lt i k) [
@@ -133,6 +142,7 @@ module _ (file : RegisterFile) (n : ℕ) (legal : IsLegal file) (count : length 
   configuration_events (suc k) = configuration_events k ++ Write (Cfg (2 * k)) (word k) ∷ []
 
   record IsConfigured (now : RegisterFile) (k : ℕ) : Type 0 where
+    hart : now.profile ≡ file.profile
     fields : now.mseccfg ≡ open_fields
     many : length now.entries ≡ n
     done : (i : ℕ) → i < 8 * k → entry_at now.entries i ≡ entry_at file.entries i
@@ -157,39 +167,52 @@ module _ (file : RegisterFile) (n : ℕ) (legal : IsLegal file) (count : length 
         byte_in_word k place near,
         configuration_back target.configuration,
         before.fields,
-        stored_as_is file.mseccfg.mml reset_entry.configuration target.configuration (λ off. legal.unreserved off i),
+        stored_open target.configuration (λ off. legal.unreserved off i),
+        before.hart,
+        legal.chosen i,
       ) refl
 
-  configuration_next : (now : RegisterFile) (k : ℕ) → 8 * suc k ≤ n → IsConfigured now k
+  -- an entry of the register, or none where the hart has no more
+  done_here : (now : RegisterFile) (k i : ℕ) → 8 * k ≤ i → i < 8 * suc k → IsConfigured now k
+      → entry_at (written now (Cfg (2 * k)) (word k)).entries i ≡ entry_at file.entries i
+  done_here now k i low high before = elim (cases_lt i n) [
+    | inl inside ↦
+        let same : 4 * (2 * k) + (i - 8 * k) ≡ i = omega arith in
+        let here = configured_place now (2 * k) (word k) i (omega (arith, before.many)) in
+        here ∙ rw same at (stored_so now k (i - 8 * k) (omega arith) before)
+    | inr past ↦
+        get_or_past (written now (Cfg (2 * k)) (word k)).entries i reset_entry
+        (omega (arith, length-written now (Cfg (2 * k)) (word k), before.many)) ∙ sym (past_file i past)
+  ]
+
+  configuration_next : (now : RegisterFile) (k : ℕ) → IsConfigured now k
       → IsConfigured (written now (Cfg (2 * k)) (word k)) (suc k)
-  configuration_next now k within before = record {
+  configuration_next now k before = record {
+    hart = before.hart;
     fields = before.fields;
     many = length-written now (Cfg (2 * k)) (word k) ∙ before.many;
     done = λ i below. elim (cases_lt i (8 * k)) [
       | inl less ↦
           let none : holds_byte_of (2 * k) i ≡ false = grind (arith, nat_tests) in
           entry_kept now (word k) (Cfg (2 * k)) i none ∙ before.done i less
-      | inr more ↦
-          let same : 4 * (2 * k) + (i - 8 * k) ≡ i = omega arith in
-          let here = configured_place now (2 * k) (word k) i (omega (arith, before.many)) in
-          here ∙ rw same at (stored_so now k (i - 8 * k) (omega arith) before)
+      | inr more ↦ done_here now k i more below before
     ];
     rest = λ i from.
         let none : holds_byte_of (2 * k) i ≡ false = grind (arith, nat_tests) in
         entry_kept now (word k) (Cfg (2 * k)) i none ∙ before.rest i (omega arith);
   }
 
-  configured_to : (start : RegisterFile) → IsConfigured start 0 → (k : ℕ) → 8 * k ≤ n
+  configured_to : (start : RegisterFile) → IsConfigured start 0 → (k : ℕ)
       → IsConfigured (fold step start (configuration_events k)) k
   unfolding configuration_events
-  configured_to start first zero within = first
-  configured_to start first (suc k) within =
+  configured_to start first zero = first
+  configured_to start first (suc k) =
       rw (fold-append step start (configuration_events k) (Write (Cfg (2 * k)) (word k) ∷ []))
-      (configuration_next (fold step start (configuration_events k)) k within
-      (configured_to start first k (omega arith)))
+      (configuration_next (fold step start (configuration_events k)) k (configured_to start first k))
 
   from_addressed : (now : RegisterFile) → IsAddressed now n → IsConfigured now 0
   from_addressed now before = record {
+    hart = before.hart;
     fields = before.fields;
     many = before.many;
     done = λ i below. absurd (omega arith);
@@ -202,50 +225,65 @@ module _ (file : RegisterFile) (n : ℕ) (legal : IsLegal file) (count : length 
 
   -- ---- mseccfg
 
-  final : (now : RegisterFile) → now.mseccfg ≡ open_fields → now.entries ≡ file.entries
+  final : (now : RegisterFile) → now.profile ≡ file.profile → now.mseccfg ≡ open_fields → now.entries ≡ file.entries
       → written now Mseccfg (mseccfg_value file.mseccfg) ≡ file
-  final now fields entries =
-      let set : mseccfg_written now.mseccfg (is_any_locked now.entries) (mseccfg_value file.mseccfg) ≡ file.mseccfg =
-      rw fields (settled file.mseccfg.mml file.mseccfg.mmwp file.mseccfg.rlb (is_any_locked now.entries)) in
-      rw (set, entries) refl
+  final now hart fields entries =
+      let any = is_any_locked now.entries in
+      let value = mseccfg_value file.mseccfg in
+      let set : security_written now value ≡ file.mseccfg = rw (hart, fields) (by_test any file.profile.has_smepmp refl) in
+      rw (set, entries, hart) refl
+    where
+      by_test : (any has : Bool) → file.profile.has_smepmp ≡ has
+          → cond has (mseccfg_written (cond has wanted reset_mseccfg) any (mseccfg_value file.mseccfg))
+          (cond has wanted reset_mseccfg) ≡ file.mseccfg
+      by_test any true e = settled file.mseccfg.mml file.mseccfg.mmwp file.mseccfg.rlb any
+      by_test any false e = sym (legal.plain e)
 
   abbrev after_opening : RegisterFile
-  after_opening = written (reset_file n) Mseccfg (mseccfg_value open_fields)
+  after_opening = written (reset_file file.profile) Mseccfg (mseccfg_value wanted)
 
-  started : is_any_locked (reset_file n).entries ≡ false → IsAddressed after_opening 0
-  started none = record {
-    fields = rw none (opened file.mseccfg.mml file.mseccfg.mmwp);
+  opened_fields : after_opening.mseccfg ≡ open_fields
+  opened_fields =
+      let none : is_any_locked (reset_file file.profile).entries ≡ false =
+      none_any (λ (e : Entry). e.configuration.locked) (replicate n reset_entry) reset_entry
+      (λ i inside. ap (λ (e : Entry). e.configuration.locked) (reset_at n i)) in
+      ap (λ (m : MseccfgFields). cond file.profile.has_smepmp m reset_mseccfg)
+      (rw none (opened file.mseccfg.mml file.mseccfg.mmwp))
+
+  started : IsAddressed after_opening 0
+  started = record {
+    hart = refl;
+    fields = opened_fields;
     many = length-replicate n reset_entry;
     done = λ i below. absurd (omega arith);
-    rest = λ i from. elim (cases_lt i n) [
-      | inl inside ↦ get_or-replicate n i reset_entry reset_entry inside
-      | inr past ↦ get_or_past (reset_file n).entries i reset_entry (omega (arith, length-replicate n reset_entry))
-    ];
+    rest = λ i from. reset_at n i;
   }
 
-  entries_restored : (now : RegisterFile) → IsConfigured now (n / 8) → 8 * (n / 8) ≡ n → now.entries ≡ file.entries
-  entries_restored now whole even =
-      entries_by now.entries (entry_at file.entries) (λ k inside. whole.done k (omega (arith, even, whole.many)))
-      ∙ ap (λ (m : ℕ). map (entry_at file.entries) (range_with_len 0 m)) (whole.many ∙ sym count)
+  -- so many configuration registers have bytes of entries
+  abbrev registers : ℕ
+  registers = (n + 7) / 8
+
+  entries_restored : (now : RegisterFile) → IsConfigured now registers → now.entries ≡ file.entries
+  entries_restored now whole =
+      entries_by now.entries (entry_at file.entries) (λ k inside. whole.done k (omega (arith, whole.many)))
+      ∙ ap (λ (m : ℕ). map (entry_at file.entries) (range_with_len 0 m)) (whole.many ∙ sym legal.count)
       ∙ sym (entries_by file.entries (entry_at file.entries) (λ k inside. refl))
 
-  reached : is_any_locked (reset_file n).entries ≡ false → 8 * (n / 8) ≡ n
-      → (events : List Event) × (replay n events ≡ file)
-  reached none even =
+  reached : (events : List Event) × (replay file.profile events ≡ file)
+  reached =
       let addresses = address_events n in
-      let configurations = configuration_events (n / 8) in
+      let configurations = configuration_events registers in
       let last : Event = Write Mseccfg (mseccfg_value file.mseccfg) in
       let first = fold step after_opening addresses in
       let whole = configured_to first
-      (from_addressed first (addressed_to after_opening (started none) n (omega arith))) (n / 8)
-      (omega (arith, even)) in (
-        Write Mseccfg (mseccfg_value open_fields) ∷ (addresses ++ (configurations ++ last ∷ [])),
+      (from_addressed first (addressed_to after_opening started n (omega arith))) registers in (
+        Write Mseccfg (mseccfg_value wanted) ∷ (addresses ++ (configurations ++ last ∷ [])),
         rw (
           fold-append step after_opening addresses (configurations ++ last ∷ []),
           fold-append step first configurations (last ∷ []),
-        ) (final (fold step first configurations) whole.fields
-            (entries_restored (fold step first configurations) whole even)),
+        ) (final (fold step first configurations) whole.hart whole.fields
+            (entries_restored (fold step first configurations) whole)),
       )
 
 pub reachable_law : ReachableLaw
-reachable_law file size legal count = reached file (count_of size) legal count (unlocked size) (eights size)
+reachable_law file legal = reached file legal

@@ -8,7 +8,7 @@ use Rattle.std.proofs.lemmas.List.FromFn.{length-range_with_len, get_or-range_wi
 use Rattle.pmp_core.specs.declared.csr.Csr.{Csr}
 use Rattle.pmp_core.specs.declared.write_reasons.WriteReason.{WriteReason}
 use Rattle.pmp_core.specs.declared.write_reasons.WriteReason.TheVariants.{Absent, Bits, Frozen, Tor, Reserved, Lockdown}
-use Rattle.pmp_core.specs.declared.write_reasons.WriteReason.TheVariants.{Sticky, Bypass}
+use Rattle.pmp_core.specs.declared.write_reasons.WriteReason.TheVariants.{Sticky, Bypass, Grain}
 use Rattle.pmp_core.specs.RegisterFile.{RegisterFile}
 use Rattle.pmp_core.specs.WriteReasons.{is_reason, is_entry_reason, is_some_entry_reason, all_reasons}
 use Rattle.pmp_core.specs.WriteReasons.{write_reasons}
@@ -76,15 +76,17 @@ pub record HasNone (file : RegisterFile) (csr : Csr) (value : ℕ) : Type 0 wher
   pub lockdown : is_reason Lockdown file csr value ≡ false
   pub sticky : is_reason Sticky file csr value ≡ false
   pub bypass : is_reason Bypass file csr value ≡ false
+  pub grain : is_reason Grain file csr value ≡ false
 
 none_all : (p : WriteReason → Bool) → p Absent ≡ false → p Bits ≡ false → p Frozen ≡ false → p Tor ≡ false
-    → p Reserved ≡ false → p Lockdown ≡ false → p Sticky ≡ false → p Bypass ≡ false → filter p all_reasons ≡ []
-none_all p a b c d e f g h = rw (a, b, c, d, e, f, g, h) refl
+    → p Reserved ≡ false → p Lockdown ≡ false → p Sticky ≡ false → p Bypass ≡ false → p Grain ≡ false
+    → filter p all_reasons ≡ []
+none_all p a b c d e f g h i = rw (a, b, c, d, e, f, g, h, i) refl
 
 pub has_none : (file : RegisterFile) (csr : Csr) (value : ℕ) → write_reasons file csr value ≡ []
     → HasNone file csr value
 has_none file csr value none =
-    let each : (i : ℕ) → i < 8 → is_reason (get_or all_reasons i Absent) file csr value ≡ false =
+    let each : (i : ℕ) → i < 9 → is_reason (get_or all_reasons i Absent) file csr value ≡ false =
     λ i near. filter_none (λ reason. is_reason reason file csr value) all_reasons i Absent none near in
     record {
       absent = each 0 (omega arith);
@@ -95,10 +97,11 @@ has_none file csr value none =
       lockdown = each 5 (omega arith);
       sticky = each 6 (omega arith);
       bypass = each 7 (omega arith);
+      grain = each 8 (omega arith);
     }
 
 pub no_reasons : (file : RegisterFile) (csr : Csr) (value : ℕ) → HasNone file csr value
     → write_reasons file csr value ≡ []
 no_reasons file csr value h =
     none_all (λ reason. is_reason reason file csr value) h.absent h.bits h.frozen h.tor h.reserved h.lockdown h.sticky
-    h.bypass
+    h.bypass h.grain

@@ -15,13 +15,13 @@ stored : (file : RegisterFile) → IsLegal file → (csr : Csr) (value : ℕ) �
     → HasNone file csr value → register_value (written file csr value) csr ≡ value
 stored file legal (Cfg q) value small none = word_stored file q value none small
 stored file legal (Addr i) value small none = address_stored file legal i value none
-stored file legal Mseccfg value small none = mseccfg_stored file value none
+stored file legal Mseccfg value small none = mseccfg_stored file legal value none
 
 reasonless : (file : RegisterFile) → IsLegal file → (csr : Csr) (value : ℕ) → value < 2 ^ 64
     → register_value (written file csr value) csr ≡ value → HasNone file csr value
 reasonless file legal (Cfg q) value small same = word_reasonless file q value same
 reasonless file legal (Addr i) value small same = address_reasonless file legal i value same
-reasonless file legal Mseccfg value small same = mseccfg_reasonless file value same
+reasonless file legal Mseccfg value small same = mseccfg_reasonless file legal value same
 
 pub write_reasons_law : WriteReasonsLaw
 write_reasons_law file legal csr value small = (

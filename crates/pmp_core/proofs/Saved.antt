@@ -1,34 +1,34 @@
 -- Registers saved and restored.
-use Rattle.std.proofs.Common.{◌≡◌, ℕ, ◌+◌, ◌*◌, ◌/◌, ◌%◌, ◌<◌, ◌≤◌, Bool, true, false, List, length, map, replicate}
+use Rattle.std.proofs.Common.{◌≡◌, ℕ, ◌%◌, ◌<◌, ◌≤◌, Bool, true, false, List, length, map}
+use Rattle.std.proofs.Common.{cond, take}
+use Rattle.std.proofs.Math.Nat.{mod-lt, mod-eq_of_lt}
 use Rattle.std.proofs.Common.{slice_index, ◌++◌, drop, refl, sym, ap, ◌∙◌, inl, inr, arith}
 use Rattle.std.specs.List.{range_with_len}
 use Rattle.std.proofs.lemmas.Bool.{cases_lt}
 use Rattle.std.proofs.lemmas.List.{get_or_past, take_at}
 use Rattle.std.proofs.lemmas.List.FromFn.{fill_by_all, length-map-range_with_len, get_or-map-range_with_len}
-use Rattle.pmp_core.specs.declared.configuration.AddressMatching.{AddressMatching}
-use Rattle.pmp_core.specs.declared.configuration.AddressMatching.TheVariants.{Off, Tor, Na4, Napot}
 use Rattle.pmp_core.specs.declared.configuration.Configuration.{Configuration}
 use Rattle.pmp_core.specs.declared.entry.Entry.{Entry}
-use Rattle.pmp_core.specs.declared.mseccfg.MseccfgFields.{MseccfgFields}
 use Rattle.pmp_core.specs.declared.saved_registers.SavedRegisters.{SavedRegisters}
 use Rattle.pmp_core.specs.declared.range.ByteRange.{ByteRange}
-use Rattle.pmp_core.specs.declared.size.Size.{Size}
-use Rattle.pmp_core.specs.declared.size.Size.TheVariants.{Sixteen, SixtyFour}
-use Rattle.pmp_core.specs.declared.register_write.TheConstants.{WORD_ADDRESSES}
-use Rattle.pmp_core.specs.Configuration.{configuration_of, byte_of, bit_of, field_of, matching_of, is_reserved}
+use Rattle.pmp_core.specs.Configuration.{byte_of, is_reserved}
 use Rattle.pmp_core.specs.Mseccfg.{mseccfg_value, mseccfg_fields}
-use Rattle.pmp_core.specs.RegisterFile.{RegisterFile, file_of, reset_entry, reset_file, entry_at, HasAddresses, IsLegal}
+use Rattle.pmp_core.specs.RegisterFile.{RegisterFile, file_of, reset_entry, reset_mseccfg, reset_file, entry_at}
+use Rattle.pmp_core.specs.RegisterFile.{HasAddresses, IsLegal}
+use Rattle.pmp_core.specs.Grain.{selectable}
 use Rattle.pmp_core.specs.RegisterWrite.{admitted}
-use Rattle.pmp_core.specs.Ranges.{ranges_of}
-use Rattle.pmp_core.specs.SavedRegisters.{saved_registers, saved_size, restored_entry, restored_entries, restored_file}
-use Rattle.pmp_core.specs.SavedRegisters.{zero_registers}
+use Rattle.pmp_core.specs.Ranges.{ranges_on}
+use Rattle.pmp_core.specs.Hart.{profile_with, word_addresses}
+use Rattle.pmp_core.specs.SavedRegisters.{saved_registers, saved_hart, hart_in, fields_in, restored_entry, restored_entries}
+use Rattle.pmp_core.specs.SavedRegisters.{restored_file, zero_registers}
 use Rattle.pmp_core.specs.SavedLaw.{SavedLaw}
-use Rattle.pmp_core.specs.Size.{count_of, used, empty_range, IsStored}
-use Rattle.pmp_core.proofs.Legal.{stored_unreserved}
+use Rattle.pmp_core.specs.Storage.{IsStored}
+use Rattle.pmp_core.proofs.HartNumbers.{is_hart, number_back}
+use Rattle.pmp_core.proofs.Grains.{selectable_other}
+use Rattle.pmp_core.proofs.Legal.{stored_chosen, stored_unreserved, zero_fits, legal_addresses}
 use Rattle.pmp_core.proofs.Places.{entries_by}
-use Rattle.pmp_core.proofs.Stored.{few, reset_stored, stored_again}
-use Rattle.pmp_core.proofs.StoredBytes.{bit_le, field_le}
-use Rattle.pmp_core.proofs.MseccfgReasons.{bit_back}
+use Rattle.pmp_core.proofs.Stored.{stored_again}
+use Rattle.pmp_core.proofs.StoredBytes.{configuration_back}
 
 -- ---- a table that is filled place by place
 
@@ -59,61 +59,53 @@ module _ (saved : SavedRegisters) where
   past : (n i : ℕ) → n ≤ i → entry_at (restored_entries saved n) i ≡ reset_entry
   past n i over = get_or_past (restored_entries saved n) i reset_entry (omega (arith, length-restored n))
 
-  pub restored_addresses : (n : ℕ) → HasAddresses (restored_entries saved n)
-  restored_addresses n i = elim (cases_lt i n) [
-    | inl inside ↦ rw (restored_at n i inside) (omega arith)
-    | inr over ↦ rw (past n i over) (omega arith)
+  restored_words : (n i : ℕ) → (entry_at (restored_entries saved n) i).address < word_addresses (hart_in saved)
+  restored_words n i = elim (cases_lt i n) [
+    | inl inside ↦ rw (restored_at n i inside) (mod-lt (slice_index saved.addresses i) (zero_fits (hart_in saved)))
+    | inr over ↦ rw (past n i over) (zero_fits (hart_in saved))
   ]
 
-  restored_unreserved : (n : ℕ) → (mseccfg_fields saved.mseccfg).mml ≡ false
+  restored_unreserved : (n : ℕ) → (fields_in saved).mml ≡ false
       → (i : ℕ) → is_reserved (entry_at (restored_entries saved n) i).configuration ≡ false
   restored_unreserved n off i = elim (cases_lt i n) [
     | inl inside ↦ rw (restored_at n i inside, off)
-        (stored_unreserved true reset_entry.configuration (slice_index saved.configurations i) refl)
+        (stored_unreserved (hart_in saved).grain true reset_entry.configuration (slice_index saved.configurations i) refl)
     | inr over ↦ rw (past n i over) refl
   ]
 
-  pub entries_legal : (n : ℕ) → IsLegal (file_of (mseccfg_fields saved.mseccfg) (restored_entries saved n))
-  entries_legal n = record { addresses = restored_addresses n; unreserved = restored_unreserved n }
+  restored_chosen : (n i : ℕ) → let c = (entry_at (restored_entries saved n) i).configuration in
+      selectable (hart_in saved).grain c ≡ c
+  restored_chosen n i = elim (cases_lt i n) [
+    | inl inside ↦ rw (restored_at n i inside)
+        (stored_chosen (hart_in saved).grain (fields_in saved).mml true reset_entry.configuration
+        (slice_index saved.configurations i) (selectable_other (hart_in saved).grain reset_entry.configuration refl))
+    | inr over ↦ rw (past n i over) (selectable_other (hart_in saved).grain reset_entry.configuration refl)
+  ]
+
+  no_fields : (hart_in saved).has_smepmp ≡ false → fields_in saved ≡ reset_mseccfg
+  no_fields none = rw none refl
 
   pub restored_legal : IsLegal (restored_file saved)
   unfolding restored_file
-  restored_legal = entries_legal (count_of (saved_size saved.entries))
+  restored_legal =
+      let n = (hart_in saved).entries in
+      record {
+        profile = is_hart saved.entries;
+        count = length-restored n;
+        words = restored_words n;
+        unreserved = restored_unreserved n;
+        chosen = restored_chosen n;
+        plain = no_fields;
+      }
 
-pub restored_zero : restored_file zero_registers ≡ reset_file 16
-unfolding restored_file
+pub restored_addresses : (saved : SavedRegisters) → HasAddresses (restored_file saved)
+restored_addresses saved = legal_addresses (restored_file saved) (restored_legal saved)
+
+pub restored_zero : restored_file zero_registers ≡ reset_file (profile_with 16)
+unfolding restored_file saved_hart
 restored_zero = refl
 
 -- ---- what was saved is restored
-
-parts_back : (l f x w r : ℕ) → l ≤ 1 → f ≤ 3 → x ≤ 1 → w ≤ 1 → r ≤ 1
-    → ((128 * l + 8 * f + 4 * x + 2 * w + r) / 128 ≡ l) × ((128 * l + 8 * f + 4 * x + 2 * w + r) / 8 % 4 ≡ f)
-    × ((128 * l + 8 * f + 4 * x + 2 * w + r) / 4 % 2 ≡ x) × ((128 * l + 8 * f + 4 * x + 2 * w + r) / 2 % 2 ≡ w)
-    × ((128 * l + 8 * f + 4 * x + 2 * w + r) % 2 ≡ r)
-parts_back l f x w r hl hf hx hw hr = (omega arith, omega arith, omega arith, omega arith, omega arith)
-
-matching_back : (matching : AddressMatching) → matching_of (field_of matching) ≡ matching
-matching_back Off = refl
-matching_back Tor = refl
-matching_back Na4 = refl
-matching_back Napot = refl
-
-pub configuration_back : (c : Configuration) → configuration_of (byte_of c) ≡ c
-configuration_back c =
-    let parts = parts_back (bit_of c.locked) (field_of c.matching) (bit_of c.execute) (bit_of c.write) (bit_of c.read)
-    (bit_le c.locked) (field_le c.matching) (bit_le c.execute) (bit_le c.write) (bit_le c.read) in
-    rw (
-      parts.0,
-      parts.1,
-      parts.2,
-      parts.3,
-      parts.4,
-      bit_back c.locked,
-      matching_back c.matching,
-      bit_back c.execute,
-      bit_back c.write,
-      bit_back c.read,
-    ) refl
 
 pub fields_back : (a b c : Bool) → mseccfg_fields (mseccfg_value (record { mml = a; mmwp = b; rlb = c }))
     ≡ record { mml = a; mmwp = b; rlb = c }
@@ -132,11 +124,7 @@ pub stored_as_is : (mml : Bool) (old c : Configuration) → (mml ≡ false → i
 stored_as_is true old c unreserved = refl
 stored_as_is false old c unreserved = rw (unreserved refl) refl
 
-size_back : (size : Size) → saved_size (count_of size) ≡ size
-size_back Sixteen = refl
-size_back SixtyFour = refl
-
-module _ (file : RegisterFile) (size : Size) (legal : IsLegal file) (count : length file.entries ≡ count_of size) where
+module _ (file : RegisterFile) (legal : IsLegal file) where
   address_at : (k : ℕ) → k < 64 → slice_index (saved_registers file).addresses k ≡ (entry_at file.entries k).address
   unfolding saved_registers
   address_at k inside =
@@ -148,19 +136,24 @@ module _ (file : RegisterFile) (size : Size) (legal : IsLegal file) (count : len
   byte_at_entry k inside =
       get_or-map-range_with_len (λ i. byte_of (entry_at file.entries i).configuration) 0 64 k k 0 inside (omega arith)
 
-  mseccfg_back : mseccfg_fields (saved_registers file).mseccfg ≡ file.mseccfg
+  hart_back : hart_in (saved_registers file) ≡ file.profile
   unfolding saved_registers
-  mseccfg_back = fields_back file.mseccfg.mml file.mseccfg.mmwp file.mseccfg.rlb
+  hart_back = number_back file.profile legal.profile
 
-  count_back : count_of (saved_size (saved_registers file).entries) ≡ length file.entries
+  fields_kept : (has : Bool) → file.profile.has_smepmp ≡ has
+      → cond has (mseccfg_fields (saved_registers file).mseccfg) reset_mseccfg ≡ file.mseccfg
   unfolding saved_registers
-  count_back = rw count (ap count_of (size_back size))
+  fields_kept true e = fields_back file.mseccfg.mml file.mseccfg.mmwp file.mseccfg.rlb
+  fields_kept false e = sym (legal.plain e)
+
+  mseccfg_back : fields_in (saved_registers file) ≡ file.mseccfg
+  mseccfg_back = rw hart_back (fields_kept file.profile.has_smepmp refl)
 
   entry_back : (k : ℕ) → k < length file.entries → entry_at file.entries k ≡ restored_entry (saved_registers file) k
   entry_back k inside =
-      let within : k < 64 = omega (arith, count, few size) in
-      let small : (entry_at file.entries k).address % WORD_ADDRESSES ≡ (entry_at file.entries k).address =
-      omega (arith, legal.addresses k) in
+      let within : k < 64 = omega (arith, legal.count, legal.profile.few) in
+      let small : (entry_at file.entries k).address % word_addresses file.profile ≡ (entry_at file.entries k).address =
+      mod-eq_of_lt (legal.words k) in
       let stored : admitted file.mseccfg.mml true reset_entry.configuration (entry_at file.entries k).configuration
       ≡ (entry_at file.entries k).configuration =
       stored_as_is file.mseccfg.mml reset_entry.configuration (entry_at file.entries k).configuration
@@ -168,38 +161,37 @@ module _ (file : RegisterFile) (size : Size) (legal : IsLegal file) (count : len
       rw (
         address_at k within,
         byte_at_entry k within,
-        ap (λ (m : MseccfgFields). m.mml) mseccfg_back,
+        mseccfg_back,
+        hart_back,
         configuration_back (entry_at file.entries k).configuration,
         small,
         stored,
+        legal.chosen k,
       ) refl
 
   pub restored_saved : restored_file (saved_registers file) ≡ file
   unfolding restored_file
-  restored_saved = rw (count_back, mseccfg_back) (ap (λ (entries : List Entry). file_of file.mseccfg entries)
-      (sym (entries_by file.entries (restored_entry (saved_registers file)) entry_back)))
+  restored_saved = rw (mseccfg_back, hart_back) (ap (λ (entries : List Entry). record file { entries = entries })
+      (ap (λ (n : ℕ). restored_entries (saved_registers file) n) (sym legal.count)
+      ∙ sym (entries_by file.entries (restored_entry (saved_registers file)) entry_back)))
 
 pub saved_law : SavedLaw
-saved_law file size legal count = restored_saved file size legal count
+saved_law = restored_saved
 
 -- ---- in arrays of sixty-four
 
-pub restored_stored : (saved : SavedRegisters) (size : Size) (entries : List Entry) (ranges : List ByteRange)
-    → IsStored (reset_file (count_of size)) size entries ranges
-    → (let new = restored_entries saved (count_of size) in
-    IsStored (file_of (mseccfg_fields saved.mseccfg) (used size (new ++ drop (count_of size) entries))) size
-    (new ++ drop (count_of size) entries) (ranges_of new ++ drop (count_of size) ranges))
-restored_stored saved size entries ranges stored =
-    stored_again (reset_file (count_of size)) size entries ranges stored (mseccfg_fields saved.mseccfg)
-    (restored_entries saved (count_of size)) (length-restored saved (count_of size))
-    (entries_legal saved (count_of size))
+pub restored_stored : (saved : SavedRegisters) (entries : List Entry) (ranges : List ByteRange)
+    → IsStored (reset_file (hart_in saved)) entries ranges
+    → (let n = (hart_in saved).entries in
+    let new = restored_entries saved n in
+    IsStored (file_of (hart_in saved) (fields_in saved) (take n (new ++ drop n entries))) (new ++ drop n entries)
+    (ranges_on (hart_in saved) new ++ drop n ranges))
+unfolding restored_file
+restored_stored saved entries ranges stored =
+    let n = (hart_in saved).entries in
+    stored_again (reset_file (hart_in saved)) entries ranges stored (fields_in saved) (restored_entries saved n)
+    (length-restored saved n) (restored_legal saved)
 
-pub used_restored : (saved : SavedRegisters) (size : Size) (rest : List Entry)
-    → used size (restored_entries saved (count_of size) ++ rest) ≡ restored_entries saved (count_of size)
-used_restored saved size rest =
-    take_at (restored_entries saved (count_of size)) rest (count_of size) (length-restored saved (count_of size))
-
-pub as_after_reset : (size : Size)
-    → IsStored (reset_file (count_of size)) size (replicate 64 reset_entry) (replicate 64 empty_range)
-as_after_reset Sixteen = reset_stored Sixteen
-as_after_reset SixtyFour = reset_stored SixtyFour
+pub used_restored : (saved : SavedRegisters) (n : ℕ) (rest : List Entry)
+    → take n (restored_entries saved n ++ rest) ≡ restored_entries saved n
+used_restored saved n rest = take_at (restored_entries saved n) rest n (length-restored saved n)

@@ -1,5 +1,5 @@
 -- What writes alone can't take back.
-use Rattle.std.proofs.Common.{◌≡◌, ℕ, suc, Bool, true, false, List, [], ◌∷◌, fold, refl, ap, inl, inr}
+use Rattle.std.proofs.Common.{◌≡◌, ℕ, suc, Bool, true, false, cond, List, [], ◌∷◌, length, fold, refl, ap, ◌∙◌, inl, inr}
 use Rattle.std.specs.List.{list_all}
 use Rattle.std.proofs.lemmas.Bool.{and_parts, false≢true, or_cases, or_left, or_right}
 use Rattle.pmp_core.specs.declared.access.Kind.{Kind}
@@ -14,9 +14,10 @@ use Rattle.pmp_core.specs.declared.mseccfg.MseccfgFields.{MseccfgFields}
 use Rattle.pmp_core.specs.Mseccfg.{mseccfg_written}
 use Rattle.pmp_core.specs.RegisterFile.{RegisterFile, entry_at, is_frozen}
 use Rattle.pmp_core.specs.RegisterWrite.{is_any_locked, is_tor, step, written}
-use Rattle.pmp_core.specs.Rights.{allows, default_rights_by}
+use Rattle.pmp_core.specs.Rights.{allows, default_rights_by, has_entries}
 use Rattle.pmp_core.specs.Histories.{is_write}
 use Rattle.pmp_core.specs.StickyLaw.{StickyLaw, FrozenAddressLaw}
+use Rattle.pmp_core.proofs.Legal.{length-written}
 use Rattle.pmp_core.proofs.Locks.{still_frozen, held_on}
 
 -- a bit of mseccfg that every write of it keeps set stays set through every list of writes
@@ -32,8 +33,12 @@ bit_stays bit kept file (Write (Cfg q) value ∷ events) writes h =
 bit_stays bit kept file (Write (Addr i) value ∷ events) writes h =
     bit_stays bit kept (written file (Addr i) value) events writes h
 bit_stays bit kept file (Write Mseccfg value ∷ events) writes h =
+    let new = mseccfg_written file.mseccfg (is_any_locked file.entries) value in
     bit_stays bit kept (written file Mseccfg value) events writes
-    (kept file.mseccfg (is_any_locked file.entries) value h)
+    (elim file.profile.has_smepmp as (λ has. bit (cond has new file.mseccfg) ≡ true) [
+      | true ↦ kept file.mseccfg (is_any_locked file.entries) value h
+      | false ↦ h
+    ])
 
 pub mml_stays : (file : RegisterFile) (events : List Event) → list_all is_write events ≡ true
     → file.mseccfg.mml ≡ true → (fold step file events).mseccfg.mml ≡ true
@@ -43,7 +48,7 @@ mmwp_stays : (file : RegisterFile) (events : List Event) → list_all is_write e
     → file.mseccfg.mmwp ≡ true → (fold step file events).mseccfg.mmwp ≡ true
 mmwp_stays = bit_stays (λ m. m.mmwp) (λ before is_any value. or_left before.mmwp _)
 
-none_open : (mml : Bool) (mode : Mode) (kind : Kind) → allows (default_rights_by mml true mode) kind ≡ false
+none_open : (mml : Bool) (mode : Mode) (kind : Kind) → allows (default_rights_by true mml true mode) kind ≡ false
 none_open true M Fetch = refl
 none_open true M Load = refl
 none_open true M Store = refl
@@ -63,13 +68,22 @@ none_open false U Fetch = refl
 none_open false U Load = refl
 none_open false U Store = refl
 
+-- writes leave as many entries
+pub length-writes : (file : RegisterFile) (events : List Event) → list_all is_write events ≡ true
+    → length (fold step file events).entries ≡ length file.entries
+length-writes file [] writes = refl
+length-writes file (Reset ∷ events) writes = absurd (false≢true writes)
+length-writes file (Write csr value ∷ events) writes =
+    length-writes (written file csr value) events writes ∙ length-written file csr value
+
 pub sticky_law : StickyLaw
 sticky_law file events writes = record {
   mml = mml_stays file events writes;
   mmwp = mmwp_stays file events writes;
-  closed = λ set mode kind.
+  closed = λ some set mode kind.
       let after = fold step file events in
-      rw (mmwp_stays file events writes set) (none_open after.mseccfg.mml mode kind);
+      let still : has_entries after ≡ true = rw (length-writes file events writes) some in
+      rw (still, mmwp_stays file events writes set) (none_open after.mseccfg.mml mode kind);
 }
 
 -- ---- addresses

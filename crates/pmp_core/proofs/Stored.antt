@@ -1,25 +1,20 @@
--- Register files of either size in arrays of sixty-four.
-use Rattle.std.proofs.Common.{◌≡◌, ℕ, ◌+◌, ◌-◌, ◌≤◌, List, length, ◌++◌, drop, replicate, refl, sym, ap, ◌∙◌, arith}
+-- Register files of any hart in arrays of sixty-four.
+use Rattle.std.proofs.Common.{◌≡◌, ℕ, ◌+◌, ◌-◌, ◌≤◌, List, length, ◌++◌, drop, map, replicate, take, refl, sym, ap, ◌∙◌}
+use Rattle.std.proofs.Common.{arith}
+use Rattle.std.specs.List.{range_with_len}
 use Rattle.std.proofs.Math.Seq.{drop-append_seam}
-use Rattle.std.proofs.lemmas.List.{take_at, take_all, length-append, length-replicate}
+use Rattle.std.proofs.lemmas.List.{take_at, length-append, length-replicate, take-replicate, replicate-append-replicate}
+use Rattle.std.proofs.lemmas.List.{get_or-replicate}
+use Rattle.std.proofs.lemmas.List.FromFn.{fill_by_all}
 use Rattle.pmp_core.specs.declared.entry.Entry.{Entry}
 use Rattle.pmp_core.specs.declared.mseccfg.MseccfgFields.{MseccfgFields}
 use Rattle.pmp_core.specs.declared.range.ByteRange.{ByteRange}
-use Rattle.pmp_core.specs.declared.size.Size.{Size}
-use Rattle.pmp_core.specs.declared.size.Size.TheVariants.{Sixteen, SixtyFour}
-use Rattle.pmp_core.specs.RegisterFile.{RegisterFile, file_of, reset_entry, reset_mseccfg, IsLegal}
-use Rattle.pmp_core.specs.Ranges.{range_of, ranges_of}
-use Rattle.pmp_core.specs.Size.{count_of, size_with, used, padded, empty_range, IsStored}
-use Rattle.pmp_core.proofs.Legal.{reset_legal}
+use Rattle.pmp_core.specs.Hart.{Profile, IsProfile}
+use Rattle.pmp_core.specs.RegisterFile.{RegisterFile, file_of, reset_entry, reset_mseccfg, reset_file, IsLegal}
+use Rattle.pmp_core.specs.Ranges.{range_on, ranges_on, ranges_of}
+use Rattle.pmp_core.specs.Storage.{padded, empty_range, IsStored}
+use Rattle.pmp_core.proofs.Legal.{reset_at, reset_legal}
 use Rattle.pmp_core.proofs.Places.{length-ranges_of}
-
-pub few : (size : Size) → count_of size ≤ 64
-few Sixteen = omega arith
-few SixtyFour = omega arith
-
-size_of_count : (size : Size) → size ≡ size_with (count_of size)
-size_of_count Sixteen = refl
-size_of_count SixtyFour = refl
 
 length-padded : {X : Type 0} (rest : X) (xs : List X) → length xs ≤ 64 → length (padded rest xs) ≡ 64
 unfolding padded
@@ -28,10 +23,9 @@ length-padded rest xs h =
     ∙ ap (λ (n : ℕ). length xs + n) (length-replicate (64 - length xs) rest)
     ∙ omega arith
 
-used_padded : {X : Type 0} (size : Size) (rest : X) (xs : List X) → length xs ≡ count_of size
-    → used size (padded rest xs) ≡ xs
+used_padded : {X : Type 0} (n : ℕ) (rest : X) (xs : List X) → length xs ≡ n → take n (padded rest xs) ≡ xs
 unfolding padded
-used_padded size rest xs h = take_at xs (replicate (64 - length xs) rest) (count_of size) h
+used_padded n rest xs h = take_at xs (replicate (64 - length xs) rest) n h
 
 -- the items in use replaced by as many others, before what stands after them
 padded_again : {X : Type 0} (rest : X) (xs ys : List X) → length ys ≡ length xs
@@ -41,69 +35,83 @@ padded_again rest xs ys h =
     ap (λ (zs : List _). ys ++ zs) (drop-append_seam xs (replicate (64 - length xs) rest)
     ∙ ap (λ (n : ℕ). replicate (64 - n) rest) (sym h))
 
-module _ (file : RegisterFile) (size : Size) (entries : List Entry) (ranges : List ByteRange)
-    (stored : IsStored file size entries ranges) where
-  length-decoded : length (ranges_of file.entries) ≡ count_of size
-  length-decoded = length-ranges_of file.entries ∙ stored.count
+-- ---- a register file in its arrays
 
-  -- the ranges in use are those of the file
-  pub used_ranges : used size ranges ≡ ranges_of file.entries
-  used_ranges = ap (used size) stored.ranges_are
-      ∙ used_padded size empty_range (ranges_of file.entries) length-decoded
+module _ (file : RegisterFile) (entries : List Entry) (ranges : List ByteRange) (stored : IsStored file entries ranges)
+  where
+    abbrev n : ℕ
+    n = file.profile.entries
 
-  pub few_used : length (used size ranges) ≤ 64
-  few_used = omega (arith, ap length used_ranges, length-decoded, few size)
+    few : n ≤ 64
+    few = stored.legal.profile.few
 
-  pub all_entries : length entries ≡ 64
-  all_entries = ap length stored.entries_are
-      ∙ length-padded reset_entry file.entries (omega (arith, stored.count, few size))
+    length-decoded : length (ranges_of file) ≡ n
+    length-decoded = length-ranges_of file.profile file.entries ∙ stored.legal.count
 
-  pub all_ranges : length ranges ≡ 64
-  all_ranges = ap length stored.ranges_are
-      ∙ length-padded empty_range (ranges_of file.entries) (omega (arith, length-decoded, few size))
+    -- the ranges in use are those of the file
+    pub used_ranges : take n ranges ≡ ranges_of file
+    used_ranges = ap (take n) stored.ranges_are ∙ used_padded n empty_range (ranges_of file) length-decoded
 
-  -- where all places are in use
-  pub whole_entries : size ≡ SixtyFour → used size entries ≡ entries
-  whole_entries full = rw full (take_all 64 entries (omega (arith, all_entries)))
+    pub used_entries : take n entries ≡ file.entries
+    used_entries = ap (take n) stored.entries_are ∙ used_padded n reset_entry file.entries stored.legal.count
 
-  pub whole_ranges : size ≡ SixtyFour → ranges ≡ ranges_of file.entries
-  whole_ranges full = sym (take_all 64 ranges (omega (arith, all_ranges))) ∙ (rw full at used_ranges)
+    pub few_used : length (take n ranges) ≤ 64
+    few_used = omega (arith, ap length used_ranges, length-decoded, few)
 
-  -- the entries in use replaced by as many others, and their ranges by those of the others
-  pub stored_again : (mseccfg : MseccfgFields) (new : List Entry) → length new ≡ count_of size
-      → IsLegal (file_of mseccfg new)
-      → IsStored (file_of mseccfg (used size (new ++ drop (count_of size) entries))) size
-      (new ++ drop (count_of size) entries) (ranges_of new ++ drop (count_of size) ranges)
-  stored_again mseccfg new count legal =
-      let in_use : used size (new ++ drop (count_of size) entries) ≡ new =
-      take_at new (drop (count_of size) entries) (count_of size) count in
-      rw in_use (record {
-        legal = legal;
-        count = count;
-        size_is = rw count (size_of_count size);
-        entries_are = rw (stored.entries_are, ← stored.count)
-            (padded_again reset_entry file.entries new (count ∙ sym stored.count));
-        ranges_are = rw (stored.ranges_are, ← length-decoded)
-            (padded_again empty_range (ranges_of file.entries) (ranges_of new)
-            (length-ranges_of new ∙ count ∙ sym length-decoded));
-      })
+    pub all_entries : length entries ≡ 64
+    all_entries = ap length stored.entries_are
+        ∙ length-padded reset_entry file.entries (omega (arith, stored.legal.count, few))
+
+    pub all_ranges : length ranges ≡ 64
+    all_ranges = ap length stored.ranges_are
+        ∙ length-padded empty_range (ranges_of file) (omega (arith, length-decoded, few))
+
+    -- the entries in use replaced by as many others of the same hart, and their ranges by those of the others
+    pub stored_again : (mseccfg : MseccfgFields) (new : List Entry) → length new ≡ n
+        → IsLegal (file_of file.profile mseccfg new)
+        → IsStored (file_of file.profile mseccfg (take n (new ++ drop n entries))) (new ++ drop n entries)
+        (ranges_on file.profile new ++ drop n ranges)
+    stored_again mseccfg new count legal =
+        let in_use : take n (new ++ drop n entries) ≡ new = take_at new (drop n entries) n count in
+        rw in_use (record {
+          legal = legal;
+          entries_are = rw (stored.entries_are, ← stored.legal.count)
+              (padded_again reset_entry file.entries new (count ∙ sym stored.legal.count));
+          ranges_are = ap (λ (rs : List ByteRange). ranges_on file.profile new ++ drop n rs) stored.ranges_are
+              ∙ ap (λ (m : ℕ). ranges_on file.profile new ++ drop m (padded empty_range (ranges_of file)))
+              (sym length-decoded)
+              ∙ (padded_again empty_range (ranges_of file) (ranges_on file.profile new)
+              (length-ranges_of file.profile new ∙ count ∙ sym length-decoded));
+        })
 
 -- ---- reset
 
-pub reset_stored : (size : Size) → IsStored (file_of reset_mseccfg (used size (replicate 64 reset_entry))) size
-    (replicate 64 reset_entry) (replicate 64 empty_range)
-unfolding padded range_of
-reset_stored Sixteen = record {
-  legal = reset_legal 16;
-  count = refl;
-  size_is = refl;
-  entries_are = refl;
-  ranges_are = refl;
-}
-reset_stored SixtyFour = record {
-  legal = reset_legal 64;
-  count = refl;
-  size_is = refl;
-  entries_are = refl;
-  ranges_are = refl;
-}
+replicate_padded : {X : Type 0} (n : ℕ) (x : X) → n ≤ 64 → replicate 64 x ≡ padded x (replicate n x)
+unfolding padded
+replicate_padded m x h =
+    let whole : 64 ≡ m + (64 - m) = omega arith in
+    rw (length-replicate m x) (ap (λ (k : ℕ). replicate k x) whole ∙ sym (replicate-append-replicate m (64 - m) x))
+
+no_ranges : (profile : Profile) (n : ℕ) → replicate n empty_range ≡ ranges_on profile (replicate n reset_entry)
+unfolding range_on
+no_ranges profile n = fill_by_all (range_on profile (replicate n reset_entry)) (replicate n empty_range) n empty_range
+    (length-replicate n empty_range) (λ k inside. get_or-replicate n k empty_range empty_range inside
+    ∙ rw (reset_at n k) refl)
+    ∙ ap (λ (m : ℕ). map (range_on profile (replicate n reset_entry)) (range_with_len 0 m))
+    (sym (length-replicate n reset_entry))
+
+pub reset_stored : (profile : Profile) → IsProfile profile
+    → IsStored (reset_file profile) (replicate 64 reset_entry) (replicate 64 empty_range)
+reset_stored profile is =
+    let n = profile.entries in
+    record {
+      legal = reset_legal profile is;
+      entries_are = replicate_padded n reset_entry is.few;
+      ranges_are = replicate_padded n empty_range is.few ∙ ap (padded empty_range) (no_ranges profile n);
+    }
+
+-- as a file's view has it
+pub reset_view : (profile : Profile) → IsProfile profile
+    → file_of profile reset_mseccfg (take profile.entries (replicate 64 reset_entry)) ≡ reset_file profile
+reset_view profile is =
+    ap (file_of profile reset_mseccfg) (take-replicate profile.entries 64 reset_entry is.few)

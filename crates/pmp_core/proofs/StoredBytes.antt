@@ -1,11 +1,12 @@
 -- When a byte is stored as written.
 use Rattle.std.proofs.Common.{◌≡◌, ℕ, ◌+◌, ◌*◌, ◌/◌, ◌%◌, ◌<◌, ◌≤◌, Bool, true, false, cond, not, ◌&&◌, ◌==◌}
-use Rattle.std.proofs.Common.{nat_lt, refl, sym, ◌∙◌, arith}
-use Rattle.std.proofs.lemmas.Bool.{agree_below_at, false≢true, not-true, not-false, eqb-true, eq-eqb, lt-ltb, and_parts}
+use Rattle.std.proofs.Common.{nat_lt, refl, subst, sym, ap, ◌∙◌, inl, inr, arith}
+use Rattle.std.proofs.lemmas.Bool.{agree_below_at, and_right, cases_Bool, false≢true, not-true, not-false, eqb-true, eq-eqb, lt-ltb, and_parts}
 use Rattle.pmp_core.specs.declared.configuration.AddressMatching.{AddressMatching}
 use Rattle.pmp_core.specs.declared.configuration.AddressMatching.TheVariants.{Off, Tor, Na4, Napot}
 use Rattle.pmp_core.specs.declared.configuration.Configuration.{Configuration}
-use Rattle.pmp_core.specs.Configuration.{configuration_of, byte_of, bit_of, field_of, is_reserved}
+use Rattle.pmp_core.specs.Configuration.{configuration_of, byte_of, bit_of, field_of, matching_of, is_reserved}
+use Rattle.pmp_core.specs.Grain.{is_na4, selectable}
 use Rattle.pmp_core.specs.RegisterWrite.{without_reserved, admitted}
 use Rattle.pmp_core.specs.Rights.{is_barred}
 
@@ -22,6 +23,10 @@ pub bit_le : (b : Bool) → bit_of b ≤ 1
 bit_le true = omega arith
 bit_le false = omega arith
 
+pub bit_back : (b : Bool) → (bit_of b == 1) ≡ b
+bit_back true = refl
+bit_back false = refl
+
 pub field_le : (m : AddressMatching) → field_of m ≤ 3
 field_le Off = omega arith
 field_le Tor = omega arith
@@ -37,6 +42,36 @@ pub byte_plain : (c : Configuration) → (byte_of c / 32 % 4 ≡ 0) × (byte_of 
 byte_plain c = parts_plain (bit_of c.locked) (field_of c.matching) (bit_of c.execute) (bit_of c.write) (bit_of c.read)
     (bit_le c.locked) (field_le c.matching) (bit_le c.execute) (bit_le c.write) (bit_le c.read)
 
+-- and gives the configuration back
+parts_back : (l f x w r : ℕ) → l ≤ 1 → f ≤ 3 → x ≤ 1 → w ≤ 1 → r ≤ 1
+    → ((128 * l + 8 * f + 4 * x + 2 * w + r) / 128 ≡ l) × ((128 * l + 8 * f + 4 * x + 2 * w + r) / 8 % 4 ≡ f)
+    × ((128 * l + 8 * f + 4 * x + 2 * w + r) / 4 % 2 ≡ x) × ((128 * l + 8 * f + 4 * x + 2 * w + r) / 2 % 2 ≡ w)
+    × ((128 * l + 8 * f + 4 * x + 2 * w + r) % 2 ≡ r)
+parts_back l f x w r hl hf hx hw hr = (omega arith, omega arith, omega arith, omega arith, omega arith)
+
+matching_back : (matching : AddressMatching) → matching_of (field_of matching) ≡ matching
+matching_back Off = refl
+matching_back Tor = refl
+matching_back Na4 = refl
+matching_back Napot = refl
+
+pub configuration_back : (c : Configuration) → configuration_of (byte_of c) ≡ c
+configuration_back c =
+    let parts = parts_back (bit_of c.locked) (field_of c.matching) (bit_of c.execute) (bit_of c.write) (bit_of c.read)
+    (bit_le c.locked) (field_le c.matching) (bit_le c.execute) (bit_le c.write) (bit_le c.read) in
+    rw (
+      parts.0,
+      parts.1,
+      parts.2,
+      parts.3,
+      parts.4,
+      bit_back c.locked,
+      matching_back c.matching,
+      bit_back c.execute,
+      bit_back c.write,
+      bit_back c.read,
+    ) refl
+
 read_back : (byte : ℕ) → byte < 256 → (byte_of (configuration_of byte) == byte) ≡ is_plain byte
 read_back byte small =
     agree_below_at (λ b. byte_of (configuration_of b) == b) is_plain 256 byte refl small
@@ -49,15 +84,53 @@ read_unreserved byte small =
     (λ b. is_plain b && not (is_reserved (configuration_of b))) 256 byte refl small
 
 -- nothing keeps the byte from being stored over an entry's configuration
-pub record IsTaken (frozen mml rlb : Bool) (old : Configuration) (byte : ℕ) : Type 0 where
+pub record IsTaken (grain : ℕ) (frozen mml rlb : Bool) (old : Configuration) (byte : ℕ) : Type 0 where
   pub plain : is_plain byte ≡ true
   pub unfrozen : (frozen && not (byte == byte_of old)) ≡ false
   pub unreserved : (not frozen && not mml && is_reserved (configuration_of byte)) ≡ false
   pub unbarred : (not frozen && mml && not rlb && is_barred_byte byte) ≡ false
+  pub coarse : (not frozen && nat_lt 0 grain && is_na4 (configuration_of byte).matching) ≡ false
 
 -- the configuration that the byte leaves
-abbrev pub left_of : (frozen mml rlb : Bool) (old : Configuration) (byte : ℕ) → Configuration
-left_of frozen mml rlb old byte = cond frozen old (admitted mml rlb old (configuration_of byte))
+abbrev pub left_of : (grain : ℕ) (frozen mml rlb : Bool) (old : Configuration) (byte : ℕ) → Configuration
+left_of grain frozen mml rlb old byte = cond frozen old (selectable grain (admitted mml rlb old (configuration_of byte)))
+
+-- a mode that can be chosen is stored as it is, and no other is ever stored
+chosen : (grain : ℕ) (c : Configuration) → (nat_lt 0 grain && is_na4 c.matching) ≡ false → selectable grain c ≡ c
+chosen grain c so = rw so refl
+
+never_na4 : (grain : ℕ) (c : Configuration) → (nat_lt 0 grain && is_na4 (selectable grain c).matching) ≡ false
+never_na4 grain c = elim (cases_Bool (nat_lt 0 grain && is_na4 c.matching)) [
+  | inl coarse ↦ rw coarse (and_right (nat_lt 0 grain) false refl)
+  | inr so ↦ rw so so
+]
+
+-- so a byte that is read back from it didn't choose NA4 in vain
+reads_chosen : (grain : ℕ) (c : Configuration) (byte : ℕ) → byte_of (selectable grain c) ≡ byte
+    → (nat_lt 0 grain && is_na4 (configuration_of byte).matching) ≡ false
+reads_chosen grain c byte same =
+    let back : configuration_of byte ≡ selectable grain c =
+    ap configuration_of (sym same) ∙ configuration_back (selectable grain c) in
+    subst (λ (k : Configuration). (nat_lt 0 grain && is_na4 k.matching) ≡ false) (sym back) (never_na4 grain c)
+
+-- nor was it changed on its way
+reads_all : (grain : ℕ) (c : Configuration) (byte : ℕ)
+    → ((nat_lt 0 grain && is_na4 (configuration_of byte).matching) ≡ false → selectable grain c ≡ c)
+    → byte_of (selectable grain c) ≡ byte → byte_of c ≡ byte
+reads_all grain c byte whole same =
+    ap byte_of (sym (whole (reads_chosen grain c byte same))) ∙ same
+
+unreserved_matching : (c : Configuration) → (without_reserved c).matching ≡ c.matching
+unreserved_matching c = elim (is_reserved c) as
+    (λ (reserved : Bool). (cond reserved (record c { read = false; write = false; execute = false }) c).matching
+    ≡ c.matching) [
+      | true ↦ refl
+      | false ↦ refl
+    ]
+
+chosen_unreserved : (grain : ℕ) (c : Configuration) → (nat_lt 0 grain && is_na4 c.matching) ≡ false
+    → selectable grain (without_reserved c) ≡ without_reserved c
+chosen_unreserved grain c so = chosen grain (without_reserved c) (rw (unreserved_matching c) so)
 
 same_from_not : (a b : ℕ) → not (a == b) ≡ false → a ≡ b
 same_from_not a b h = eqb-true a b (not-false (a == b) h)
@@ -69,14 +142,16 @@ and_true false h = h
 pub not_same : (a b : ℕ) → a ≡ b → not (a == b) ≡ false
 not_same a b h = rw (eq-eqb a b h) refl
 
-pub taken : (frozen mml rlb : Bool) (old : Configuration) (byte : ℕ) → byte < 256
-    → IsTaken frozen mml rlb old byte → byte_of (left_of frozen mml rlb old byte) ≡ byte
-taken true mml rlb old byte small h = sym (same_from_not byte (byte_of old) h.unfrozen)
-taken false false rlb old byte small h =
-    eqb-true _ byte (read_unreserved byte small ∙ rw (h.plain, h.unreserved) refl)
-taken false true true old byte small h = eqb-true _ byte (read_back byte small ∙ h.plain)
-taken false true false old byte small h =
-    rw h.unbarred (eqb-true _ byte (read_back byte small ∙ h.plain))
+pub taken : (grain : ℕ) (frozen mml rlb : Bool) (old : Configuration) (byte : ℕ) → byte < 256
+    → IsTaken grain frozen mml rlb old byte → byte_of (left_of grain frozen mml rlb old byte) ≡ byte
+taken grain true mml rlb old byte small h = sym (same_from_not byte (byte_of old) h.unfrozen)
+taken grain false false rlb old byte small h =
+    ap byte_of (chosen_unreserved grain (configuration_of byte) h.coarse)
+    ∙ eqb-true _ byte (read_unreserved byte small ∙ rw (h.plain, h.unreserved) refl)
+taken grain false true true old byte small h =
+    ap byte_of (chosen grain (configuration_of byte) h.coarse) ∙ eqb-true _ byte (read_back byte small ∙ h.plain)
+taken grain false true false old byte small h = rw h.unbarred
+    (ap byte_of (chosen grain (configuration_of byte) h.coarse) ∙ eqb-true _ byte (read_back byte small ∙ h.plain))
 
 -- a barred rule is a locked one, and no byte of an entry that isn't locked
 barred_is_high : (byte : ℕ) → byte < 256 → (is_barred_byte byte && nat_lt byte 128) ≡ false
@@ -96,41 +171,58 @@ not_barred old byte small free same =
     let low : nat_lt byte 128 ≡ true = lt-ltb byte 128 (rw same at (unlocked_low old free)) in
     and_true (is_barred_byte byte) (rw low at (barred_is_high byte small))
 
-pub stored_as_taken : (frozen mml rlb : Bool) (old : Configuration) (byte : ℕ) → byte < 256
-    → frozen ≡ (old.locked && not rlb) → byte_of (left_of frozen mml rlb old byte) ≡ byte
-    → IsTaken frozen mml rlb old byte
-stored_as_taken true mml rlb old byte small is h = record {
+pub stored_as_taken : (grain : ℕ) (frozen mml rlb : Bool) (old : Configuration) (byte : ℕ) → byte < 256
+    → frozen ≡ (old.locked && not rlb) → byte_of (left_of grain frozen mml rlb old byte) ≡ byte
+    → IsTaken grain frozen mml rlb old byte
+stored_as_taken grain true mml rlb old byte small is h = record {
   plain = rw (← h) (eq-eqb _ 0 (byte_plain old).0);
   unfrozen = not_same byte (byte_of old) (sym h);
   unreserved = refl;
   unbarred = refl;
+  coarse = refl;
 }
-stored_as_taken false false rlb old byte small is h =
-    let both = and_parts (is_plain byte) (not (is_reserved (configuration_of byte)))
-    (sym (read_unreserved byte small) ∙ eq-eqb _ byte h) in
+stored_as_taken grain false false rlb old byte small is h =
+    let new = configuration_of byte in
+    let whole = reads_all grain (without_reserved new) byte (chosen_unreserved grain new) h in
+    let both = and_parts (is_plain byte) (not (is_reserved new))
+    (sym (read_unreserved byte small) ∙ eq-eqb _ byte whole) in
     record {
       plain = both.0;
       unfrozen = refl;
       unreserved = not-true _ both.1;
       unbarred = refl;
+      coarse = reads_chosen grain (without_reserved new) byte h;
     }
-stored_as_taken false true true old byte small is h = record {
-  plain = sym (read_back byte small) ∙ eq-eqb _ byte h;
+stored_as_taken grain false true true old byte small is h = record {
+  plain = sym (read_back byte small)
+      ∙ eq-eqb _ byte (reads_all grain (configuration_of byte) byte (chosen grain (configuration_of byte)) h);
   unfrozen = refl;
   unreserved = refl;
   unbarred = refl;
+  coarse = reads_chosen grain (configuration_of byte) byte h;
 }
-stored_as_taken false true false old byte small is h = by_test (is_barred_byte byte) refl h
+stored_as_taken grain false true false old byte small is h = by_test (is_barred_byte byte) refl h
   where
     free : old.locked ≡ false
     free = and_true old.locked (sym is)
 
+    selected_locked : (selectable grain old).locked ≡ old.locked
+    selected_locked = elim (nat_lt 0 grain && is_na4 old.matching) as
+        (λ (coarse : Bool). (cond coarse (record old { matching = Off }) old).locked ≡ old.locked) [
+          | true ↦ refl
+          | false ↦ refl
+        ]
+
     by_test : (barred : Bool) → is_barred_byte byte ≡ barred
-        → byte_of (cond barred old (configuration_of byte)) ≡ byte → IsTaken false true false old byte
-    by_test true e h = absurd (false≢true (sym (not_barred old byte small free h) ∙ e))
+        → byte_of (selectable grain (cond barred old (configuration_of byte))) ≡ byte
+        → IsTaken grain false true false old byte
+    by_test true e h =
+        absurd (false≢true (sym (not_barred (selectable grain old) byte small (selected_locked ∙ free) h) ∙ e))
     by_test false e h = record {
-      plain = sym (read_back byte small) ∙ eq-eqb _ byte h;
+      plain = sym (read_back byte small)
+          ∙ eq-eqb _ byte (reads_all grain (configuration_of byte) byte (chosen grain (configuration_of byte)) h);
       unfrozen = refl;
       unreserved = refl;
       unbarred = rw e refl;
+      coarse = reads_chosen grain (configuration_of byte) byte h;
     }

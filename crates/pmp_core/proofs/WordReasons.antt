@@ -9,12 +9,12 @@ use Rattle.std.proofs.lemmas.List.{get_or_past}
 use Rattle.pmp_core.specs.declared.configuration.Configuration.{Configuration}
 use Rattle.pmp_core.specs.declared.csr.Csr.TheVariants.{Cfg}
 use Rattle.pmp_core.specs.declared.entry.Entry.{Entry}
-use Rattle.pmp_core.specs.declared.write_reasons.WriteReason.TheVariants.{Frozen, Tor, Reserved, Lockdown}
+use Rattle.pmp_core.specs.declared.write_reasons.WriteReason.TheVariants.{Frozen, Tor, Reserved, Lockdown, Grain}
 use Rattle.pmp_core.specs.Configuration.{byte_of}
 use Rattle.pmp_core.specs.RegisterFile.{RegisterFile, reset_entry, entry_at, is_frozen}
 use Rattle.pmp_core.specs.RegisterValue.{configuration_word, register_value}
 use Rattle.pmp_core.specs.RegisterWrite.{holds_byte_of, written}
-use Rattle.pmp_core.specs.WriteReasons.{byte_for, changes_frozen, adds_reserved, adds_barred}
+use Rattle.pmp_core.specs.WriteReasons.{byte_for, changes_frozen, adds_reserved, adds_barred, is_too_fine}
 use Rattle.pmp_core.proofs.AbsentBytes.{is_absent_byte, zero_byte, entry_byte, beside_zero}
 use Rattle.pmp_core.proofs.Legal.{configured_place, length-written}
 use Rattle.pmp_core.proofs.Reasons.{none_between, none_at, none_in, none_of, none_at_entry, none_at_entries, HasNone}
@@ -52,12 +52,12 @@ module _ (file : RegisterFile) (q value : ℕ) where
 
   -- nothing keeps entry i from its byte
   abbrev Takes : ℕ → Type 0
-  Takes i = IsTaken (is_frozen file i) file.mseccfg.mml file.mseccfg.rlb (entry_at file.entries i).configuration
-      (byte_for q value i)
+  Takes i = IsTaken file.profile.grain (is_frozen file i) file.mseccfg.mml file.mseccfg.rlb
+      (entry_at file.entries i).configuration (byte_for q value i)
 
   abbrev left : ℕ → Configuration
-  left i = left_of (is_frozen file i) file.mseccfg.mml file.mseccfg.rlb (entry_at file.entries i).configuration
-      (byte_for q value i)
+  left i = left_of file.profile.grain (is_frozen file i) file.mseccfg.mml file.mseccfg.rlb
+      (entry_at file.entries i).configuration (byte_for q value i)
 
   left_there : (i : ℕ) → holds_byte_of q i ≡ true → i < n → (after i).configuration ≡ left i
   left_there i holds inside =
@@ -83,12 +83,13 @@ module _ (file : RegisterFile) (q value : ℕ) where
       unfrozen = rw holds at (none_at_entry Frozen file (Cfg q) value none.frozen i inside);
       unreserved = rw holds at (none_at_entry Reserved file (Cfg q) value none.reserved i inside);
       unbarred = rw holds at (none_at_entry Lockdown file (Cfg q) value none.lockdown i inside);
+      coarse = rw holds at (none_at_entry Grain file (Cfg q) value none.grain i inside);
     }
 
     -- an entry of the unit reads its byte
     reads_there : (i : ℕ) → holds_byte_of q i ≡ true → i < n → byte_of (after i).configuration ≡ byte_for q value i
     reads_there i holds inside = ap byte_of (left_there i holds inside)
-        ∙ taken _ _ _ _ _ (byte_small value (i - 4 * q)) (takes i holds inside)
+        ∙ taken _ _ _ _ _ _ (byte_small value (i - 4 * q)) (takes i holds inside)
 
     -- a byte for no entry is zero
     zero_there : (i : ℕ) → 4 * q ≤ i → i < 4 * q + 8 → (holds_byte_of q i && nat_lt i n) ≡ false
@@ -144,7 +145,7 @@ module _ (file : RegisterFile) (q value : ℕ) where
         rw place at (reads_even (i - 4 * q) (even_of i holds) (omega arith))
 
     was_taken : (i : ℕ) → holds_byte_of q i ≡ true → i < n → Takes i
-    was_taken i holds inside = stored_as_taken _ _ _ _ _ (byte_small value (i - 4 * q)) refl
+    was_taken i holds inside = stored_as_taken _ _ _ _ _ _ (byte_small value (i - 4 * q)) refl
         (sym (ap byte_of (left_there i holds inside)) ∙ sym (reads_entry i holds))
 
     reads_plain : (j : ℕ) → j < 8 → is_plain (byte value j) ≡ true
@@ -173,14 +174,14 @@ module _ (file : RegisterFile) (q value : ℕ) where
     -- none of the reasons that entry i can have
     abbrev IsFine : ℕ → Type 0
     IsFine i = (changes_frozen file (Cfg q) value i ≡ false) × (adds_reserved file (Cfg q) value i ≡ false)
-        × (adds_barred file (Cfg q) value i ≡ false)
+        × (adds_barred file (Cfg q) value i ≡ false) × (is_too_fine file (Cfg q) value i ≡ false)
 
     fine : (i : ℕ) → i < n → IsFine i
     fine i inside = elim (cases_Bool (holds_byte_of q i)) [
       | inl holds ↦
           let taken = was_taken i holds inside in
-          rw holds (taken.unfrozen, taken.unreserved, taken.unbarred)
-      | inr other ↦ rw other (and_right _ false refl, refl, refl)
+          rw holds (taken.unfrozen, taken.unreserved, taken.unbarred, taken.coarse)
+      | inr other ↦ rw other (and_right _ false refl, refl, refl, refl)
     ]
 
     pub word_reasonless : HasNone file (Cfg q) value
@@ -194,4 +195,5 @@ module _ (file : RegisterFile) (q value : ℕ) where
       lockdown = none_at_entries Lockdown file (Cfg q) value (λ i inside. (fine i inside).2);
       sticky = refl;
       bypass = refl;
+      grain = none_at_entries Grain file (Cfg q) value (λ i inside. (fine i inside).3);
     }

@@ -1,10 +1,9 @@
 -- How an access is decided (Volume II, 3.7.1.3), byte by byte.
-use Rattle.std.specs.Prelude.{◌≡◌, ℕ, ◌+◌, ◌<◌, ◌≤◌, Bool, false, List, Option, Some, None}
+use Rattle.std.specs.Prelude.{◌≡◌, ℕ, ◌+◌, ◌<◌, ◌≤◌, Bool, false, Option, Some, None}
 use Rattle.pmp_core.specs.declared.access.Access.{Access}
 use Rattle.pmp_core.specs.declared.decision.Cause.{Cause}
 use Rattle.pmp_core.specs.declared.decision.Cause.TheVariants.{Rule, Split, NoMatch}
 use Rattle.pmp_core.specs.declared.decision.Decision.{Decision}
-use Rattle.pmp_core.specs.declared.entry.Entry.{Entry}
 use Rattle.pmp_core.specs.RegisterFile.{RegisterFile}
 use Rattle.pmp_core.specs.Matching.{Matches}
 use Rattle.pmp_core.specs.Rights.{allows, rights, default_rights}
@@ -18,29 +17,29 @@ abbrev pub IsByteOf : Access → ℕ → Type 0
 IsByteOf access byte = (access.start ≤ byte) × (byte < access.start + access.length)
 
 -- the lowest-numbered entry that matches the byte
-abbrev pub IsOwner : List Entry → ℕ → Option ℕ → Type 0
-IsOwner entries byte = IsLeast (λ i. Matches entries i byte)
+abbrev pub IsOwner : RegisterFile → ℕ → Option ℕ → Type 0
+IsOwner file byte = IsLeast (λ i. Matches file i byte)
 
 -- entry i matches some byte of the access
-abbrev pub Touches : List Entry → Access → ℕ → Type 0
-Touches entries access i = (byte : ℕ) × IsByteOf access byte × Matches entries i byte
+abbrev pub Touches : RegisterFile → Access → ℕ → Type 0
+Touches file access i = (byte : ℕ) × IsByteOf access byte × Matches file i byte
 
 -- entry i matches every byte of the access
-abbrev pub Covers : List Entry → Access → ℕ → Type 0
-Covers entries access i = (byte : ℕ) → IsByteOf access byte → Matches entries i byte
+abbrev pub Covers : RegisterFile → Access → ℕ → Type 0
+Covers file access i = (byte : ℕ) → IsByteOf access byte → Matches file i byte
 
 -- the lowest-numbered entry that matches any byte of the access (3.7.1.3)
-abbrev pub IsDecider : List Entry → Access → Option ℕ → Type 0
-IsDecider entries access = IsLeast (Touches entries access)
+abbrev pub IsDecider : RegisterFile → Access → Option ℕ → Type 0
+IsDecider file access = IsLeast (Touches file access)
 
 -- no decider: the default; a decider that lacks a byte: refused; else the decider's rule (3.7.1.3)
 abbrev pub IsDecisionBy : RegisterFile → Access → Bool → Cause → Type 0
 IsDecisionBy file access allowed NoMatch =
-    IsDecider file.entries access None × (allowed ≡ allows (default_rights file access.mode) access.kind)
+    IsDecider file access None × (allowed ≡ allows (default_rights file access.mode) access.kind)
 IsDecisionBy file access allowed (Split i) =
-    IsDecider file.entries access (Some i) × ¬ (Covers file.entries access i) × (allowed ≡ false)
+    IsDecider file access (Some i) × ¬ (Covers file access i) × (allowed ≡ false)
 IsDecisionBy file access allowed (Rule i) =
-    IsDecider file.entries access (Some i) × Covers file.entries access i
+    IsDecider file access (Some i) × Covers file access i
     × (allowed ≡ allows (rights file i access.mode) access.kind)
 
 -- the manual's decision (3.7.1.3)

@@ -2,6 +2,7 @@
 pub mod Access
 pub mod Csr
 pub mod Configuration
+pub mod Hart
 pub mod Mseccfg
 pub mod RegisterFile
 pub mod Matching
@@ -10,15 +11,16 @@ pub mod Perms
 pub mod Rights
 pub mod Decision
 pub mod FaultCode
+pub mod Grain
 pub mod RegisterWrite
 pub mod RegisterValue
 pub mod WriteReasons
 pub mod Histories
 pub mod Lock
-pub mod Size
 pub mod SavedRegisters
 -- How decisions are computed: a law says that they are the same.
 pub mod Ranges
+pub mod Storage
 -- Laws of these definitions, which are proved, with the words that they alone need.
 pub mod SpanLaw
 pub mod RightsLaw
@@ -29,5 +31,6 @@ pub mod PartsLaw
 pub mod OthersLaw
 pub mod WriteReasonsLaw
 pub mod SizeLaw
+pub mod TodayLaw
 pub mod SavedLaw
 pub mod ReachableLaw

@@ -10,7 +10,7 @@ use Rattle.pmp_core.specs.Histories.{is_write}
 -- entry i has the same configuration in both, matches the same bytes, and is frozen still
 pub record StaysFrozen (before after : RegisterFile) (i : ℕ) : Type 0 where
   pub configuration : (entry_at after.entries i).configuration ≡ (entry_at before.entries i).configuration
-  pub bytes : (byte : ℕ) → Matches after.entries i byte ↔ Matches before.entries i byte
+  pub bytes : (byte : ℕ) → Matches after i byte ↔ Matches before i byte
   pub frozen : is_frozen after i ≡ true
 
 -- a frozen entry stays as it is through every list of writes, if no reset is among them (3.7.1.2 and Smepmp)

@@ -3,7 +3,8 @@ use Rattle.std.specs.Prelude.{◌≡◌, ℕ, zero, suc, ◌+◌, ◌-◌, ◌*�
 use Rattle.pmp_core.specs.declared.configuration.AddressMatching.{AddressMatching}
 use Rattle.pmp_core.specs.declared.configuration.AddressMatching.TheVariants.{Off, Tor, Na4, Napot}
 use Rattle.pmp_core.specs.declared.entry.Entry.{Entry}
-use Rattle.pmp_core.specs.RegisterFile.{entry_at}
+use Rattle.pmp_core.specs.Grain.{napot_address, tor_address}
+use Rattle.pmp_core.specs.RegisterFile.{RegisterFile, entry_at}
 
 -- the address register before it, and 0 before the first (3.7.1.1, top of range)
 abbrev pub low_address : List Entry → ℕ → ℕ
@@ -18,14 +19,15 @@ pub record InNapot (address byte : ℕ) : Type 0 where
   pub from : y * 2 ^ (k + 3) ≤ byte
   pub to : byte < (y + 1) * 2 ^ (k + 3)
 
--- by the field A: OFF, TOR, NA4 or NAPOT (3.7.1.1)
-abbrev pub MatchesBy : AddressMatching → (low address byte : ℕ) → Type 0
-MatchesBy Off low address byte = ⊥
-MatchesBy Tor low address byte = (4 * low ≤ byte) × (byte < 4 * address)
-MatchesBy Na4 low address byte = (4 * address ≤ byte) × (byte < 4 * address + 4)
-MatchesBy Napot low address byte = InNapot address byte
+-- by G and the field A: OFF, TOR, NA4 or NAPOT (3.7.1.1)
+abbrev pub MatchesBy : (grain : ℕ) → AddressMatching → (low address byte : ℕ) → Type 0
+MatchesBy grain Off low address byte = ⊥
+MatchesBy grain Tor low address byte = (4 * tor_address grain low ≤ byte) × (byte < 4 * tor_address grain address)
+MatchesBy grain Na4 low address byte = (4 * address ≤ byte) × (byte < 4 * address + 4)
+MatchesBy grain Napot low address byte = InNapot (napot_address grain address) byte
 
 -- entry i matches the byte (3.7.1.1)
-abbrev pub Matches : List Entry → ℕ → ℕ → Type 0
-Matches entries i byte =
-    MatchesBy (entry_at entries i).configuration.matching (low_address entries i) (entry_at entries i).address byte
+abbrev pub Matches : RegisterFile → ℕ → ℕ → Type 0
+Matches file i byte =
+    let entry = entry_at file.entries i in
+    MatchesBy file.profile.grain entry.configuration.matching (low_address file.entries i) entry.address byte

@@ -25,10 +25,10 @@ pub record LeavesOthers (file after : RegisterFile) (csr : Csr) : Type 0 where
   -- the entries of which the register holds nothing
   pub entries : (i : ℕ) → holds csr i ≡ false → entry_at after.entries i ≡ entry_at file.entries i
   -- the bytes of the entries that it can't move
-  pub bytes : (i byte : ℕ) → may_move file csr i ≡ false → Matches after.entries i byte ↔ Matches file.entries i byte
+  pub bytes : (i byte : ℕ) → may_move file csr i ≡ false → Matches after i byte ↔ Matches file i byte
   -- and, but for mseccfg, decisions on accesses with no byte of the entries that it may move, before and after
   pub decisions : csr ≢ Mseccfg → (access : Access)
-      → ((i : ℕ) → may_move file csr i ≡ true → ¬ (Touches file.entries access i) × ¬ (Touches after.entries access i))
+      → ((i : ℕ) → may_move file csr i ≡ true → ¬ (Touches file access i) × ¬ (Touches after access i))
       → (decision : Decision) → IsDecision file access decision → IsDecision after access decision
 
 -- every write leaves the others alone

@@ -20,7 +20,7 @@ use Rattle.pmp_core.specs.LockLaw.{StaysFrozen}
 
 -- one of the entries 0 to i decides the access, wholly or in part
 abbrev pub IsDecidedWithin : RegisterFile → Access → ℕ → Type 0
-IsDecidedWithin file access i = (j : ℕ) × (j ≤ i) × IsDecider file.entries access (Some j)
+IsDecidedWithin file access i = (j : ℕ) × (j ≤ i) × IsDecider file access (Some j)
 
 -- lockdown gives no rule a right that it hasn't without, but for the combinations that are reserved without
 abbrev pub FewerRightsLaw : Type 0

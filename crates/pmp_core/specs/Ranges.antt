@@ -10,6 +10,8 @@ use Rattle.pmp_core.specs.declared.decision.Cause.TheVariants.{Rule, Split, NoMa
 use Rattle.pmp_core.specs.declared.decision.Decision.{Decision}
 use Rattle.pmp_core.specs.declared.entry.Entry.{Entry}
 use Rattle.pmp_core.specs.declared.range.ByteRange.{ByteRange}
+use Rattle.pmp_core.specs.Grain.{napot_address, tor_address}
+use Rattle.pmp_core.specs.Hart.{Profile}
 use Rattle.pmp_core.specs.RegisterFile.{RegisterFile, entry_at}
 use Rattle.pmp_core.specs.Matching.{Matches, low_address}
 use Rattle.pmp_core.specs.Rights.{allows, rights, default_rights}
@@ -24,27 +26,35 @@ napot_range address =
     record { start = start; end = start + 2 ^ (k + 3) }
 
 -- where an entry matches, if any byte at all
-abbrev pub range_by : AddressMatching → (low address : ℕ) → ByteRange
-range_by Off low address = record { start = 0; end = 0 }
-range_by Tor low address = record { start = 4 * low; end = 4 * address }
-range_by Na4 low address = record { start = 4 * address; end = 4 * address + 4 }
-range_by Napot low address = napot_range address
+abbrev pub range_by : (grain : ℕ) → AddressMatching → (low address : ℕ) → ByteRange
+range_by grain Off low address = record { start = 0; end = 0 }
+range_by grain Tor low address = record { start = 4 * tor_address grain low; end = 4 * tor_address grain address }
+range_by grain Na4 low address = record { start = 4 * address; end = 4 * address + 4 }
+range_by grain Napot low address = napot_range (napot_address grain address)
 
-unfoldable pub range_of : List Entry → ℕ → ByteRange
-range_of entries i = range_by (entry_at entries i).configuration.matching (low_address entries i)
-    (entry_at entries i).address
+-- the range of entry i of these, on this hart
+unfoldable pub range_on : Profile → List Entry → ℕ → ByteRange
+range_on profile entries i =
+    let entry = entry_at entries i in
+    range_by profile.grain entry.configuration.matching (low_address entries i) entry.address
 
-abbrev pub ranges_of : List Entry → List ByteRange
-ranges_of entries = map (range_of entries) (range_with_len 0 (length entries))
+abbrev pub ranges_on : Profile → List Entry → List ByteRange
+ranges_on profile entries = map (range_on profile entries) (range_with_len 0 (length entries))
+
+abbrev pub range_of : RegisterFile → ℕ → ByteRange
+range_of file = range_on file.profile file.entries
+
+abbrev pub ranges_of : RegisterFile → List ByteRange
+ranges_of file = ranges_on file.profile file.entries
 
 -- range i; past the last, an empty one
 abbrev pub range_in : List ByteRange → ℕ → ByteRange
 range_in ranges i = slice_index_or ranges i (record { start = 0; end = 0 })
 
 -- as many ranges as entries, and a byte is in range i exactly where entry i matches it
-pub record AreRanges (entries : List Entry) (ranges : List ByteRange) : Type 0 where
-  pub count : length ranges ≡ length entries
-  pub by_bytes : (i byte : ℕ) → Matches entries i byte ↔ IsInRange (range_in ranges i) byte
+pub record AreRanges (file : RegisterFile) (ranges : List ByteRange) : Type 0 where
+  pub count : length ranges ≡ length file.entries
+  pub by_bytes : (i byte : ℕ) → Matches file i byte ↔ IsInRange (range_in ranges i) byte
 
 abbrev pub is_touched : Access → ByteRange → Bool
 is_touched access range = nat_lt (max range.start access.start) (min range.end (access.start + access.length))
@@ -69,4 +79,4 @@ decision_from file access i (range ∷ ranges) =
     else decision_from file access (suc i) ranges
 
 unfoldable pub decision_of : RegisterFile → Access → Decision
-decision_of file access = decision_from file access 0 (ranges_of file.entries)
+decision_of file access = decision_from file access 0 (ranges_of file)

@@ -1,20 +1,25 @@
--- The register file (Volume II, 3.7.1 and Smepmp), for any number of entries: as many as the list has.
-use Rattle.std.specs.Prelude.{◌≡◌, ℕ, ◌+◌, ◌<◌, Bool, false, not, ◌&&◌, List, replicate}
+-- The register file (Volume II, 3.7.1 and Smepmp).
+use Rattle.std.specs.Prelude.{◌≡◌, ℕ, ◌+◌, ◌<◌, ◌≤◌, Bool, false, not, ◌&&◌, List, replicate}
+use Rattle.std.specs.Prelude.{length}
 use Rattle.std.specs.List.{list_all, range_with_len, slice_index_or}
 use Rattle.pmp_core.specs.declared.configuration.AddressMatching.TheVariants.{Off}
 use Rattle.pmp_core.specs.declared.entry.Entry.{Entry}
 use Rattle.pmp_core.specs.declared.mseccfg.MseccfgFields.{MseccfgFields}
+use Rattle.pmp_core.specs.declared.hart.TheConstants.{MAX_GRAIN}
 use Rattle.pmp_core.specs.declared.register_write.TheConstants.{WORD_ADDRESSES}
 use Rattle.pmp_core.specs.Configuration.{is_reserved}
+use Rattle.pmp_core.specs.Grain.{selectable}
+use Rattle.pmp_core.specs.Hart.{Profile, IsProfile, word_addresses}
 
--- the entries (3.7.1), and the bits MML, MMWP and RLB of mseccfg (Smepmp)
+-- the hart that has it, the entries (3.7.1), and the bits MML, MMWP and RLB of mseccfg (Smepmp)
 pub record RegisterFile : Type 0 where
+  pub profile : Profile
   pub entries : List Entry
   pub mseccfg : MseccfgFields
 
--- the file of these fields and entries, which code keeps apart
-abbrev pub file_of : MseccfgFields → List Entry → RegisterFile
-file_of mseccfg entries = record { entries = entries; mseccfg = mseccfg }
+-- the file of these parts, which code keeps apart
+abbrev pub file_of : Profile → MseccfgFields → List Entry → RegisterFile
+file_of profile mseccfg entries = record { profile = profile; entries = entries; mseccfg = mseccfg }
 
 -- all zero (3.7.1, reset)
 abbrev pub reset_entry : Entry
@@ -26,8 +31,8 @@ reset_entry = record {
 abbrev pub reset_mseccfg : MseccfgFields
 reset_mseccfg = record { mml = false; mmwp = false; rlb = false }
 
-abbrev pub reset_file : ℕ → RegisterFile
-reset_file n = file_of reset_mseccfg (replicate n reset_entry)
+abbrev pub reset_file : Profile → RegisterFile
+reset_file profile = file_of profile reset_mseccfg (replicate profile.entries reset_entry)
 
 -- entry i; where there is none, one that matches nothing and isn't locked
 abbrev pub entry_at : List Entry → ℕ → Entry
@@ -41,11 +46,20 @@ is_frozen file i = (entry_at file.entries i).configuration.locked && not file.ms
 abbrev pub is_held : RegisterFile → ℕ → Bool
 is_held file i = list_all (is_frozen file) (range_with_len 0 (i + 1))
 
--- each address register has 54 bits (3.7.1)
-abbrev pub HasAddresses : List Entry → Type 0
-HasAddresses entries = (i : ℕ) → (entry_at entries i).address < WORD_ADDRESSES
+-- no address register has more than 54 bits (3.7.1)
+abbrev pub AreWords : List Entry → Type 0
+AreWords entries = (i : ℕ) → (entry_at entries i).address < WORD_ADDRESSES
 
--- what every write keeps: no longer addresses, and no reserved combination
+-- and the grain has no more than 4096 bytes (3.7.1.1)
+abbrev pub HasAddresses : RegisterFile → Type 0
+HasAddresses file = (file.profile.grain ≤ MAX_GRAIN) × AreWords file.entries
+
+-- what every write keeps: as many entries as the hart has, no longer addresses, no reserved combination, no NA4 where it
+-- can't be chosen, and no mseccfg where the hart has none
 pub record IsLegal (file : RegisterFile) : Type 0 where
-  pub addresses : HasAddresses file.entries
+  pub profile : IsProfile file.profile
+  pub count : length file.entries ≡ file.profile.entries
+  pub words : (i : ℕ) → (entry_at file.entries i).address < word_addresses file.profile
   pub unreserved : file.mseccfg.mml ≡ false → (i : ℕ) → is_reserved (entry_at file.entries i).configuration ≡ false
+  pub chosen : (i : ℕ) → let c = (entry_at file.entries i).configuration in selectable file.profile.grain c ≡ c
+  pub plain : file.profile.has_smepmp ≡ false → file.mseccfg ≡ reset_mseccfg

@@ -10,9 +10,12 @@ use Rattle.pmp_core.specs.declared.csr.Csr.{Csr}
 use Rattle.pmp_core.specs.declared.csr.Csr.TheVariants.{Cfg, Addr, Mseccfg}
 use Rattle.pmp_core.specs.declared.entry.Entry.{Entry}
 use Rattle.pmp_core.specs.declared.event.Event.{Event}
+use Rattle.pmp_core.specs.declared.mseccfg.MseccfgFields.{MseccfgFields}
 use Rattle.pmp_core.specs.declared.event.Event.TheVariants.{Write, Reset}
-use Rattle.pmp_core.specs.declared.register_write.TheConstants.{ENTRIES_PER_CFG, WORD_ADDRESSES}
+use Rattle.pmp_core.specs.declared.register_write.TheConstants.{ENTRIES_PER_CFG}
 use Rattle.pmp_core.specs.Configuration.{configuration_of, is_reserved}
+use Rattle.pmp_core.specs.Grain.{selectable}
+use Rattle.pmp_core.specs.Hart.{word_addresses}
 use Rattle.pmp_core.specs.Mseccfg.{mseccfg_written}
 use Rattle.pmp_core.specs.RegisterFile.{RegisterFile, reset_file, entry_at, is_frozen}
 use Rattle.pmp_core.specs.Rights.{is_barred}
@@ -27,13 +30,15 @@ admitted false _ old new = without_reserved new
 admitted true false old new = if is_barred new.locked new.read new.write new.execute then old else new
 admitted true true old new = new
 
--- what a byte leaves over the configuration that was there, by MML and RLB (3.7.1.2 and Smepmp)
-abbrev pub stored_over : (mml rlb : Bool) → Configuration → ℕ → Configuration
-stored_over mml rlb old byte = if old.locked && not rlb then old else admitted mml rlb old (configuration_of byte)
+-- what a byte leaves over the configuration that was there, by G, MML and RLB (3.7.1.1, 3.7.1.2 and Smepmp)
+abbrev pub stored_over : (grain : ℕ) → (mml rlb : Bool) → Configuration → ℕ → Configuration
+stored_over grain mml rlb old byte =
+    if old.locked && not rlb then old else selectable grain (admitted mml rlb old (configuration_of byte))
 
 -- entry i's configuration after the byte is written to it
 abbrev pub stored : RegisterFile → ℕ → ℕ → Configuration
-stored file i = stored_over file.mseccfg.mml file.mseccfg.rlb (entry_at file.entries i).configuration
+stored file i =
+    stored_over file.profile.grain file.mseccfg.mml file.mseccfg.rlb (entry_at file.entries i).configuration
 
 -- pmpcfg q holds the bytes of the eight entries from 4q on, where q is even (3.7.1)
 abbrev pub holds_byte_of : (q i : ℕ) → Bool
@@ -64,7 +69,7 @@ is_address_frozen file i =
 abbrev pub address_written : RegisterFile → (i value : ℕ) → List Entry
 address_written file i value =
     if is_address_frozen file i then file.entries
-    else slice_set file.entries i (record (entry_at file.entries i) { address = value % WORD_ADDRESSES })
+    else slice_set file.entries i (record (entry_at file.entries i) { address = value % word_addresses file.profile })
 
 -- the entries after pmpcfg q is written (3.7.1)
 abbrev pub configurations_written : RegisterFile → (q value : ℕ) → List Entry
@@ -74,13 +79,18 @@ configurations_written file q value = map (configured file q value) (range_with_
 abbrev pub is_any_locked : List Entry → Bool
 is_any_locked entries = list_any (λ entry. entry.configuration.locked) entries
 
+-- mseccfg after it is written, which a hart without Smepmp doesn't have
+abbrev pub security_written : RegisterFile → (value : ℕ) → MseccfgFields
+security_written file value =
+    if file.profile.has_smepmp then mseccfg_written file.mseccfg (is_any_locked file.entries) value else file.mseccfg
+
 -- the file after a register is written
 abbrev pub written : RegisterFile → Csr → ℕ → RegisterFile
 written file (Cfg q) value = record file { entries = configurations_written file q value }
 written file (Addr i) value = record file { entries = address_written file i value }
-written file Mseccfg value = record file { mseccfg = mseccfg_written file.mseccfg (is_any_locked file.entries) value }
+written file Mseccfg value = record file { mseccfg = security_written file value }
 
--- one step; a reset keeps the number of entries
+-- one step; a reset keeps the hart
 abbrev pub step : RegisterFile → Event → RegisterFile
-step file Reset = reset_file (length file.entries)
+step file Reset = reset_file file.profile
 step file (Write csr value) = written file csr value

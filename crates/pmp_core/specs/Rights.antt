@@ -1,5 +1,5 @@
 -- What a rule allows, and what is allowed where no rule decides (Volume II, 3.7.1.2, 3.7.1.3 and Smepmp).
-use Rattle.std.specs.Prelude.{ℕ, ◌+◌, ◌*◌, Bool, true, false}
+use Rattle.std.specs.Prelude.{ℕ, ◌+◌, ◌*◌, Bool, true, false, nat_lt, length}
 use Rattle.pmp_core.specs.declared.access.Mode.{Mode}
 use Rattle.pmp_core.specs.declared.access.Mode.TheVariants.{M, S, U}
 use Rattle.pmp_core.specs.declared.access.Kind.{Kind}
@@ -85,15 +85,27 @@ rule_rights true c = lockdown_rights c.locked c.read c.write c.execute
 abbrev pub rights : RegisterFile → ℕ → Mode → Rights
 rights file i = rule_rights file.mseccfg.mml (entry_at file.entries i).configuration
 
--- where no entry matches, by MML and MMWP (3.7.1.3 and Smepmp)
-abbrev pub default_rights_by : (mml mmwp : Bool) → Mode → Rights
-default_rights_by false false = for_mode rwx nothing
-default_rights_by true false = for_mode rw nothing
-default_rights_by _ true = for_mode nothing nothing
+-- for machine mode where no entry matches, by MML and MMWP (3.7.1.3 and Smepmp)
+abbrev pub machine_default : (mml mmwp : Bool) → Rights
+machine_default false false = rwx
+machine_default true false = rw
+machine_default _ true = nothing
+
+-- for the others, whom a hart without entries lets do all (3.7.1.3)
+abbrev pub others_default : (has_entries : Bool) → Rights
+others_default true = nothing
+others_default false = rwx
+
+abbrev pub default_rights_by : (has_entries mml mmwp : Bool) → Mode → Rights
+default_rights_by has_entries mml mmwp = for_mode (machine_default mml mmwp) (others_default has_entries)
+
+-- the hart has an entry, be it off or not
+abbrev pub has_entries : RegisterFile → Bool
+has_entries file = nat_lt 0 (length file.entries)
 
 -- what the mode may do where no entry matches
 abbrev pub default_rights : RegisterFile → Mode → Rights
-default_rights file = default_rights_by file.mseccfg.mml file.mseccfg.mmwp
+default_rights file = default_rights_by (has_entries file) file.mseccfg.mml file.mseccfg.mmwp
 
 -- the combinations L R W X that no write adds under lockdown (Smepmp)
 abbrev pub is_barred : (l r w x : Bool) → Bool

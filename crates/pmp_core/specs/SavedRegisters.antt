@@ -1,39 +1,78 @@
 -- The registers of a unit as plain numbers, and the file that numbers stand for (Volume II, 3.7.1 and Smepmp).
-use Rattle.std.specs.Prelude.{◌≡◌, ◌≢◌, ℕ, ◌%◌, ◌==◌, true, if◌then◌else◌, List, length, map, replicate, slice_index}
+use Rattle.std.specs.Prelude.{◌≡◌, ◌≢◌, ℕ, ◌+◌, ◌*◌, ◌/◌, ◌%◌, ◌^◌, ◌==◌, Bool, true, ◌&&◌, ◌||◌, if◌then◌else◌}
+use Rattle.std.specs.Prelude.{List, map, replicate, slice_index}
+use Rattle.std.specs.Option.{is_none}
 use Rattle.std.specs.List.{range_with_len}
-use Rattle.pmp_core.specs.declared.csr.Csr.TheVariants.{Addr, Mseccfg}
+use Rattle.pmp_core.specs.declared.csr.Csr.TheVariants.{Mseccfg}
 use Rattle.pmp_core.specs.declared.entry.Entry.{Entry}
 use Rattle.pmp_core.specs.declared.saved_registers.SavedRegisters.{SavedRegisters}
-use Rattle.pmp_core.specs.declared.size.Size.{Size}
-use Rattle.pmp_core.specs.declared.size.Size.TheVariants.{Sixteen, SixtyFour}
 use Rattle.pmp_core.specs.declared.size.TheConstants.{MAX_ENTRIES}
-use Rattle.pmp_core.specs.declared.register_write.TheConstants.{WORD_ADDRESSES}
-use Rattle.pmp_core.specs.Configuration.{byte_of}
+use Rattle.pmp_core.specs.declared.register_file.TheConstants.{ENTRIES}
+use Rattle.pmp_core.specs.declared.hart.TheConstants.{MAX_ADDRESS_BITS}
+use Rattle.pmp_core.specs.Configuration.{bit_of, byte_of}
+use Rattle.pmp_core.specs.Hart.{Profile, hart_fault, profile_by, profile_with, word_addresses}
 use Rattle.pmp_core.specs.Mseccfg.{mseccfg_fields}
-use Rattle.pmp_core.specs.RegisterFile.{RegisterFile, file_of, reset_entry, entry_at}
+use Rattle.pmp_core.specs.declared.mseccfg.MseccfgFields.{MseccfgFields}
+use Rattle.pmp_core.specs.RegisterFile.{RegisterFile, file_of, reset_entry, reset_mseccfg, entry_at}
 use Rattle.pmp_core.specs.RegisterValue.{register_value}
 use Rattle.pmp_core.specs.RegisterWrite.{stored_over}
-use Rattle.pmp_core.specs.Size.{count_of}
 
--- each register of sixty-four entries as it reads (3.7.1), and how many entries there are
+-- ---- a hart as a number
+
+-- 16 entries, or 64, the finest grain, the widest addresses and Smepmp
+abbrev pub is_usual : Profile → Bool
+is_usual profile =
+    (profile.entries == ENTRIES || profile.entries == MAX_ENTRIES)
+    && profile.grain == 0 && profile.address_bits == MAX_ADDRESS_BITS && profile.has_smepmp
+
+-- of a usual hart how many entries there are; of another that in bits 7 to 0, how many bits an address has in 15 to 8,
+-- whether there is Smepmp in 16, G in 31 to 24, and bit 32 set
+unfoldable pub hart_number : Profile → ℕ
+hart_number profile =
+    if is_usual profile then profile.entries
+    else profile.entries + 2 ^ 8 * profile.address_bits + 2 ^ 16 * bit_of profile.has_smepmp
+    + 2 ^ 24 * profile.grain + 2 ^ 32
+
+abbrev pub spelled_hart : (number : ℕ) → Profile
+spelled_hart number =
+    profile_by (number % 2 ^ 8) (number / 2 ^ 24 % 2 ^ 8) (number / 2 ^ 8 % 2 ^ 8) (number / 2 ^ 16 % 2 == 1)
+
+-- bits 63 to 32 are 1, and there is such a hart
+abbrev pub spells_hart : (number : ℕ) → Bool
+spells_hart number =
+    number / 2 ^ 32 == 1 && is_none (hart_fault (spelled_hart number))
+
+-- the hart that a number stands for: one that it spells, for 64 the usual one of 64 entries, and else that of 16
+unfoldable pub saved_hart : (number : ℕ) → Profile
+saved_hart number =
+    if spells_hart number then spelled_hart number
+    else profile_with (if number == MAX_ENTRIES then MAX_ENTRIES else ENTRIES)
+
+-- ---- the registers
+
+-- each register of sixty-four entries as it is stored (3.7.1), and the hart
 unfoldable pub saved_registers : RegisterFile → SavedRegisters
 saved_registers file = record {
-  addresses = map (λ i. register_value file (Addr i)) (range_with_len 0 MAX_ENTRIES);
+  addresses = map (λ i. (entry_at file.entries i).address) (range_with_len 0 MAX_ENTRIES);
   configurations = map (λ i. byte_of (entry_at file.entries i).configuration) (range_with_len 0 MAX_ENTRIES);
   mseccfg = register_value file Mseccfg;
-  entries = length file.entries;
+  entries = hart_number file.profile;
 }
 
--- 64 is sixty-four, and every other number sixteen
-abbrev pub saved_size : (entries : ℕ) → Size
-saved_size entries = if entries == MAX_ENTRIES then SixtyFour else Sixteen
+abbrev pub hart_in : SavedRegisters → Profile
+hart_in saved = saved_hart saved.entries
 
--- entry i as writes to a reset entry leave it, with bypass on: 54 bits, and reserved rights under lockdown alone
+-- mseccfg, where the hart has it
+abbrev pub fields_in : SavedRegisters → MseccfgFields
+fields_in saved = if (hart_in saved).has_smepmp then mseccfg_fields saved.mseccfg else reset_mseccfg
+
+-- entry i as writes to a reset entry leave it, with bypass on: no longer addresses, reserved rights under lockdown
+-- alone, and NA4 with the finest grain alone
 abbrev pub restored_entry : SavedRegisters → ℕ → Entry
 restored_entry saved i = record {
-  configuration = stored_over (mseccfg_fields saved.mseccfg).mml true reset_entry.configuration
+  configuration = stored_over (hart_in saved).grain (fields_in saved).mml true reset_entry.configuration
       (slice_index saved.configurations i);
-  address = slice_index saved.addresses i % WORD_ADDRESSES;
+  address = slice_index saved.addresses i % word_addresses (hart_in saved);
 }
 
 -- the first n entries
@@ -42,8 +81,8 @@ restored_entries saved n = map (restored_entry saved) (range_with_len 0 n)
 
 -- the file that the numbers stand for, whatever they are
 unfoldable pub restored_file : SavedRegisters → RegisterFile
-restored_file saved = file_of (mseccfg_fields saved.mseccfg)
-    (restored_entries saved (count_of (saved_size saved.entries)))
+restored_file saved =
+    file_of (hart_in saved) (fields_in saved) (restored_entries saved (hart_in saved).entries)
 
 abbrev pub zero_registers : SavedRegisters
 zero_registers = record {

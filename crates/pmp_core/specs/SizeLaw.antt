@@ -9,6 +9,7 @@ use Rattle.pmp_core.specs.declared.event.Event.{Event}
 use Rattle.pmp_core.specs.declared.event.Event.TheVariants.{Write, Reset}
 use Rattle.pmp_core.specs.declared.register_file.TheConstants.{ENTRIES}
 use Rattle.pmp_core.specs.declared.size.TheConstants.{MAX_ENTRIES}
+use Rattle.pmp_core.specs.Hart.{profile_with}
 use Rattle.pmp_core.specs.RegisterFile.{RegisterFile}
 use Rattle.pmp_core.specs.Decision.{IsDecision}
 use Rattle.pmp_core.specs.Histories.{replay}
@@ -32,4 +33,4 @@ pub record DecideAlike (one other : RegisterFile) (access : Access) : Type 0 whe
 -- events that write no other registers give files of sixteen and of sixty-four entries that decide alike
 abbrev pub SizeLaw : Type 0
 SizeLaw = (events : List Event) (access : Access) → list_all writes_sixteen events ≡ true
-    → DecideAlike (replay ENTRIES events) (replay MAX_ENTRIES events) access
+    → DecideAlike (replay (profile_with ENTRIES) events) (replay (profile_with MAX_ENTRIES) events) access

@@ -6,14 +6,14 @@ use Rattle.pmp_core.specs.declared.access.Mode.{Mode}
 use Rattle.pmp_core.specs.declared.event.Event.{Event}
 use Rattle.pmp_core.specs.RegisterFile.{RegisterFile, entry_at}
 use Rattle.pmp_core.specs.RegisterWrite.{is_address_frozen, step}
-use Rattle.pmp_core.specs.Rights.{allows, default_rights}
+use Rattle.pmp_core.specs.Rights.{allows, has_entries, default_rights}
 use Rattle.pmp_core.specs.Histories.{is_write}
 
--- MML and MMWP stay where they are set, and with MMWP nothing is open where no entry matches (Smepmp)
+-- MML and MMWP stay where they are set, and with MMWP nothing is open where no entry matches, if there is any (Smepmp)
 pub record StaysSet (before after : RegisterFile) : Type 0 where
   pub mml : before.mseccfg.mml ≡ true → after.mseccfg.mml ≡ true
   pub mmwp : before.mseccfg.mmwp ≡ true → after.mseccfg.mmwp ≡ true
-  pub closed : before.mseccfg.mmwp ≡ true → (mode : Mode) (kind : Kind)
+  pub closed : has_entries before ≡ true → before.mseccfg.mmwp ≡ true → (mode : Mode) (kind : Kind)
       → allows (default_rights after mode) kind ≡ false
 
 -- so they do through every list of writes, if no reset is among them

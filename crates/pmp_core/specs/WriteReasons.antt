@@ -5,20 +5,21 @@ use Rattle.std.specs.List.{range_with_len, list_any, filter}
 use Rattle.std.specs.Int.{w64, to_le_bytes}
 use Rattle.pmp_core.specs.declared.csr.Csr.{Csr}
 use Rattle.pmp_core.specs.declared.csr.Csr.TheVariants.{Cfg, Addr, Mseccfg}
-use Rattle.pmp_core.specs.declared.entry.Entry.{Entry}
 use Rattle.pmp_core.specs.declared.mseccfg.MseccfgFields.{MseccfgFields}
 use Rattle.pmp_core.specs.declared.write_reasons.WriteReason.{WriteReason}
 use Rattle.pmp_core.specs.declared.write_reasons.WriteReason.TheVariants.{Absent, Bits, Frozen, Tor, Reserved, Lockdown}
-use Rattle.pmp_core.specs.declared.write_reasons.WriteReason.TheVariants.{Sticky, Bypass}
-use Rattle.pmp_core.specs.declared.register_write.TheConstants.{ENTRIES_PER_CFG, WORD_ADDRESSES}
+use Rattle.pmp_core.specs.declared.write_reasons.WriteReason.TheVariants.{Sticky, Bypass, Grain}
+use Rattle.pmp_core.specs.declared.register_write.TheConstants.{ENTRIES_PER_CFG}
 use Rattle.pmp_core.specs.Configuration.{configuration_of, byte_of, is_reserved}
+use Rattle.pmp_core.specs.Grain.{is_na4, read_address}
+use Rattle.pmp_core.specs.Hart.{Profile, word_addresses}
 use Rattle.pmp_core.specs.Mseccfg.{mseccfg_fields}
 use Rattle.pmp_core.specs.RegisterFile.{RegisterFile, entry_at, is_frozen}
 use Rattle.pmp_core.specs.RegisterWrite.{holds_byte_of, is_address_frozen, is_any_locked}
 use Rattle.pmp_core.specs.Rights.{is_barred}
 
 abbrev pub all_reasons : List WriteReason
-all_reasons = Absent ∷ Bits ∷ Frozen ∷ Tor ∷ Reserved ∷ Lockdown ∷ Sticky ∷ Bypass ∷ []
+all_reasons = Absent ∷ Bits ∷ Frozen ∷ Tor ∷ Reserved ∷ Lockdown ∷ Sticky ∷ Bypass ∷ Grain ∷ []
 
 -- ---- one entry
 
@@ -26,22 +27,24 @@ all_reasons = Absent ∷ Bits ∷ Frozen ∷ Tor ∷ Reserved ∷ Lockdown ∷ S
 abbrev pub byte_for : (q value i : ℕ) → ℕ
 byte_for q value i = slice_index (to_le_bytes w64 value) (i - 4 * q)
 
--- the register has entry i's byte or address, and the value has another
-abbrev pub is_changed : List Entry → Csr → (value i : ℕ) → Bool
-is_changed entries (Cfg q) value i =
-    holds_byte_of q i && not (byte_for q value i == byte_of (entry_at entries i).configuration)
-is_changed entries (Addr k) value i = k == i && not (value == (entry_at entries i).address)
-is_changed entries Mseccfg value i = false
+-- the register has entry i's byte or address, and reads another than the value has
+abbrev pub is_changed : RegisterFile → Csr → (value i : ℕ) → Bool
+is_changed file (Cfg q) value i =
+    holds_byte_of q i && not (byte_for q value i == byte_of (entry_at file.entries i).configuration)
+is_changed file (Addr k) value i =
+    let entry = entry_at file.entries i in
+    k == i && not (value == read_address file.profile.grain entry.configuration.matching entry.address)
+is_changed file Mseccfg value i = false
 
 -- a frozen entry is to change (3.7.1.2)
 abbrev pub changes_frozen : RegisterFile → Csr → (value i : ℕ) → Bool
-changes_frozen file csr value i = is_frozen file i && is_changed file.entries csr value i
+changes_frozen file csr value i = is_frozen file i && is_changed file csr value i
 
 -- the low end of a frozen entry's range is to change, and is of an entry that isn't frozen (3.7.1.2)
 abbrev pub is_low_end : RegisterFile → Csr → (value i : ℕ) → Bool
 is_low_end file (Cfg q) value i = false
 is_low_end file (Addr k) value i =
-    not (is_frozen file i) && is_address_frozen file i && is_changed file.entries (Addr k) value i
+    not (is_frozen file i) && is_address_frozen file i && is_changed file (Addr k) value i
 is_low_end file Mseccfg value i = false
 
 -- W without R is to be stored over an entry that isn't frozen, and MML is 0 (3.7.1)
@@ -61,7 +64,17 @@ adds_barred file (Cfg q) value i =
 adds_barred file (Addr k) value i = false
 adds_barred file Mseccfg value i = false
 
--- whether this is a reason for entry i, which only four of the reasons can be
+-- NA4 is to be stored over an entry that isn't frozen, or an address that the entry doesn't read so, and the grain is
+-- above four bytes (3.7.1.1)
+abbrev pub is_too_fine : RegisterFile → Csr → (value i : ℕ) → Bool
+is_too_fine file (Cfg q) value i =
+    holds_byte_of q i && not (is_frozen file i) && nat_lt 0 file.profile.grain
+    && is_na4 (configuration_of (byte_for q value i)).matching
+is_too_fine file (Addr k) value i =
+    k == i && not (read_address file.profile.grain (entry_at file.entries i).configuration.matching value == value)
+is_too_fine file Mseccfg value i = false
+
+-- whether this is a reason for entry i, which only five of the reasons can be
 abbrev pub is_entry_reason : WriteReason → RegisterFile → Csr → (value i : ℕ) → Bool
 is_entry_reason Absent file csr value i = false
 is_entry_reason Bits file csr value i = false
@@ -71,6 +84,7 @@ is_entry_reason Reserved file csr value i = adds_reserved file csr value i
 is_entry_reason Lockdown file csr value i = adds_barred file csr value i
 is_entry_reason Sticky file csr value i = false
 is_entry_reason Bypass file csr value i = false
+is_entry_reason Grain file csr value i = is_too_fine file csr value i
 
 -- some reason holds for entry i
 abbrev pub has_reason : RegisterFile → Csr → (value i : ℕ) → Bool
@@ -83,23 +97,27 @@ entries_with_reasons file csr value =
 
 -- ---- the whole register
 
--- the value isn't zero for an entry, or a register, that a unit of n entries doesn't have (3.7.1)
-abbrev pub is_absent : (n : ℕ) → Csr → (value : ℕ) → Bool
-is_absent n (Cfg q) value =
+-- the value has a byte other than zero for an entry past the first n (3.7.1)
+abbrev pub has_absent_byte : (n q value : ℕ) → Bool
+has_absent_byte n q value =
     list_any (λ i. not (byte_for q value i == 0) && not (holds_byte_of q i && nat_lt i n))
     (range_with_len (4 * q) ENTRIES_PER_CFG)
-is_absent n (Addr i) value = not (value == 0) && not (nat_lt i n)
-is_absent n Mseccfg value = false
+
+-- the value isn't zero for an entry, or a register, that the hart doesn't have (3.7.1)
+abbrev pub is_absent : RegisterFile → Csr → (value : ℕ) → Bool
+is_absent file (Cfg q) value = has_absent_byte (length file.entries) q value
+is_absent file (Addr i) value = not (value == 0) && not (nat_lt i (length file.entries))
+is_absent file Mseccfg value = not (value == 0) && not file.profile.has_smepmp
 
 -- bit 6 or 5 (3.7.1)
 abbrev pub has_bit_6_or_5 : (byte : ℕ) → Bool
 has_bit_6_or_5 byte = not (byte / 32 % 4 == 0)
 
--- bits 6 and 5 of a byte, 63 to 54 of an address, 63 to 3 of mseccfg (3.7.1 and Smepmp)
-abbrev pub has_other_bits : Csr → (value : ℕ) → Bool
-has_other_bits (Cfg q) value = list_any has_bit_6_or_5 (to_le_bytes w64 value)
-has_other_bits (Addr i) value = not (value / WORD_ADDRESSES == 0)
-has_other_bits Mseccfg value = not (value / 8 == 0)
+-- bits 6 and 5 of a byte, those of an address above its hart's, 63 to 3 of mseccfg (3.7.1 and Smepmp)
+abbrev pub has_other_bits : Profile → Csr → (value : ℕ) → Bool
+has_other_bits profile (Cfg q) value = list_any has_bit_6_or_5 (to_le_bytes w64 value)
+has_other_bits profile (Addr i) value = not (value / word_addresses profile == 0)
+has_other_bits profile Mseccfg value = not (value / 8 == 0)
 
 -- MML or MMWP is to be cleared (Smepmp)
 abbrev pub clears_sticky : MseccfgFields → Csr → (value : ℕ) → Bool
@@ -123,14 +141,15 @@ is_some_entry_reason reason file csr value =
 
 -- whether this is a reason why the register doesn't read the value
 abbrev pub is_reason : WriteReason → RegisterFile → Csr → (value : ℕ) → Bool
-is_reason Absent file csr value = is_absent (length file.entries) csr value
-is_reason Bits file csr value = has_other_bits csr value
+is_reason Absent file csr value = is_absent file csr value
+is_reason Bits file csr value = has_other_bits file.profile csr value
 is_reason Frozen file csr value = is_some_entry_reason Frozen file csr value
 is_reason Tor file csr value = is_some_entry_reason Tor file csr value
 is_reason Reserved file csr value = is_some_entry_reason Reserved file csr value
 is_reason Lockdown file csr value = is_some_entry_reason Lockdown file csr value
 is_reason Sticky file csr value = clears_sticky file.mseccfg csr value
 is_reason Bypass file csr value = sets_bypass file csr value
+is_reason Grain file csr value = is_some_entry_reason Grain file csr value
 
 -- the reasons why the register doesn't read the value, in this order
 abbrev pub write_reasons : RegisterFile → Csr → (value : ℕ) → List WriteReason

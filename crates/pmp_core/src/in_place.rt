@@ -1,29 +1,22 @@
-//! Registers that stay plain numbers: reads, writes and decisions that look at the entries that they need, and convert
-//! no others.
+//! Registers that stay plain numbers: reads and writes that look at the entries that they need, and convert no others.
 
 ghost use Rattle.std.specs.Prelude.{◌≡◌, ◌≢◌, ◌*◌, ◌<◌, ◌≤◌, ◌&&◌, not, true, false, length};
 ghost use Rattle.pmp_core.specs.Configuration.{byte_of};
-ghost use Rattle.pmp_core.specs.Mseccfg.{mseccfg_fields};
+ghost use Rattle.pmp_core.specs.Grain.{read_address};
 ghost use Rattle.pmp_core.specs.RegisterFile.{entry_at, is_frozen};
 ghost use Rattle.pmp_core.specs.RegisterValue.{configuration_word, register_value};
 ghost use Rattle.pmp_core.specs.RegisterWrite.{stored_over, is_address_frozen, is_any_locked, written};
-ghost use Rattle.pmp_core.specs.Ranges.{decision_in, decision_of, range_of, ranges_of};
-ghost use Rattle.pmp_core.specs.Rights.{perms_of, rights, default_rights};
-ghost use Rattle.pmp_core.specs.SavedRegisters.{restored_entry, restored_file, saved_size, IsSetAt};
-ghost use Rattle.pmp_core.specs.Size.{count_of};
-ghost use Rattle.pmp_core.specs.WriteReasons.{is_reason, is_entry_reason};
+ghost use Rattle.pmp_core.specs.SavedRegisters.{hart_in, fields_in, restored_entry, restored_file, IsSetAt};
+ghost use Rattle.pmp_core.specs.WriteReasons.{is_reason, is_entry_reason, is_too_fine};
 
-use crate::access::{Access, Mode};
+mod decision;
+
 use crate::configuration::{AddressMatching, Configuration};
 use crate::csr::Csr;
-use crate::decision::{Cause, Decision};
 use crate::event::Event;
 use crate::mseccfg::MseccfgFields;
-use crate::perms::Perms;
-use crate::range::{ByteRange, range_by};
 use crate::register_file::RegFile;
-use crate::register_write::{ENTRIES_PER_CFG, WORD_ADDRESSES, stored_over, without_reserved};
-use crate::rights::{default_rights_by, rule_rights};
+use crate::register_write::{ENTRIES_PER_CFG, stored_over, without_reserved};
 use crate::saved_registers::SavedRegisters;
 use crate::size::MAX_ENTRIES;
 use crate::write_reasons::WriteReason;
@@ -32,18 +25,11 @@ impl SavedRegisters {
     /// How many entries the unit has.
     #[inline]
     pub fn count(&self) -> usize
-        ensures count { result ≡ count_of (saved_size self.now.entries) }
+        ensures count { result ≡ (hart_in self.now).entries }
         ensures entries { result ≡ length (restored_file self.now).entries }
         ensures most { result ≤ MAX_ENTRIES }
     {
-        usize::from(self.size().entries())
-    }
-
-    #[inline]
-    fn fields(&self) -> MseccfgFields
-        ensures { result ≡ mseccfg_fields self.now.mseccfg }
-    {
-        MseccfgFields::from_value(self.mseccfg)
+        usize::from(self.hart().entries())
     }
 
     #[inline]
@@ -52,11 +38,12 @@ impl SavedRegisters {
         ensures { result ≡ (restored_entry self.now place).configuration }
     {
         let configuration = Configuration::from_byte(self.configurations[place]);
-        if self.fields().mml {
+        let admitted = if self.fields().mml {
             configuration
         } else {
             without_reserved(configuration)
-        }
+        };
+        self.hart().selectable(admitted)
     }
 
     #[inline]
@@ -64,7 +51,7 @@ impl SavedRegisters {
         requires { place < MAX_ENTRIES }
         ensures { result ≡ (restored_entry self.now place).address }
     {
-        self.addresses[place] % WORD_ADDRESSES
+        self.addresses[place] % self.hart().word_addresses()
     }
 
     /// The configuration byte of the entry, if there is one.
@@ -79,13 +66,30 @@ impl SavedRegisters {
         }
     }
 
-    /// The address of the entry, if there is one.
+    /// What the address register of an entry reads.
+    #[inline]
+    #[tactic(auto, using(crate::proofs::InPlace::few_in))]
+    fn read_address(&self, index: usize) -> u64
+        requires { index < (hart_in self.now).entries }
+        ensures { let entry = restored_entry self.now index in
+            result ≡ read_address (hart_in self.now).grain entry.configuration.matching entry.address }
+    {
+        let address = self.address(index);
+        let hart = self.hart();
+        if hart.grain() == 0 {
+            address
+        } else {
+            hart.read_address(self.configuration(index).matching, address)
+        }
+    }
+
+    /// What the address register of the entry reads, if there is one.
     #[inline]
     fn address_value(&self, index: usize) -> u64
-        ensures { result ≡ (entry_at (restored_file self.now).entries index).address }
+        ensures { result ≡ register_value (restored_file self.now) (Csr.Addr index) }
     {
         if index < self.count() {
-            self.address(index)
+            self.read_address(index)
         } else {
             0
         }
@@ -118,8 +122,9 @@ impl SavedRegisters {
 
     /// Whether entry `index` keeps its address: it is frozen, or the next entry is frozen and TOR.
     #[inline]
+    #[tactic(auto, using(crate::proofs::InPlace::few_in))]
     fn is_address_frozen(&self, index: usize) -> bool
-        requires { index < count_of (saved_size self.now.entries) }
+        requires { index < (hart_in self.now).entries }
         ensures { result ≡ is_address_frozen (restored_file self.now) index }
     {
         if self.fields().rlb {
@@ -137,8 +142,9 @@ impl SavedRegisters {
 
     /// Whether the entry is frozen.
     #[inline]
+    #[tactic(auto, using(crate::proofs::InPlace::few_in))]
     fn is_frozen(&self, index: usize) -> bool
-        requires { index < count_of (saved_size self.now.entries) }
+        requires { index < (hart_in self.now).entries }
         ensures { result ≡ is_frozen (restored_file self.now) index }
     {
         self.configuration(index).locked && !self.fields().rlb
@@ -146,24 +152,38 @@ impl SavedRegisters {
 
     /// Whether the entry isn't frozen, and its address is the low end of a frozen range.
     #[inline]
+    #[tactic(auto, using(crate::proofs::InPlace::few_in))]
     fn is_low_end(&self, index: usize) -> bool
-        requires { index < count_of (saved_size self.now.entries) }
+        requires { index < (hart_in self.now).entries }
         ensures { result ≡ (not (is_frozen (restored_file self.now) index)
             && is_address_frozen (restored_file self.now) index) }
     {
         !self.is_frozen(index) && self.is_address_frozen(index)
     }
 
+    /// Whether the entry's address register doesn't read the value so, by its mode and the grain.
+    #[inline]
+    #[tactic(auto, using(crate::proofs::InPlace::few_in))]
+    fn is_too_fine(&self, index: usize, value: u64) -> bool
+        requires { index < (hart_in self.now).entries }
+        ensures { result ≡ is_too_fine (restored_file self.now) (Csr.Addr index) value index }
+    {
+        let matching = self.configuration(index).matching;
+        self.hart().read_address(matching, value) != value
+    }
+
     /// Whether this reason holds for the entry of the address register.
     #[inline]
+    #[tactic(auto, using(crate::proofs::InPlace::few_in))]
     fn is_own_entry_reason(&self, reason: WriteReason, index: usize, value: u64) -> bool
-        requires { index < count_of (saved_size self.now.entries) }
+        requires { index < (hart_in self.now).entries }
         ensures { result ≡ is_entry_reason reason (restored_file self.now) (Csr.Addr index) value index }
     {
-        let is_other = value != self.address(index);
+        let is_other = value != self.read_address(index);
         match reason {
             WriteReason::Frozen => self.is_frozen(index) && is_other,
             WriteReason::Tor => self.is_low_end(index) && is_other,
+            WriteReason::Grain => self.is_too_fine(index, value),
             _ => false,
         }
     }
@@ -177,7 +197,7 @@ impl SavedRegisters {
         let is_there = index < self.count();
         match reason {
             WriteReason::Absent => value != 0 && !is_there,
-            WriteReason::Bits => value / WORD_ADDRESSES != 0,
+            WriteReason::Bits => value / self.hart().word_addresses() != 0,
             _ if is_there => self.is_own_entry_reason(reason, index, value),
             _ => false,
         }
@@ -191,7 +211,7 @@ impl SavedRegisters {
         ensures changed { result ≡ true → restored_file self.new ≢ restored_file self.old }
     {
         let index = usize::from(register);
-        let address = value % WORD_ADDRESSES;
+        let address = value % self.hart().word_addresses();
         if index >= self.count() {
             return false;
         }
@@ -209,14 +229,16 @@ impl SavedRegisters {
     #[inline]
     fn write_configuration(&mut self, place: usize, byte: u8) -> bool
         requires { place < MAX_ENTRIES }
-        ensures set { let entry = restored_entry self.old place in let fields = mseccfg_fields self.old.mseccfg in
+        ensures set { let entry = restored_entry self.old place in let fields = fields_in self.old in
             IsSetAt self.old self.new place
-            (record entry { configuration = stored_over fields.mml fields.rlb entry.configuration byte }) }
+            (record entry {
+              configuration = stored_over (hart_in self.old).grain fields.mml fields.rlb entry.configuration byte;
+            }) }
         ensures same { result ≡ false → self.new ≡ self.old }
         ensures changed { result ≡ true → restored_entry self.new place ≢ restored_entry self.old place }
     {
         let old = self.configuration(place);
-        let new = stored_over(old, byte, &self.fields()).byte();
+        let new = stored_over(self.hart(), old, byte, &self.fields()).byte();
         if new == old.byte() {
             return false;
         }
@@ -239,7 +261,7 @@ impl SavedRegisters {
         }
         let bytes = value.to_le_bytes();
         let mut is_changed = false;
-        for place in 0..ENTRIES_PER_CFG {
+        for place in 0..ENTRIES_PER_CFG.min(self.count() - first) {
             let is_new = self.write_configuration(first + place, bytes[place]);
             is_changed |= is_new;
         }
@@ -247,6 +269,7 @@ impl SavedRegisters {
     }
 
     /// Whether some entry is locked, be it off or not.
+    #[tactic(auto, using(crate::proofs::InPlace::few_in))]
     fn is_any_locked(&self) -> bool
         ensures { result ≡ is_any_locked (restored_file self.now).entries }
     {
@@ -276,6 +299,9 @@ impl SavedRegisters {
         ensures same { result ≡ false → self.new ≡ self.old }
         ensures changed { result ≡ true → restored_file self.new ≢ restored_file self.old }
     {
+        if !self.hart().has_smepmp() {
+            return false;
+        }
         let old = self.fields();
         let new = old.written(value, self.is_any_locked());
         if new.value() == old.value() {
@@ -300,85 +326,6 @@ impl SavedRegisters {
             Csr::Cfg(register) => self.write_configurations(register, value),
             Csr::Addr(register) => self.write_address(register, value),
             Csr::Mseccfg => self.write_mseccfg(value),
-        }
-    }
-
-    /// Where the entry matches.
-    #[inline]
-    fn range(&self, index: usize) -> ByteRange
-        requires { index < count_of (saved_size self.now.entries) }
-        ensures { result ≡ range_of (restored_file self.now).entries index }
-    {
-        let low = match index.checked_sub(1) {
-            Some(before) => self.address(before),
-            None => 0,
-        };
-        range_by(low, &self.entry(index))
-    }
-
-    /// Writes where each entry matches.
-    pub fn decode(&self, ranges: &mut [ByteRange])
-        requires { length ranges.old ≡ length (restored_file self.now).entries }
-        ensures { ranges.new ≡ ranges_of (restored_file self.now).entries }
-    {
-        for index in 0..ranges.len() {
-            ranges[index] = self.range(index);
-        }
-    }
-
-    /// What the entry's rule allows the mode, where the entry matches every byte of an access.
-    #[inline]
-    pub fn rights(&self, entry: u8, mode: Mode) -> Perms
-        requires { entry < count_of (saved_size self.now.entries) }
-        ensures { result ≡ perms_of (rights (restored_file self.now) entry mode) }
-    {
-        rule_rights(
-            &self.configuration(usize::from(entry)),
-            mode,
-            &self.fields(),
-        )
-    }
-
-    /// What the mode may do where no entry matches any byte of an access.
-    #[inline]
-    pub fn default_rights(&self, mode: Mode) -> Perms
-        ensures { result ≡ perms_of (default_rights (restored_file self.now) mode) }
-    {
-        default_rights_by(mode, &self.fields())
-    }
-
-    /// The decision of the entry whose range is the first that the access touches.
-    fn decide_in(&self, index: usize, range: &ByteRange, access: &Access) -> Decision
-        requires { index < count_of (saved_size self.now.entries) }
-        ensures { result ≡ decision_in (restored_file self.now) access.now index range.now }
-    {
-        let number = index as u8;
-        if range.is_covered(access) {
-            Decision {
-                allowed: self.rights(number, access.mode).allows(access.kind),
-                cause: Cause::Rule(number),
-            }
-        } else {
-            Decision {
-                allowed: false,
-                cause: Cause::Split(number),
-            }
-        }
-    }
-
-    /// Decides an access, in one pass over the entries, of which it decodes no more than it passes.
-    pub fn decide(&self, access: &Access) -> Decision
-        ensures { result ≡ decision_of (restored_file self.now) access.now }
-    {
-        for index in 0..self.count() {
-            let range = self.range(index);
-            if range.is_touched(access) {
-                return self.decide_in(index, &range, access);
-            }
-        }
-        Decision {
-            allowed: self.default_rights(access.mode).allows(access.kind),
-            cause: Cause::NoMatch,
         }
     }
 }

@@ -3,8 +3,8 @@
 ghost use Rattle.std.specs.Prelude.{◌≡◌, ℕ, ◌<◌, List, Option, length};
 ghost use Rattle.pmp_core.specs.declared.access.Access.{Access};
 ghost use Rattle.pmp_core.specs.declared.decision.Decision.{Decision};
-ghost use Rattle.pmp_core.specs.declared.entry.Entry.{Entry};
 ghost use Rattle.pmp_core.specs.declared.saved_registers.SavedRegisters.{SavedRegisters};
+ghost use Rattle.pmp_core.specs.Hart.{profile_with};
 ghost use Rattle.pmp_core.specs.RegisterFile.{RegisterFile, HasAddresses, IsLegal, reset_file};
 ghost use Rattle.pmp_core.specs.Matching.{Matches};
 ghost use Rattle.pmp_core.specs.Decision.{IsOwner, IsDecider, IsDecision};
@@ -16,6 +16,7 @@ ghost use Rattle.pmp_core.specs.ReachableLaw.{LegalLaw, ReachableLaw};
 ghost use Rattle.pmp_core.specs.StickyLaw.{FrozenAddressLaw, StickyLaw};
 ghost use Rattle.pmp_core.specs.LockLaw.{LockLaw};
 ghost use Rattle.pmp_core.specs.SizeLaw.{SizeLaw};
+ghost use Rattle.pmp_core.specs.TodayLaw.{TodayLaw};
 ghost use Rattle.pmp_core.specs.SavedRegisters.{restored_file, zero_registers};
 ghost use Rattle.pmp_core.specs.SavedLaw.{SavedLaw};
 ghost use Rattle.pmp_core.specs.SpanLaw.{OneSpanLaw};
@@ -26,7 +27,7 @@ use crate::register_file::ENTRIES;
 
 /// What is computed from the entries' ranges is the manual's decision.
 pub fn law_decided_by_ranges()
-    ensures { (file : RegisterFile) (access : Access) → HasAddresses file.entries
+    ensures { (file : RegisterFile) (access : Access) → HasAddresses file
         → IsDecision file access (decision_of file access) }
 {}
 
@@ -38,13 +39,13 @@ pub fn law_one_decision()
 
 /// An access of one byte is decided by the byte's owner.
 pub fn law_owner_decides_byte()
-    ensures { (entries : List Entry) (access : Access) (owner : Option ℕ) →
-        access.length ≡ 1 → IsOwner entries access.start owner → IsDecider entries access owner }
+    ensures { (file : RegisterFile) (access : Access) (owner : Option ℕ) →
+        access.length ≡ 1 → IsOwner file access.start owner → IsDecider file access owner }
 {}
 
 /// Only an entry of the file matches a byte.
 pub fn law_matching_entry()
-    ensures { (entries : List Entry) (i byte : ℕ) → Matches entries i byte → i < length entries }
+    ensures { (file : RegisterFile) (i byte : ℕ) → Matches file i byte → i < length file.entries }
 {}
 
 /// An entry matches the bytes of one span, or no byte.
@@ -52,7 +53,7 @@ pub fn law_one_span()
     ensures { OneSpanLaw }
 {}
 
-/// Whatever events follow a reset, the register file is legal, for any number of entries.
+/// Whatever events follow a reset, the register file is legal, on any hart.
 pub fn law_legal()
     ensures { LegalLaw }
 {}
@@ -81,18 +82,24 @@ pub fn law_sizes()
     ensures { SizeLaw }
 {}
 
+/// The law of today's harts: with sixteen entries or sixty-four, the finest grain, the widest addresses and Smepmp, all
+/// rules are as if there were no other harts.
+pub fn law_today()
+    ensures { TodayLaw }
+{}
+
 /// A write to a legal register file has no reason not to be stored as written exactly where the register then reads
 /// what was written. So the reasons are all that there are.
 pub fn law_write_reasons()
     ensures { WriteReasonsLaw }
 {}
 
-/// The saving law: the registers of a legal file of sixteen or of sixty-four entries restore it. Whatever numbers are
-/// restored, the file is legal; zeros are the unit of sixteen after reset.
+/// The saving law: the registers of a legal file restore it. Whatever numbers are restored, the file is legal; zeros
+/// are the unit of sixteen after reset.
 pub fn law_saved()
     ensures kept { SavedLaw }
     ensures legal { (saved : SavedRegisters) → IsLegal (restored_file saved) }
-    ensures zero { restored_file zero_registers ≡ reset_file ENTRIES }
+    ensures zero { restored_file zero_registers ≡ reset_file (profile_with ENTRIES) }
 {}
 
 /// Lockdown gives no rule a right that it hasn't without, but for those of W without R, which are reserved without.
@@ -115,7 +122,8 @@ pub fn law_machine_code()
     ensures { MachineCodeLaw }
 {}
 
-/// MML and MMWP stay set through every list of writes, and with MMWP nothing is open where no entry matches.
+/// MML and MMWP stay set through every list of writes, and with MMWP nothing is open where no entry matches, on a hart
+/// that has one.
 pub fn law_sticky()
     ensures { StickyLaw }
 {}
@@ -137,8 +145,8 @@ pub fn law_others()
     ensures { OthersLaw }
 {}
 
-/// Every legal register file of sixteen or sixty-four entries is one that a reset and events give. So what is restored
-/// is never a state that a hart can't have.
+/// Every legal register file is one that a reset and events give. So what is restored is never a state that a hart
+/// can't have.
 pub fn law_reachable()
     ensures { ReachableLaw }
 {}

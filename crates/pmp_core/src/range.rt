@@ -7,6 +7,7 @@ ghost use Rattle.pmp_core.specs.declared.register_write.TheConstants.{WORD_ADDRE
 use crate::access::Access;
 use crate::configuration::AddressMatching;
 use crate::entry::Entry;
+use crate::hart::Hart;
 
 /// The byte addresses from `start` up to `end`, without `end`: none where `end` isn't above `start`.
 #[derive(Clone, Copy, Debug, PartialEq, Eq)]
@@ -53,22 +54,22 @@ fn napot_range(address: u64) -> ByteRange
 }
 
 /// The range of an entry after one with the address register `low`.
-pub fn range_by(low: u64, entry: &Entry) -> ByteRange
+pub fn range_by(hart: Hart, low: u64, entry: &Entry) -> ByteRange
     requires low { low < WORD_ADDRESSES }
     requires address { entry.now.address < WORD_ADDRESSES }
-    ensures { result ≡ range_by entry.now.configuration.matching low entry.now.address }
+    ensures { result ≡ range_by hart.grain entry.now.configuration.matching low entry.now.address }
 {
     let address = entry.address;
     match entry.configuration.matching {
         AddressMatching::Off => ByteRange::EMPTY,
         AddressMatching::Tor => ByteRange {
-            start: 4 * low,
-            end: 4 * address,
+            start: 4 * hart.tor_address(low),
+            end: 4 * hart.tor_address(address),
         },
         AddressMatching::Na4 => ByteRange {
             start: 4 * address,
             end: 4 * address + 4,
         },
-        AddressMatching::Napot => napot_range(address),
+        AddressMatching::Napot => napot_range(hart.napot_address(address)),
     }
 }

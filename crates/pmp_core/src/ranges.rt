@@ -1,13 +1,14 @@
 //! The ranges of all entries.
 
 ghost use Rattle.std.specs.Prelude.{◌≡◌, ◌<◌, ◌≤◌, ℕ, length};
-ghost use Rattle.pmp_core.specs.RegisterFile.{RegisterFile, HasAddresses};
+ghost use Rattle.pmp_core.specs.RegisterFile.{RegisterFile, AreWords};
 ghost use Rattle.pmp_core.specs.Matching.{low_address};
-ghost use Rattle.pmp_core.specs.Ranges.{range_in, range_of, ranges_of};
+ghost use Rattle.pmp_core.specs.Ranges.{range_in, range_of, range_on, ranges_on};
 ghost use Rattle.pmp_core.specs.RegisterWrite.{written};
 
 use crate::csr::Csr;
 use crate::entry::Entry;
+use crate::hart::Hart;
 use crate::range::{ByteRange, range_by};
 use crate::register_write::ENTRIES_PER_CFG;
 use std::ops::Range;
@@ -27,7 +28,7 @@ fn low_address(entries: &[Entry], index: usize) -> u64
 /// of the next entry's range.
 pub fn changed_by(csr: Csr) -> Range<usize>
     ensures { (file : RegisterFile) (value k : ℕ) → k < length file.entries → (result.start ≤ k → result.end ≤ k)
-        → range_of (written file csr value).entries k ≡ range_of file.entries k }
+        → range_on file.profile (written file csr value).entries k ≡ range_of file k }
 {
     match csr {
         Csr::Cfg(register) => {
@@ -43,15 +44,15 @@ pub fn changed_by(csr: Csr) -> Range<usize>
 }
 
 /// Writes the ranges of these entries, as far as there are any, where all others stand.
-pub fn decode_ranges(entries: &[Entry], ranges: &mut [ByteRange], changed: Range<usize>)
-    requires addresses { HasAddresses entries.now }
+pub fn decode_ranges(hart: Hart, entries: &[Entry], ranges: &mut [ByteRange], changed: Range<usize>)
+    requires addresses { AreWords entries.now }
     requires places { length ranges.old ≡ length entries.now }
     requires others { (k : ℕ) → k < length entries.now → (changed.start ≤ k → changed.end ≤ k)
-        → range_in ranges.old k ≡ range_of entries.now k }
-    ensures { ranges.new ≡ ranges_of entries.now }
+        → range_in ranges.old k ≡ range_on hart entries.now k }
+    ensures { ranges.new ≡ ranges_on hart entries.now }
 {
     let end = changed.end.min(ranges.len());
     for index in changed.start..end {
-        ranges[index] = range_by(low_address(entries, index), &entries[index]);
+        ranges[index] = range_by(hart, low_address(entries, index), &entries[index]);
     }
 }

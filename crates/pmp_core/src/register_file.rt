@@ -2,7 +2,7 @@
 
 ghost use Rattle.std.specs.Prelude.{◌≡◌, ◌<◌, ◌≤◌, ◌↔◌, IsTrue, length, fold};
 ghost use Rattle.std.specs.List.{list_all};
-ghost use Rattle.pmp_core.specs.RegisterFile.{IsLegal, reset_file, entry_at, is_frozen, is_held};
+ghost use Rattle.pmp_core.specs.RegisterFile.{HasAddresses, IsLegal, reset_file, entry_at, is_frozen, is_held};
 ghost use Rattle.pmp_core.specs.Lock.{lock_of};
 ghost use Rattle.pmp_core.specs.Matching.{Matches};
 ghost use Rattle.pmp_core.specs.Span.{IsSpan, span_of};
@@ -13,7 +13,8 @@ ghost use Rattle.pmp_core.specs.RegisterValue.{register_value};
 ghost use Rattle.pmp_core.specs.WriteReasons.{is_reason, has_reason};
 ghost use Rattle.pmp_core.specs.Ranges.{AreRanges, ranges_of, decision_of};
 ghost use Rattle.pmp_core.specs.SavedRegisters.{saved_registers, restored_file};
-ghost use Rattle.pmp_core.specs.Size.{count_of};
+ghost use Rattle.pmp_core.specs.Hart.{profile_of};
+ghost use Rattle.pmp_core.specs.declared.size.Size.TheVariants.{Sixteen};
 ghost use Rattle.pmp_core.specs.declared.access.TheConstants.{ADDRESS_LIMIT};
 
 use crate::access::{Access, Mode};
@@ -22,6 +23,7 @@ use crate::csr::Csr;
 use crate::decision::Decision;
 use crate::entry::Entry;
 use crate::event::Event;
+use crate::hart::Hart;
 use crate::lock::Lock;
 use crate::mseccfg::MseccfgFields;
 use crate::perms::Perms;
@@ -48,8 +50,8 @@ fn are_locked(entries: &[Entry]) -> bool
 /// The registers of one unit. A contract sees them as a `RegisterFile` of `specs/`.
 #[derive(Clone, Copy, Debug, PartialEq, Eq)]
 pub struct RegFile {
-    size: Size,
-    /// As many as the size says are in use; the others are as after reset.
+    hart: Hart,
+    /// As many as the hart has are in use; the others are as after reset.
     entries: [Entry; MAX_ENTRIES],
     mseccfg: MseccfgFields,
     /// Where each entry matches, decoded when a register is written.
@@ -57,41 +59,35 @@ pub struct RegFile {
 }
 
 impl Model for RegFile {
-    ghost use Rattle.std.specs.Prelude.{◌≡◌, length};
+    ghost use Rattle.std.specs.Prelude.{◌≡◌, take};
     ghost use Rattle.std.proofs.Common.{sym, ap, ◌∙◌};
     ghost use Rattle.pmp_core.specs.RegisterFile.{RegisterFile, file_of, reset_entry};
-    ghost use Rattle.pmp_core.specs.Ranges.{ranges_of};
-    ghost use Rattle.pmp_core.specs.Size.{size_with, used, padded, empty_range, IsStored};
+    ghost use Rattle.pmp_core.specs.Ranges.{ranges_of, ranges_on};
+    ghost use Rattle.pmp_core.specs.Storage.{padded, empty_range, IsStored};
 
     ghost Value = { RegisterFile };
 
-    ghost view = { λ f. file_of f.mseccfg (used f.size f.entries) };
+    ghost view = { λ f. file_of f.hart f.mseccfg (take f.hart.entries f.entries) };
 
-    ghost invariant = { λ f. IsStored (file_of f.mseccfg (used f.size f.entries)) f.size f.entries f.ranges };
+    ghost invariant = { λ f. IsStored (file_of f.hart f.mseccfg (take f.hart.entries f.entries)) f.entries f.ranges };
 
     ghost inverse = { λ file. record {
-      size = size_with (length file.entries);
+      hart = file.profile;
       entries = padded reset_entry file.entries;
       mseccfg = file.mseccfg;
-      ranges = padded empty_range (ranges_of file.entries);
+      ranges = padded empty_range (ranges_of file);
     } };
 
     ghost inverse_ok = { λ f h.
-        let in_use = used f.size f.entries in
-        ap (λ size. record {
-          size = size;
-          entries = padded reset_entry in_use;
-          mseccfg = f.mseccfg;
-          ranges = padded empty_range (ranges_of in_use);
-        }) (sym h.size_is)
-        ∙ ap (λ entries. record {
-          size = f.size;
+        let in_use = take f.hart.entries f.entries in
+        ap (λ entries. record {
+          hart = f.hart;
           entries = entries;
           mseccfg = f.mseccfg;
-          ranges = padded empty_range (ranges_of in_use);
+          ranges = padded empty_range (ranges_on f.hart in_use);
         }) (sym h.entries_are)
         ∙ ap (λ ranges. record {
-          size = f.size;
+          hart = f.hart;
           entries = f.entries;
           mseccfg = f.mseccfg;
           ranges = ranges;
@@ -101,17 +97,25 @@ impl Model for RegFile {
 impl RegFile {
     /// The register file that reset leaves in a unit of sixteen entries: all registers are zero.
     pub fn reset() -> RegFile
-        ensures { result ≡ reset_file ENTRIES }
+        ensures { result ≡ reset_file (profile_of Sixteen) }
     {
         RegFile::reset_of(Size::Sixteen)
     }
 
-    /// The register file that reset leaves in a unit of this size: all registers are zero.
+    /// The register file that reset leaves in a unit of this size, with the widest addresses and Smepmp: all registers
+    /// are zero.
     pub fn reset_of(size: Size) -> RegFile
-        ensures { result ≡ reset_file (count_of size) }
+        ensures { result ≡ reset_file (profile_of size) }
+    {
+        RegFile::reset_on(Hart::of(size))
+    }
+
+    /// The register file that reset leaves on this hart: all registers are zero.
+    pub fn reset_on(hart: Hart) -> RegFile
+        ensures { result ≡ reset_file hart }
     {
         RegFile {
-            size,
+            hart,
             entries: [Entry::RESET; MAX_ENTRIES],
             mseccfg: MseccfgFields::RESET,
             ranges: [ByteRange::EMPTY; MAX_ENTRIES],
@@ -123,7 +127,7 @@ impl RegFile {
         ensures saved { result ≡ saved_registers self.now }
         ensures restored { restored_file result ≡ self.now }
     {
-        saved_registers::save(self.in_use(), &self.mseccfg)
+        saved_registers::save(self.hart, self.in_use(), &self.mseccfg)
     }
 
     /// The unit that the numbers stand for, whatever they are. Bits that a register doesn't have are left out, and so
@@ -132,58 +136,60 @@ impl RegFile {
     pub fn restore(saved: &SavedRegisters) -> RegFile
         ensures { result ≡ restored_file saved.now }
     {
-        let size = saved.size();
+        let hart = saved.hart();
         let mut entries = [Entry::RESET; MAX_ENTRIES];
         let mut ranges = [ByteRange::EMPTY; MAX_ENTRIES];
-        storage::restore(saved, size, &mut entries, &mut ranges);
+        storage::restore(saved, hart, &mut entries, &mut ranges);
         RegFile {
-            size,
+            hart,
             entries,
-            mseccfg: MseccfgFields::from_value(saved.mseccfg),
+            mseccfg: saved.fields(),
             ranges,
         }
     }
 
-    /// The size of the unit.
-    pub fn size(&self) -> Size
-        ensures { length self.now.entries ≡ count_of result }
+    /// The hart that has these registers.
+    pub fn hart(&self) -> Hart
+        ensures { result ≡ self.now.profile }
     {
-        self.size
+        self.hart
     }
 
-    /// How many entries the unit has.
+    /// How many entries the hart has.
     pub fn entries(&self) -> u8
         ensures count { result ≡ length self.now.entries }
         ensures most { result ≤ MAX_ENTRIES }
     {
-        self.size.entries()
+        self.hart.entries()
     }
 
     fn in_use(&self) -> &[Entry]
         ensures { result.now ≡ self.now.entries }
     {
-        &self.entries[..usize::from(self.size.entries())]
+        &self.entries[..usize::from(self.hart.entries())]
     }
 
     /// The ranges of the entries in use.
     fn decoded(&self) -> &[ByteRange]
-        ensures ranges { result.now ≡ ranges_of self.now.entries }
+        ensures ranges { result.now ≡ ranges_of self.now }
         ensures most { length result.now ≤ MAX_ENTRIES }
         ensures legal { IsLegal self.now }
     {
-        &self.ranges[..usize::from(self.size.entries())]
+        &self.ranges[..usize::from(self.hart.entries())]
     }
 
     /// Resets the unit, which is rare.
     #[cold]
     #[inline(never)]
     fn reset_again(&mut self)
-        ensures { self.new ≡ reset_file (length self.old.entries) }
+        ensures reset { self.new ≡ reset_file self.old.profile }
+        ensures legal { IsLegal self.new }
+        ensures entries { length self.new.entries ≡ length self.old.entries }
     {
-        *self = RegFile::reset_of(self.size);
+        *self = RegFile::reset_on(self.hart);
     }
 
-    /// Takes one event. A reset keeps the size.
+    /// Takes one event. A reset keeps the hart.
     pub fn step(&mut self, event: Event)
         ensures step { self.new ≡ step self.old event }
         ensures legal { IsLegal self.new }
@@ -191,7 +197,7 @@ impl RegFile {
     {
         match event {
             Event::Write(csr, value) => storage::write(
-                self.size,
+                self.hart,
                 &mut self.entries,
                 &mut self.mseccfg,
                 &mut self.ranges,
@@ -216,40 +222,54 @@ impl RegFile {
     pub fn read(&self, csr: Csr) -> u64
         ensures { result ≡ register_value self.now csr }
     {
-        register_value::read(self.in_use(), &self.mseccfg, csr)
+        register_value::read(self.hart, self.in_use(), &self.mseccfg, csr)
     }
 
     /// Whether this is a reason why the register wouldn't read the value, if it were written now.
     pub fn is_reason(&self, reason: WriteReason, csr: Csr, value: u64) -> bool
         ensures { result ≡ is_reason reason self.now csr value }
     {
-        write_reasons::is_reason(reason, self.in_use(), &self.mseccfg, csr, value)
+        write_reasons::is_reason(reason, self.hart, self.in_use(), &self.mseccfg, csr, value)
     }
 
-    /// Whether `Frozen`, `Tor`, `Reserved` or `Lockdown` would hold for the entry, if the value were written now.
+    /// Whether `Frozen`, `Tor`, `Reserved`, `Lockdown` or `Grain` would hold for the entry, if the value were written
+    /// now.
     pub fn has_reason(&self, entry: u8, csr: Csr, value: u64) -> bool
         requires { entry < length self.now.entries }
         ensures { result ≡ has_reason self.now csr value entry }
     {
-        write_reasons::has_reason(self.in_use(), &self.mseccfg, csr, value, usize::from(entry))
+        let index = usize::from(entry);
+        write_reasons::has_reason(self.hart, self.in_use(), &self.mseccfg, csr, value, index)
     }
 
-    /// Decides an access, in one pass over the entries. Each size has a pass of its own, over as many entries as are
-    /// known when it is compiled.
+    /// Decides an access, in one pass over the entries. For sixteen of them, and for sixty-four, there is a pass of its
+    /// own, over as many as are known when it is compiled.
     pub fn decide(&self, access: &Access) -> Decision
         ensures by_bytes { IsDecision self.now access.now result }
         ensures computed { result ≡ decision_of self.now access.now }
     {
-        match self.size {
-            Size::Sixteen => decision_by_ranges::decide(
+        match usize::from(self.hart.entries()) {
+            ENTRIES => decision_by_ranges::decide(
+                self.hart,
                 &self.entries[..ENTRIES],
                 &self.mseccfg,
                 &self.ranges[..ENTRIES],
                 access,
             ),
-            Size::SixtyFour => {
-                decision_by_ranges::decide(&self.entries, &self.mseccfg, &self.ranges, access)
-            }
+            MAX_ENTRIES => decision_by_ranges::decide(
+                self.hart,
+                &self.entries[..MAX_ENTRIES],
+                &self.mseccfg,
+                &self.ranges[..MAX_ENTRIES],
+                access,
+            ),
+            count => decision_by_ranges::decide(
+                self.hart,
+                &self.entries[..count],
+                &self.mseccfg,
+                &self.ranges[..count],
+                access,
+            ),
         }
     }
 
@@ -292,7 +312,17 @@ impl RegFile {
         requires { entry < length self.now.entries }
         ensures { result ≡ is_address_frozen self.now entry }
     {
-        register_write::is_address_frozen(self.in_use(), &self.mseccfg, usize::from(entry))
+        let index = usize::from(entry);
+        register_write::is_address_frozen(self.hart, self.in_use(), &self.mseccfg, index)
+    }
+
+    /// All that the entry's address register keeps: a word address. What it reads has zeros or ones below the grain, by
+    /// the entry's mode.
+    pub fn kept_address(&self, entry: u8) -> u64
+        requires { entry < length self.now.entries }
+        ensures { result ≡ (entry_at self.now.entries entry).address }
+    {
+        self.in_use()[usize::from(entry)].address
     }
 
     /// How the entry's address register is read.
@@ -321,14 +351,14 @@ impl RegFile {
         ensures rights { result ≡ perms_of (default_rights self.now mode) }
         ensures legal { IsLegal self.now }
     {
-        default_rights_by(mode, &self.mseccfg)
+        default_rights_by(self.hart.entries() != 0, mode, &self.mseccfg)
     }
 
     /// Whether the entry matches the byte at this byte address.
     pub fn matches(&self, entry: u8, byte: u64) -> bool
         requires entry { entry < length self.now.entries }
         requires byte { byte < ADDRESS_LIMIT }
-        ensures { IsTrue result ↔ Matches self.now.entries entry byte }
+        ensures { IsTrue result ↔ Matches self.now entry byte }
     {
         self.decoded()[usize::from(entry)].contains(byte)
     }
@@ -336,17 +366,18 @@ impl RegFile {
     /// The first and the last byte that the entry matches, if it matches any.
     pub fn span(&self, entry: u8) -> Option<Span>
         requires { entry < length self.now.entries }
-        ensures by_bytes { IsSpan self.now.entries entry result }
-        ensures computed { result ≡ span_of self.now.entries entry }
+        ensures by_bytes { IsSpan self.now entry result }
+        ensures computed { result ≡ span_of self.now entry }
     {
         span_in(&self.decoded()[usize::from(entry)])
     }
 
     /// Where each entry matches: a range of byte addresses for each, in their order.
     pub fn ranges(&self) -> &[ByteRange]
-        ensures ranges { AreRanges self.now.entries result.now }
+        ensures ranges { AreRanges self.now result.now }
         ensures most { length result.now ≤ MAX_ENTRIES }
         ensures legal { IsLegal self.now }
+        ensures addresses { HasAddresses self.now }
     {
         self.decoded()
     }

@@ -6,6 +6,7 @@ ghost use Rattle.pmp_core.specs.RegisterValue.{configuration_word, register_valu
 
 use crate::csr::Csr;
 use crate::entry::Entry;
+use crate::hart::Hart;
 use crate::mseccfg::MseccfgFields;
 
 /// Packs the bytes of the eight entries that the configuration register holds, if there are any.
@@ -24,14 +25,14 @@ fn configuration_word(entries: &[Entry], register: u8) -> u64
 }
 
 /// The value of a register.
-pub fn read(entries: &[Entry], mseccfg: &MseccfgFields, csr: Csr) -> u64
-    ensures { result ≡ register_value (file_of mseccfg.now entries.now) csr }
+pub fn read(hart: Hart, entries: &[Entry], mseccfg: &MseccfgFields, csr: Csr) -> u64
+    ensures { result ≡ register_value (file_of hart mseccfg.now entries.now) csr }
 {
     match csr {
         Csr::Cfg(register) if register % 2 == 1 => 0,
         Csr::Cfg(register) => configuration_word(entries, register),
         Csr::Addr(register) => match entries.get(usize::from(register)) {
-            Some(entry) => entry.address,
+            Some(entry) => hart.read_address(entry.configuration.matching, entry.address),
             None => 0,
         },
         Csr::Mseccfg => mseccfg.value(),

@@ -61,16 +61,15 @@ pub fn rule_rights(configuration: &Configuration, mode: Mode, mseccfg: &MseccfgF
     }
 }
 
-/// What the mode may do where no entry matches any byte.
-pub fn default_rights_by(mode: Mode, mseccfg: &MseccfgFields) -> Perms
-    ensures { result ≡ perms_of (default_rights_by mseccfg.now.mml mseccfg.now.mmwp mode) }
+/// What the mode may do where no entry matches any byte, and the hart has entries or not.
+pub fn default_rights_by(has_entries: bool, mode: Mode, mseccfg: &MseccfgFields) -> Perms
+    ensures { result ≡ perms_of (default_rights_by has_entries mseccfg.now.mml mseccfg.now.mmwp mode) }
 {
-    if mode != Mode::M || mseccfg.mmwp {
-        Perms::NONE
-    } else if mseccfg.mml {
-        Perms::RW
-    } else {
-        Perms::RWX
+    match mode {
+        Mode::M if mseccfg.mmwp => Perms::NONE,
+        Mode::M if mseccfg.mml => Perms::RW,
+        Mode::S | Mode::U if has_entries => Perms::NONE,
+        _ => Perms::RWX,
     }
 }
 

@@ -2,13 +2,14 @@
 
 ghost use Rattle.std.specs.Prelude.{◌≡◌, ◌<◌, ◌≤◌, length};
 ghost use Rattle.pmp_core.specs.RegisterFile.{file_of};
-ghost use Rattle.pmp_core.specs.SavedRegisters.{saved_registers, saved_size, restored_entry, restored_entries};
+ghost use Rattle.pmp_core.specs.SavedRegisters.{saved_registers, hart_in, fields_in, restored_entry, restored_entries};
 
 use crate::configuration::Configuration;
 use crate::entry::Entry;
+use crate::hart::Hart;
 use crate::mseccfg::MseccfgFields;
-use crate::register_write::{WORD_ADDRESSES, stored_over};
-use crate::size::{MAX_ENTRIES, Size};
+use crate::register_write::stored_over;
+use crate::size::MAX_ENTRIES;
 
 /// The registers of a unit, for a snapshot or for memory that isn't Rattle's. `RegFile::restore` takes every choice of
 /// numbers.
@@ -21,19 +22,29 @@ pub struct SavedRegisters {
     pub configurations: [u8; MAX_ENTRIES],
     /// `mseccfg`.
     pub mseccfg: u64,
-    /// How many entries the unit has: 64 is sixty-four, and every other number sixteen.
+    /// The hart, as `Hart::number` gives it: 64 is sixty-four entries, and every other number that spells no hart
+    /// sixteen, with the widest addresses and Smepmp.
     pub entries: u64,
 }
 
 impl SavedRegisters {
-    /// The size of the unit.
-    pub fn size(&self) -> Size
-        ensures { result ≡ saved_size self.now.entries }
+    /// The hart.
+    #[inline]
+    pub fn hart(&self) -> Hart
+        ensures { result ≡ hart_in self.now }
     {
-        if self.entries == u64::from(Size::SixtyFour.entries()) {
-            Size::SixtyFour
+        Hart::from_number(self.entries)
+    }
+
+    /// What `mseccfg` says of the unit, if its hart has it.
+    #[inline]
+    pub fn fields(&self) -> MseccfgFields
+        ensures { result ≡ fields_in self.now }
+    {
+        if self.hart().has_smepmp() {
+            MseccfgFields::from_value(self.mseccfg)
         } else {
-            Size::Sixteen
+            MseccfgFields::RESET
         }
     }
 
@@ -44,23 +55,24 @@ impl SavedRegisters {
     {
         let with_bypass = MseccfgFields {
             rlb: true,
-            ..MseccfgFields::from_value(self.mseccfg)
+            ..self.fields()
         };
         Entry {
             configuration: stored_over(
+                self.hart(),
                 Configuration::RESET,
                 self.configurations[place],
                 &with_bypass,
             ),
-            address: self.addresses[place] % WORD_ADDRESSES,
+            address: self.addresses[place] % self.hart().word_addresses(),
         }
     }
 }
 
 /// The registers of a unit that has these entries.
-pub fn save(entries: &[Entry], mseccfg: &MseccfgFields) -> SavedRegisters
+pub fn save(hart: Hart, entries: &[Entry], mseccfg: &MseccfgFields) -> SavedRegisters
     requires { length entries.now ≤ MAX_ENTRIES }
-    ensures { result ≡ saved_registers (file_of mseccfg.now entries.now) }
+    ensures { result ≡ saved_registers (file_of hart mseccfg.now entries.now) }
 {
     let mut addresses = [0; MAX_ENTRIES];
     let mut configurations = [0; MAX_ENTRIES];
@@ -72,7 +84,7 @@ pub fn save(entries: &[Entry], mseccfg: &MseccfgFields) -> SavedRegisters
         addresses,
         configurations,
         mseccfg: mseccfg.value(),
-        entries: entries.len() as u64,
+        entries: hart.number(),
     }
 }
 

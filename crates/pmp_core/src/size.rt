@@ -1,7 +1,7 @@
 //! How many entries a unit has.
 
 ghost use Rattle.std.specs.Prelude.{◌≡◌};
-ghost use Rattle.pmp_core.specs.Size.{count_of};
+ghost use Rattle.pmp_core.specs.Hart.{count_of};
 
 /// The most entries that a unit has.
 pub const MAX_ENTRIES: usize = 64;

@@ -1,57 +1,58 @@
-//! Register files of either size, in arrays of sixty-four.
+//! Register files of any hart, in arrays of sixty-four.
 
-ghost use Rattle.std.specs.Prelude.{◌≡◌};
-ghost use Rattle.pmp_core.specs.Mseccfg.{mseccfg_fields};
+ghost use Rattle.std.specs.Prelude.{◌≡◌, take};
 ghost use Rattle.pmp_core.specs.RegisterFile.{file_of, reset_file};
 ghost use Rattle.pmp_core.specs.RegisterWrite.{written};
-ghost use Rattle.pmp_core.specs.SavedRegisters.{restored_entries};
-ghost use Rattle.pmp_core.specs.Size.{count_of, used, IsStored};
+ghost use Rattle.pmp_core.specs.SavedRegisters.{hart_in, fields_in, restored_entries};
+ghost use Rattle.pmp_core.specs.Storage.{IsStored};
 
 use crate::csr::Csr;
 use crate::entry::Entry;
+use crate::hart::Hart;
 use crate::mseccfg::MseccfgFields;
 use crate::range::ByteRange;
 use crate::ranges::{changed_by, decode_ranges};
 use crate::register_write;
 use crate::saved_registers::{SavedRegisters, restore_entries};
-use crate::size::{MAX_ENTRIES, Size};
+use crate::size::MAX_ENTRIES;
 
 /// Writes a register, and decodes the ranges that this can change.
 pub fn write(
-    size: Size,
+    hart: Hart,
     entries: &mut [Entry; MAX_ENTRIES],
     mseccfg: &mut MseccfgFields,
     ranges: &mut [ByteRange; MAX_ENTRIES],
     csr: Csr,
     value: u64,
 )
-    requires { IsStored (file_of mseccfg.old (used size entries.old)) size entries.old ranges.old }
-    ensures written { file_of mseccfg.new (used size entries.new)
-        ≡ written (file_of mseccfg.old (used size entries.old)) csr value }
-    ensures stored { IsStored (file_of mseccfg.new (used size entries.new)) size entries.new ranges.new }
+    requires { IsStored (file_of hart mseccfg.old (take hart.entries entries.old)) entries.old ranges.old }
+    ensures written { file_of hart mseccfg.new (take hart.entries entries.new)
+        ≡ written (file_of hart mseccfg.old (take hart.entries entries.old)) csr value }
+    ensures stored { IsStored (file_of hart mseccfg.new (take hart.entries entries.new)) entries.new ranges.new }
 {
-    let count = usize::from(size.entries());
+    let count = usize::from(hart.entries());
     let entries = &mut entries[..count];
     let ranges = &mut ranges[..count];
-    register_write::write(entries, mseccfg, csr, value);
-    decode_ranges(entries, ranges, changed_by(csr));
+    register_write::write(hart, entries, mseccfg, csr, value);
+    decode_ranges(hart, entries, ranges, changed_by(csr));
 }
 
-/// Restores the entries of a unit of this size, and decodes their ranges, in arrays that are as after reset.
+/// Restores the entries of the hart, and decodes their ranges, in arrays that are as after reset.
 pub fn restore(
     saved: &SavedRegisters,
-    size: Size,
+    hart: Hart,
     entries: &mut [Entry; MAX_ENTRIES],
     ranges: &mut [ByteRange; MAX_ENTRIES],
 )
-    requires { IsStored (reset_file (count_of size)) size entries.old ranges.old }
-    ensures restored { used size entries.new ≡ restored_entries saved.now (count_of size) }
-    ensures stored { IsStored (file_of (mseccfg_fields saved.now.mseccfg) (used size entries.new)) size entries.new
+    requires hart { hart ≡ hart_in saved.now }
+    requires reset { IsStored (reset_file hart) entries.old ranges.old }
+    ensures restored { take hart.entries entries.new ≡ restored_entries saved.now hart.entries }
+    ensures stored { IsStored (file_of hart (fields_in saved.now) (take hart.entries entries.new)) entries.new
         ranges.new }
 {
-    let in_use = usize::from(size.entries());
+    let in_use = usize::from(hart.entries());
     let entries = &mut entries[..in_use];
     let ranges = &mut ranges[..in_use];
     restore_entries(saved, entries);
-    decode_ranges(entries, ranges, 0..in_use);
+    decode_ranges(hart, entries, ranges, 0..in_use);
 }

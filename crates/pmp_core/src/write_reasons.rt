@@ -1,27 +1,31 @@
 //! Why a register doesn't read what was written to it.
 
-ghost use Rattle.std.specs.Prelude.{◌≡◌, ◌*◌, ◌%◌, ◌<◌, ◌==◌, nat_lt, not, ◌&&◌, Some, None, length};
+ghost use Rattle.std.specs.Prelude.{◌≡◌, ℕ, ◌+◌, ◌*◌, ◌<◌, ◌≤◌, ◌==◌, nat_lt, not, ◌&&◌, Some, None, length};
+ghost use Rattle.pmp_core.specs.declared.register_write.TheConstants.{ENTRIES_PER_CFG};
 ghost use Rattle.std.specs.Prelude.{if◌then◌else◌};
 ghost use Rattle.std.specs.List.{list_any};
 ghost use Rattle.pmp_core.specs.Configuration.{configuration_of, is_reserved};
+ghost use Rattle.pmp_core.specs.Grain.{is_na4};
 ghost use Rattle.pmp_core.specs.RegisterFile.{file_of};
 ghost use Rattle.pmp_core.specs.RegisterWrite.{holds_byte_of};
 ghost use Rattle.pmp_core.specs.Rights.{is_barred};
 ghost use Rattle.pmp_core.specs.WriteReasons.{byte_for, is_changed};
 ghost use Rattle.pmp_core.specs.WriteReasons.{is_entry_reason, has_reason, is_some_entry_reason, is_reason};
-ghost use Rattle.pmp_core.specs.WriteReasons.{is_absent, has_bit_6_or_5, has_other_bits, clears_sticky, sets_bypass};
+ghost use Rattle.pmp_core.specs.WriteReasons.{is_absent, has_absent_byte, has_bit_6_or_5, has_other_bits};
+ghost use Rattle.pmp_core.specs.WriteReasons.{clears_sticky, sets_bypass};
 
-use crate::configuration::Configuration;
+use crate::configuration::{AddressMatching, Configuration};
 use crate::csr::Csr;
 use crate::entry::Entry;
+use crate::hart::Hart;
 use crate::mseccfg::MseccfgFields;
-use crate::register_write::{ENTRIES_PER_CFG, WORD_ADDRESSES, is_address_frozen, is_any_locked};
+use crate::register_write::{ENTRIES_PER_CFG, is_address_frozen, is_any_locked};
 use crate::rights::is_barred;
 
 /// Why a register doesn't read what was written to it. A write may have several reasons.
 #[derive(Clone, Copy, Debug, PartialEq, Eq)]
 pub enum WriteReason {
-    /// The value isn't zero for an entry, or a register, that the unit doesn't have.
+    /// The value isn't zero for an entry, or a register, that the hart doesn't have.
     Absent,
     /// The value has bits that the register doesn't have.
     Bits,
@@ -37,11 +41,14 @@ pub enum WriteReason {
     Sticky,
     /// The value would set RLB, and some entry is locked.
     Bypass,
+    /// The grain is above four bytes, and the value chooses NA4, or has address bits below the grain that read
+    /// otherwise.
+    Grain,
 }
 
 impl WriteReason {
     /// All reasons, in the order in which they are named.
-    pub const ALL: [WriteReason; 8] = [
+    pub const ALL: [WriteReason; 9] = [
         WriteReason::Absent,
         WriteReason::Bits,
         WriteReason::Frozen,
@@ -50,6 +57,7 @@ impl WriteReason {
         WriteReason::Lockdown,
         WriteReason::Sticky,
         WriteReason::Bypass,
+        WriteReason::Grain,
     ];
 }
 
@@ -64,10 +72,17 @@ fn byte_for(register: u8, value: u64, index: usize) -> Option<u8>
     }
 }
 
-/// Whether the register has the entry's byte or address, and the value has another.
-fn is_changed(entries: &[Entry], csr: Csr, value: u64, index: usize) -> bool
+/// Whether the register has the entry's byte or address, and reads another than the value has.
+fn is_changed(
+    hart: Hart,
+    entries: &[Entry],
+    mseccfg: &MseccfgFields,
+    csr: Csr,
+    value: u64,
+    index: usize,
+) -> bool
     requires { index < length entries.now }
-    ensures { result ≡ is_changed entries.now csr value index }
+    ensures { result ≡ is_changed (file_of hart mseccfg.now entries.now) csr value index }
 {
     let entry = &entries[index];
     match csr {
@@ -75,9 +90,19 @@ fn is_changed(entries: &[Entry], csr: Csr, value: u64, index: usize) -> bool
             Some(byte) => byte != entry.configuration.byte(),
             None => false,
         },
-        Csr::Addr(register) => usize::from(register) == index && value != entry.address,
+        Csr::Addr(register) => {
+            let reads = hart.read_address(entry.configuration.matching, entry.address);
+            usize::from(register) == index && value != reads
+        }
         Csr::Mseccfg => false,
     }
+}
+
+/// Whether a byte chooses NA4, which a coarse grain doesn't have.
+fn adds_na4(hart: Hart, byte: u8) -> bool
+    ensures { result ≡ (nat_lt 0 hart.grain && is_na4 (configuration_of byte).matching) }
+{
+    hart.grain() > 0 && Configuration::from_byte(byte).matching == AddressMatching::Na4
 }
 
 /// Whether a byte that isn't kept out by a lock would add W without R.
@@ -98,6 +123,7 @@ fn adds_barred(mseccfg: &MseccfgFields, byte: u8) -> bool
 /// Whether this reason holds for the entry.
 fn is_entry_reason(
     reason: WriteReason,
+    hart: Hart,
     entries: &[Entry],
     mseccfg: &MseccfgFields,
     csr: Csr,
@@ -105,15 +131,15 @@ fn is_entry_reason(
     index: usize,
 ) -> bool
     requires { index < length entries.now }
-    ensures { result ≡ is_entry_reason reason (file_of mseccfg.now entries.now) csr value index }
+    ensures { result ≡ is_entry_reason reason (file_of hart mseccfg.now entries.now) csr value index }
 {
     let frozen = entries[index].configuration.locked && !mseccfg.rlb;
     match (reason, csr) {
-        (WriteReason::Frozen, _) => frozen && is_changed(entries, csr, value, index),
+        (WriteReason::Frozen, _) => frozen && is_changed(hart, entries, mseccfg, csr, value, index),
         (WriteReason::Tor, Csr::Addr(_)) => {
             !frozen
-                && is_address_frozen(entries, mseccfg, index)
-                && is_changed(entries, csr, value, index)
+                && is_address_frozen(hart, entries, mseccfg, index)
+                && is_changed(hart, entries, mseccfg, csr, value, index)
         }
         (WriteReason::Reserved, Csr::Cfg(register)) => match byte_for(register, value, index) {
             Some(byte) => !frozen && adds_reserved(mseccfg, byte),
@@ -123,6 +149,14 @@ fn is_entry_reason(
             Some(byte) => !frozen && adds_barred(mseccfg, byte),
             None => false,
         },
+        (WriteReason::Grain, Csr::Cfg(register)) => match byte_for(register, value, index) {
+            Some(byte) => !frozen && adds_na4(hart, byte),
+            None => false,
+        },
+        (WriteReason::Grain, Csr::Addr(register)) => {
+            let matching = entries[index].configuration.matching;
+            usize::from(register) == index && hart.read_address(matching, value) != value
+        }
         _ => false,
     }
 }
@@ -130,18 +164,22 @@ fn is_entry_reason(
 /// Whether this reason holds for some entry of the unit.
 fn is_some_entry_reason(
     reason: WriteReason,
+    hart: Hart,
     entries: &[Entry],
     mseccfg: &MseccfgFields,
     csr: Csr,
     value: u64,
 ) -> bool
-    ensures { result ≡ is_some_entry_reason reason (file_of mseccfg.now entries.now) csr value }
+    ensures { result ≡ is_some_entry_reason reason (file_of hart mseccfg.now entries.now) csr value }
 {
-    (0..entries.len()).any(|index| is_entry_reason(reason, entries, mseccfg, csr, value, index))
+    (0..entries.len()).any(|index| is_entry_reason(
+        reason, hart, entries, mseccfg, csr, value, index,
+    ))
 }
 
 /// Whether some reason holds for the entry.
 pub fn has_reason(
+    hart: Hart,
     entries: &[Entry],
     mseccfg: &MseccfgFields,
     csr: Csr,
@@ -149,29 +187,51 @@ pub fn has_reason(
     index: usize,
 ) -> bool
     requires { index < length entries.now }
-    ensures { result ≡ has_reason (file_of mseccfg.now entries.now) csr value index }
+    ensures { result ≡ has_reason (file_of hart mseccfg.now entries.now) csr value index }
 {
     WriteReason::ALL.iter().any(|reason| is_entry_reason(
-        *reason, entries, mseccfg, csr, value, index,
+        *reason, hart, entries, mseccfg, csr, value, index,
     ))
 }
 
-/// Whether no entry of a unit with so many has its byte in the configuration register.
-fn is_absent_cfg(count: usize, register: u8) -> bool
-    ensures { result ≡ not (register % 2 == 0 && nat_lt (4 * register) count) }
+/// How many bytes of the configuration register are those of entries, of which there are so many. They are its lowest
+/// ones.
+fn bytes_there(count: usize, register: u8) -> usize
+    ensures there { (j : ℕ) → j < ENTRIES_PER_CFG
+        → (holds_byte_of register (4 * register + j) && nat_lt (4 * register + j) count) ≡ nat_lt j result }
+    ensures most { result ≤ ENTRIES_PER_CFG }
 {
-    register % 2 == 1 || 4 * usize::from(register) >= count
+    let first = 4 * usize::from(register);
+    if register % 2 == 1 || first >= count {
+        0
+    } else {
+        ENTRIES_PER_CFG.min(count - first)
+    }
 }
 
-/// Whether the value isn't zero for a register of which a unit with so many entries has nothing.
-fn is_absent(count: usize, csr: Csr, value: u64) -> bool
-    requires { count % 8 ≡ 0 }
-    ensures { result ≡ is_absent count csr value }
+/// Whether one of the bytes isn't zero.
+fn has_some(bytes: &[u8]) -> bool
+    ensures { result ≡ list_any (λ byte. not (byte == 0)) bytes.now }
+{
+    bytes.iter().any(|byte| *byte != 0)
+}
+
+/// Whether the value has a byte other than zero for an entry past the first ones, so many as there are.
+fn has_absent_byte(count: usize, register: u8, value: u64) -> bool
+    ensures { result ≡ has_absent_byte count register value }
+{
+    let bytes = value.to_le_bytes();
+    has_some(&bytes[bytes_there(count, register)..])
+}
+
+/// Whether the value isn't zero for a register, or an entry, that the hart doesn't have.
+fn is_absent(hart: Hart, entries: &[Entry], mseccfg: &MseccfgFields, csr: Csr, value: u64) -> bool
+    ensures { result ≡ is_absent (file_of hart mseccfg.now entries.now) csr value }
 {
     match csr {
-        Csr::Cfg(register) => value != 0 && is_absent_cfg(count, register),
-        Csr::Addr(register) => value != 0 && usize::from(register) >= count,
-        Csr::Mseccfg => false,
+        Csr::Cfg(register) => has_absent_byte(entries.len(), register, value),
+        Csr::Addr(register) => value != 0 && usize::from(register) >= entries.len(),
+        Csr::Mseccfg => value != 0 && !hart.has_smepmp(),
     }
 }
 
@@ -182,12 +242,12 @@ fn has_bit_6_or_5(bytes: &[u8]) -> bool
     bytes.iter().any(|byte| byte / 32 % 4 != 0)
 }
 
-fn has_other_bits(csr: Csr, value: u64) -> bool
-    ensures { result ≡ has_other_bits csr value }
+fn has_other_bits(hart: Hart, csr: Csr, value: u64) -> bool
+    ensures { result ≡ has_other_bits hart csr value }
 {
     match csr {
         Csr::Cfg(_) => has_bit_6_or_5(&value.to_le_bytes()),
-        Csr::Addr(_) => value / WORD_ADDRESSES != 0,
+        Csr::Addr(_) => value / hart.word_addresses() != 0,
         Csr::Mseccfg => value / 8 != 0,
     }
 }
@@ -199,8 +259,8 @@ fn clears_sticky(mseccfg: &MseccfgFields, value: u64) -> bool
     mseccfg.mml && !new.mml || mseccfg.mmwp && !new.mmwp
 }
 
-fn sets_bypass(entries: &[Entry], mseccfg: &MseccfgFields, value: u64) -> bool
-    ensures { result ≡ sets_bypass (file_of mseccfg.now entries.now) Csr.Mseccfg value }
+fn sets_bypass(hart: Hart, entries: &[Entry], mseccfg: &MseccfgFields, value: u64) -> bool
+    ensures { result ≡ sets_bypass (file_of hart mseccfg.now entries.now) Csr.Mseccfg value }
 {
     MseccfgFields::from_value(value).rlb && !mseccfg.rlb && is_any_locked(entries)
 }
@@ -208,20 +268,20 @@ fn sets_bypass(entries: &[Entry], mseccfg: &MseccfgFields, value: u64) -> bool
 /// Whether this is a reason why the register doesn't read the value after it is written.
 pub fn is_reason(
     reason: WriteReason,
+    hart: Hart,
     entries: &[Entry],
     mseccfg: &MseccfgFields,
     csr: Csr,
     value: u64,
 ) -> bool
-    requires { length entries.now % 8 ≡ 0 }
-    ensures { result ≡ is_reason reason (file_of mseccfg.now entries.now) csr value }
+    ensures { result ≡ is_reason reason (file_of hart mseccfg.now entries.now) csr value }
 {
     match (reason, csr) {
-        (WriteReason::Absent, _) => is_absent(entries.len(), csr, value),
-        (WriteReason::Bits, _) => has_other_bits(csr, value),
+        (WriteReason::Absent, _) => is_absent(hart, entries, mseccfg, csr, value),
+        (WriteReason::Bits, _) => has_other_bits(hart, csr, value),
         (WriteReason::Sticky, Csr::Mseccfg) => clears_sticky(mseccfg, value),
-        (WriteReason::Bypass, Csr::Mseccfg) => sets_bypass(entries, mseccfg, value),
+        (WriteReason::Bypass, Csr::Mseccfg) => sets_bypass(hart, entries, mseccfg, value),
         (WriteReason::Sticky | WriteReason::Bypass, _) => false,
-        _ => is_some_entry_reason(reason, entries, mseccfg, csr, value),
+        _ => is_some_entry_reason(reason, hart, entries, mseccfg, csr, value),
     }
 }

@@ -1,4 +1,4 @@
-use Rattle.std.proofs.Common.{◌≡◌, ◌+◌, ◌*◌, ◌<◌, sym, length, arith}
+use Rattle.std.proofs.Common.{◌+◌, ◌*◌, ◌<◌, sym, length, arith}
 use Rattle.pmp_core.specs.RegisterFile.{file_of}
 use Rattle.pmp_core.proofs.Places.{entries_by}
 use Rattle.pmp_core.proofs.Configuring.{configured_next, configured_more, all_configured, kept_odd, kept_below}
@@ -11,7 +11,7 @@ use Rattle.pmp_core.proofs.register_write.write_configurations.Goals.{
 pub returns-then-register-eq1 : goal.returns-then-register-eq1
 returns-then-register-eq1 c =
     let entries = c.args.entries.now in
-    let file = file_of c.args.mseccfg.now entries in
+    let file = file_of c.args.hart c.args.mseccfg.now entries in
     elim c.then-register-eq1.branch [
       | then-register-eq1-via-then-register-eq1 w ↦
           entries_by entries _ (λ k h. sym (kept_odd file c.args.register c.args.value k w.if-register-eq1.true))
@@ -26,18 +26,25 @@ returns-then-register-eq1 c =
 pub loop-place-preserved : goal.loop-place-preserved
 loop-place-preserved c =
     let loop = c.loop-place in
-    let next = configured_next (file_of c.args.mseccfg.now c.args.entries.now) c.args.register c.args.value loop.entries
-    loop.place c.stored_over-entry.result (omega (arith, c.if-register-eq1.false)) c.loop-place-test.true
-    loop.invariant
+    let near : loop.place < 8 = omega (arith, c.min-place-end.ensures, c.loop-place-test.true) in
+    let next = configured_next (file_of c.args.hart c.args.mseccfg.now c.args.entries.now) c.args.register c.args.value
+    loop.entries loop.place c.stored_over-entry.result (omega (arith, c.if-register-eq1.false)) near loop.invariant
     (rw (c.from-first.ensures, c.to_le_bytes-bytes.ensures) at c.stored_over-entry.ensures) in
     let inside : 4 * c.args.register + loop.place < length loop.entries =
-    omega (arith, c.requires, c.from-first.ensures, c.if-first-entries.false, loop.auto.entries) in
-    rw c.from-first.ensures (configured_more (file_of c.args.mseccfg.now c.args.entries.now) c.args.register
+    omega (
+      arith,
+      c.min-place-end.ensures,
+      c.from-first.ensures,
+      c.if-first-entries.false,
+      loop.auto.entries,
+      c.loop-place-test.true,
+    ) in
+    rw c.from-first.ensures (configured_more (file_of c.args.hart c.args.mseccfg.now c.args.entries.now) c.args.register
     c.args.value loop.entries loop.place _ loop.invariant inside next)
 
 pub returns : goal.returns
 returns c =
     let loop = c.loop-place in
-    let whole : loop.place ≡ 8 = omega arith in
-    all_configured (file_of c.args.mseccfg.now c.args.entries.now) c.args.register c.args.value loop.entries
-    (rw whole at loop.invariant)
+    all_configured (file_of c.args.hart c.args.mseccfg.now c.args.entries.now) c.args.register c.args.value loop.entries
+    loop.place (omega (arith, c.min-place-end.ensures, c.from-first.ensures, c.loop-place-test.false, loop.auto.place-end))
+    loop.invariant

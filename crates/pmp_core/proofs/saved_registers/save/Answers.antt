@@ -34,4 +34,5 @@ returns c =
       filled (λ k. byte_of (entry_at entries k).configuration) loop.configurations loop.place loop.invariant.1
           (λ k from. ap (λ (e : Entry). byte_of e.configuration) (past k from)),
       c.value.ensures,
+      c.number.ensures,
     ) refl

@@ -1,9 +1,9 @@
 use Rattle.std.proofs.Common.{◌≡◌, rules}
 use Rattle.pmp_core.specs.SavedRegisters.{saved_registers}
-use Rattle.pmp_core.proofs.Saved.{saved_law}
+use Rattle.pmp_core.proofs.Saved.{restored_saved}
 use Rattle.pmp_core.proofs.register_file.RegFile.save.Goals as goal
 
 pub returns-clause-restored : goal.returns-clause-restored
 returns-clause-restored c =
     let saved : c.save.result ≡ saved_registers c.args.self.now = search rules in
-    rw (saved, ← c.self.view_is) (saved_law _ c.self.inside.size c.self.invariant.legal c.self.invariant.count)
+    rw (saved, ← c.self.view_is) (restored_saved _ c.self.invariant.legal)

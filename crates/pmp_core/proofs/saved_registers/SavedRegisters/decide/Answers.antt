@@ -18,12 +18,12 @@ returns-then-is_touched c =
     let access = c.args.access.now in
     let i = c.loop-index.index in
     let inside : i < length file.entries = omega (arith, c.loop-index-test.true, c.count-index-end.ensures.entries) in
-    let at : slice_index_or (ranges_of file.entries) i no_range ≡ c.range-range.result =
-    range_at file.entries i inside ∙ sym c.range-range.ensures in
-    let touched : is_touched access (slice_index_or (ranges_of file.entries) i no_range) ≡ true =
+    let at : slice_index_or (ranges_of file) i no_range ≡ c.range-range.result =
+    range_at file.profile file.entries i inside ∙ sym c.range-range.ensures in
+    let touched : is_touched access (slice_index_or (ranges_of file) i no_range) ≡ true =
     ap (is_touched access) at ∙ sym c.is_touched.ensures ∙ c.if-is_touched.true in
     c.decide_in.ensures ∙ ap (decision_in file access i) (sym at)
-    ∙ sym (pass_touched file access (ranges_of file.entries) i (omega (arith, length-ranges_of file.entries)) touched)
+    ∙ sym (pass_touched file access (ranges_of file) i (omega (arith, length-ranges_of file.profile file.entries)) touched)
     ∙ sym c.loop-index.invariant
 
 pub loop-index-preserved : goal.loop-index-preserved
@@ -33,18 +33,18 @@ loop-index-preserved c =
     let access = c.args.access.now in
     let i = c.loop-index.index in
     let inside : i < length file.entries = omega (arith, c.loop-index-test.true, c.count-index-end.ensures.entries) in
-    let at : slice_index_or (ranges_of file.entries) i no_range ≡ c.range-range.result =
-    range_at file.entries i inside ∙ sym c.range-range.ensures in
-    let untouched : is_touched access (slice_index_or (ranges_of file.entries) i no_range) ≡ false =
+    let at : slice_index_or (ranges_of file) i no_range ≡ c.range-range.result =
+    range_at file.profile file.entries i inside ∙ sym c.range-range.ensures in
+    let untouched : is_touched access (slice_index_or (ranges_of file) i no_range) ≡ false =
     ap (is_touched access) at ∙ sym c.is_touched.ensures ∙ c.if-is_touched.false in
     c.loop-index.invariant
-    ∙ pass_untouched file access (ranges_of file.entries) i (omega (arith, length-ranges_of file.entries)) untouched
+    ∙ pass_untouched file access (ranges_of file) i (omega (arith, length-ranges_of file.profile file.entries)) untouched
 
 pub returns : goal.returns
 returns c =
     let file = restored_file c.args.self.now in
     let unmatched : Bool → Decision = λ allowed. record { allowed = allowed; cause = NoMatch } in
     ap unmatched (c.allows.ensures.by_rights _ c.default_rights.ensures)
-    ∙ sym (pass_end file c.args.access.now (ranges_of file.entries) c.loop-index.index
-    (omega (arith, length-ranges_of file.entries, c.loop-index-test.false, c.count-index-end.ensures.entries)))
+    ∙ sym (pass_end file c.args.access.now (ranges_of file) c.loop-index.index
+    (omega (arith, length-ranges_of file.profile file.entries, c.loop-index-test.false, c.count-index-end.ensures.entries)))
     ∙ sym c.loop-index.invariant

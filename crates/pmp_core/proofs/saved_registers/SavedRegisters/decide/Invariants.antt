@@ -6,4 +6,4 @@ use Rattle.pmp_core.proofs.saved_registers.SavedRegisters.decide.Given as goal
 abbrev pub invariant-loop-index : goal.invariant-loop-index
 invariant-loop-index l =
     let file = restored_file l.self in
-    decision_of file l.access ≡ decision_from file l.access l.index (drop l.index (ranges_of file.entries))
+    decision_of file l.access ≡ decision_from file l.access l.index (drop l.index (ranges_of file))

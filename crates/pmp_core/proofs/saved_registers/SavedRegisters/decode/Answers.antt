@@ -8,5 +8,5 @@ pub range-requires : goal.range-requires
 range-requires c = omega (arith, length_in c.args.self.now)
 
 pub returns : goal.returns
-returns c = all_decoded (restored_file c.args.self.now).entries c.loop-index.ranges (omega arith)
+returns c = let file = restored_file c.args.self.now in all_decoded file.profile file.entries c.loop-index.ranges (omega arith)
     (λ k inside. c.loop-index.invariant k (omega arith))

@@ -5,10 +5,9 @@ use Rattle.pmp_core.specs.declared.configuration.AddressMatching.{AddressMatchin
 use Rattle.pmp_core.specs.declared.configuration.AddressMatching.TheVariants.{Off, Tor, Na4, Napot}
 use Rattle.pmp_core.specs.declared.configuration.Configuration.{Configuration}
 use Rattle.pmp_core.specs.declared.mseccfg.MseccfgFields.{MseccfgFields}
-use Rattle.pmp_core.specs.Mseccfg.{mseccfg_fields}
 use Rattle.pmp_core.specs.RegisterFile.{reset_entry}
 use Rattle.pmp_core.specs.RegisterWrite.{is_tor, is_address_frozen}
-use Rattle.pmp_core.specs.SavedRegisters.{restored_entry, restored_file}
+use Rattle.pmp_core.specs.SavedRegisters.{fields_in, restored_entry, restored_file}
 use Rattle.pmp_core.proofs.InPlaceAddresses.{frozen_by, frozen_bypassed, frozen_is, after, after_is, after_none}
 use Rattle.pmp_core.proofs.saved_registers.SavedRegisters.is_address_frozen.Goals as goal
 use Rattle.pmp_core.proofs.saved_registers.SavedRegisters.is_address_frozen.Goals.{Else-fields, Else-configuration}
@@ -24,7 +23,7 @@ is_tor_test Napot = refl
 pub returns-then-fields : goal.returns-then-fields
 returns-then-fields c =
     let saved = c.args.self.now in
-    let rlb : (mseccfg_fields saved.mseccfg).rlb ≡ true =
+    let rlb : (fields_in saved).rlb ≡ true =
     ap (λ (m : MseccfgFields). m.rlb) (sym c.fields.ensures) ∙ c.if-fields.true in
     sym (frozen_is saved c.args.index c.requires
     ∙ ap (λ (r : Bool). frozen_by r (restored_entry saved c.args.index).configuration.locked
@@ -37,7 +36,7 @@ frozen_without : (c : Else-fields) → is_address_frozen (restored_file c.args.s
     (after c.args.self.now c.args.index c.requires).locked (after c.args.self.now c.args.index c.requires).matching
 frozen_without c =
     let saved = c.args.self.now in
-    let rlb : (mseccfg_fields saved.mseccfg).rlb ≡ false =
+    let rlb : (fields_in saved).rlb ≡ false =
     ap (λ (m : MseccfgFields). m.rlb) (sym c.fields.ensures) ∙ c.if-fields.false in
     frozen_is saved c.args.index c.requires
     ∙ ap (λ (r : Bool). frozen_by r (restored_entry saved c.args.index).configuration.locked

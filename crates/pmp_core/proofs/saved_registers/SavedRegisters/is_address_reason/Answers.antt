@@ -1,4 +1,5 @@
-use Rattle.std.proofs.Common.{◌∙◌, arith}
+use Rattle.std.proofs.Common.{refl, ◌∙◌, arith}
+use Rattle.pmp_core.proofs.InPlace.{profile_in}
 use Rattle.pmp_core.proofs.InPlaceAddresses.{turned_inside, turned_past}
 use Rattle.pmp_core.proofs.saved_registers.SavedRegisters.is_address_reason.Goals as goal
 
@@ -13,3 +14,6 @@ pub returns-in_default-2 : goal.returns-in_default-2
 returns-in_default-2 c = turned_past c.args.self.now c.args.register c.args.value
     (omega (arith, c.if-is_there.false, c.count.ensures.count, c.from-index.ensures)) c.args.reason
     c.in_default-2.not-Absent c.in_default-2.not-Bits
+
+pub returns-in-Bits : goal.returns-in-Bits
+returns-in-Bits c = rw (c.in-Bits.is, profile_in c.args.self.now, c.word_addresses.ensures, c.hart.ensures) refl

@@ -1,4 +1,5 @@
-use Rattle.std.proofs.Common.{◌≡◌, ◌<◌, true, length, ap, sym, ◌∙◌, arith}
+use Rattle.std.proofs.Common.{◌≡◌, ◌<◌, true, length, inl, inr, ap, sym, ◌∙◌, arith}
+use Rattle.std.proofs.lemmas.Bool.{cases_lt}
 use Rattle.std.proofs.lemmas.List.Folds.{list_any_at}
 use Rattle.pmp_core.specs.declared.entry.Entry.{Entry}
 use Rattle.pmp_core.specs.declared.configuration.Configuration.{Configuration}
@@ -29,3 +30,11 @@ returns c = none_locked c.args.self.now (λ k inside. c.loop-place.invariant k (
   c.loop-place-test.false,
   c.count-place-end.ensures.count,
 )))
+
+pub loop-place-preserved : goal.loop-place-preserved
+loop-place-preserved c = λ k below. elim (cases_lt k c.loop-place.place) [
+  | inl before ↦ c.loop-place.invariant k before
+  | inr at ↦
+      let same : c.loop-place.place ≡ k = omega arith in
+      rw (← same) (ap (λ (it : Configuration). it.locked) (sym c.configuration.ensures) ∙ c.if-configuration.false)
+]

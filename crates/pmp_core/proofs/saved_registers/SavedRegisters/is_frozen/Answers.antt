@@ -1,7 +1,7 @@
 use Rattle.std.proofs.Common.{Bool, not, ◌&&◌, sym, ap, ◌∙◌}
 use Rattle.pmp_core.specs.declared.configuration.Configuration.{Configuration}
 use Rattle.pmp_core.specs.declared.mseccfg.MseccfgFields.{MseccfgFields}
-use Rattle.pmp_core.specs.Mseccfg.{mseccfg_fields}
+use Rattle.pmp_core.specs.SavedRegisters.{fields_in}
 use Rattle.pmp_core.proofs.InPlaceAddresses.{frozen_in}
 use Rattle.pmp_core.proofs.saved_registers.SavedRegisters.is_frozen.Goals as goal
 
@@ -10,7 +10,7 @@ returns-then-configuration c =
     let saved = c.args.self.now in
     ap (λ (m : MseccfgFields). not m.rlb) c.fields.ensures
     ∙ sym (frozen_in saved c.args.index c.requires
-    ∙ ap (λ (b : Bool). b && not (mseccfg_fields saved.mseccfg).rlb)
+    ∙ ap (λ (b : Bool). b && not (fields_in saved).rlb)
     (ap (λ (k : Configuration). k.locked) (sym c.configuration.ensures) ∙ c.if-configuration.true))
 
 pub returns-else-configuration : goal.returns-else-configuration
@@ -18,5 +18,5 @@ returns-else-configuration c =
     let saved = c.args.self.now in
     c.if-configuration.false
     ∙ sym (frozen_in saved c.args.index c.requires
-    ∙ ap (λ (b : Bool). b && not (mseccfg_fields saved.mseccfg).rlb)
+    ∙ ap (λ (b : Bool). b && not (fields_in saved).rlb)
     (ap (λ (k : Configuration). k.locked) (sym c.configuration.ensures) ∙ c.if-configuration.false))

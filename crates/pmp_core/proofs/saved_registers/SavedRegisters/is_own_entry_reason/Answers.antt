@@ -8,15 +8,15 @@ use Rattle.pmp_core.proofs.saved_registers.SavedRegisters.is_own_entry_reason.Go
 pub returns-then-is_frozen : goal.returns-then-is_frozen
 returns-then-is_frozen c =
     let saved = c.args.self.now in
-    let changed = is_changed (restored_file saved).entries (Addr c.args.index) c.args.value c.args.index in
-    rw c.in-Frozen.is (ap (λ (a : ℕ). not (c.args.value == a)) c.address.ensures
+    let changed = is_changed (restored_file saved) (Addr c.args.index) c.args.value c.args.index in
+    rw c.in-Frozen.is (ap (λ (a : ℕ). not (c.args.value == a)) c.read_address.ensures
     ∙ sym (own_changed saved c.args.index c.requires c.args.value)
     ∙ sym (ap (λ (b : Bool). b && changed) (sym c.is_frozen.ensures ∙ c.if-is_frozen.true)))
 
 pub returns-then-is_low_end : goal.returns-then-is_low_end
 returns-then-is_low_end c =
     let saved = c.args.self.now in
-    let changed = is_changed (restored_file saved).entries (Addr c.args.index) c.args.value c.args.index in
-    rw c.in-Tor.is (ap (λ (a : ℕ). not (c.args.value == a)) c.address.ensures
+    let changed = is_changed (restored_file saved) (Addr c.args.index) c.args.value c.args.index in
+    rw c.in-Tor.is (ap (λ (a : ℕ). not (c.args.value == a)) c.read_address.ensures
     ∙ sym (own_changed saved c.args.index c.requires c.args.value)
     ∙ sym (ap (λ (b : Bool). b && changed) (sym c.is_low_end.ensures ∙ c.if-is_low_end.true)))

@@ -1,7 +1,9 @@
 use Rattle.std.proofs.Common.{◌≡◌, ◌∙◌, ap, arith}
 use Rattle.pmp_core.specs.declared.entry.Entry.{Entry}
+use Rattle.pmp_core.specs.Hart.{Profile}
 use Rattle.pmp_core.specs.Ranges.{range_by}
-use Rattle.pmp_core.proofs.InPlace.{low_in, low_after, low_first, range_in_place}
+use Rattle.pmp_core.specs.SavedRegisters.{hart_in}
+use Rattle.pmp_core.proofs.InPlace.{few_bits, low_in, low_after, low_first, range_in_place}
 use Rattle.pmp_core.proofs.saved_registers.SavedRegisters.range.Goals as goal
 use Rattle.pmp_core.proofs.saved_registers.SavedRegisters.range.Goals.{in-Some, in-None}
 
@@ -18,5 +20,16 @@ returns c =
           w.low-is ∙ low_first saved c.args.index (omega (arith, none))
     ] in
     c.range_by.ensures
-    ∙ ap (λ (e : Entry). range_by e.configuration.matching low e.address) c.entry.ensures
+    ∙ ap (λ (p : Profile). range_by p.grain c.entry.result.configuration.matching low c.entry.result.address)
+    c.hart.ensures
+    ∙ ap (λ (e : Entry). range_by (hart_in saved).grain e.configuration.matching low e.address) c.entry.ensures
     ∙ range_in_place saved low c.args.index c.requires is
+
+pub range_by-requires-clause-low : goal.range_by-requires-clause-low
+range_by-requires-clause-low c = elim c.match-checked_sub.branch [
+  | in-Some w ↦ rw (w.low-is, w.address-low.ensures) (few_bits c.args.self.now _)
+  | in-None w ↦ rw w.low-is (omega arith)
+]
+
+pub range_by-requires-clause-address : goal.range_by-requires-clause-address
+range_by-requires-clause-address c = rw c.entry.ensures (few_bits c.args.self.now c.args.index)

@@ -18,18 +18,19 @@ returns-then-address-clause-written c =
     address_same c.args.self.now c.args.register c.args.value
     (omega (arith, c.if-index-count.false, c.count.ensures.count, c.from-index.ensures))
     (rw c.from-index.ensures at (sym c.is_address_frozen.ensures ∙ c.if-is_address_frozen.false))
-    (rw c.from-index.ensures at (sym c.address.ensures ∙ c.if-address.true))
+    (rw (c.from-index.ensures, c.word_addresses.ensures, c.hart.ensures) at (sym c.address.ensures ∙ c.if-address.true))
 
 pub returns-clause-written : goal.returns-clause-written
-returns-clause-written c = rw c.from-index.ensures (
+returns-clause-written c = rw (c.from-index.ensures, c.word_addresses.ensures, c.hart.ensures) (
     address_written_is c.args.self.now c.args.register c.args.value
     (omega (arith, c.if-index-count.false, c.count.ensures.count, c.from-index.ensures))
     (let told = c.told-self in told.0)
     (rw c.from-index.ensures at (sym c.is_address_frozen.ensures ∙ c.if-is_address_frozen.false)))
 
 pub returns-clause-changed : goal.returns-clause-changed
-returns-clause-changed c = λ yes. rw c.from-index.ensures (
+returns-clause-changed c = λ yes. rw (c.from-index.ensures, c.word_addresses.ensures, c.hart.ensures) (
     address_changed c.args.self.now c.args.register c.args.value
     (omega (arith, c.if-index-count.false, c.count.ensures.count, c.from-index.ensures))
     (let told = c.told-self in told.0)
-    (λ same. c.if-address.false (rw c.from-index.ensures at c.address.ensures ∙ same)))
+    (λ same. c.if-address.false (rw (c.word_addresses.ensures, c.hart.ensures)
+    (rw c.from-index.ensures at c.address.ensures ∙ same))))

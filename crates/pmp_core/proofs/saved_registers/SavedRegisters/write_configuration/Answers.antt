@@ -3,34 +3,39 @@ use Rattle.pmp_core.specs.declared.configuration.Configuration.{Configuration}
 use Rattle.pmp_core.specs.declared.entry.Entry.{Entry}
 use Rattle.pmp_core.specs.declared.mseccfg.MseccfgFields.{MseccfgFields}
 use Rattle.pmp_core.specs.Configuration.{byte_of}
-use Rattle.pmp_core.specs.Mseccfg.{mseccfg_fields}
+use Rattle.pmp_core.specs.Hart.{Profile}
 use Rattle.pmp_core.specs.RegisterWrite.{stored_over}
-use Rattle.pmp_core.specs.SavedRegisters.{restored_entry, IsSetAt}
+use Rattle.pmp_core.specs.SavedRegisters.{fields_in, hart_in, restored_entry, IsSetAt}
 use Rattle.pmp_core.proofs.InPlaceConfigurations.{configuration_set, with_byte, set_as_is, byte_once}
-use Rattle.pmp_core.proofs.InPlaceSecurity.{stored_unreserved_in}
+use Rattle.pmp_core.proofs.InPlaceSecurity.{stored_chosen_in, stored_unreserved_in}
 use Rattle.pmp_core.proofs.saved_registers.SavedRegisters.write_configuration.Goals as goal
 use Rattle.pmp_core.proofs.saved_registers.SavedRegisters.write_configuration.Goals.{After-byte, Else-new-byte}
 
 module _ (c : After-byte) where
   abbrev stored_here : Configuration
-  stored_here = stored_over (mseccfg_fields c.args.self.now.mseccfg).mml (mseccfg_fields c.args.self.now.mseccfg).rlb
+  stored_here = stored_over (hart_in c.args.self.now).grain (fields_in c.args.self.now).mml (fields_in c.args.self.now).rlb
       (restored_entry c.args.self.now c.args.place).configuration c.args.byte
 
   stored_is : c.stored_over.result ≡ stored_here
   stored_is = c.stored_over.ensures
-      ∙ ap (λ (m : MseccfgFields). stored_over m.mml m.rlb c.configuration-old.result c.args.byte) c.fields.ensures
-      ∙ ap (λ (k : Configuration). stored_over (mseccfg_fields c.args.self.now.mseccfg).mml
-      (mseccfg_fields c.args.self.now.mseccfg).rlb k c.args.byte) c.configuration-old.ensures
+      ∙ ap (λ (p : Profile). stored_over p.grain c.fields.result.mml c.fields.result.rlb c.configuration-old.result
+      c.args.byte) c.hart.ensures
+      ∙ ap (λ (m : MseccfgFields). stored_over (hart_in c.args.self.now).grain m.mml m.rlb c.configuration-old.result
+      c.args.byte) c.fields.ensures
+      ∙ ap (λ (k : Configuration). stored_over (hart_in c.args.self.now).grain (fields_in c.args.self.now).mml
+      (fields_in c.args.self.now).rlb k c.args.byte) c.configuration-old.ensures
 
   is_set : IsSetAt c.args.self.now (with_byte c.args.self.now c.args.place c.byte-new.result stored_here c.requires
       (let told = c.told-self in told.1) (c.byte-new.ensures ∙ ap byte_of stored_is)
-      (stored_unreserved_in c.args.self.now c.args.place c.args.byte)) c.args.place
+      (stored_unreserved_in c.args.self.now c.args.place c.args.byte)
+      (stored_chosen_in c.args.self.now c.args.place c.args.byte)) c.args.place
       (record (restored_entry c.args.self.now c.args.place) {
         configuration = stored_here;
       })
   is_set = configuration_set c.args.self.now c.args.place c.byte-new.result stored_here c.requires
       (let told = c.told-self in told.1) (c.byte-new.ensures ∙ ap byte_of stored_is)
       (stored_unreserved_in c.args.self.now c.args.place c.args.byte)
+      (stored_chosen_in c.args.self.now c.args.place c.args.byte)
 
 pub returns-then-new-byte-clause-set : goal.returns-then-new-byte-clause-set
 returns-then-new-byte-clause-set c =

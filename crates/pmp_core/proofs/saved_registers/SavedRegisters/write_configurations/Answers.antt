@@ -1,4 +1,5 @@
-use Rattle.std.proofs.Common.{◌≡◌, arith}
+use Rattle.std.proofs.Common.{◌≡◌, ◌+◌, ◌-◌, ◌*◌, ◌<◌, min, arith}
+use Rattle.pmp_core.proofs.InPlace.{count_in}
 use Rattle.pmp_core.proofs.InPlaceConfigurations.{configured_start, configured_step, configurations_written_is}
 use Rattle.pmp_core.proofs.InPlaceConfigurations.{configurations_changed}
 use Rattle.pmp_core.proofs.InPlaceConfigurations.{configurations_odd, configurations_past}
@@ -19,10 +20,20 @@ loop-place-init c = configured_start c.args.self.now c.args.register c.args.valu
 pub loop-place-preserved : goal.loop-place-preserved
 loop-place-preserved c =
     let loop = c.loop-place in
+    let near : loop.place < 8 = omega (arith, c.min-place-end.ensures, c.loop-place-test.true) in
+    let inside : 4 * c.args.register + loop.place < count_in c.args.self.now =
+    omega (
+      arith,
+      c.min-place-end.ensures,
+      c.loop-place-test.true,
+      c.if-first-count.false,
+      c.count.ensures.count,
+      c.count-2.ensures.count,
+      c.from-first.ensures,
+    ) in
     configured_step c.args.self.now loop.self c.write_configuration-is_new.new.self c.args.register c.args.value
     loop.place loop.is_changed c.write_configuration-is_new.result (omega (arith, c.if-register-eq1.false))
-    c.loop-place-test.true (omega (arith, c.if-first-count.false, c.count.ensures.count, c.from-first.ensures))
-    loop.invariant
+    near inside loop.invariant
     (rw (c.from-first.ensures, c.to_le_bytes-bytes.ensures) at c.write_configuration-is_new.ensures.set)
     c.write_configuration-is_new.ensures.same
     (rw c.from-first.ensures at c.write_configuration-is_new.ensures.changed)
@@ -30,12 +41,20 @@ loop-place-preserved c =
 pub returns : goal.returns
 returns c =
     let loop = c.loop-place in
-    let whole : loop.place ≡ 8 = omega arith in
-    let done = rw whole at loop.invariant in
+    let many : loop.place ≡ min 8 (count_in c.args.self.now - 4 * c.args.register) =
+    omega (
+      arith,
+      c.min-place-end.ensures,
+      c.loop-place-test.false,
+      loop.auto.place-end,
+      c.count-2.ensures.count,
+      c.from-first.ensures,
+    ) in
     record {
-      written = configurations_written_is c.args.self.now loop.self c.args.register c.args.value loop.is_changed done;
+      written = configurations_written_is c.args.self.now loop.self c.args.register c.args.value loop.place
+          loop.is_changed loop.invariant many;
       same = loop.invariant.same;
-      changed = configurations_changed c.args.self.now loop.self c.args.register c.args.value loop.is_changed done
-          (omega (arith, c.if-register-eq1.false))
+      changed = configurations_changed c.args.self.now loop.self c.args.register c.args.value loop.place
+          loop.is_changed loop.invariant (omega (arith, many))
           (omega (arith, c.if-first-count.false, c.count.ensures.count, c.from-first.ensures));
     }

@@ -1,0 +1,87 @@
+-- Addresses by the grain.
+use Rattle.std.proofs.Common.{◌≡◌, ℕ, ◌+◌, ◌-◌, ◌*◌, ◌/◌, ◌^◌, ◌<◌, ◌≤◌, Bool, true, false, cond, ◌&&◌, nat_lt}
+use Rattle.std.proofs.Common.{refl, sym, ap, ◌∙◌, inl, inr, arith}
+use Rattle.std.proofs.Math.Nat.{div-eq_of_lt, div-lt_iff_lt-mul, div-mul-le_self, mul-add-div_right, mul-div_cancel}
+use Rattle.std.proofs.Math.Nat.{mul-le-mul_right}
+use Rattle.std.proofs.Math.Pow.{pow_pos}
+use Rattle.std.proofs.lemmas.Bool.{cases_Bool, and_right}
+use Rattle.std.proofs.lemmas.Nat.{pow-add}
+use Rattle.pmp_core.specs.declared.configuration.AddressMatching.{AddressMatching}
+use Rattle.pmp_core.specs.declared.configuration.AddressMatching.TheVariants.{Off, Tor, Na4, Napot}
+use Rattle.pmp_core.specs.declared.configuration.Configuration.{Configuration}
+use Rattle.pmp_core.specs.declared.register_write.TheConstants.{WORD_ADDRESSES}
+use Rattle.pmp_core.specs.Configuration.{is_reserved}
+use Rattle.pmp_core.specs.Grain.{is_na4, napot_address, read_address, selectable, tor_address}
+
+-- ---- addresses
+
+-- below a power of two that the ones divide
+pub napot_within : (grain n address : ℕ) → grain - 1 ≤ n → address < 2 ^ n → napot_address grain address < 2 ^ n
+napot_within grain n address fits small =
+    let k = grain - 1 in
+    let parts : n - k + k ≡ n = omega arith in
+    let whole : 2 ^ n ≡ 2 ^ (n - k) * 2 ^ k = sym (ap (λ (m : ℕ). 2 ^ m) parts) ∙ pow-add 2 (n - k) k in
+    let below : address / 2 ^ k < 2 ^ (n - k) = (div-lt_iff_lt-mul (pow_pos k)).1 (rw whole at small) in
+    let room : (address / 2 ^ k + 1) * 2 ^ k ≤ 2 ^ (n - k) * 2 ^ k = mul-le-mul_right (2 ^ k) (omega (arith, below)) in
+    omega (arith, whole, room, pow_pos k)
+
+pub napot_below : (grain address : ℕ) → grain ≤ 10 → address < WORD_ADDRESSES
+    → napot_address grain address < WORD_ADDRESSES
+napot_below grain address fine small = napot_within grain 54 address (omega arith) small
+
+pub tor_most : (grain address : ℕ) → tor_address grain address ≤ address
+tor_most grain address = div-mul-le_self address (2 ^ grain)
+
+-- what is read is read of it again
+tor_again : (grain address : ℕ) → tor_address grain (tor_address grain address) ≡ tor_address grain address
+tor_again grain address = ap (λ (q : ℕ). q * 2 ^ grain) (mul-div_cancel (address / 2 ^ grain) (pow_pos grain))
+
+napot_again : (grain address : ℕ) → napot_address grain (napot_address grain address) ≡ napot_address grain address
+napot_again grain address =
+    let ones = 2 ^ (grain - 1) in
+    let some : 0 < ones = pow_pos (grain - 1) in
+    let rest : (ones - 1) / ones ≡ 0 = div-eq_of_lt (omega (arith, some)) in
+    let same : (address / ones * ones + (ones - 1)) / ones ≡ address / ones =
+    mul-add-div_right some (address / ones) (ones - 1) ∙ omega (arith, rest) in
+    ap (λ (q : ℕ). q * ones + (ones - 1)) same
+
+pub read_again : (grain : ℕ) (matching : AddressMatching) (address : ℕ)
+    → read_address grain matching (read_address grain matching address) ≡ read_address grain matching address
+read_again grain Off address = tor_again grain address
+read_again grain Tor address = tor_again grain address
+read_again grain Na4 address = refl
+read_again grain Napot address = napot_again grain address
+
+pub read_within : (grain n : ℕ) (matching : AddressMatching) (address : ℕ) → grain - 1 ≤ n → address < 2 ^ n
+    → read_address grain matching address < 2 ^ n
+read_within grain n Off address fits small = omega (arith, tor_most grain address)
+read_within grain n Tor address fits small = omega (arith, tor_most grain address)
+read_within grain n Na4 address fits small = small
+read_within grain n Napot address fits small = napot_within grain n address fits small
+
+-- with the finest grain all is read as it is kept
+pub read_finest : (matching : AddressMatching) (address : ℕ) → read_address 0 matching address ≡ address
+read_finest Off address = omega arith
+read_finest Tor address = omega arith
+read_finest Na4 address = refl
+read_finest Napot address = omega arith
+
+-- ---- configurations
+
+pub selectable_again : (grain : ℕ) (c : Configuration) → selectable grain (selectable grain c) ≡ selectable grain c
+selectable_again grain c = elim (cases_Bool (nat_lt 0 grain && is_na4 c.matching)) [
+  | inl coarse ↦ rw coarse (rw (and_right (nat_lt 0 grain) false refl) refl)
+  | inr so ↦ rw so (rw so refl)
+]
+
+pub selectable_reserved : (grain : ℕ) (c : Configuration) → is_reserved (selectable grain c) ≡ is_reserved c
+selectable_reserved grain c =
+    elim (nat_lt 0 grain && is_na4 c.matching) as
+    (λ (coarse : Bool). is_reserved (cond coarse (record c { matching = Off }) c) ≡ is_reserved c) [
+      | true ↦ refl
+      | false ↦ refl
+    ]
+
+-- a mode other than NA4 can be chosen
+pub selectable_other : (grain : ℕ) (c : Configuration) → is_na4 c.matching ≡ false → selectable grain c ≡ c
+selectable_other grain c other = rw (and_right (nat_lt 0 grain) (is_na4 c.matching) other) refl
