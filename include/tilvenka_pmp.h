@@ -99,7 +99,8 @@ enum {
     TILVENKA_PMP_RESERVED = 1 << 12, /* it has W without R for an entry that isn't frozen, and MML is 0 */
     TILVENKA_PMP_LOCKDOWN = 1 << 13, /* it would add a locked rule that executes, MML is 1 and RLB is 0 */
     TILVENKA_PMP_STICKY = 1 << 14, /* it would clear MML or MMWP */
-    TILVENKA_PMP_BYPASS = 1 << 15 /* it would set RLB, and some entry is locked */
+    TILVENKA_PMP_BYPASS = 1 << 15, /* it would set RLB, and some entry is locked */
+    TILVENKA_PMP_GRAIN = 1 << 16 /* the grain is above 4 bytes, and it has NA4 or address bits that read otherwise */
 };
 
 /* An answer is one number: where the access fails, 1024 times the code of its fault; and what decided, as an entry, as
@@ -126,13 +127,21 @@ enum {
     TILVENKA_PMP_NO_RANGE = 16
 };
 
-/* All registers. What a register lacks is ignored: bits 63 to 54 of an address, bits 6 and 5 of a configuration byte,
- * all of mseccfg but MML, MMWP and RLB. */
+/* A hart other than those of 16 and of 64 entries with a grain of 4 bytes, addresses of 56 bits and Smepmp: so many
+ * entries, 0 to 64, the manual's G, 0 to 10, where the grain is 2^(G+2) bytes, addresses of so many bits, 34 to 56, and
+ * whether it has mseccfg. With other numbers it is that of 16 entries. */
+#define TILVENKA_PMP_HART(entries, grain, address_bits, smepmp) \
+    ((uint64_t)(entries) % 256 + (uint64_t)(address_bits) % 256 * 256 + ((smepmp) ? UINT64_C(65536) : 0) \
+        + (uint64_t)(grain) % 256 * 16777216 + (UINT64_C(1) << 32))
+
+/* All registers. What a register lacks is ignored: bits 63 to 54 of an address, or more on a hart with fewer, bits 6
+ * and 5 of a configuration byte, all of mseccfg but MML, MMWP and RLB. An address is all that was written, also below
+ * the grain. */
 typedef struct tilvenka_pmp_registers {
     uint64_t addresses[TILVENKA_PMP_MAX_ENTRIES]; /* pmpaddr0 and so on: bits 55 to 2 of a byte address */
     uint8_t configurations[TILVENKA_PMP_MAX_ENTRIES];
     uint64_t mseccfg;
-    uint64_t entries; /* 64, or else 16 */
+    uint64_t entries; /* the hart: 64, what TILVENKA_PMP_HART gives, or else 16 */
 } tilvenka_pmp_registers;
 
 /* The map is the library's own; where `runs` is 0 it isn't built. */
@@ -156,12 +165,13 @@ TILVENKA_PMP_ASSERT(offsetof(tilvenka_pmp_map, rows) == 8 * 217 + 8, "the rows l
 TILVENKA_PMP_ASSERT(TILVENKA_PMP_ALIGNMENT(tilvenka_pmp_unit) == 8, "the unit is aligned otherwise");
 TILVENKA_PMP_ASSERT(sizeof(tilvenka_pmp_unit) == 592 + 8 * 217 + 8 + 32 * 217, "the unit is laid out otherwise");
 
-/* Resets the unit, which has 64 entries from now on where `entries` is 64, and else 16. The map isn't built. */
+/* Resets the unit, which from now on is of the hart that `entries` says: of 64 entries where it is 64, of the one that
+ * TILVENKA_PMP_HART gave, and else of 16. The map isn't built. */
 void tilvenka_pmp_reset(tilvenka_pmp_unit *unit, uint64_t entries);
 
 /* Writes the CSR with this number, 0x3a0 to 0x3ef or 0x747, as firmware does in machine mode: locks, reserved bits and
  * sticky bits as 3.7.1 and Smepmp say. With TILVENKA_PMP_CHANGED the registers aren't as before, and the map isn't
- * built; else nothing changed, and there is nothing to flush. The registers of entries that a unit of sixteen lacks are
+ * built; else nothing changed, and there is nothing to flush. The registers of entries that a hart lacks are
  * there: they read as zero, and a write to them is done and changes nothing. */
 uint32_t tilvenka_pmp_write(tilvenka_pmp_unit *unit, uint32_t csr, uint64_t value);
 
@@ -209,10 +219,17 @@ static inline bool tilvenka_pmp_is_stored(uint32_t status) {
     return tilvenka_pmp_is_done(status) && status < TILVENKA_PMP_ABSENT;
 }
 
+/* How many entries the hart has that `entries` says. */
+static inline unsigned tilvenka_pmp_count(const tilvenka_pmp_registers *registers) {
+    const uint64_t hart = registers->entries, bits = hart / 256 % 256;
+    const bool is_named = hart >> 32 == 1 && hart % 256 <= TILVENKA_PMP_MAX_ENTRIES && bits >= 34 && bits <= 56;
+    return is_named ? (unsigned)(hart % 256) : hart == 64 ? 64 : 16;
+}
+
 /* How many entries aren't off. Where none is on, no entry matches any access. */
 static inline unsigned tilvenka_pmp_entries_on(const tilvenka_pmp_unit *unit) {
     unsigned count = 0;
-    for (unsigned entry = 0; entry < (unit->registers.entries == 64 ? 64 : 16); entry++)
+    for (unsigned entry = 0; entry < tilvenka_pmp_count(&unit->registers); entry++)
         count += (unit->registers.configurations[entry] & 0x18) != 0;
     return count;
 }

@@ -1,4 +1,4 @@
-"""The rows of rows.txt, in both sizes, before and after the map is built. The last line is 'N passed, M failed'."""
+"""The rows of rows.txt, on each of their harts, before and after the map is built. The last line is 'N passed, M failed'."""
 from __future__ import annotations
 
 import sys
@@ -37,7 +37,8 @@ def write(unit: Unit, question: str) -> str:
 
 def lines(unit: Unit) -> str:
     return " ".join(
-        f"{it.first:014x},{it.last:014x},{'-' if it.owner is None else it.owner},{it.machine.letters},{it.others.letters}"
+        f"{it.first:014x},{it.last:014x},{'-' if it.owner is None else it.owner},"
+        f"{it.machine.letters},{it.others.letters}"
         for it in unit.map()
     )
 
@@ -54,22 +55,30 @@ def wanted(kind: str, text: str) -> str:
     return hex(int(text, 0)) if kind == "read" else text
 
 
-def unit_after(size: int, writes: str) -> Unit:
-    unit = Unit(size)
+def harts(word: str) -> list[tuple]:
+    """The harts that the first word of a row names, by the words of Unit."""
+    if "/" not in word:
+        return [(size,) for size in (16, 64) if word in (str(size), "both")]
+    entries, grain, bits, smepmp = word.split("/")
+    return [(int(entries), int(grain), int(bits), smepmp == "yes")]
+
+
+def unit_after(hart: tuple, writes: str) -> Unit:
+    unit = Unit(*hart)
     for it in filter(None, map(str.strip, writes.split(";"))):
         if it == "reset":
-            unit.reset(size)
+            unit.reset(*hart)
         else:
             name, value = it.split()
             unit.write(register(name), int(value, 0))
     return unit
 
 
-def answers_of(size: int, row: str) -> list[tuple[str, str]]:
+def answers_of(hart: tuple, row: str) -> list[tuple[str, str]]:
     """What is answered, and what is wanted: before the map is built, with it, and from a snapshot."""
     head, writes, question, text = (it.strip() for it in row.split("|"))
     kind = head.split()[1]
-    unit = unit_after(size, writes)
+    unit = unit_after(hart, writes)
     told = [answer(unit, kind, question)]
     unit.build()
     told += [answer(unit, kind, question), str(unit.is_built)]
@@ -90,7 +99,7 @@ def refuses(fault: type[Exception], call, *words) -> tuple[str, str]:
 
 def others() -> list[tuple[object, object]]:
     """What no row says."""
-    unit = unit_after(16, "pmpaddr0 0x200001ff; pmpcfg0 0x19")
+    unit = unit_after((16,), "pmpaddr0 0x200001ff; pmpcfg0 0x19")
     return [
         (unit.rights(Mode.USER, 0x80000000, 4096), Rights.READ),
         (unit.rights(Mode.USER, 0x80000800, 4096), None),
@@ -103,7 +112,9 @@ def others() -> list[tuple[object, object]]:
         refuses(ValueError, unit.decide, Mode.USER, Kind.LOAD, -1, 4),
         refuses(ValueError, unit.write, "pmpaddr0", 1 << 64),
         refuses(ValueError, unit.restore, Registers(mseccfg=-1)),
-        refuses(ValueError, Unit, 32),
+        refuses(ValueError, Unit, 65),
+        *(refuses(ValueError, Unit, 16, it) for it in (0, 2, 12, 8192)),
+        *(refuses(ValueError, Unit, 16, 4, it) for it in (33, 57)),
         *(refuses(KeyError, unit.read, it) for it in ("pmpaddr64", "pmpcfg16", "pmpaddr01", "satp", 0x3F0)),
     ]
 
@@ -111,8 +122,7 @@ def others() -> list[tuple[object, object]]:
 def main() -> int:
     rows = ROWS.read_text(encoding="utf-8").replace("\n    ", " ").split("\n")
     rows = [it for it in rows if "|" in it and not it.startswith("#")]
-    sizes = {"16": [16], "64": [64], "both": [16, 64]}
-    tried = [(row, pair) for row in rows for size in sizes[row.split()[0]] for pair in answers_of(size, row)]
+    tried = [(row, pair) for row in rows for hart in harts(row.split()[0]) for pair in answers_of(hart, row)]
     tried += [("other calls", pair) for pair in others()]
     failed = [f"FAILED: {name}: {told}, not {want}" for name, (told, want) in tried if told != want]
     print(*failed, f"{len(tried) - len(failed)} passed, {len(failed)} failed", sep="\n")

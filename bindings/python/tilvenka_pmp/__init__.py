@@ -99,7 +99,8 @@ class Run:
 
 @dataclass
 class Registers:
-    """All registers of a unit, with zeros for what a unit of sixteen entries lacks."""
+    """All registers of a unit, with zeros for those of entries that the hart lacks. `entries` is 16, 64, or the number
+    of another hart, as TILVENKA_PMP_HART has it."""
 
     addresses: List[int] = field(default_factory=lambda: [0] * _C.MAX_ENTRIES)
     configurations: List[int] = field(default_factory=lambda: [0] * _C.MAX_ENTRIES)
@@ -178,21 +179,31 @@ def _csr(register: Union[int, str]) -> int:
     return (0x3B0 if found[1] == "addr" else 0x3A0) + int(found[2])
 
 
+def _hart(entries: int, grain: int, address_bits: int, has_smepmp: bool) -> int:
+    """The number that TILVENKA_PMP_HART has for the hart."""
+    if not 0 <= entries <= _C.MAX_ENTRIES:
+        raise ValueError(f"a hart has 0 to {_C.MAX_ENTRIES} entries, not {entries}")
+    if grain not in (1 << bit for bit in range(2, 13)):
+        raise ValueError(f"a grain has 4, 8, 16 and so on to 4096 bytes, not {grain}")
+    if not 34 <= address_bits <= 56:
+        raise ValueError(f"a physical address has 34 to 56 bits, not {address_bits}")
+    return entries | address_bits << 8 | bool(has_smepmp) << 16 | (grain.bit_length() - 3) << 24 | 1 << 32
+
+
 class Unit:
     """The PMP unit of one hart.
 
     Decisions and rights go by a map where build() was called after the last write, which is faster. They are the same
     without it. Units are equal where their registers are."""
 
-    def __init__(self, entries: int = 16) -> None:
+    def __init__(self, entries: int = 16, grain: int = 4, address_bits: int = 56, has_smepmp: bool = True) -> None:
         self._unit = _Unit()
-        self.reset(entries)
+        self.reset(entries, grain, address_bits, has_smepmp)
 
-    def reset(self, entries: int) -> None:
-        """Resets the unit, which has 16 or 64 entries from now on."""
-        if entries not in (16, 64):
-            raise ValueError(f"a unit has 16 or 64 entries, not {entries}")
-        _library.tilvenka_pmp_reset(self._unit, entries)
+    def reset(self, entries: int, grain: int = 4, address_bits: int = 56, has_smepmp: bool = True) -> None:
+        """Resets the unit, whose hart from now on has so many entries, a grain of so many bytes, and physical addresses
+        of so many bits. It raises ValueError where there is no such hart."""
+        _library.tilvenka_pmp_reset(self._unit, _hart(entries, grain, address_bits, has_smepmp))
 
     def write(self, register: Union[int, str], value: int) -> None:
         """Writes a register, as firmware does in machine mode. What the unit doesn't store it ignores, as the manual
@@ -290,4 +301,4 @@ class Unit:
     __hash__ = None  # type: ignore[assignment]
 
     def __repr__(self) -> str:
-        return f"<Unit of {self._unit.registers.entries} entries: {self.map()}>"
+        return f"<Unit of {self._unit.registers.entries % 256} entries: {self.map()}>"

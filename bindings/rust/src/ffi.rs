@@ -27,12 +27,22 @@ pub const EXECUTE: u32 = 4;
 pub const MIXED: u32 = 8;
 pub const NO_RANGE: u32 = 16;
 
+/// `TILVENKA_PMP_HART`, whose grain is the manual's G.
+pub fn hart(entries: u8, grain: u8, address_bits: u8, has_smepmp: bool) -> u64 {
+    u64::from(entries)
+        | u64::from(address_bits) << 8
+        | u64::from(has_smepmp) << 16
+        | u64::from(grain) << 24
+        | 1 << 32
+}
+
 #[repr(C)]
 #[derive(Clone, Copy, Debug, PartialEq, Eq)]
 pub struct Registers {
     pub addresses: [u64; MAX_ENTRIES],
     pub configurations: [u8; MAX_ENTRIES],
     pub mseccfg: u64,
+    /// The hart: 16 or 64 entries, or the number of a [`Hart`](crate::Hart).
     pub entries: u64,
 }
 

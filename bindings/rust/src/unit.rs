@@ -3,14 +3,8 @@
 use crate::answer::{Access, Answer, Cause, Kind, Mode, NoAccess, NoRange, Rights};
 use crate::csr::{Csr, NoRegister};
 use crate::ffi::{self, Registers};
+use crate::hart::{Hart, Size};
 use std::fmt;
-
-/// How many entries a unit has.
-#[derive(Clone, Copy, Debug, PartialEq, Eq, Hash)]
-pub enum Size {
-    Sixteen = 16,
-    SixtyFour = 64,
-}
 
 /// Consecutive bytes that one entry owns, and what may be done with them.
 #[derive(Clone, Copy, Debug, PartialEq, Eq, Hash)]
@@ -33,8 +27,8 @@ pub struct Unit {
 }
 
 impl Unit {
-    /// A unit after reset, whose map isn't built.
-    pub fn new(size: Size) -> Unit {
+    /// The unit of a [`Hart`] or of a [`Size`] after reset, whose map isn't built.
+    pub fn new(hart: impl Into<Hart>) -> Unit {
         let map = ffi::Map {
             starts: [0; ffi::PLACES],
             runs: 0,
@@ -44,16 +38,16 @@ impl Unit {
             addresses: [0; ffi::MAX_ENTRIES],
             configurations: [0; ffi::MAX_ENTRIES],
             mseccfg: 0,
-            entries: size as u64,
+            entries: hart.into().number(),
         };
         Unit {
             unit: ffi::Unit { registers, map },
         }
     }
 
-    /// Resets the unit, whose size changes to this one.
-    pub fn reset(&mut self, size: Size) {
-        unsafe { ffi::tilvenka_pmp_reset(&mut self.unit, size as u64) }
+    /// Resets the unit, whose hart changes to this one.
+    pub fn reset(&mut self, hart: impl Into<Hart>) {
+        unsafe { ffi::tilvenka_pmp_reset(&mut self.unit, hart.into().number()) }
     }
 
     /// Writes a register, as firmware does in machine mode. What the unit doesn't store it ignores, as the manual says:
@@ -119,7 +113,7 @@ impl Unit {
         })
     }
 
-    /// All registers, with zeros for what a unit of sixteen entries lacks.
+    /// All registers, with zeros for those of entries that the hart lacks.
     pub fn save(&self) -> Registers {
         let mut registers = self.unit.registers;
         unsafe { ffi::tilvenka_pmp_save(&self.unit, &mut registers) }

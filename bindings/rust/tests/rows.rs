@@ -1,6 +1,6 @@
-//! The rows of `rows.txt`, in both sizes, before and after the map is built.
+//! The rows of `rows.txt`, on each of their harts, before and after the map is built.
 
-use tilvenka_pmp::{Access, Cause, Csr, Kind, Mode, NoAccess, NoRegister, Size, Unit};
+use tilvenka_pmp::{Access, Cause, Csr, Hart, Kind, Mode, NoAccess, NoRegister, Size, Unit};
 
 const ROWS: &str = include_str!(concat!(env!("CARGO_MANIFEST_DIR"), "/../rows.txt"));
 
@@ -99,11 +99,25 @@ fn answer(unit: &Unit, kind: &str, question: &str) -> String {
     }
 }
 
-fn unit_after(size: Size, writes: &str) -> Unit {
-    let mut unit = Unit::new(size);
+/// The harts that the first word of a row names.
+fn harts(word: &str) -> Vec<Hart> {
+    match word {
+        "16" => vec![Size::Sixteen.into()],
+        "64" => vec![Size::SixtyFour.into()],
+        "both" => vec![Size::Sixteen.into(), Size::SixtyFour.into()],
+        hart => {
+            let parts: Vec<&str> = hart.split('/').collect();
+            let [entries, grain, bits] = [0, 1, 2].map(|it| number(parts[it]) as u16);
+            vec![Hart::new(entries as u8, grain, bits as u8, parts[3] == "yes").unwrap()]
+        }
+    }
+}
+
+fn unit_after(hart: Hart, writes: &str) -> Unit {
+    let mut unit = Unit::new(hart);
     for write in writes.split(';').map(str::trim).filter(|it| !it.is_empty()) {
         match write.split_once(' ') {
-            None => unit.reset(size),
+            None => unit.reset(hart),
             Some((name, value)) => unit.write(csr(name), number(value)).unwrap(),
         }
     }
@@ -119,17 +133,14 @@ fn rows_are_answered() {
         .filter(|it| it.contains('|') && !it.starts_with('#'))
     {
         let parts: Vec<&str> = row.split('|').map(str::trim).collect();
-        let (sizes, kind) = parts[0].split_once(' ').unwrap();
+        let (word, kind) = parts[0].split_once(' ').unwrap();
         let wanted = if kind == "read" {
             format!("{:#x}", number(parts[3]))
         } else {
             parts[3].to_string()
         };
-        for size in [Size::Sixteen, Size::SixtyFour] {
-            if sizes != "both" && number(sizes) != size as u64 {
-                continue;
-            }
-            let mut unit = unit_after(size, parts[1]);
+        for hart in harts(word) {
+            let mut unit = unit_after(hart, parts[1]);
             assert_eq!(answer(&unit, kind, parts[2]), wanted, "{row}");
             unit.build();
             assert!(unit.is_built());
@@ -146,7 +157,7 @@ fn rows_are_answered() {
 
 #[test]
 fn ranges_of_several_entries_are_mixed() {
-    let unit = unit_after(Size::Sixteen, "pmpaddr0 0x200001ff; pmpcfg0 0x19");
+    let unit = unit_after(Size::Sixteen.into(), "pmpaddr0 0x200001ff; pmpcfg0 0x19");
     assert_eq!(
         unit.rights(Mode::User, 0x80000000, 4096)
             .unwrap()
@@ -157,4 +168,15 @@ fn ranges_of_several_entries_are_mixed() {
     assert_eq!(unit.rights(Mode::User, 0x80000800, 4096), Ok(None));
     assert!(unit.rights(Mode::User, 0, 0).is_err());
     assert!(unit.rights(Mode::User, 1, 1 << 56).is_err());
+}
+
+#[test]
+fn no_other_harts_are_made() {
+    assert_ne!(Hart::new(16, 8, 56, true), Some(Size::Sixteen.into()));
+    for grain in [0, 2, 12, 8192] {
+        assert_eq!(Hart::new(16, grain, 56, true), None);
+    }
+    assert_eq!(Hart::new(65, 4, 56, true), None);
+    assert_eq!(Hart::new(16, 4, 33, true), None);
+    assert_eq!(Hart::new(16, 4, 57, true), None);
 }

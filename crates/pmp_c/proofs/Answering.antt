@@ -68,7 +68,7 @@ module _ (file : RegisterFile) (tables : Tables) (are : AreTables file tables) w
 
   pub run_found : (byte place : ℕ) → byte < ADDRESS_LIMIT → place + 1 < PLACES → IsFound tables byte place
       → IsPlaceOf are.list byte place
-  run_found byte place small places is_found = place_found file.entries are.list tables.starts are.runs_are are.few
+  run_found byte place small places is_found = place_found file are.list tables.starts are.runs_are are.few
       are.starts_are tables.runs byte place are.count small places (λ within. is_found within (λ few. omega (
         arith,
         are.starts_are FEW (omega arith),
@@ -103,7 +103,7 @@ module _ (file : RegisterFile) (tables : Tables) (are : AreTables file tables) w
         → decision_by file (owner_at place) access ≡ decision_of file access
     whole short = computed access (decision_by file (owner_at place) access)
         (decided_whole file access (owner_at place) (λ byte inside. are.runs_are.owned place byte at.inside
-        (in_run ADDRESS_LIMIT (IsOwner file.entries) are.list are.runs_are place byte at.inside
+        (in_run ADDRESS_LIMIT (IsOwner file) are.list are.runs_are place byte at.inside
         (omega (arith, at.here.0, inside.0)) (omega (arith, inside.1, next_start)))))
 
     pub answered : access.start + access.length ≤ slice_index tables.starts (place + 1)
@@ -127,14 +127,14 @@ module _ (file : RegisterFile) (tables : Tables) (are : AreTables file tables) w
       rises = elim (cases_lt place last) [
         | inl lt ↦ lt
         | inr le ↦
-            let before = run_before ADDRESS_LIMIT (IsOwner file.entries) are.list are.runs_are last
+            let before = run_before ADDRESS_LIMIT (IsOwner file) are.list are.runs_are last
             (access.start + access.length - 1) end.inside end.here in
             absurd (omega (
               arith,
               before,
               next_start,
               at.inside,
-              starts_rise ADDRESS_LIMIT (IsOwner file.entries) are.list are.runs_are (last + 1) (place + 1)
+              starts_rise ADDRESS_LIMIT (IsOwner file) are.list are.runs_are (last + 1) (place + 1)
                   (omega arith) (omega (arith, at.inside)),
             ))
       ]

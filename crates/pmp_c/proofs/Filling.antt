@@ -12,7 +12,7 @@ use Rattle.pmp_core.specs.SavedRegisters.{restored_file}
 use Rattle.pmp_core.proofs.Matches.{are_ranges}
 use Rattle.pmp_core.proofs.Places.{length-ranges_of}
 use Rattle.pmp_core.proofs.InPlace.{count_in, few_in, length_in}
-use Rattle.pmp_core.proofs.Saved.{restored_legal}
+use Rattle.pmp_core.proofs.Saved.{restored_addresses}
 use Rattle.pmp_map.specs.declared.run.Run.{Run}
 use Rattle.pmp_map.specs.declared.run.TheConstants.{RUNS}
 use Rattle.pmp_map.specs.declared.search.TheConstants.{PLACES}
@@ -50,35 +50,35 @@ module _ (saved : SavedRegisters) where
   abbrev file : RegisterFile
   file = restored_file saved
 
-  few_ranges : length (ranges_of file.entries) ≤ 64
-  few_ranges = omega (arith, length-ranges_of file.entries, length_in saved, few_in saved)
+  few_ranges : length (ranges_of file) ≤ 64
+  few_ranges = omega (arith, length-ranges_of file.profile file.entries, length_in saved, few_in saved)
 
-  pub owner_in : (first : ℕ) (owner : Option ℕ) → IsOwnerIn (ranges_of file.entries) first owner
+  pub owner_in : (first : ℕ) (owner : Option ℕ) → IsOwnerIn (ranges_of file) first owner
       → IfSome owner (λ i. i < count_in saved)
   owner_in first owner owned =
-      rw (length-ranges_of file.entries ∙ length_in saved) at (owner_below (ranges_of file.entries) first owner owned)
+      rw (length-ranges_of file.profile file.entries ∙ length_in saved) at (owner_below (ranges_of file) first owner owned)
 
   module _ (starts : List ℕ) (rows : List (List ℕ)) (first place : ℕ)
       (swept : IsSweptTo file starts rows first place) where
     module _ (end : ℕ) (owner : Option ℕ) (some : first < end) (less : first < ADDRESS_LIMIT)
         (bounded : end ≤ ADDRESS_LIMIT)
-        (owned : OwnsBytes (ranges_of file.entries) first end owner)
-        (apart : end < ADDRESS_LIMIT → (other : Option ℕ) → IsOwnerIn (ranges_of file.entries) end other
+        (owned : OwnsBytes (ranges_of file) first end owner)
+        (apart : end < ADDRESS_LIMIT → (other : Option ℕ) → IsOwnerIn (ranges_of file) end other
         → owner ≢ other) where
       abbrev run : Run
       run = record { first = first; last = end - 1; owner = owner }
 
-      next : IsNextRun first (IsOwnerIn (ranges_of file.entries)) swept.list run
-      next = next_run (ranges_of file.entries) swept.list first end owner some owned
+      next : IsNextRun first (IsOwnerIn (ranges_of file)) swept.list run
+      next = next_run (ranges_of file) swept.list first end owner some owned
           (λ k last. swept.apart less k last owner (owned first (omega arith) some))
 
-      longer : AreRunsTo end (IsOwnerIn (ranges_of file.entries)) (swept.list ++ run ∷ [])
-      longer = pushed first (IsOwnerIn (ranges_of file.entries)) swept.list run swept.runs_are next end (omega arith)
+      longer : AreRunsTo end (IsOwnerIn (ranges_of file)) (swept.list ++ run ∷ [])
+      longer = pushed first (IsOwnerIn (ranges_of file)) swept.list run swept.runs_are next end (omega arith)
 
       pub room : place < RUNS
       room = omega (
         arith,
-        few_runs end (ranges_of file.entries) (swept.list ++ run ∷ []) longer,
+        few_runs end (ranges_of file) (swept.list ++ run ∷ []) longer,
         length_pushed first end swept.list run,
         swept.count,
         few_ranges,
@@ -120,7 +120,7 @@ module _ (saved : SavedRegisters) where
           runs_are = longer;
           bounded = bounded;
           apart = λ inside k last other owns same. apart inside other owns
-              (sym (ap (λ (r : Run). r.owner) (last_pushed first (IsOwnerIn (ranges_of file.entries)) swept.list run
+              (sym (ap (λ (r : Run). r.owner) (last_pushed first (IsOwnerIn (ranges_of file)) swept.list run
               swept.runs_are next end k last)) ∙ same);
           count = omega (arith, swept.count, length_pushed first end swept.list run);
           starts_are = start_more;
@@ -147,7 +147,7 @@ module _ (saved : SavedRegisters) where
       → IsSweptTo file starts rows ADDRESS_LIMIT place → place ≤ RUNS
   few_swept starts rows place swept = omega (
     arith,
-    few_runs ADDRESS_LIMIT (ranges_of file.entries) swept.list swept.runs_are,
+    few_runs ADDRESS_LIMIT (ranges_of file) swept.list swept.runs_are,
     swept.count,
     few_ranges,
   )
@@ -156,11 +156,11 @@ module _ (saved : SavedRegisters) where
       → IsSweptTo file tables.starts tables.rows ADDRESS_LIMIT place
       → ((k : ℕ) → place ≤ k → k < PLACES → slice_index tables.starts k ≡ ADDRESS_LIMIT) → AreTables file tables
   swept_tables tables place runs swept padded =
-      let addresses = (restored_legal saved).addresses in
+      let addresses = (restored_addresses saved) in
       record {
         list = swept.list;
         addresses = addresses;
-        runs_are = runs_by_entries file.entries (ranges_of file.entries) (are_ranges file.entries addresses)
+        runs_are = runs_by_entries file (ranges_of file) (are_ranges file addresses)
             ADDRESS_LIMIT swept.list swept.runs_are;
         few = omega (arith, few_swept tables.starts tables.rows place swept, swept.count);
         count = omega (arith, swept.count);

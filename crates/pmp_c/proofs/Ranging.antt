@@ -10,7 +10,6 @@ use Rattle.pmp_core.specs.declared.access.Kind.{Kind}
 use Rattle.pmp_core.specs.declared.access.Kind.TheVariants.{Fetch, Load, Store}
 use Rattle.pmp_core.specs.declared.decision.Decision.{Decision}
 use Rattle.pmp_core.specs.declared.access.TheConstants.{ADDRESS_LIMIT}
-use Rattle.pmp_core.specs.declared.entry.Entry.{Entry}
 use Rattle.pmp_core.specs.RegisterFile.{RegisterFile, HasAddresses}
 use Rattle.pmp_core.specs.Configuration.{bit_of}
 use Rattle.pmp_core.specs.Decision.{IsOwner}
@@ -21,7 +20,7 @@ use Rattle.pmp_core.specs.SavedRegisters.{restored_file}
 use Rattle.pmp_core.specs.declared.saved_registers.SavedRegisters.{SavedRegisters}
 use Rattle.pmp_core.specs.Rights.{perms_of, allows}
 use Rattle.pmp_core.proofs.Matches.{are_ranges}
-use Rattle.pmp_core.proofs.Saved.{restored_legal}
+use Rattle.pmp_core.proofs.Saved.{restored_addresses}
 use Rattle.pmp_core.proofs.Decisions.{decided_by_ranges, least_once, one_decision}
 use Rattle.pmp_map.specs.declared.search.TheConstants.{PLACES}
 use Rattle.pmp_map.specs.Answers.{owned_rights, decision_by}
@@ -78,13 +77,13 @@ allowed_low cause Store false low = grind (arith, nat_tests)
 
 -- ---- by the owners of bytes
 
-pub same_owner : (entries : List Entry) (byte : ℕ) (one other : Option ℕ) → IsOwner entries byte one
-    → IsOwner entries byte other → one ≡ other
-same_owner entries byte one other p q = least_once (λ i. Matches entries i byte) one other p q
+pub same_owner : (file : RegisterFile) (byte : ℕ) (one other : Option ℕ) → IsOwner file byte one
+    → IsOwner file byte other → one ≡ other
+same_owner file byte one other p q = least_once (λ i. Matches file i byte) one other p q
 
-module _ (file : RegisterFile) (addresses : HasAddresses file.entries) (mode : Mode) (start size : ℕ)
+module _ (file : RegisterFile) (addresses : HasAddresses file) (mode : Mode) (start size : ℕ)
     (full : 0 < size) where
-  module _ (owner : Option ℕ) (owned : IsOwnedBy file.entries start size owner) (number : ℕ)
+  module _ (owner : Option ℕ) (owned : IsOwnedBy file start size owner) (number : ℕ)
       (is : number ≡ (perms_of (owned_rights file owner mode)).0) where
     allowed_inside : (access : Access) → access.mode ≡ mode → start ≤ access.start
         → access.start + access.length ≤ start + size
@@ -104,20 +103,20 @@ module _ (file : RegisterFile) (addresses : HasAddresses file.entries) (mode : M
     rights_by_owner = record {
       owned = λ other all. is
           ∙ ap (λ (o : Option ℕ). (perms_of (owned_rights file o mode)).0)
-          (same_owner file.entries start owner other (owned start (omega arith) (omega arith))
+          (same_owner file start owner other (owned start (omega arith) (omega arith))
           (all start (omega arith) (omega arith)));
       mixed = λ none. absurd (none owner owned);
       accesses = λ low. allowed_inside;
     }
 
   -- the first byte has an owner that a later one hasn't
-  pub rights_of_two : (owner : Option ℕ) (byte : ℕ) → IsOwner file.entries start owner → start ≤ byte
-      → byte < start + size → ((other : Option ℕ) → IsOwner file.entries byte other → owner ≢ other)
+  pub rights_of_two : (owner : Option ℕ) (byte : ℕ) → IsOwner file start owner → start ≤ byte
+      → byte < start + size → ((other : Option ℕ) → IsOwner file byte other → owner ≢ other)
       → AreRangeRights file mode start size mixed_number
   rights_of_two owner byte first from to apart =
-      let two : (other : Option ℕ) → ¬ (IsOwnedBy file.entries start size other) = λ other all.
+      let two : (other : Option ℕ) → ¬ (IsOwnedBy file start size other) = λ other all.
       apart other (all byte from to)
-      (same_owner file.entries start owner other first (all start (omega arith) (omega arith))) in
+      (same_owner file start owner other first (all start (omega arith) (omega arith))) in
       record {
         owned = λ other all. absurd (two other all);
         mixed = λ none. refl;
@@ -139,16 +138,16 @@ module _ (file : RegisterFile) (tables : Tables) (are : AreTables file tables) w
     next_start = are.starts_are (place + 1) places
 
     owned_here : (other : ℕ) → slice_index tables.starts place ≤ other → other < slice_index tables.starts (place + 1)
-        → IsOwner file.entries other (owner_at place)
+        → IsOwner file other (owner_at place)
     owned_here other from to = are.runs_are.owned place other at.inside
-        (in_run ADDRESS_LIMIT (IsOwner file.entries) are.list are.runs_are place other at.inside
+        (in_run ADDRESS_LIMIT (IsOwner file) are.list are.runs_are place other at.inside
         (omega (arith, are.starts_are place (omega arith), from)) (omega (arith, to, next_start)))
 
     starts_at : slice_index tables.starts place ≤ byte
     starts_at = omega (arith, are.starts_are place (omega arith), at.here.0)
 
     next_owned : (more : slice_index tables.starts (place + 1) < ADDRESS_LIMIT) (other : Option ℕ)
-        → IsOwner file.entries (slice_index tables.starts (place + 1)) other → owner_at place ≢ other
+        → IsOwner file (slice_index tables.starts (place + 1)) other → owner_at place ≢ other
     next_owned more other owned =
         let next = start_at ADDRESS_LIMIT are.list (place + 1) in
         let inside_next : place + 1 < length are.list = elim (cases_lt (place + 1) (length are.list)) [
@@ -156,7 +155,7 @@ module _ (file : RegisterFile) (tables : Tables) (are : AreTables file tables) w
           | inr past ↦ absurd (omega (arith, next_start, start_past ADDRESS_LIMIT are.list (place + 1) past))
         ] in
         let proper = are.runs_are.proper (place + 1) inside_next in
-        let there : owner_at (place + 1) ≡ other = same_owner file.entries next (owner_at (place + 1)) other
+        let there : owner_at (place + 1) ≡ other = same_owner file next (owner_at (place + 1)) other
         (are.runs_are.owned (place + 1) next inside_next (omega arith, proper)) (rw next_start at owned) in
         λ same. are.runs_are.apart place inside_next (same ∙ sym there)
 
@@ -184,7 +183,7 @@ module _ (file : RegisterFile) (tables : Tables) (are : AreTables file tables) w
 
     -- the byte before the run has the owner of the run before
     not_before : (j : ℕ) → j + 1 ≡ place
-        → ¬ (IsOwner file.entries (slice_index tables.starts place - 1) (owner_at place))
+        → ¬ (IsOwner file (slice_index tables.starts place - 1) (owner_at place))
     not_before j next owned =
         let here = at.inside in
         let start : slice_index tables.starts place ≡ start_at ADDRESS_LIMIT are.list place =
@@ -193,7 +192,7 @@ module _ (file : RegisterFile) (tables : Tables) (are : AreTables file tables) w
         let meet = are.runs_are.gapless j (omega arith) in
         let meets : (map_run are.list j).last + 1 ≡ start_at ADDRESS_LIMIT are.list place = rw next at meet in
         let there : owner_at j ≡ owner_at place =
-        same_owner file.entries (slice_index tables.starts place - 1) (owner_at j)
+        same_owner file (slice_index tables.starts place - 1) (owner_at j)
         (owner_at place)
         (are.runs_are.owned j (slice_index tables.starts place - 1) (omega arith)
         (omega (arith, start, meets, proper), omega (arith, start, meets))) owned in
@@ -209,7 +208,7 @@ module _ (file : RegisterFile) (tables : Tables) (are : AreTables file tables) w
         arith,
         last_is,
         next_start,
-        start_most ADDRESS_LIMIT (IsOwner file.entries) are.list are.runs_are
+        start_most ADDRESS_LIMIT (IsOwner file) are.list are.runs_are
             (place + 1),
       );
       owner = owner_at place;
@@ -235,36 +234,36 @@ module _ (saved : SavedRegisters) where
   abbrev of_saved : RegisterFile
   of_saved = restored_file saved
 
-  decoded : AreRanges of_saved.entries (ranges_of of_saved.entries)
-  decoded = are_ranges of_saved.entries (restored_legal saved).addresses
+  decoded : AreRanges of_saved (ranges_of of_saved)
+  decoded = are_ranges of_saved (restored_addresses saved)
 
-  to_entries : (byte : ℕ) (owner : Option ℕ) → IsOwnerIn (ranges_of of_saved.entries) byte owner
-      → IsOwner of_saved.entries byte owner
-  to_entries = owner_by_entries of_saved.entries (ranges_of of_saved.entries) decoded
+  to_entries : (byte : ℕ) (owner : Option ℕ) → IsOwnerIn (ranges_of of_saved) byte owner
+      → IsOwner of_saved byte owner
+  to_entries = owner_by_entries of_saved (ranges_of of_saved) decoded
 
-  to_ranges : (byte : ℕ) (owner : Option ℕ) → IsOwner of_saved.entries byte owner
-      → IsOwnerIn (ranges_of of_saved.entries) byte owner
-  to_ranges = owner_by_ranges of_saved.entries (ranges_of of_saved.entries) decoded
+  to_ranges : (byte : ℕ) (owner : Option ℕ) → IsOwner of_saved byte owner
+      → IsOwnerIn (ranges_of of_saved) byte owner
+  to_ranges = owner_by_ranges of_saved (ranges_of of_saved) decoded
 
   module _ (mode : Mode) (start size end : ℕ) (owner : Option ℕ) (full : 0 < size) (above : start < end)
-      (owned : OwnsBytes (ranges_of of_saved.entries) start end owner) where
+      (owned : OwnsBytes (ranges_of of_saved) start end owner) where
     pub stretch_rights : start + size ≤ end → (number : ℕ)
         → number ≡ (perms_of (owned_rights of_saved owner mode)).0 → AreRangeRights of_saved mode start size number
     stretch_rights short number is =
-        rights_by_owner of_saved (restored_legal saved).addresses mode start size full owner
+        rights_by_owner of_saved (restored_addresses saved) mode start size full owner
         (λ byte from to. to_entries byte owner (owned byte from (omega arith))) number is
 
     pub stretch_mixed : end < start + size
-        → ((other : Option ℕ) → IsOwnerIn (ranges_of of_saved.entries) end other → owner ≢ other)
+        → ((other : Option ℕ) → IsOwnerIn (ranges_of of_saved) end other → owner ≢ other)
         → AreRangeRights of_saved mode start size mixed_number
-    stretch_mixed long apart = rights_of_two of_saved (restored_legal saved).addresses mode start size full owner end
+    stretch_mixed long apart = rights_of_two of_saved (restored_addresses saved) mode start size full owner end
         (to_entries start owner (owned start (omega arith) above)) (omega arith) long
         (λ other is. apart other (to_ranges end other is))
 
   pub around_answer : (mode : Mode) (byte first last : ℕ) (owner : Option ℕ) (number : ℕ) → first ≤ byte → byte ≤ last
-      → last < ADDRESS_LIMIT → OwnsBytes (ranges_of of_saved.entries) first (last + 1) owner
-      → (0 < first → ¬ (IsOwnerIn (ranges_of of_saved.entries) (first - 1) owner))
-      → (last + 1 < ADDRESS_LIMIT → ¬ (IsOwnerIn (ranges_of of_saved.entries) (last + 1) owner))
+      → last < ADDRESS_LIMIT → OwnsBytes (ranges_of of_saved) first (last + 1) owner
+      → (0 < first → ¬ (IsOwnerIn (ranges_of of_saved) (first - 1) owner))
+      → (last + 1 < ADDRESS_LIMIT → ¬ (IsOwnerIn (ranges_of of_saved) (last + 1) owner))
       → number ≡ run_number of_saved owner mode → IsRunAnswer of_saved mode byte first last number
   around_answer mode byte first last owner number from to inside owned before after is = record {
     from = from;

@@ -2,7 +2,7 @@
 use Rattle.std.proofs.Common.{◌≡◌, ℕ, ◌+◌, ◌*◌, ◌^◌, ◌<◌, Bool, true, false, refl, arith}
 use Rattle.pmp_core.specs.declared.csr.Csr.{Csr}
 use Rattle.pmp_core.specs.declared.write_reasons.WriteReason.TheVariants.{Absent, Bits, Frozen, Tor, Reserved, Lockdown}
-use Rattle.pmp_core.specs.declared.write_reasons.WriteReason.TheVariants.{Sticky, Bypass}
+use Rattle.pmp_core.specs.declared.write_reasons.WriteReason.TheVariants.{Sticky, Bypass, Grain}
 use Rattle.pmp_core.specs.Configuration.{bit_of}
 use Rattle.pmp_core.specs.RegisterFile.{RegisterFile, IsLegal}
 use Rattle.pmp_core.specs.RegisterValue.{register_value}
@@ -23,15 +23,17 @@ module _ (file : RegisterFile) (csr : Csr) (value : ℕ) where
     none.lockdown,
     none.sticky,
     none.bypass,
+    none.grain,
   ) refl
 
   no_bit : (b : Bool) → bit_of b ≡ 0 → b ≡ false
   no_bit true e = absurd (omega arith)
   no_bit false e = refl
 
-  sum_zero : (a b c d e f g h : ℕ) → a + 2 * b + 4 * c + 8 * d + 16 * e + 32 * f + 64 * g + 128 * h ≡ 0
-      → (a ≡ 0) × (b ≡ 0) × (c ≡ 0) × (d ≡ 0) × (e ≡ 0) × (f ≡ 0) × (g ≡ 0) × (h ≡ 0)
-  sum_zero a b c d e f g h sum = (
+  sum_zero : (a b c d e f g h i : ℕ) → a + 2 * b + 4 * c + 8 * d + 16 * e + 32 * f + 64 * g + 128 * h + 256 * i ≡ 0
+      → (a ≡ 0) × (b ≡ 0) × (c ≡ 0) × (d ≡ 0) × (e ≡ 0) × (f ≡ 0) × (g ≡ 0) × (h ≡ 0) × (i ≡ 0)
+  sum_zero a b c d e f g h i sum = (
+    omega arith,
     omega arith,
     omega arith,
     omega arith,
@@ -47,7 +49,8 @@ module _ (file : RegisterFile) (csr : Csr) (value : ℕ) where
       let each = sum_zero (bit_of (is_reason Absent file csr value)) (bit_of (is_reason Bits file csr value))
       (bit_of (is_reason Frozen file csr value)) (bit_of (is_reason Tor file csr value))
       (bit_of (is_reason Reserved file csr value)) (bit_of (is_reason Lockdown file csr value))
-      (bit_of (is_reason Sticky file csr value)) (bit_of (is_reason Bypass file csr value)) zero_is in
+      (bit_of (is_reason Sticky file csr value)) (bit_of (is_reason Bypass file csr value))
+      (bit_of (is_reason Grain file csr value)) zero_is in
       record {
         absent = no_bit _ each.0;
         bits = no_bit _ each.1;
@@ -57,6 +60,7 @@ module _ (file : RegisterFile) (csr : Csr) (value : ℕ) where
         lockdown = no_bit _ each.5;
         sticky = no_bit _ each.6;
         bypass = no_bit _ each.7;
+        grain = no_bit _ each.8;
       }
 
   module _ (legal : IsLegal file) (small : value < 2 ^ 64) where

@@ -1,8 +1,7 @@
 -- What a mode may do in a whole range of bytes, as a page.
-use Rattle.std.specs.Prelude.{◌≡◌, ℕ, ◌+◌, ◌/◌, ◌%◌, ◌<◌, ◌≤◌, ◌==◌, Option, List}
+use Rattle.std.specs.Prelude.{◌≡◌, ℕ, ◌+◌, ◌/◌, ◌%◌, ◌<◌, ◌≤◌, ◌==◌, Option}
 use Rattle.pmp_core.specs.declared.access.Access.{Access}
 use Rattle.pmp_core.specs.declared.access.Mode.{Mode}
-use Rattle.pmp_core.specs.declared.entry.Entry.{Entry}
 use Rattle.pmp_core.specs.declared.access.TheConstants.{ADDRESS_LIMIT}
 use Rattle.pmp_core.specs.RegisterFile.{RegisterFile}
 use Rattle.pmp_core.specs.Decision.{IsOwner}
@@ -26,16 +25,16 @@ abbrev pub no_range : ℕ
 no_range = 16
 
 -- all bytes of the range have this owner
-abbrev pub IsOwnedBy : List Entry → (start length : ℕ) → Option ℕ → Type 0
-IsOwnedBy entries start length owner = (byte : ℕ) → start ≤ byte → byte < start + length → IsOwner entries byte owner
+abbrev pub IsOwnedBy : RegisterFile → (start length : ℕ) → Option ℕ → Type 0
+IsOwnedBy file start length owner = (byte : ℕ) → start ≤ byte → byte < start + length → IsOwner file byte owner
 
 -- the number says what the mode may do in the whole range
 pub record AreRangeRights (file : RegisterFile) (mode : Mode) (start length number : ℕ) : Type 0 where
   -- where one owner, or none, has all bytes: R is 1, W is 2, X is 4
-  pub owned : (owner : Option ℕ) → IsOwnedBy file.entries start length owner
+  pub owned : (owner : Option ℕ) → IsOwnedBy file start length owner
       → number ≡ (perms_of (owned_rights file owner mode)).0
   -- where no one owner has all bytes
-  pub mixed : ((owner : Option ℕ) → ¬ (IsOwnedBy file.entries start length owner)) → number ≡ mixed_number
+  pub mixed : ((owner : Option ℕ) → ¬ (IsOwnedBy file start length owner)) → number ≡ mixed_number
   -- where it isn't mixed, every access of the mode in the range is allowed where the bit of its kind is set
   pub accesses : number < mixed_number → (access : Access) → access.mode ≡ mode → start ≤ access.start
       → access.start + access.length ≤ start + length

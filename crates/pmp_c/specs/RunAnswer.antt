@@ -18,7 +18,7 @@ pub record IsRunAnswer (file : RegisterFile) (mode : Mode) (byte first last numb
   pub to : byte ≤ last
   pub inside : last < ADDRESS_LIMIT
   pub owner : Option ℕ
-  pub owned : (other : ℕ) → first ≤ other → other ≤ last → IsOwner file.entries other owner
-  pub before : 0 < first → ¬ (IsOwner file.entries (first - 1) owner)
-  pub after : last + 1 < ADDRESS_LIMIT → ¬ (IsOwner file.entries (last + 1) owner)
+  pub owned : (other : ℕ) → first ≤ other → other ≤ last → IsOwner file other owner
+  pub before : 0 < first → ¬ (IsOwner file (first - 1) owner)
+  pub after : last + 1 < ADDRESS_LIMIT → ¬ (IsOwner file (last + 1) owner)
   pub number_is : number ≡ run_number file owner mode

@@ -20,11 +20,11 @@ AreRows file runs rows = (k : ℕ) → k < length runs → IsRow file (map_run r
 -- the first places have the runs of the bytes below `first`, with the rows of their owners
 pub record IsSweptTo (file : RegisterFile) (starts : List ℕ) (rows : List (List ℕ)) (first place : ℕ) : Type 0 where
   pub list : List Run
-  pub runs_are : AreRunsTo first (IsOwnerIn (ranges_of file.entries)) list
+  pub runs_are : AreRunsTo first (IsOwnerIn (ranges_of file)) list
   pub bounded : first ≤ ADDRESS_LIMIT
   -- the next run has another owner than the last
   pub apart : first < ADDRESS_LIMIT → (k : ℕ) → k + 1 ≡ length list → (other : Option ℕ)
-      → IsOwnerIn (ranges_of file.entries) first other → (run_at first list k).owner ≢ other
+      → IsOwnerIn (ranges_of file) first other → (run_at first list k).owner ≢ other
   pub count : place ≡ length list
   pub starts_are : (k : ℕ) → k < place → slice_index starts k ≡ (run_at first list k).first
   pub rows_are : (k : ℕ) → k < place → IsRow file (run_at first list k).owner (row_at rows k)
@@ -34,8 +34,8 @@ pub record IsSweptTo (file : RegisterFile) (starts : List ℕ) (rows : List (Lis
 -- a list of runs ties the tables to the register file
 pub record AreTables (file : RegisterFile) (tables : Tables) : Type 0 where
   pub list : List Run
-  pub addresses : HasAddresses file.entries
-  pub runs_are : AreRuns file.entries list
+  pub addresses : HasAddresses file
+  pub runs_are : AreRuns file list
   pub few : length list ≤ RUNS
   pub count : tables.runs ≡ length list
   pub starts_are : AreStarts list tables.starts

@@ -17,8 +17,7 @@ ghost use Rattle.pmp_core.specs.Csr.{numbered};
 ghost use Rattle.pmp_core.specs.Ranges.{decision_of};
 ghost use Rattle.pmp_core.specs.RegisterFile.{reset_file};
 ghost use Rattle.pmp_core.specs.RegisterValue.{register_value};
-ghost use Rattle.pmp_core.specs.SavedRegisters.{saved_registers, restored_file, saved_size};
-ghost use Rattle.pmp_core.specs.Size.{count_of};
+ghost use Rattle.pmp_core.specs.SavedRegisters.{saved_registers, restored_file, saved_hart};
 ghost use Rattle.pmp_c.specs.Answer.{answer_number, no_access, no_cause};
 ghost use Rattle.pmp_c.specs.RangeRights.{IsRangeOf, AreRangeRights, no_range};
 ghost use Rattle.pmp_c.specs.Request.{IsNamed, mode_number};
@@ -44,17 +43,18 @@ use pmp_core::{ADDRESS_LIMIT, RegFile, SavedRegisters};
 pub use tables::Tables;
 pub use unit::Unit;
 
-/// Resets a unit of so many entries: 64, and every other number means 16 (Volume II, 3.7.1). All registers are zero.
+/// Resets a unit of the hart with this number, as `SavedRegisters` has it: 64 is one of sixty-four entries, one with
+/// bit 32 set may spell another, and every other number is one of sixteen (Volume II, 3.7.1). All registers are zero.
 #[unsafe(no_mangle)]
 pub extern "C" fn tilvenka_pmp_reset(unit: &mut Unit, entries: u64)
-    ensures file { file_of_unit unit.new ≡ reset_file (count_of (saved_size entries)) }
-    ensures registers { unit.new.registers ≡ saved_registers (reset_file (count_of (saved_size entries))) }
+    ensures file { file_of_unit unit.new ≡ reset_file (saved_hart entries) }
+    ensures registers { unit.new.registers ≡ saved_registers (reset_file (saved_hart entries)) }
     ensures unbuilt { unit.new.map.runs ≡ 0 }
     ensures unit { IsUnit unit.new }
 {
     unit.registers.entries = entries;
-    let size = unit.registers.size();
-    unit.set_file(&RegFile::reset_of(size));
+    let hart = unit.registers.hart();
+    unit.set_file(&RegFile::reset_on(hart));
 }
 
 /// Writes a register (Volume II, 3.7.1 and Smepmp), by its CSR number. Answers 1 for an odd `pmpcfg` and 2 for what is

@@ -20,7 +20,7 @@ fn bit(holds: bool) -> u32
 #[inline]
 pub fn address_reasons(registers: &SavedRegisters, register: u8, value: u64) -> u32
     ensures reasons { result ≡ reasons_number (restored_file registers.now) (Csr.Addr register) value }
-    ensures most { result ≤ 255 }
+    ensures most { result ≤ 511 }
 {
     bit(registers.is_address_reason(WriteReason::Absent, register, value))
         + 2 * bit(registers.is_address_reason(WriteReason::Bits, register, value))
@@ -30,6 +30,7 @@ pub fn address_reasons(registers: &SavedRegisters, register: u8, value: u64) -> 
         + 32 * bit(registers.is_address_reason(WriteReason::Lockdown, register, value))
         + 64 * bit(registers.is_address_reason(WriteReason::Sticky, register, value))
         + 128 * bit(registers.is_address_reason(WriteReason::Bypass, register, value))
+        + 256 * bit(registers.is_address_reason(WriteReason::Grain, register, value))
 }
 
 /// The reasons of any write, by the whole file.
@@ -37,7 +38,7 @@ pub fn address_reasons(registers: &SavedRegisters, register: u8, value: u64) -> 
 #[inline(never)]
 fn file_reasons(registers: &SavedRegisters, csr: Csr, value: u64) -> u32
     ensures reasons { result ≡ reasons_number (restored_file registers.now) csr value }
-    ensures most { result ≤ 255 }
+    ensures most { result ≤ 511 }
 {
     let file = RegFile::restore(registers);
     bit(file.is_reason(WriteReason::Absent, csr, value))
@@ -48,13 +49,14 @@ fn file_reasons(registers: &SavedRegisters, csr: Csr, value: u64) -> u32
         + 32 * bit(file.is_reason(WriteReason::Lockdown, csr, value))
         + 64 * bit(file.is_reason(WriteReason::Sticky, csr, value))
         + 128 * bit(file.is_reason(WriteReason::Bypass, csr, value))
+        + 256 * bit(file.is_reason(WriteReason::Grain, csr, value))
 }
 
 /// The reasons of a write that is done: none where the register reads the value.
 pub fn reasons_between(before: &SavedRegisters, after: &SavedRegisters, csr: Csr, value: u64) -> u32
     requires { restored_file after.now ≡ written (restored_file before.now) csr value }
     ensures reasons { result ≡ reasons_number (restored_file before.now) csr value }
-    ensures most { result ≤ 255 }
+    ensures most { result ≤ 511 }
 {
     if after.read(csr) == value {
         0

@@ -4,8 +4,7 @@ ghost use Rattle.std.specs.Prelude.{◌≡◌, ◌<◌, IfSome};
 ghost use Rattle.pmp_core.specs.declared.access.Mode.{Mode};
 ghost use Rattle.pmp_core.specs.RegisterFile.{RegisterFile};
 ghost use Rattle.pmp_core.specs.Rights.{perms_of};
-ghost use Rattle.pmp_core.specs.SavedRegisters.{restored_file, saved_size};
-ghost use Rattle.pmp_core.specs.Size.{count_of};
+ghost use Rattle.pmp_core.specs.SavedRegisters.{restored_file, saved_hart};
 ghost use Rattle.pmp_map.specs.Answers.{owned_rights};
 ghost use Rattle.pmp_c.specs.Rows.{IsRow, owned_answer};
 
@@ -18,7 +17,7 @@ pub type Row = [u16; 16];
 
 /// What the owner's rule allows the mode, or the default where there is no owner.
 pub fn owned_rights(registers: &SavedRegisters, owner: Option<u8>, mode: Mode) -> Perms
-    requires { IfSome owner (λ entry. entry < count_of (saved_size registers.now.entries)) }
+    requires { IfSome owner (λ entry. entry < (saved_hart registers.now.entries).entries) }
     ensures { result ≡ perms_of (owned_rights (restored_file registers.now) owner mode) }
 {
     match owner {
@@ -38,7 +37,7 @@ fn owned_answer(owner: Option<u8>, rights: Perms, kind: Kind) -> u16
 
 /// The answers where all bytes have this owner. Supervisor and user mode have the same.
 pub fn row_of(registers: &SavedRegisters, owner: Option<u8>) -> Row
-    requires { IfSome owner (λ entry. entry < count_of (saved_size registers.now.entries)) }
+    requires { IfSome owner (λ entry. entry < (saved_hart registers.now.entries).entries) }
     ensures { IsRow (restored_file registers.now) owner result }
 {
     let others = owned_rights(registers, owner, Mode::U);
@@ -69,7 +68,7 @@ pub fn row_of(registers: &SavedRegisters, owner: Option<u8>) -> Row
 /// The same, of which that without owner is known.
 #[inline]
 pub fn row_by(registers: &SavedRegisters, unowned: &Row, owner: Option<u8>) -> Row
-    requires owner { IfSome owner (λ entry. entry < count_of (saved_size registers.now.entries)) }
+    requires owner { IfSome owner (λ entry. entry < (saved_hart registers.now.entries).entries) }
     requires unowned { IsRow (restored_file registers.now) None unowned.now }
     ensures { IsRow (restored_file registers.now) owner result }
 {

@@ -56,7 +56,7 @@ impl Tables {
     /// Writes the runs of the registers into the first places, from one change of owner to the next, and answers how
     /// many there are.
     fn sweep(&mut self, registers: &SavedRegisters, ranges: &[ByteRange]) -> usize
-        requires { ranges.now ≡ ranges_of (restored_file registers.now).entries }
+        requires { ranges.now ≡ ranges_of (restored_file registers.now) }
         ensures swept { IsSweptTo (restored_file registers.now) self.new.starts self.new.rows ADDRESS_LIMIT result }
         ensures few { result ≤ RUNS }
     {

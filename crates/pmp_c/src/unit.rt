@@ -93,7 +93,7 @@ impl Unit {
         ensures same { result.is_changed ≡ false → self.new ≡ self.old }
         ensures changed { result.is_changed ≡ true → IsChanged self.old self.new }
         ensures reasons { result.reasons ≡ reasons_number (file_of_unit self.old) csr value }
-        ensures most { result.reasons ≤ 255 }
+        ensures most { result.reasons ≤ 511 }
     {
         if let Csr::Addr(register) = csr {
             let reasons = address_reasons(&self.registers, register, value);

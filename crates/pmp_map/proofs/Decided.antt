@@ -3,7 +3,6 @@ use Rattle.std.proofs.Common.{◌≡◌, ◌≢◌, ℕ, ◌+◌, ◌-◌, ◌<�
 use Rattle.std.proofs.Common.{◌∙◌, arith, inl, inr}
 use Rattle.std.proofs.lemmas.Bool.{cases_lt}
 use Rattle.pmp_core.specs.declared.access.Access.{Access}
-use Rattle.pmp_core.specs.declared.entry.Entry.{Entry}
 use Rattle.pmp_core.specs.declared.access.TheConstants.{ADDRESS_LIMIT}
 use Rattle.pmp_core.specs.RegisterFile.{RegisterFile}
 use Rattle.pmp_core.specs.Matching.{Matches}
@@ -17,7 +16,7 @@ use Rattle.pmp_map.proofs.LeastOwner.{OwnsOne}
 -- ---- one owner
 
 pub decided_whole : (file : RegisterFile) (access : Access) (owner : Option ℕ)
-    → ((byte : ℕ) → IsByteOf access byte → IsOwner file.entries byte owner)
+    → ((byte : ℕ) → IsByteOf access byte → IsOwner file byte owner)
     → IsDecision file access (decision_by file owner access)
 decided_whole file access None owned = (λ i touches. owned touches.0 touches.1 i touches.2, refl)
 decided_whole file access (Some i) owned =
@@ -34,10 +33,10 @@ decided_whole file access (Some i) owned =
 -- ---- several owners
 
 -- a byte that entry j matches is owned by j or by a lower entry
-owner_up_to : (entries : List Entry) (byte j : ℕ) (owner : Option ℕ) → IsOwner entries byte owner
-    → Matches entries j byte → (i : ℕ) × (owner ≡ Some i) × (i ≤ j)
-owner_up_to entries byte j None unowned matched = absurd (unowned j matched)
-owner_up_to entries byte j (Some i) owned matched =
+owner_up_to : (file : RegisterFile) (byte j : ℕ) (owner : Option ℕ) → IsOwner file byte owner
+    → Matches file j byte → (i : ℕ) × (owner ≡ Some i) × (i ≤ j)
+owner_up_to file byte j None unowned matched = absurd (unowned j matched)
+owner_up_to file byte j (Some i) owned matched =
     (i, refl, elim (cases_lt j i) [ inl lower ↦ absurd (owned.1 j lower matched) | inr le ↦ le ])
 
 no_owner : (owner : Option ℕ) → ((i : ℕ) → owner ≢ Some i) → owner ≡ None
@@ -53,7 +52,7 @@ pub record Straddles (runs : List Run) (access : Access) (p q : ℕ) (part : Lis
   pub count : length part ≡ q + 1 - p
   pub runs_are : (k : ℕ) → k < length part → run_at ADDRESS_LIMIT part k ≡ run_at ADDRESS_LIMIT runs (p + k)
 
-module _ (file : RegisterFile) (access : Access) (runs part : List Run) (p q : ℕ) (are : AreRuns file.entries runs)
+module _ (file : RegisterFile) (access : Access) (runs part : List Run) (p q : ℕ) (are : AreRuns file runs)
     (straddles : Straddles runs access p q part) where
   abbrev owner_at : ℕ → Option ℕ
   owner_at k = (run_at ADDRESS_LIMIT runs k).owner
@@ -66,10 +65,10 @@ module _ (file : RegisterFile) (access : Access) (runs part : List Run) (p q : �
         | inr same ↦ let here : p ≡ k = omega arith in
             (access.start, (omega arith, omega arith), rw here at straddles.first)
         | inl after ↦
-            let higher = starts_rise ADDRESS_LIMIT (IsOwner file.entries) runs are (p + 1) k (omega arith)
+            let higher = starts_rise ADDRESS_LIMIT (IsOwner file) runs are (p + 1) k (omega arith)
             (omega (arith, straddles.inside)) in
             let lower =
-            starts_rise ADDRESS_LIMIT (IsOwner file.entries) runs are k q to (omega (arith, straddles.inside)) in
+            starts_rise ADDRESS_LIMIT (IsOwner file) runs are k q to (omega (arith, straddles.inside)) in
             let gap = are.gapless p (omega (arith, straddles.inside)) in (
               start_at ADDRESS_LIMIT runs k,
               (
@@ -84,7 +83,7 @@ module _ (file : RegisterFile) (access : Access) (runs part : List Run) (p q : �
   found : (byte : ℕ) → IsByteOf access byte → (k : ℕ) × (p ≤ k) × (k ≤ q) × IsInRun (run_at ADDRESS_LIMIT runs k) byte
   found byte here =
       let gap = are.gapless q straddles.inside in
-      run_among ADDRESS_LIMIT (IsOwner file.entries) runs are byte p q (omega (arith, straddles.several))
+      run_among ADDRESS_LIMIT (IsOwner file) runs are byte p q (omega (arith, straddles.several))
       straddles.inside
       (omega (arith, straddles.first.0, here.0)) (omega (arith, gap, straddles.last.1, here.1))
 
@@ -95,23 +94,23 @@ module _ (file : RegisterFile) (access : Access) (runs part : List Run) (p q : �
       (k - p, within, ap (λ (run : Run). run.owner) (straddles.runs_are (k - p) within) ∙ ap owner_at same ∙ owned)
 
   owner_of_byte : (k byte : ℕ) → k ≤ q → IsInRun (run_at ADDRESS_LIMIT runs k) byte
-      → IsOwner file.entries byte (owner_at k)
+      → IsOwner file byte (owner_at k)
   owner_of_byte k byte to here = are.owned k byte (omega (arith, straddles.inside)) here
 
   -- entry i's byte is in a run with an owner up to i
-  owned_up_to : (i byte : ℕ) → IsByteOf access byte → Matches file.entries i byte
+  owned_up_to : (i byte : ℕ) → IsByteOf access byte → Matches file i byte
       → (j : ℕ) × OwnsOne ADDRESS_LIMIT part j × (j ≤ i)
   owned_up_to i byte here matched =
       let run = found byte here in
-      let owner = owner_up_to file.entries byte i (owner_at run.0) (owner_of_byte run.0 byte run.2 run.3) matched in
+      let owner = owner_up_to file byte i (owner_at run.0) (owner_of_byte run.0 byte run.2 run.3) matched in
       (owner.0, owns_part run.0 owner.0 run.1 run.2 owner.1, owner.2)
 
   -- an entry that matches every byte of the access owns each of the runs, if no lower one owns any
-  owned_alone : (i : ℕ) → ((j : ℕ) → j < i → ¬ (OwnsOne ADDRESS_LIMIT part j)) → Covers file.entries access i → (k : ℕ)
+  owned_alone : (i : ℕ) → ((j : ℕ) → j < i → ¬ (OwnsOne ADDRESS_LIMIT part j)) → Covers file access i → (k : ℕ)
       → p ≤ k → k ≤ q → owner_at k ≡ Some i
   owned_alone i least covers k from to =
       let byte = touched k from to in
-      let owner = owner_up_to file.entries byte.0 i (owner_at k) (owner_of_byte k byte.0 to byte.2)
+      let owner = owner_up_to file byte.0 i (owner_at k) (owner_of_byte k byte.0 to byte.2)
       (covers byte.0 byte.1) in
       elim (cases_lt owner.0 i) [
         | inl lower ↦ absurd (least owner.0 lower (owns_part k owner.0 from to owner.1))
@@ -137,7 +136,7 @@ module _ (file : RegisterFile) (access : Access) (runs part : List Run) (p q : �
       let owner : owner_at (p + k) ≡ Some i = sym (ap (λ (run : Run). run.owner) (straddles.runs_are k least.0.1))
       ∙ least.0.2 in
       let byte = touched (p + k) (omega arith) to in
-      let owned : IsOwner file.entries byte.0 (Some i) = rw owner at (owner_of_byte (p + k) byte.0 to byte.2) in (
+      let owned : IsOwner file byte.0 (Some i) = rw owner at (owner_of_byte (p + k) byte.0 to byte.2) in (
         (
           (byte.0, byte.1, owned.0),
           λ j below touches.

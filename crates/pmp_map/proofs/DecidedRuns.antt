@@ -19,7 +19,7 @@ pub inside_run : InsideRunLaw
 inside_run file runs are k within access inside =
     decided_whole file access (map_run runs k).owner (λ byte here. are.owned k byte within (inside byte here))
 
-module _ (file : RegisterFile) (access : Access) (runs part : List Run) (p q : ℕ) (are : AreRuns file.entries runs)
+module _ (file : RegisterFile) (access : Access) (runs part : List Run) (p q : ℕ) (are : AreRuns file runs)
     (straddles : Straddles runs access p q part) where
   owns_run : (i : ℕ) → OwnsOne ADDRESS_LIMIT part i → OwnsOneOf runs p q i
   owns_run i (k, within, owned) = (

@@ -4,12 +4,11 @@ use Rattle.std.specs.Prelude.{IfSome}
 use Rattle.std.proofs.lemmas.List.Elements.{All-from_get_or}
 use Rattle.std.proofs.lemmas.Bool.{cases_lt}
 use Rattle.std.proofs.lemmas.List.{get_or_past}
-use Rattle.pmp_core.specs.declared.entry.Entry.{Entry}
 use Rattle.pmp_core.specs.declared.range.ByteRange.{ByteRange}
 use Rattle.pmp_core.specs.declared.access.TheConstants.{ADDRESS_LIMIT}
 use Rattle.pmp_core.specs.Decision.{IsOwner}
 use Rattle.pmp_core.specs.Matching.{Matches}
-use Rattle.pmp_core.specs.RegisterFile.{HasAddresses}
+use Rattle.pmp_core.specs.RegisterFile.{RegisterFile, HasAddresses}
 use Rattle.pmp_core.specs.Ranges.{IsInRange, range_in, ranges_of, AreRanges}
 use Rattle.pmp_core.proofs.Matches.{are_ranges}
 use Rattle.pmp_map.specs.declared.run.Run.{Run}
@@ -29,35 +28,35 @@ runs_alike to Owns Has runs alike are = record {
   apart = are.apart;
 }
 
-pub owner_by_entries : (entries : List Entry) (ranges : List ByteRange) → AreRanges entries ranges → (byte : ℕ)
-    (owner : Option ℕ) → IsOwnerIn ranges byte owner → IsOwner entries byte owner
-owner_by_entries entries ranges decoded byte owner =
-    least_alike (λ i. IsInRange (range_in ranges i) byte) (λ i. Matches entries i byte) owner
+pub owner_by_entries : (file : RegisterFile) (ranges : List ByteRange) → AreRanges file ranges → (byte : ℕ)
+    (owner : Option ℕ) → IsOwnerIn ranges byte owner → IsOwner file byte owner
+owner_by_entries file ranges decoded byte owner =
+    least_alike (λ i. IsInRange (range_in ranges i) byte) (λ i. Matches file i byte) owner
     (λ i. ((decoded.by_bytes i byte).1, (decoded.by_bytes i byte).0))
 
-pub owner_by_ranges : (entries : List Entry) (ranges : List ByteRange) → AreRanges entries ranges → (byte : ℕ)
-    (owner : Option ℕ) → IsOwner entries byte owner → IsOwnerIn ranges byte owner
-owner_by_ranges entries ranges decoded byte owner =
-    least_alike (λ i. Matches entries i byte) (λ i. IsInRange (range_in ranges i) byte) owner
+pub owner_by_ranges : (file : RegisterFile) (ranges : List ByteRange) → AreRanges file ranges → (byte : ℕ)
+    (owner : Option ℕ) → IsOwner file byte owner → IsOwnerIn ranges byte owner
+owner_by_ranges file ranges decoded byte owner =
+    least_alike (λ i. Matches file i byte) (λ i. IsInRange (range_in ranges i) byte) owner
     (λ i. decoded.by_bytes i byte)
 
-module _ (entries : List Entry) (ranges : List ByteRange) (decoded : AreRanges entries ranges) (to : ℕ)
+module _ (file : RegisterFile) (ranges : List ByteRange) (decoded : AreRanges file ranges) (to : ℕ)
     (runs : List Run) where
-  pub runs_by_ranges : AreRunsTo to (IsOwner entries) runs → AreRunsTo to (IsOwnerIn ranges) runs
-  runs_by_ranges = runs_alike to (IsOwner entries) (IsOwnerIn ranges) runs (owner_by_ranges entries ranges decoded)
+  pub runs_by_ranges : AreRunsTo to (IsOwner file) runs → AreRunsTo to (IsOwnerIn ranges) runs
+  runs_by_ranges = runs_alike to (IsOwner file) (IsOwnerIn ranges) runs (owner_by_ranges file ranges decoded)
 
-  pub runs_by_entries : AreRunsTo to (IsOwnerIn ranges) runs → AreRunsTo to (IsOwner entries) runs
-  runs_by_entries = runs_alike to (IsOwnerIn ranges) (IsOwner entries) runs (owner_by_entries entries ranges decoded)
+  pub runs_by_entries : AreRunsTo to (IsOwnerIn ranges) runs → AreRunsTo to (IsOwner file) runs
+  runs_by_entries = runs_alike to (IsOwnerIn ranges) (IsOwner file) runs (owner_by_entries file ranges decoded)
 
-pub few_runs_of_entries : (entries : List Entry) (runs : List Run) → HasAddresses entries → AreRuns entries runs
-    → length runs ≤ 2 * length entries + 1
-few_runs_of_entries entries runs small are =
-    let decoded = are_ranges entries small in
+pub few_runs_of_entries : (file : RegisterFile) (runs : List Run) → HasAddresses file → AreRuns file runs
+    → length runs ≤ 2 * length file.entries + 1
+few_runs_of_entries file runs small are =
+    let decoded = are_ranges file small in
     omega (
       arith,
       decoded.count,
-      few_runs ADDRESS_LIMIT (ranges_of entries) runs
-          (runs_by_ranges entries (ranges_of entries) decoded ADDRESS_LIMIT runs are),
+      few_runs ADDRESS_LIMIT (ranges_of file) runs
+          (runs_by_ranges file (ranges_of file) decoded ADDRESS_LIMIT runs are),
     )
 
 -- only a range that there is has a byte

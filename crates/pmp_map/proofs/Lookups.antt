@@ -27,7 +27,7 @@ module _ (m : Inside) (map : IsMapOf m.file.value m.runs.items m.starts m.answer
   -- what the contract of `place_of` says finds the byte's run in this map
   pub placed : (count byte place : ℕ) → count ≡ length m.runs.items → byte < ADDRESS_LIMIT → place + 1 < PLACES
       → (IsWithin m.starts count byte → IsBetween m.starts byte place 1) → IsPlaceOf m.runs.items byte place
-  placed = place_found m.file.value.entries m.runs.items m.starts map.runs_are map.few map.starts_are
+  placed = place_found m.file.value m.runs.items m.starts map.runs_are map.few map.starts_are
 
   pub few_places : (byte place : ℕ) → IsPlaceOf m.runs.items byte place → place < RUNS
   few_places byte place at = omega (arith, at.inside, map.few)
@@ -40,7 +40,7 @@ module _ (m : Inside) (map : IsMapOf m.file.value m.runs.items m.starts m.answer
         → IsDecision m.file.value access (decision_by m.file.value (map_run m.runs.items place).owner access)
     whole_decided short = decided_whole m.file.value access (map_run m.runs.items place).owner
         (λ byte inside. map.runs_are.owned place byte at.inside
-        (in_run ADDRESS_LIMIT (IsOwner m.file.value.entries) m.runs.items map.runs_are place byte at.inside
+        (in_run ADDRESS_LIMIT (IsOwner m.file.value) m.runs.items map.runs_are place byte at.inside
         (omega (arith, at.here.0, inside.0)) (omega (arith, inside.1, next_start))))
 
     module _ (last : ℕ) (end : IsPlaceOf m.runs.items (access.start + access.length - 1) last)
@@ -49,14 +49,14 @@ module _ (m : Inside) (map : IsMapOf m.file.value m.runs.items m.starts m.answer
       places_rise = elim (cases_lt place last) [
         | inl lt ↦ lt
         | inr le ↦
-            let before = run_before ADDRESS_LIMIT (IsOwner m.file.value.entries) m.runs.items map.runs_are last
+            let before = run_before ADDRESS_LIMIT (IsOwner m.file.value) m.runs.items map.runs_are last
             (access.start + access.length - 1) end.inside end.here in
             absurd (omega (
               arith,
               before,
               map.runs_are.gapless place at.inside,
               at.inside,
-              starts_rise ADDRESS_LIMIT (IsOwner m.file.value.entries) m.runs.items map.runs_are (last + 1) (place + 1)
+              starts_rise ADDRESS_LIMIT (IsOwner m.file.value) m.runs.items map.runs_are (last + 1) (place + 1)
                   (omega arith) (omega (arith, at.inside)),
             ))
       ]

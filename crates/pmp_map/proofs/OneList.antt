@@ -3,7 +3,7 @@ use Rattle.std.proofs.Common.{◌≡◌, ℕ, zero, suc, ◌+◌, ◌<◌, ◌�
 use Rattle.std.proofs.Common.{inr}
 use Rattle.std.proofs.lemmas.Bool.{cases_lt}
 use Rattle.std.proofs.lemmas.List.{get_or_default, same_lists}
-use Rattle.pmp_core.specs.declared.entry.Entry.{Entry}
+use Rattle.pmp_core.specs.RegisterFile.{RegisterFile}
 use Rattle.pmp_core.specs.declared.access.TheConstants.{ADDRESS_LIMIT}
 use Rattle.pmp_core.specs.Decision.{IsOwner}
 use Rattle.pmp_core.specs.Matching.{Matches}
@@ -97,6 +97,6 @@ module _ (to : ℕ) (Owns : ℕ → Option ℕ → Type 0) (once : (byte : ℕ) 
       ∙ sym (get_or_default other k d _ (omega arith)))
 
 -- a register file has one list of runs
-pub one_list_of_runs : (entries : List Entry) (one other : List Run) → AreRuns entries one → AreRuns entries other
+pub one_list_of_runs : (file : RegisterFile) (one other : List Run) → AreRuns file one → AreRuns file other
     → one ≡ other
-one_list_of_runs entries = one_list ADDRESS_LIMIT (IsOwner entries) (λ byte. least_once (λ i. Matches entries i byte))
+one_list_of_runs file = one_list ADDRESS_LIMIT (IsOwner file) (λ byte. least_once (λ i. Matches file i byte))

@@ -12,7 +12,6 @@ use Rattle.pmp_core.specs.declared.access.Mode.{Mode}
 use Rattle.pmp_core.specs.declared.access.Mode.TheVariants.{M, S, U}
 use Rattle.pmp_core.specs.declared.access.TheConstants.{ADDRESS_LIMIT}
 use Rattle.pmp_core.specs.declared.decision.Decision.{Decision}
-use Rattle.pmp_core.specs.declared.entry.Entry.{Entry}
 use Rattle.pmp_core.specs.declared.event.Event.{Event}
 use Rattle.pmp_core.specs.Access.{IsAccess}
 use Rattle.pmp_core.specs.Decision.{IsDecision, IsOwner}
@@ -21,9 +20,9 @@ use Rattle.pmp_core.specs.Matching.{Matches}
 use Rattle.pmp_core.specs.ProtectionLaw.{ProtectedLaw}
 use Rattle.pmp_core.specs.RegisterFile.{RegisterFile, IsLegal, is_frozen}
 use Rattle.pmp_core.specs.RegisterWrite.{step}
-use Rattle.pmp_core.specs.Rights.{allows, default_rights_by}
+use Rattle.pmp_core.specs.Rights.{allows, machine_default, default_rights_by, has_entries}
 use Rattle.pmp_core.proofs.Decisions.{one_decision}
-use Rattle.pmp_core.proofs.Legal.{length-fold}
+use Rattle.pmp_core.proofs.Sticky.{length-writes}
 use Rattle.pmp_core.proofs.Locks.{lock_law}
 use Rattle.pmp_core.proofs.Sticky.{sticky_law}
 use Rattle.pmp_map.specs.Answers.{decision_by, owned_rights}
@@ -45,7 +44,7 @@ byte_access mode kind byte inside = record {
 
 -- it is decided by the byte's owner
 pub decided_by_owner : (file : RegisterFile) (access : Access) (mode : Mode) (kind : Kind) (byte : ℕ) (owner : Option ℕ)
-    → IsAccess access mode kind byte 1 → IsOwner file.entries byte owner
+    → IsAccess access mode kind byte 1 → IsOwner file byte owner
     → IsDecision file access (decision_by file owner access)
 decided_by_owner file access mode kind byte owner is owned =
     decided_whole file access owner (λ other inside.
@@ -69,57 +68,43 @@ answer_by_owner file byte owner allowed mode kind owned (access, decision, is, d
 
 -- ---- holds
 
--- what the default refuses it still refuses where more of MML and MMWP are set
-allow_list_closes : (mml : Bool) (mode : Mode) (kind : Kind) → allows (default_rights_by mml true mode) kind ≡ false
-allow_list_closes true M Load = refl
-allow_list_closes true M Store = refl
-allow_list_closes true M Fetch = refl
-allow_list_closes false M Load = refl
-allow_list_closes false M Store = refl
-allow_list_closes false M Fetch = refl
-allow_list_closes true S Load = refl
-allow_list_closes true S Store = refl
-allow_list_closes true S Fetch = refl
-allow_list_closes false S Load = refl
-allow_list_closes false S Store = refl
-allow_list_closes false S Fetch = refl
-allow_list_closes true U Load = refl
-allow_list_closes true U Store = refl
-allow_list_closes true U Fetch = refl
-allow_list_closes false U Load = refl
-allow_list_closes false U Store = refl
-allow_list_closes false U Fetch = refl
+-- what the default refuses machine mode it still refuses where more of MML and MMWP are set
+fewer_for_machine : (mml mmwp mml_later mmwp_later : Bool) → (mml ≡ true → mml_later ≡ true)
+    → (mmwp ≡ true → mmwp_later ≡ true) → (kind : Kind) → allows (machine_default mml mmwp) kind ≡ false
+    → allows (machine_default mml_later mmwp_later) kind ≡ false
+fewer_for_machine mml mmwp true true up stays Load closed = refl
+fewer_for_machine mml mmwp true true up stays Store closed = refl
+fewer_for_machine mml mmwp true true up stays Fetch closed = refl
+fewer_for_machine mml mmwp false true up stays Load closed = refl
+fewer_for_machine mml mmwp false true up stays Store closed = refl
+fewer_for_machine mml mmwp false true up stays Fetch closed = refl
+fewer_for_machine mml true mml_later false up stays kind closed = absurd (false≢true (stays refl))
+fewer_for_machine true false false false up stays kind closed = absurd (false≢true (up refl))
+fewer_for_machine true false true false up stays kind closed = closed
+fewer_for_machine false false false false up stays kind closed = closed
+fewer_for_machine false false true false up stays Load closed = closed
+fewer_for_machine false false true false up stays Store closed = closed
+fewer_for_machine false false true false up stays Fetch closed = refl
 
-fewer_by_lockdown : (mml later : Bool) → (mml ≡ true → later ≡ true) → (mode : Mode) (kind : Kind)
-    → allows (default_rights_by mml false mode) kind ≡ false → allows (default_rights_by later false mode) kind ≡ false
-fewer_by_lockdown true true up mode kind closed = closed
-fewer_by_lockdown false false up mode kind closed = closed
-fewer_by_lockdown true false up mode kind closed = absurd (false≢true (up refl))
-fewer_by_lockdown false true up M Load closed = closed
-fewer_by_lockdown false true up M Store closed = closed
-fewer_by_lockdown false true up M Fetch closed = refl
-fewer_by_lockdown false true up S kind closed = closed
-fewer_by_lockdown false true up U kind closed = closed
-
-fewer_by_default : (mml mmwp mml_later mmwp_later : Bool) → (mml ≡ true → mml_later ≡ true)
+fewer_by_default : (some mml mmwp mml_later mmwp_later : Bool) → (mml ≡ true → mml_later ≡ true)
     → (mmwp ≡ true → mmwp_later ≡ true) → (mode : Mode) (kind : Kind)
-    → allows (default_rights_by mml mmwp mode) kind ≡ false
-    → allows (default_rights_by mml_later mmwp_later mode) kind ≡ false
-fewer_by_default mml mmwp mml_later true up stays mode kind closed = allow_list_closes mml_later mode kind
-fewer_by_default mml true mml_later false up stays mode kind closed = absurd (false≢true (stays refl))
-fewer_by_default mml false mml_later false up stays mode kind closed =
-    fewer_by_lockdown mml mml_later up mode kind closed
+    → allows (default_rights_by some mml mmwp mode) kind ≡ false
+    → allows (default_rights_by some mml_later mmwp_later mode) kind ≡ false
+fewer_by_default some mml mmwp mml_later mmwp_later up stays M kind closed =
+    fewer_for_machine mml mmwp mml_later mmwp_later up stays kind closed
+fewer_by_default some mml mmwp mml_later mmwp_later up stays S kind closed = closed
+fewer_by_default some mml mmwp mml_later mmwp_later up stays U kind closed = closed
 
-module _ (entry_inside : (entries : List Entry) (i byte : ℕ) → Matches entries i byte → i < length entries)
+module _ (entry_inside : (file : RegisterFile) (i byte : ℕ) → Matches file i byte → i < length file.entries)
     (file : RegisterFile) (events : List Event) (writes : list_all is_write events ≡ true) (byte : ℕ) where
   abbrev later : RegisterFile
   later = fold step file events
 
   -- where all entries are frozen, a byte that none matches is matched by none later
-  still_unowned : holds file None ≡ true → IsOwner file.entries byte None → IsOwner later.entries byte None
+  still_unowned : holds file None ≡ true → IsOwner file byte None → IsOwner later byte None
   still_unowned held unowned i matches =
       let n = length file.entries in
-      let inside : i < n = omega (arith, entry_inside later.entries i byte matches, length-fold file events) in
+      let inside : i < n = omega (arith, entry_inside later i byte matches, length-writes file events writes) in
       let place = AllPass-from_list_all (is_frozen file) (range_with_len 0 n) held i 0
       (omega (arith, length-range_with_len 0 n)) in
       let number : get_or (range_with_len 0 n) i 0 ≡ i = omega (arith, get_or-range_with_len 0 n i 0 inside) in
@@ -127,14 +112,14 @@ module _ (entry_inside : (entries : List Entry) (i byte : ℕ) → Matches entri
       unowned i (((lock_law file i events frozen writes).bytes byte).0 matches)
 
   still_closed : ProtectedLaw → IsLegal file → (owner : Option ℕ) (mode : Mode) (kind : Kind)
-      → IsOwner file.entries byte owner → holds file owner ≡ true
+      → IsOwner file byte owner → holds file owner ≡ true
       → allows (owned_rights file owner mode) kind ≡ false → (allowed : Bool)
       → IsAnswered later allowed mode kind byte → allowed ≡ false
   still_closed protected legal None mode kind owned held closed allowed answered =
       let sticky = sticky_law file events writes in
       answer_by_owner later byte None allowed mode kind (still_unowned held owned) answered
-      ∙ fewer_by_default file.mseccfg.mml file.mseccfg.mmwp later.mseccfg.mml later.mseccfg.mmwp sticky.mml sticky.mmwp
-      mode kind closed
+      ∙ rw (length-writes file events writes) (fewer_by_default (has_entries file) file.mseccfg.mml file.mseccfg.mmwp
+      later.mseccfg.mml later.mseccfg.mmwp sticky.mml sticky.mmwp mode kind closed)
   still_closed protected legal (Some i) mode kind owned held closed allowed (access, decision, is, decided, same) =
       let before = decision_by file (Some i) access in
       let was = decided_by_owner file access mode kind byte (Some i) is owned in
@@ -144,7 +129,7 @@ module _ (entry_inside : (entries : List Entry) (i byte : ℕ) → Matches entri
       ∙ (protected file i events legal held writes).refused access (i, omega arith, was.0) before decision was decided
       refused
 
-pub held_byte : ((entries : List Entry) (i byte : ℕ) → Matches entries i byte → i < length entries) → ProtectedLaw
+pub held_byte : ((file : RegisterFile) (i byte : ℕ) → Matches file i byte → i < length file.entries) → ProtectedLaw
     → HeldByteLaw
 held_byte entry_inside protected file byte mode kind events legal (owner, owned, held) shut writes found =
     let closed = sym (answer_by_owner file byte owner false mode kind owned shut) in

@@ -8,7 +8,6 @@ use Rattle.pmp_core.specs.declared.access.Kind.{Kind}
 use Rattle.pmp_core.specs.declared.access.Kind.TheVariants.{Fetch, Load, Store}
 use Rattle.pmp_core.specs.declared.access.TheConstants.{ADDRESS_LIMIT}
 use Rattle.pmp_core.specs.declared.decision.Decision.{Decision}
-use Rattle.pmp_core.specs.declared.entry.Entry.{Entry}
 use Rattle.pmp_core.specs.declared.perms.Perms.{Perms}
 use Rattle.pmp_core.specs.RegisterFile.{RegisterFile, HasAddresses}
 use Rattle.pmp_core.specs.Configuration.{bit_of}
@@ -59,13 +58,13 @@ right_bit false false false Store = refl
 
 -- ---- by the owners of bytes
 
-pub same_owner : (entries : List Entry) (byte : ℕ) (one other : Option ℕ) → IsOwner entries byte one
-    → IsOwner entries byte other → one ≡ other
-same_owner entries byte one other p q = least_once (λ i. Matches entries i byte) one other p q
+pub same_owner : (file : RegisterFile) (byte : ℕ) (one other : Option ℕ) → IsOwner file byte one
+    → IsOwner file byte other → one ≡ other
+same_owner file byte one other p q = least_once (λ i. Matches file i byte) one other p q
 
-module _ (file : RegisterFile) (addresses : HasAddresses file.entries) (mode : Mode) (start size : ℕ)
+module _ (file : RegisterFile) (addresses : HasAddresses file) (mode : Mode) (start size : ℕ)
     (full : 0 < size) where
-  module _ (owner : Option ℕ) (owned : IsOwnedBy file.entries start size owner) where
+  module _ (owner : Option ℕ) (owned : IsOwnedBy file start size owner) where
     -- each access in the range is allowed where the bit of its kind is set
     pub allowed_inside : (number : ℕ) → number ≡ (perms_of (owned_rights file owner mode)).0 → (access : Access)
         → access.mode ≡ mode → start ≤ access.start → access.start + access.length ≤ start + size
@@ -82,8 +81,8 @@ module _ (file : RegisterFile) (addresses : HasAddresses file.entries) (mode : M
         ∙ ap (λ (n : ℕ). n / (right_of access.kind).0 % 2 == 1) (sym is)
 
     -- it has no other owner
-    pub one_owner : (other : Option ℕ) → IsOwnedBy file.entries start size other → owner ≡ other
-    one_owner other all = same_owner file.entries start owner other (owned start (omega arith) (omega arith))
+    pub one_owner : (other : Option ℕ) → IsOwnedBy file start size other → owner ≡ other
+    one_owner other all = same_owner file start owner other (owned start (omega arith) (omega arith))
         (all start (omega arith) (omega arith))
 
     pub rights_by_owner : AreRangeRights file mode start size (Some (perms_of (owned_rights file owner mode)))
@@ -94,11 +93,11 @@ module _ (file : RegisterFile) (addresses : HasAddresses file.entries) (mode : M
     }
 
   -- the first byte has an owner that a later one hasn't
-  module _ (owner : Option ℕ) (byte : ℕ) (first : IsOwner file.entries start owner) (from : start ≤ byte)
-      (to : byte < start + size) (apart : (other : Option ℕ) → IsOwner file.entries byte other → owner ≢ other) where
-    pub two_owners : (other : Option ℕ) → ¬ (IsOwnedBy file.entries start size other)
+  module _ (owner : Option ℕ) (byte : ℕ) (first : IsOwner file start owner) (from : start ≤ byte)
+      (to : byte < start + size) (apart : (other : Option ℕ) → IsOwner file byte other → owner ≢ other) where
+    pub two_owners : (other : Option ℕ) → ¬ (IsOwnedBy file start size other)
     two_owners other all = apart other (all byte from to)
-        (same_owner file.entries start owner other first (all start (omega arith) (omega arith)))
+        (same_owner file start owner other first (all start (omega arith) (omega arith)))
 
     pub rights_of_two : AreRangeRights file mode start size None
     rights_of_two = record {
@@ -118,16 +117,16 @@ module _ (m : Inside) (map : IsMapOf m.file.value m.runs.items m.starts m.answer
   next_start = map.starts_are (place + 1) (omega (arith, at.inside, map.few))
 
   owned_here : (other : ℕ) → byte ≤ other → other < slice_index m.starts (place + 1)
-      → IsOwner m.file.value.entries other (owner_at place)
+      → IsOwner m.file.value other (owner_at place)
   owned_here other from to = map.runs_are.owned place other at.inside
-      (in_run ADDRESS_LIMIT (IsOwner m.file.value.entries) m.runs.items map.runs_are place other at.inside
+      (in_run ADDRESS_LIMIT (IsOwner m.file.value) m.runs.items map.runs_are place other at.inside
       (omega (arith, at.here.0, from)) (omega (arith, to, next_start)))
 
   past_here : byte < slice_index m.starts (place + 1)
   past_here = omega (arith, at.here.1, map.runs_are.gapless place at.inside, next_start)
 
   next_owned : slice_index m.starts (place + 1) < ADDRESS_LIMIT → (other : Option ℕ)
-      → IsOwner m.file.value.entries (slice_index m.starts (place + 1)) other → owner_at place ≢ other
+      → IsOwner m.file.value (slice_index m.starts (place + 1)) other → owner_at place ≢ other
   next_owned more other owned =
       let next = start_at ADDRESS_LIMIT m.runs.items (place + 1) in
       let inside_next : place + 1 < length m.runs.items = elim (cases_lt (place + 1) (length m.runs.items)) [
@@ -135,7 +134,7 @@ module _ (m : Inside) (map : IsMapOf m.file.value m.runs.items m.starts m.answer
         | inr past ↦ absurd (omega (arith, next_start, start_past ADDRESS_LIMIT m.runs.items (place + 1) past, more))
       ] in
       let proper = map.runs_are.proper (place + 1) inside_next in
-      let there : owner_at (place + 1) ≡ other = same_owner m.file.value.entries next (owner_at (place + 1)) other
+      let there : owner_at (place + 1) ≡ other = same_owner m.file.value next (owner_at (place + 1)) other
       (map.runs_are.owned (place + 1) next inside_next (omega arith, proper)) (rw next_start at owned) in
       λ same. map.runs_are.apart place inside_next (same ∙ sym there)
 

@@ -13,7 +13,7 @@ use Rattle.pmp_map.specs.RightsRuns.{AreRightsRunsFrom, HasRights, HasRightsOf, 
 once : (file : RegisterFile) (byte : ℕ) (one other : ModeRights) → HasRights file byte one → HasRights file byte other
     → one ≡ other
 once file byte one other here there =
-    here.2 ∙ ap (rights_by file) (least_once (λ i. Matches file.entries i byte) here.0 there.0 here.1 there.1)
+    here.2 ∙ ap (rights_by file) (least_once (λ i. Matches file i byte) here.0 there.0 here.1 there.1)
     ∙ sym there.2
 
 -- two runs of the same fields

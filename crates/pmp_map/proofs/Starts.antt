@@ -1,7 +1,7 @@
 -- What the search finds in the table of where the runs of a register file begin.
 use Rattle.std.proofs.Common.{◌≡◌, ℕ, ◌+◌, ◌-◌, ◌<◌, ◌≤◌, List, length, slice_index, arith, inl, inr}
 use Rattle.std.proofs.lemmas.Bool.{cases_lt}
-use Rattle.pmp_core.specs.declared.entry.Entry.{Entry}
+use Rattle.pmp_core.specs.RegisterFile.{RegisterFile}
 use Rattle.pmp_core.specs.declared.access.TheConstants.{ADDRESS_LIMIT}
 use Rattle.pmp_core.specs.Decision.{IsOwner}
 use Rattle.pmp_map.specs.declared.run.Run.{Run}
@@ -16,17 +16,17 @@ pub record IsPlaceOf (runs : List Run) (byte place : ℕ) : Type 0 where
   pub inside : place < length runs
   pub here : IsInRun (map_run runs place) byte
 
-module _ (entries : List Entry) (runs : List Run) (starts : List ℕ) (are : AreRuns entries runs)
+module _ (file : RegisterFile) (runs : List Run) (starts : List ℕ) (are : AreRuns file runs)
     (few : length runs ≤ RUNS) (starts_are : AreStarts runs starts) where
   -- the table of starts rises, past the last run too
   rising : IsRising starts
   rising i j ordered within = rw (starts_are i (omega arith), starts_are j within)
       (elim (cases_lt (length runs) j) [
-        | inr inside ↦ starts_rise ADDRESS_LIMIT (IsOwner entries) runs are i j ordered inside
+        | inr inside ↦ starts_rise ADDRESS_LIMIT (IsOwner file) runs are i j ordered inside
         | inl past ↦ omega (
           arith,
           start_past ADDRESS_LIMIT runs j (omega arith),
-          start_most ADDRESS_LIMIT (IsOwner entries) runs are i,
+          start_most ADDRESS_LIMIT (IsOwner file) runs are i,
         )
       ])
 
@@ -58,7 +58,7 @@ module _ (entries : List Entry) (runs : List Run) (starts : List ℕ) (are : Are
       ] in
       record {
         inside = inside;
-        here = in_run ADDRESS_LIMIT (IsOwner entries) runs are place byte inside
+        here = in_run ADDRESS_LIMIT (IsOwner file) runs are place byte inside
             (omega (arith, starts_are place (omega arith), between.0))
             (omega (arith, between.1, starts_are (place + 1) places));
       }

@@ -28,4 +28,4 @@ holds file None = list_all (is_frozen file) (range_with_len 0 (length file.entri
 
 -- the byte's owner holds
 abbrev pub IsHeldByte : RegisterFile → (byte : ℕ) → Type 0
-IsHeldByte file byte = (owner : Option ℕ) × IsOwner file.entries byte owner × (holds file owner ≡ true)
+IsHeldByte file byte = (owner : Option ℕ) × IsOwner file byte owner × (holds file owner ≡ true)

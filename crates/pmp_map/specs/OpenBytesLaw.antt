@@ -16,12 +16,12 @@ use Rattle.pmp_map.specs.OpenBytes.{IsAnswered, IsClosed, IsHeldByte, IsOpen}
 -- a byte is open to what its owner's rule allows, or the default where it has no owner
 abbrev pub OpenByteLaw : Type 0
 OpenByteLaw = (file : RegisterFile) (byte : ℕ) (owner : Option ℕ) (mode : Mode) (kind : Kind) → byte < ADDRESS_LIMIT
-    → IsOwner file.entries byte owner → IsAnswered file (allows (owned_rights file owner mode) kind) mode kind byte
+    → IsOwner file byte owner → IsAnswered file (allows (owned_rights file owner mode) kind) mode kind byte
 
 -- and to nothing else
 abbrev pub OneAnswerLaw : Type 0
 OneAnswerLaw = (file : RegisterFile) (byte : ℕ) (owner : Option ℕ) (allowed : Bool) (mode : Mode) (kind : Kind)
-    → IsOwner file.entries byte owner → IsAnswered file allowed mode kind byte
+    → IsOwner file byte owner → IsAnswered file allowed mode kind byte
     → allowed ≡ allows (owned_rights file owner mode) kind
 
 -- a held byte that is closed to a mode and a kind stays closed to them through every list of writes

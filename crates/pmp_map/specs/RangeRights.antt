@@ -2,7 +2,6 @@
 use Rattle.std.specs.Prelude.{◌≡◌, ℕ, ◌+◌, ◌/◌, ◌%◌, ◌<◌, ◌≤◌, ◌==◌, Option, Some, None, List}
 use Rattle.pmp_core.specs.declared.access.Access.{Access}
 use Rattle.pmp_core.specs.declared.access.Mode.{Mode}
-use Rattle.pmp_core.specs.declared.entry.Entry.{Entry}
 use Rattle.pmp_core.specs.declared.perms.Perms.{Perms}
 use Rattle.pmp_core.specs.RegisterFile.{RegisterFile}
 use Rattle.pmp_core.specs.Decision.{IsOwner}
@@ -12,16 +11,16 @@ use Rattle.pmp_core.specs.Rights.{perms_of}
 use Rattle.pmp_map.specs.Answers.{owned_rights}
 
 -- all bytes of the range have this owner
-abbrev pub IsOwnedBy : List Entry → (start length : ℕ) → Option ℕ → Type 0
-IsOwnedBy entries start length owner = (byte : ℕ) → start ≤ byte → byte < start + length → IsOwner entries byte owner
+abbrev pub IsOwnedBy : RegisterFile → (start length : ℕ) → Option ℕ → Type 0
+IsOwnedBy file start length owner = (byte : ℕ) → start ≤ byte → byte < start + length → IsOwner file byte owner
 
 -- the rights are what the mode may do in the whole range; none where that is mixed
 pub record AreRangeRights (file : RegisterFile) (mode : Mode) (start length : ℕ) (rights : Option Perms) : Type 0 where
   -- where one owner, or none, has all bytes
-  pub owned : (owner : Option ℕ) → IsOwnedBy file.entries start length owner
+  pub owned : (owner : Option ℕ) → IsOwnedBy file start length owner
       → rights ≡ Some (perms_of (owned_rights file owner mode))
   -- where no one owner has all bytes
-  pub mixed : ((owner : Option ℕ) → ¬ (IsOwnedBy file.entries start length owner)) → rights ≡ None
+  pub mixed : ((owner : Option ℕ) → ¬ (IsOwnedBy file start length owner)) → rights ≡ None
   -- where it isn't mixed, every access of the mode in the range is allowed where the rights have the bit of its kind
   pub accesses : (perms : Perms) → rights ≡ Some perms → (access : Access) → access.mode ≡ mode → start ≤ access.start
       → access.start + access.length ≤ start + length

@@ -18,7 +18,7 @@ rights_by file owner = record {
 
 -- what it lets them do with the byte, by the byte's owner
 abbrev pub HasRights : RegisterFile → (byte : ℕ) → ModeRights → Type 0
-HasRights file byte rights = (owner : Option ℕ) × IsOwner file.entries byte owner × (rights ≡ rights_by file owner)
+HasRights file byte rights = (owner : Option ℕ) × IsOwner file byte owner × (rights ≡ rights_by file owner)
 
 -- the old file and the new let them do with the byte what the run says
 abbrev pub HasRightsOf : (old new : RegisterFile) → RightsRun → (byte : ℕ) → Type 0

@@ -1,7 +1,7 @@
 -- The runs of a register file: bytes side by side that have one owner (Volume II, 3.7.1.3).
 use Rattle.std.specs.Prelude.{◌≡◌, ◌≢◌, ℕ, ◌+◌, ◌<◌, ◌≤◌, Option, None, IfSome, List, length, All}
 use Rattle.std.specs.List.{slice_index_or}
-use Rattle.pmp_core.specs.declared.entry.Entry.{Entry}
+use Rattle.pmp_core.specs.RegisterFile.{RegisterFile}
 use Rattle.pmp_core.specs.declared.access.TheConstants.{ADDRESS_LIMIT}
 use Rattle.pmp_core.specs.Decision.{IsOwner}
 use Rattle.pmp_map.specs.declared.run.Run.{Run}
@@ -31,18 +31,18 @@ abbrev pub map_run : List Run → ℕ → Run
 map_run = run_at ADDRESS_LIMIT
 
 -- the runs of all bytes
-abbrev pub AreRuns : List Entry → List Run → Type 0
-AreRuns entries = AreRunsTo ADDRESS_LIMIT (IsOwner entries)
+abbrev pub AreRuns : RegisterFile → List Run → Type 0
+AreRuns file = AreRunsTo ADDRESS_LIMIT (IsOwner file)
 
 -- every owner is below n
 abbrev pub HasOwnersBelow : (n : ℕ) → List Run → Type 0
 HasOwnersBelow n runs = All (λ run. IfSome run.owner (λ i. i < n)) runs
 
 -- the bytes from `first` on that have its owner, as far as they have it
-pub record IsRunFrom (entries : List Entry) (first : ℕ) (run : Run) : Type 0 where
+pub record IsRunFrom (file : RegisterFile) (first : ℕ) (run : Run) : Type 0 where
   pub begins : run.first ≡ first
   pub proper : run.first ≤ run.last
   pub inside : run.last < ADDRESS_LIMIT
-  pub owned : (byte : ℕ) → IsInRun run byte → IsOwner entries byte run.owner
-  pub apart : run.last + 1 < ADDRESS_LIMIT → (other : Option ℕ) → IsOwner entries (run.last + 1) other
+  pub owned : (byte : ℕ) → IsInRun run byte → IsOwner file byte run.owner
+  pub apart : run.last + 1 < ADDRESS_LIMIT → (other : Option ℕ) → IsOwner file (run.last + 1) other
       → run.owner ≢ other

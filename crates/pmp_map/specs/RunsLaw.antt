@@ -10,7 +10,7 @@ use Rattle.pmp_map.specs.Runs.{AreRuns, IsInRun, map_run}
 
 -- an access inside one run is decided by the rule of the run's owner, or as where no entry matches
 abbrev pub InsideRunLaw : Type 0
-InsideRunLaw = (file : RegisterFile) (runs : List Run) → AreRuns file.entries runs → (k : ℕ) → k < length runs
+InsideRunLaw = (file : RegisterFile) (runs : List Run) → AreRuns file runs → (k : ℕ) → k < length runs
     → (access : Access) → ((byte : ℕ) → IsByteOf access byte → IsInRun (map_run runs k) byte)
     → IsDecision file access (decision_by file (map_run runs k).owner access)
 
@@ -20,7 +20,7 @@ OwnsOneOf runs first last i = (k : ℕ) × (first ≤ k) × (k ≤ last) × ((ma
 
 -- an access from one run into a later one is refused, as a partial match of the least owner from the one to the other
 abbrev pub AcrossRunsLaw : Type 0
-AcrossRunsLaw = (file : RegisterFile) (runs : List Run) → AreRuns file.entries runs
+AcrossRunsLaw = (file : RegisterFile) (runs : List Run) → AreRuns file runs
     → (first last : ℕ) → first < last → last < length runs
     → (access : Access) → IsInRun (map_run runs first) access.start
     → IsInRun (map_run runs last) (access.start + access.length - 1)

@@ -15,8 +15,8 @@ AreAnswers file runs answers = (k : ℕ) → k < length runs
 
 -- a map's three tables, as they are for the register file
 pub record IsMapOf (file : RegisterFile) (runs : List Run) (starts : List ℕ) (answers : List Answers) : Type 0 where
-  pub addresses : HasAddresses file.entries
-  pub runs_are : AreRuns file.entries runs
+  pub addresses : HasAddresses file
+  pub runs_are : AreRuns file runs
   pub few : length runs ≤ RUNS
   pub owners : HasOwnersBelow (length file.entries) runs
   pub starts_are : AreStarts runs starts

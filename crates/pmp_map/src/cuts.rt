@@ -61,7 +61,7 @@ pub fn stretch_from(ranges: &[ByteRange], first: u64) -> Stretch
 /// another. For a few bytes of a register file this is less work than its map.
 pub fn run_from(file: &RegFile, first: u64) -> Run
     requires { first < ADDRESS_LIMIT }
-    ensures run { IsRunFrom file.now.entries first result }
+    ensures run { IsRunFrom file.now first result }
     ensures owner { IfSome result.owner (λ entry. entry < length file.now.entries) }
 {
     let stretch = stretch_from(file.ranges(), first);

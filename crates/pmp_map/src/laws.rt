@@ -1,7 +1,6 @@
 //! The laws of runs, each the contract of a function that does nothing.
 
 ghost use Rattle.std.specs.Prelude.{◌≡◌, ◌+◌, ◌*◌, ◌≤◌, List, length};
-ghost use Rattle.pmp_core.specs.declared.entry.Entry.{Entry};
 ghost use Rattle.pmp_core.specs.RegisterFile.{HasAddresses, RegisterFile};
 ghost use Rattle.pmp_map.specs.declared.run.Run.{Run};
 ghost use Rattle.pmp_map.specs.declared.rights_run.RightsRun.{RightsRun};
@@ -14,14 +13,14 @@ use pmp_core::laws::{law_matching_entry, law_protected};
 
 /// Entries have one list of runs.
 pub fn law_one_list_of_runs()
-    ensures { (entries : List Entry) (one other : List Run) → AreRuns entries one → AreRuns entries other
+    ensures { (file : RegisterFile) (one other : List Run) → AreRuns file one → AreRuns file other
         → one ≡ other }
 {}
 
 /// Each entry adds at most two cuts, so that there is at most one run more than twice as many as entries.
 pub fn law_few_runs()
-    ensures { (entries : List Entry) (runs : List Run) → HasAddresses entries → AreRuns entries runs
-        → length runs ≤ 2 * length entries + 1 }
+    ensures { (file : RegisterFile) (runs : List Run) → HasAddresses file → AreRuns file runs
+        → length runs ≤ 2 * length file.entries + 1 }
 {}
 
 /// An access inside one run is decided by the rule of the run's owner, or as where no entry matches.

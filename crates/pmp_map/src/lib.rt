@@ -18,7 +18,7 @@ mod tables;
 pub use answers::{owned_rights, whole_cause};
 pub use cuts::{Stretch, run_around, run_from, stretch_from};
 pub use range_rights::rights_in;
-pub use rights_run::{ModeRights, RightsRun, rights_runs};
+pub use rights_run::{ModeRights, RightsRun, rights_run_from};
 pub use run::{RUNS, Run};
 pub use run_map::RunMap;
 pub use search::{PLACES, SHORT, place_among_six, place_of};

@@ -1,13 +1,12 @@
 //! The ranges of bytes that each of two register files lets the modes do the same with.
 
-ghost use Rattle.std.specs.Prelude.{◌≡◌, ◌+◌, ◌<◌, ◌≤◌, ℕ, IsTrue, IfOk, IfSome, length};
+ghost use Rattle.std.specs.Prelude.{◌≡◌, ◌<◌, ◌≤◌, ℕ, IsTrue, IfSome, length};
 ghost use Rattle.pmp_core.specs.declared.access.TheConstants.{ADDRESS_LIMIT};
-ghost use Rattle.pmp_map.specs.RightsRuns.{AreRightsRuns, HasRightsOf, IsRightsRun, rights_by};
+ghost use Rattle.pmp_map.specs.RightsRuns.{HasRightsOf, IsRightsRun, rights_by};
 
 use crate::answers::owned_rights;
 use crate::cuts::run_from;
 use pmp_core::{ADDRESS_LIMIT, Mode, Perms, RegFile};
-use std::alloc::{AllocError, Global};
 
 /// What a register file lets the modes do with a byte.
 #[derive(Clone, Copy, Debug, PartialEq, Eq)]
@@ -72,8 +71,9 @@ fn owned_from(old: &RegFile, new: &RegFile, first: u64) -> RightsRun
     }
 }
 
-/// The longest range of bytes from `first` on that each of the files lets the modes do the same with.
-fn rights_run_from(old: &RegFile, new: &RegFile, first: u64) -> RightsRun
+/// The longest range of bytes from the byte address `first` on that each of the files lets the modes do the same with.
+/// The files may be of different harts. From the byte behind its last one the next range goes on, up to `2^56 - 1`.
+pub fn rights_run_from(old: &RegFile, new: &RegFile, first: u64) -> RightsRun
     requires { first < ADDRESS_LIMIT }
     ensures begins { result.first ≡ first }
     ensures longest { IsRightsRun old.now new.now result }
@@ -87,23 +87,4 @@ fn rights_run_from(old: &RegFile, new: &RegFile, first: u64) -> RightsRun
         run.last = next.last;
     }
     run
-}
-
-/// The longest ranges of bytes that each of the files lets the modes do the same with, from byte address 0 to
-/// `2^56 - 1`. The files may have different sizes.
-pub fn rights_runs(
-    alloc: Global,
-    old: &RegFile,
-    new: &RegFile,
-) -> Result<Vec<RightsRun>, AllocError>
-    ensures { IfOk result (λ runs. AreRightsRuns old.now new.now runs.items) }
-{
-    let mut runs = Vec::new(alloc);
-    let mut first = 0;
-    while first < ADDRESS_LIMIT {
-        let run = rights_run_from(old, new, first);
-        runs.push(run)?;
-        first = run.last + 1;
-    }
-    Ok(runs)
 }

@@ -62,7 +62,7 @@ impl RunMap {
 
     /// The runs, from byte address 0 to `2^56 - 1`.
     pub fn runs(&self) -> &[Run]
-        ensures runs { AreRuns self.now.entries result.now }
+        ensures runs { AreRuns self.now result.now }
         ensures few { length result.now ≤ 2 * length self.now.entries + 1 }
         ensures most { length result.now ≤ RUNS }
         ensures owners { HasOwnersBelow (length self.now.entries) result.now }
@@ -73,14 +73,14 @@ impl RunMap {
     /// The lowest-numbered entry that matches the byte at this byte address (Volume II, 3.7.1.3).
     pub fn owner(&self, byte: u64) -> Option<u8>
         requires { byte < ADDRESS_LIMIT }
-        ensures { IsOwner self.now.entries byte result }
+        ensures { IsOwner self.now byte result }
     {
         self.runs[place_of(&self.starts, self.runs.len(), byte)].owner
     }
 
     /// Where each run begins, in its order; past the last, the end of the address space.
     pub fn starts(&self) -> &[u64; PLACES]
-        ensures { (runs : List Run) → AreRuns self.now.entries runs → AreStarts runs result.now }
+        ensures { (runs : List Run) → AreRuns self.now runs → AreStarts runs result.now }
     {
         &self.starts
     }
@@ -90,7 +90,7 @@ impl RunMap {
     #[cold]
     #[inline(never)]
     fn decide_straddling(&self, place: usize, access: &Access) -> Decision
-        requires { (runs : List Run) → AreRuns self.now.entries runs → IsLeft runs place access.now }
+        requires { (runs : List Run) → AreRuns self.now runs → IsLeft runs place access.now }
         ensures by_bytes { IsDecision self.now access.now result }
         ensures computed { result ≡ decision_of self.now access.now }
     {

@@ -5,7 +5,7 @@ use Rattle.pmp_core.specs.declared.access.Access.{Access}
 use Rattle.pmp_core.specs.declared.decision.Decision.{Decision}
 use Rattle.pmp_core.specs.Decision.{IsDecision}
 use Rattle.pmp_core.specs.Ranges.{decision_of}
-use Rattle.pmp_core.specs.RegisterFile.{RegisterFile, HasAddresses, IsLegal}
+use Rattle.pmp_core.specs.RegisterFile.{RegisterFile, HasAddresses}
 use Rattle.pmp_share.specs.Batches.{Batches, file_from}
 use Rattle.pmp_share.specs.Object.{Decides}
 
@@ -15,12 +15,12 @@ zip_map R f each [] = tt
 zip_map R f each (x ∷ xs) = (each x, zip_map R f each xs)
 
 -- what is computed for each access is the manual's decision on it
-pub decided_each : ((file : RegisterFile) (access : Access) → HasAddresses file.entries
+pub decided_each : ((file : RegisterFile) (access : Access) → HasAddresses file
     → IsDecision file access (decision_of file access)) → (base : RegisterFile) (list : Batches)
-    → IsLegal (file_from base list) → (accesses : List Access) (decisions : List Decision)
+    → HasAddresses (file_from base list) → (accesses : List Access) (decisions : List Decision)
     → decisions ≡ map (decision_of (file_from base list)) accesses
     → AllZip (Decides base list) accesses decisions
-decided_each by_ranges base list legal accesses decisions is =
+decided_each by_ranges base list addresses accesses decisions is =
     subst (AllZip (Decides base list) accesses) (sym is)
     (zip_map (Decides base list) (decision_of (file_from base list))
-    (λ access. by_ranges (file_from base list) access legal.addresses) accesses)
+    (λ access. by_ranges (file_from base list) access addresses) accesses)

@@ -132,7 +132,7 @@ impl Checker {
         law_decided_by_ranges();
         let decided = self.state.look_at_group(accesses);
         let digest = self.state.digest();
-        digest.is_legal();
+        digest.has_addresses();
         self.held = HeldLists::alone(digest);
         decided
     }

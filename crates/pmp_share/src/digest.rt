@@ -1,7 +1,7 @@
 //! What a list of batches comes to.
 
 ghost use Rattle.std.specs.Prelude.{◌≡◌, length};
-ghost use Rattle.pmp_core.specs.RegisterFile.{IsLegal};
+ghost use Rattle.pmp_core.specs.RegisterFile.{HasAddresses};
 ghost use Rattle.pmp_core.specs.RegisterValue.{register_value};
 ghost use Rattle.pmp_share.specs.Batches.{event_count, file_from};
 ghost use Rattle.pmp_share.specs.Looks.{is_as_late};
@@ -73,9 +73,9 @@ impl Digest {
         self.file.read(csr)
     }
 
-    /// The register file is legal. It does nothing.
-    pub fn is_legal(&self)
-        ensures { IsLegal (file_from self.now.base self.now.list) }
+    /// The addresses of the register file have no more than 54 bits. It does nothing.
+    pub fn has_addresses(&self)
+        ensures { HasAddresses (file_from self.now.base self.now.list) }
     {
         let _ranges = self.file.ranges();
     }

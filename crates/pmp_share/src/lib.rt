@@ -41,7 +41,7 @@ pub use group::GROUP_ACCESSES;
 pub use journal::Journal;
 pub use notice::Notice;
 pub use notice_ring::{NoticeReceiver, NoticeSender};
-pub use opening::{CHECKERS, start, start_from, start_of};
+pub use opening::{CHECKERS, start, start_from, start_of, start_on};
 pub use publisher::Publisher;
 pub use publisher_guard::PublisherGuard;
 pub use room::HISTORY_LIMIT;

@@ -4,7 +4,8 @@ ghost use Rattle.std.specs.Prelude.{◌≡◌, ◌≤◌, [], ◌∷◌, IfOk, I
 ghost use Rattle.pmp_core.specs.declared.register_file.TheConstants.{ENTRIES};
 ghost use Rattle.pmp_core.specs.RegisterFile.{reset_file};
 ghost use Rattle.pmp_core.specs.SavedRegisters.{restored_file};
-ghost use Rattle.pmp_core.specs.Size.{count_of};
+ghost use Rattle.pmp_core.specs.Hart.{profile_of};
+ghost use Rattle.pmp_core.specs.declared.size.Size.TheVariants.{Sixteen};
 ghost use Rattle.pmp_share.specs.declared.fault.ShareFault.TheVariants.{Full};
 ghost use Rattle.pmp_share.specs.declared.opening.TheConstants.{CHECKERS};
 ghost use Rattle.pmp_share.specs.Object.{no_batches};
@@ -12,7 +13,7 @@ ghost use Rattle.pmp_share.specs.Object.{no_batches};
 use crate::checker::Checker;
 use crate::fault::ShareFault;
 use crate::publisher::Publisher;
-use pmp_core::{RegFile, SavedRegisters, Size};
+use pmp_core::{Hart, RegFile, SavedRegisters, Size};
 use std::alloc::Global;
 use std::sync::Wait;
 
@@ -81,7 +82,25 @@ pub fn start_from<R: Wait>(
     start_with(rt, alloc, &RegFile::restore(saved), k)
 }
 
-/// As `start_from`, of a unit of this size, which begins with the register file of reset.
+/// As `start_from`, of a unit of this hart, which begins with the register file of reset.
+pub fn start_on<R: Wait>(
+    rt: &R,
+    alloc: Global,
+    hart: Hart,
+    k: u8,
+) -> Result<(Publisher, Vec<Checker>), ShareFault>
+    requires { (1 ≤ k) × (k ≤ CHECKERS) }
+    ensures publisher { IfOk result (λ started. (started.0.published ≡ no_batches) × (started.0.pending ≡ [])
+        × (started.0.tried ≡ 0)) }
+    ensures checkers { IfOk result (λ started. started.1.items
+        ≡ replicate k (record { unit = started.0.unit; held = no_batches ∷ [] })) }
+    ensures base { IfOk result (λ started. started.0.unit.base ≡ reset_file hart) }
+    ensures refused { IfErr result (λ fault. ¬ (fault ≡ Full)) }
+{
+    start_with(rt, alloc, &RegFile::reset_on(hart), k)
+}
+
+/// As `start_on`, of a unit of this size, with the widest addresses and Smepmp.
 pub fn start_of<R: Wait>(
     rt: &R,
     alloc: Global,
@@ -93,10 +112,10 @@ pub fn start_of<R: Wait>(
         × (started.0.tried ≡ 0)) }
     ensures checkers { IfOk result (λ started. started.1.items
         ≡ replicate k (record { unit = started.0.unit; held = no_batches ∷ [] })) }
-    ensures base { IfOk result (λ started. started.0.unit.base ≡ reset_file (count_of size)) }
+    ensures base { IfOk result (λ started. started.0.unit.base ≡ reset_file (profile_of size)) }
     ensures refused { IfErr result (λ fault. ¬ (fault ≡ Full)) }
 {
-    start_with(rt, alloc, &RegFile::reset_of(size), k)
+    start_on(rt, alloc, Hart::of(size), k)
 }
 
 /// As `start_of`, of a unit of sixteen entries.
@@ -106,7 +125,7 @@ pub fn start<R: Wait>(rt: &R, alloc: Global, k: u8) -> Result<(Publisher, Vec<Ch
         × (started.0.tried ≡ 0)) }
     ensures checkers { IfOk result (λ started. started.1.items
         ≡ replicate k (record { unit = started.0.unit; held = no_batches ∷ [] })) }
-    ensures base { IfOk result (λ started. started.0.unit.base ≡ reset_file ENTRIES) }
+    ensures base { IfOk result (λ started. started.0.unit.base ≡ reset_file (profile_of Sixteen)) }
     ensures refused { IfErr result (λ fault. ¬ (fault ≡ Full)) }
 {
     start_of(rt, alloc, Size::Sixteen, k)

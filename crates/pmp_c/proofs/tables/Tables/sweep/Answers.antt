@@ -17,15 +17,15 @@ loop-first-init c = let told = c.told-self in none_swept _ _ _ told.0 told.1
 pub stretch_from-stretch-requires-clause-few : goal.stretch_from-stretch-requires-clause-few
 stretch_from-stretch-requires-clause-few c =
     let saved = c.args.registers.now in
-    omega (arith, ap length c.requires, length-ranges_of (restored_file saved).entries, length_in saved, few_in saved)
+    omega (arith, ap length c.requires, length-ranges_of (restored_file saved).profile (restored_file saved).entries, length_in saved, few_in saved)
 
 module _ (c : After-stretch_from-stretch) where
-  owned : OwnsBytes (ranges_of (restored_file c.args.registers.now).entries) c.loop-first.first
+  owned : OwnsBytes (ranges_of (restored_file c.args.registers.now)) c.loop-first.first
       c.stretch_from-stretch.result.end c.stretch_from-stretch.result.owner
   owned = rw c.requires at c.stretch_from-stretch.ensures.owned
 
   apart : c.stretch_from-stretch.result.end < ADDRESS_LIMIT → (other : Option ℕ)
-      → IsOwnerIn (ranges_of (restored_file c.args.registers.now).entries) c.stretch_from-stretch.result.end other
+      → IsOwnerIn (ranges_of (restored_file c.args.registers.now)) c.stretch_from-stretch.result.end other
       → c.stretch_from-stretch.result.owner ≢ other
   apart = rw c.requires at c.stretch_from-stretch.ensures.apart
 

@@ -22,8 +22,8 @@ invariant_of-result c =
     let answers : AreAnswers c.args.file.now runs c.answers_of-answers.result =
     rw c.deref-2.ensures.0 at c.answers_of-answers.ensures in
     rw c.of.ensures (record {
-      addresses = c.ranges-2.ensures.legal.addresses;
-      runs_are = runs_by_entries c.args.file.now.entries c.ranges-2.result.now c.ranges-2.ensures.ranges
+      addresses = c.ranges-2.ensures.addresses;
+      runs_are = runs_by_entries c.args.file.now c.ranges-2.result.now c.ranges-2.ensures.ranges
           ADDRESS_LIMIT runs
           c.runs_of-runs.ensures;
       few = few;

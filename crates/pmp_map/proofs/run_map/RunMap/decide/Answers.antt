@@ -35,7 +35,7 @@ decide_straddling-requires c = λ runs are.
     let map = c.self.invariant in
     let at = first (goal.at.decide_straddling-requires c).After-place_of-place in
     let same : runs ≡ c.self.inside.runs.items =
-    one_list_of_runs c.self.inside.file.value.entries runs c.self.inside.runs.items (rw c.self.view_is are)
+    one_list_of_runs c.self.inside.file.value runs c.self.inside.runs.items (rw c.self.view_is are)
     map.runs_are in
     rw same (record {
       inside = at.inside;

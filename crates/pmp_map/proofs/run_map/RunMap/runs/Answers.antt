@@ -5,5 +5,5 @@ pub returns-clause-few : goal.returns-clause-few
 returns-clause-few c = rw (
   ← c.self.view_is,
   c.deref.ensures.0,
-) (few_runs_of_entries c.self.inside.file.value.entries c.self.inside.runs.items
+) (few_runs_of_entries c.self.inside.file.value c.self.inside.runs.items
     c.self.invariant.addresses c.self.invariant.runs_are)

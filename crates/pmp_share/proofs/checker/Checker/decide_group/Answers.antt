@@ -1,5 +1,5 @@
 use Rattle.std.proofs.Common.{◌≡◌, map, sym, ap, ◌∙◌}
-use Rattle.pmp_core.specs.RegisterFile.{RegisterFile, IsLegal}
+use Rattle.pmp_core.specs.RegisterFile.{RegisterFile, HasAddresses}
 use Rattle.pmp_core.specs.Ranges.{decision_of}
 use Rattle.pmp_share.specs.Batches.{Batches, event_count, file_from}
 use Rattle.pmp_share.specs.Looks.{latest}
@@ -37,9 +37,9 @@ computed c = c.look_at_group-decided.ensures.computed
 
 pub returns-clause-decided : goal.returns-clause-decided
 returns-clause-decided c =
-    let legal : IsLegal (file_from (base_of c) (latest c.alone.result)) =
-    rw (latest_new (look c), ← c.digest-digest.ensures.base, ← c.digest-digest.ensures.list) c.is_legal.ensures in
-    decided_each c.law_decided_by_ranges.ensures (base_of c) (latest c.alone.result) legal c.args.accesses.now
+    let addresses : HasAddresses (file_from (base_of c) (latest c.alone.result)) =
+    rw (latest_new (look c), ← c.digest-digest.ensures.base, ← c.digest-digest.ensures.list) c.has_addresses.ensures in
+    decided_each c.law_decided_by_ranges.ensures (base_of c) (latest c.alone.result) addresses c.args.accesses.now
     c.look_at_group-decided.result.0.items (computed c)
 
 pub returns-clause-computed : goal.returns-clause-computed
