@@ -9,7 +9,6 @@ use Rattle.std.proofs.lemmas.List.Sums.{sum_by_push, length-filter, count_by-le-
 use Rattle.std.proofs.lemmas.List.Splits.{length-slice_split}
 use Rattle.pmp_core.specs.declared.event.Event.{Event}
 use Rattle.pmp_core.specs.declared.event.TheConstants.{BATCH_EVENTS}
-use Rattle.pmp_core.specs.declared.size.Size.{Size}
 use Rattle.pmp_text.specs.declared.script.ScriptKind.{ScriptKind}
 use Rattle.pmp_text.specs.declared.script.ScriptKind.TheVariants.{BatchFull}
 use Rattle.pmp_text.specs.declared.script.ScriptFault.{ScriptFault}
@@ -18,9 +17,13 @@ use Rattle.pmp_text.specs.declared.script.statement.Statement.TheVariants as sta
 use Rattle.pmp_text.specs.Lines.{is_line_feed, has_bytes, without_empty_end, lines}
 use Rattle.pmp_text.specs.Statements.{statement_of}
 use Rattle.pmp_text.specs.Scripts.{Line, at_line, numbered_from, counts, significant_from, significant_lines}
-use Rattle.pmp_text.specs.Scripts.{size_named, for_unit, script_meaning}
-use Rattle.pmp_text.specs.Steps.Progress.{Progress, longer, nothing_read, published, after_statement, all_published}
-use Rattle.pmp_text.specs.Steps.Progress.{resumed}
+use Rattle.pmp_text.specs.Scripts.{head_fault, if_held, version_named, script_meaning}
+use Rattle.pmp_text.specs.Steps.Progress.{Progress, longer, published, HeadSoFar, says_in, longer_head, unless, Reading}
+use Rattle.pmp_text.specs.Steps.Progress.{Read, nothing_begun, with_publish, with_progress, with_head, with_expected}
+use Rattle.pmp_text.specs.Steps.Progress.{after_statement, all_published, read_in, resumed, concluded}
+use Rattle.pmp_text.specs.Heads.{first_not_held, start_said}
+use Rattle.pmp_text.specs.declared.script.version.Version.{Version}
+use Rattle.pmp_text.specs.declared.script.version.Version.TheVariants.{Sized, Headed}
 use Rattle.pmp_text.specs.Sizes.{script_size}
 use Rattle.pmp_text.specs.Contents.{Publications, ScriptContents}
 use Rattle.pmp_text.specs.declared.script.reader.TheConstants.{MAX_SCRIPT}
@@ -39,40 +42,52 @@ read_published so_far =
 read_event : (so_far : Progress) (number : ℕ) (event : Event) → read (longer so_far number event) ≡ suc (read so_far)
 read_event so_far number event = let events = length-append so_far.batch (event ∷ []) in omega arith
 
-abbrev IsBounded : List Line → Type 0
-IsBounded lines = (so_far : Progress) (all : Publications) → resumed so_far lines ≡ Ok all
-    → script_size all.batches ≤ read so_far + length lines
+abbrev IsBounded : Version → List Line → Type 0
+IsBounded version lines = (so_far : Reading) (all : Read) → resumed version so_far lines ≡ Ok all
+    → script_size all.published.batches ≤ read so_far.progress + length lines
 
-abbrev on : List Line → Result Progress ScriptFault → Result Publications ScriptFault
-on more step = elim step [ Ok next ↦ resumed next more | Err fault ↦ Err fault ]
+abbrev on : Version → List Line → Result Reading ScriptFault → Result Read ScriptFault
+on version more step = elim step [ Ok next ↦ resumed version next more | Err fault ↦ Err fault ]
 
-ended : (so_far : Progress) (since : Option ℕ) (all : Publications)
-    → all_published since so_far.published ≡ Ok all → script_size all.batches ≤ read so_far
-ended so_far None all e = let same : so_far.published ≡ all = cc in
-    let n = ap (λ (p : Publications). script_size p.batches) same in omega arith
+ended : (so_far : Reading) (since : Option ℕ) (all : Read)
+    → all_published since (read_in so_far) ≡ Ok all → script_size all.published.batches ≤ read so_far.progress
+ended so_far None all e = let same : read_in so_far ≡ all = cc in
+    let n = ap (λ (p : Read). script_size p.published.batches) same in omega arith
 ended so_far (Some number) all e = absurd cc
 
-with_room : (room : Bool) (so_far : Progress) (number : ℕ) (event : Event) (more : List Line)
-    (all : Publications) → IsBounded more
-    → on more (cond room (Ok (longer so_far number event)) (Err (at_line number BatchFull))) ≡ Ok all
-    → script_size all.batches ≤ suc (read so_far) + length more
-with_room true so_far number event more all bounded e = let n = bounded (longer so_far number event) all e in
-    let m = read_event so_far number event in omega arith
-with_room false so_far number event more all bounded e = absurd cc
+module _ (version : Version) (more : List Line) (bounded : IsBounded version more) (so_far : Reading) (number : ℕ)
+    (all : Read) where
+  with_room : (room : Bool) (event : Event)
+      → on version more (with_progress so_far
+      (cond room (Ok (longer so_far.progress number event)) (Err (at_line number BatchFull)))) ≡ Ok all
+      → script_size all.published.batches ≤ suc (read so_far.progress) + length more
+  with_room true event e = let n = bounded _ all e in
+      let m = read_event so_far.progress number event in omega arith
+  with_room false event e = absurd cc
 
-one_line : (says : Result Statement ScriptKind) (so_far : Progress) (number : ℕ) (more : List Line)
-    (all : Publications) → IsBounded more → on more (after_statement so_far number says) ≡ Ok all
-    → script_size all.batches ≤ suc (read so_far) + length more
-one_line (Err kind) so_far number more all bounded e = absurd cc
-one_line (Ok statement.Publish) so_far number more all bounded e = let n = bounded (published so_far) all e in
-    let m = read_published so_far in omega arith
-one_line (Ok (statement.Event event)) so_far number more all bounded e =
-    with_room (ltb (length so_far.batch) BATCH_EVENTS) so_far number event more all bounded e
+  with_fault : (fault : Option ScriptKind) (head : HeadSoFar)
+      → on version more (with_head so_far (unless number fault head)) ≡ Ok all
+      → script_size all.published.batches ≤ suc (read so_far.progress) + length more
+  with_fault None head e = let n = bounded _ all e in omega arith
+  with_fault (Some fault) head e = absurd cc
 
-bounded_by_lines : (lines : List Line) → IsBounded lines
-bounded_by_lines [] = λ so_far all e. let n = ended so_far so_far.since all e in omega arith
-bounded_by_lines (line ∷ more) = λ so_far all e. let n =
-    one_line (statement_of line.words) so_far line.number more all (bounded_by_lines more) e in omega arith
+  one_line : (says : Result Statement ScriptKind) → on version more (after_statement so_far number says) ≡ Ok all
+      → script_size all.published.batches ≤ suc (read so_far.progress) + length more
+  one_line (Err kind) e = absurd cc
+  one_line (Ok statement.Publish) e = let n = bounded (with_publish so_far) all e in
+      let m = read_published so_far.progress in omega arith
+  one_line (Ok (statement.Event event)) e = with_room (ltb (length so_far.progress.batch) BATCH_EVENTS) event e
+  one_line (Ok (statement.Head says)) e =
+      with_fault (head_fault so_far.head.is_over (says_in so_far.head.lines says) says)
+      (longer_head so_far.head number says) e
+  one_line (Ok (statement.Expect register value)) e =
+      let n = bounded (with_expected so_far number register value) all e in omega arith
+
+bounded_by_lines : (version : Version) (lines : List Line) → IsBounded version lines
+bounded_by_lines version [] = λ so_far all e. let n = ended so_far so_far.progress.since all e in omega arith
+bounded_by_lines version (line ∷ more) = λ so_far all e. let n =
+    one_line version more (bounded_by_lines version more) so_far line.number all (statement_of version line.words) e in
+    omega arith
 
 -- ---- lines and bytes
 
@@ -121,24 +136,37 @@ lines_and_bytes text =
 abbrev pub published_in : ScriptContents → Publications
 published_in script = record { batches = script.batches; lines = script.lines }
 
-abbrev sized : Size → Publications → ScriptContents
-sized size all = record { size = size; batches = all.batches; lines = all.lines }
+-- what is concluded of what is read has the publications that are read
+abbrev ReadsAs : Result Read ScriptFault → ScriptContents → Type 0
+ReadsAs read script = (all : Read) × (read ≡ Ok all) × (all.published ≡ published_in script)
 
-pub publications_in : (size : Size) (read : Result Publications ScriptFault) (script : ScriptContents)
-    → for_unit size read ≡ Ok script → read ≡ Ok (published_in script)
-publications_in size (Ok all) script e =
-    let same : sized size all ≡ script = cc in
-    ap (λ (s : ScriptContents). Ok (published_in s)) same
-publications_in size (Err fault) script e = absurd cc
+of_contents : (all : Read) (made script : ScriptContents) → all.published ≡ published_in made → ◌≡◌ {A = Result ScriptContents ScriptFault} (Ok made) (Ok script)
+    → all.published ≡ published_in script
+of_contents all made script same e = let is : made ≡ script = cc in same ∙ ap published_in is
 
-by_size : (size : Option Size) (text : List ℕ) (short : length text ≤ MAX_SCRIPT) (version : Line) (more : List Line)
-    (script : ScriptContents) → significant_lines text ≡ version ∷ more → size_named version.words ≡ size
-    → script_meaning text ≡ Ok script → script_size script.batches ≤ length text
-by_size None text short version more script lines named e = let refused = sym e
-    ∙ no_size text short version more lines named in absurd cc
-by_size (Some size) text short version more script lines named e =
-    let n = bounded_by_lines more nothing_read (published_in script) (publications_in size (resumed nothing_read more)
-    script (sym (with_size text short version more lines size named) ∙ e)) in
+if_held_is : (number : Option ℕ) (all : Read) (made script : ScriptContents) → all.published ≡ published_in made
+    → if_held number made ≡ Ok script → all.published ≡ published_in script
+if_held_is None all made script same e = of_contents all made script same e
+if_held_is (Some number) all made script same e = absurd cc
+
+pub concluded_as : (version : Version) (read : Result Read ScriptFault) (script : ScriptContents)
+    → concluded version read ≡ Ok script → ReadsAs read script
+concluded_as version (Err fault) script e = absurd cc
+concluded_as (Sized size) (Ok all) script e = (all, refl, of_contents all _ script refl e)
+concluded_as Headed (Ok all) script e =
+    (all, refl, if_held_is (first_not_held (start_said all.head) all.head) all _ script refl e)
+
+by_version : (version : Option Version) (text : List ℕ) (short : length text ≤ MAX_SCRIPT) (first : Line)
+    (more : List Line) (script : ScriptContents) → significant_lines text ≡ first ∷ more
+    → version_named first.words ≡ version → script_meaning text ≡ Ok script
+    → script_size script.batches ≤ length text
+by_version None text short first more script lines named e = let refused = sym e
+    ∙ no_size text short first more lines named in absurd cc
+by_version (Some version) text short first more script lines named e =
+    let was = concluded_as version (resumed version nothing_begun more) script
+    (sym (with_size text short first more lines version named) ∙ e) in
+    let n = bounded_by_lines version more nothing_begun was.0 was.1 in
+    let same = ap (λ (p : Publications). script_size p.batches) was.2 in
     let m = lines_and_bytes text in
     let k = ap length lines in
     omega arith
@@ -147,7 +175,7 @@ by_lines_read : (ls : List Line) (text : List ℕ) (short : length text ≤ MAX_
     → significant_lines text ≡ ls → script_meaning text ≡ Ok script → script_size script.batches ≤ length text
 by_lines_read [] text short script lines e = let refused = sym e ∙ no_version text short lines in absurd cc
 by_lines_read (version ∷ more) text short script lines e =
-    by_size (size_named version.words) text short version more script lines refl e
+    by_version (version_named version.words) text short version more script lines refl e
 
 pub size_at_most : (text : List ℕ) (script : ScriptContents) → script_meaning text ≡ Ok script
     → (script_size script.batches ≤ length text) × (length text ≤ MAX_SCRIPT)

@@ -5,11 +5,13 @@ use Rattle.std.proofs.Common.{refl, sym, ap, ◌∙◌, append_assoc}
 use Rattle.std.specs.Prelude.{option_map, option_and_then, slice_get, is_some}
 use Rattle.std.specs.Option.{option_or}
 use Rattle.std.proofs.lemmas.List.{append-nil, reverse-append}
-use Rattle.pmp_core.specs.declared.size.Size.{Size}
+use Rattle.pmp_text.specs.declared.script.version.Version.{Version}
+use Rattle.pmp_text.specs.declared.script.version.Version.TheVariants.{Sized, Headed}
 use Rattle.pmp_text.specs.declared.script.ScriptFault.{ScriptFault}
 use Rattle.pmp_text.specs.declared.script.ScriptKind.TheVariants.{BadVersion}
 use Rattle.pmp_text.specs.Scripts.{Line, at_line, line_fault, first_fault, fault_or_publications, first_unpublished}
-use Rattle.pmp_text.specs.Scripts.{publications, size_named, for_unit, meaning_behind, lines_meaning}
+use Rattle.pmp_text.specs.Scripts.{publications, version_named, for_unit, for_head, head_lines, expected_from}
+use Rattle.pmp_text.specs.Scripts.{meaning_behind, lines_meaning}
 use Rattle.pmp_text.specs.Scripts.{significant_lines, script_meaning}
 use Rattle.pmp_text.specs.Faults.{fault_at, IsLeastFault}
 use Rattle.pmp_text.specs.declared.script.reader.TheConstants.{MAX_SCRIPT}
@@ -49,19 +51,28 @@ pub first_is_least : (lines : List Line) → Judges (fault_at lines) (first_faul
 first_is_least lines = judged_as (fault_behind [] lines) (fault_at lines) (first_fault [] lines) (nothing_before lines)
     (judged_behind lines [])
 
-refused_behind : (size : Option Size) (version : Line) (more : List Line) (fault : ScriptFault)
-    → option_or (option_map (at_line version.number) (cond (is_some size) None (Some BadVersion)))
-    (first_fault (version ∷ []) more) ≡ Some fault → meaning_behind version more size ≡ Err fault
-refused_behind None version more fault e = let same : at_line version.number BadVersion ≡ fault = cc in
+by_fault : (version : Version) (first : Line) (more : List Line) (fault : Option ScriptFault) (known : ScriptFault)
+    → fault ≡ Some known → fault_or_publications fault (first_unpublished version more) (publications version more)
+    ≡ Err known
+by_fault version first more fault known e =
+    ap (λ (first : Option ScriptFault). fault_or_publications first (first_unpublished version more)
+    (publications version more)) e
+
+refused_behind : (version : Option Version) (first : Line) (more : List Line) (fault : ScriptFault)
+    → option_or (option_map (at_line first.number) (cond (is_some version) None (Some BadVersion)))
+    (first_fault (first ∷ []) more) ≡ Some fault → meaning_behind first more version ≡ Err fault
+refused_behind None first more fault e = let same : at_line first.number BadVersion ≡ fault = cc in
     ap (λ (f : ScriptFault). Err f) same
-refused_behind (Some size) version more fault e =
-    ap (λ (first : Option ScriptFault). for_unit size
-    (fault_or_publications first (first_unpublished more) (publications more))) e
+refused_behind (Some (Sized size)) first more fault e =
+    ap (for_unit size) (by_fault (Sized size) first more (first_fault (first ∷ []) more) fault e)
+refused_behind (Some Headed) first more fault e =
+    ap (for_head (head_lines Headed more) (expected_from Headed 0 more))
+    (by_fault Headed first more (first_fault (first ∷ []) more) fault e)
 
 refused : (lines : List Line) (fault : ScriptFault) → first_fault [] lines ≡ Some fault
     → lines_meaning lines ≡ Err fault
 refused [] fault e = absurd cc
-refused (version ∷ more) fault e = refused_behind (size_named version.words) version more fault e
+refused (version ∷ more) fault e = refused_behind (version_named version.words) version more fault e
 
 pub least_is_answered : (text : List ℕ) (fault : ScriptFault) → length text ≤ MAX_SCRIPT
     → IsLeastFault (fault_at (significant_lines text)) fault → script_meaning text ≡ Err fault

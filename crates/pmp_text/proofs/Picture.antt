@@ -3,7 +3,6 @@ use Rattle.std.proofs.Common.{◌≡◌, ℕ, ◌+◌, ◌<◌, ◌≤◌, Bool,
 use Rattle.std.proofs.Common.{length, get_or, take, refl, sym, ap, ◌∙◌, append_assoc, arith}
 use Rattle.std.specs.List.{enumerate_from, flat_map}
 use Rattle.std.proofs.lemmas.List.{flat_map_more, get_or_default, length-take-le, take_more}
-use Rattle.pmp_core.specs.declared.entry.Entry.{Entry}
 use Rattle.pmp_core.specs.declared.mseccfg.MseccfgFields.{MseccfgFields}
 use Rattle.pmp_core.specs.declared.access.TheConstants.{ADDRESS_LIMIT}
 use Rattle.pmp_core.specs.Decision.{IsOwner}
@@ -52,7 +51,7 @@ pub bits_of_value : (bits : ℕ) (mseccfg : MseccfgFields) → bits ≡ mseccfg_
 bits_of_value bits mseccfg is = ap mseccfg_fields is ∙ by_bits mseccfg.mml mseccfg.mmwp mseccfg.rlb
 
 -- a run isn't empty, and ends in memory
-module _ (entries : List Entry) (runs : List Run) (are : AreRuns entries runs) (k : ℕ) (inside : k < length runs)
+module _ (file : RegisterFile) (runs : List Run) (are : AreRuns file runs) (k : ℕ) (inside : k < length runs)
     (none : Run) where
   same_run : run_at ADDRESS_LIMIT runs k ≡ get_or runs k none
   same_run = get_or_default runs k _ none inside
@@ -63,7 +62,7 @@ module _ (entries : List Entry) (runs : List Run) (are : AreRuns entries runs) (
   pub ends_in_memory : (get_or runs k none).last < ADDRESS_LIMIT
   ends_in_memory =
       let last : (run_at ADDRESS_LIMIT runs k).last < ADDRESS_LIMIT =
-      omega (arith, are.gapless k inside, start_most ADDRESS_LIMIT (IsOwner entries) runs are (k + 1)) in
+      omega (arith, are.gapless k inside, start_most ADDRESS_LIMIT (IsOwner file) runs are (k + 1)) in
       rw same_run at last
 
 pub bands_grow : (file : RegisterFile) (runs : List Run) (place : ℕ) (none : Run) → place < length runs

@@ -20,14 +20,19 @@ use Rattle.pmp_text.specs.declared.script.reader.TheConstants.{MAX_SCRIPT}
 use Rattle.pmp_text.specs.Lines.{words, lines}
 use Rattle.pmp_text.specs.Reports.{AreDecided, IsReport}
 use Rattle.pmp_text.specs.Scripts.{Line, at_line, counts, numbered_from, significant_from, significant_lines}
-use Rattle.pmp_text.specs.Scripts.{first_fault, first_unpublished, publications, fault_or_publications, size_named}
-use Rattle.pmp_text.specs.Scripts.{for_unit}
+use Rattle.pmp_text.specs.Scripts.{published_behind, version_named, for_unit}
 use Rattle.pmp_text.specs.Scripts.{meaning_behind, lines_meaning, script_meaning}
-use Rattle.pmp_text.specs.Steps.Progress.{nothing_read, resumed}
-use Rattle.pmp_text.specs.Versions.{is_version_one, lines_meaning_in_one, meaning_in_one}
+use Rattle.pmp_text.specs.Statements.{statement_of}
+use Rattle.pmp_text.specs.Steps.Progress.{Reading, Read, nothing_begun, after_statement, resumed, concluded}
+use Rattle.pmp_text.specs.declared.script.ScriptKind.{ScriptKind}
+use Rattle.pmp_text.specs.declared.script.statement.Statement.{Statement}
+use Rattle.pmp_text.specs.declared.script.version.Version.TheVariants.{Sized}
+use Rattle.pmp_core.specs.Hart.{profile_of}
+use Rattle.pmp_core.specs.RegisterFile.{reset_file}
+use Rattle.pmp_text.specs.Versions.{is_version_one, lines_meaning_in_one, meaning_in_one, in_sixteen}
 use Rattle.pmp_text.specs.Versions.{IsReportInOne, VersionOneLaw, IsSameInTwo, in_sixty_four, VersionTwoLaw}
-use Rattle.pmp_text.proofs.Bounds.{publications_in, published_in}
-use Rattle.pmp_text.proofs.Meanings.{long_script, with_size}
+use Rattle.pmp_text.specs.Versions.{HasNoHead, NoHeadLaw}
+use Rattle.pmp_text.proofs.Meanings.{by_lines, long_script, with_size}
 
 abbrev one_says : List (List ℕ)
 one_says = codes "pmp" ∷ codes "1" ∷ []
@@ -35,12 +40,12 @@ one_says = codes "pmp" ∷ codes "1" ∷ []
 abbrev two_says : List (List ℕ)
 two_says = codes "pmp" ∷ codes "2" ∷ []
 
-names_sixteen : size_named one_says ≡ Some Sixteen
-unfolding size_named
+names_sixteen : version_named one_says ≡ Some (Sized Sixteen)
+unfolding version_named
 names_sixteen = refl
 
-names_sixty_four : size_named two_says ≡ Some SixtyFour
-unfolding size_named
+names_sixty_four : version_named two_says ≡ Some (Sized SixtyFour)
+unfolding version_named
 names_sixty_four = refl
 
 names_one : is_version_one one_says ≡ true
@@ -50,13 +55,12 @@ names_one = refl
 -- ---- version 1
 
 abbrev read_lines : Line → List Line → Result Publications ScriptFault
-read_lines version more =
-    fault_or_publications (first_fault (version ∷ []) more) (first_unpublished more) (publications more)
+read_lines version more = published_behind version more (Sized Sixteen)
 
 lines_in_one : (version : Line) (more : List Line) → version.words ≡ one_says
     → lines_meaning (version ∷ more) ≡ for_unit Sixteen (lines_meaning_in_one (version ∷ more))
 lines_in_one version more says =
-    ap (meaning_behind version more) (ap size_named says ∙ names_sixteen)
+    ap (meaning_behind version more) (ap version_named says ∙ names_sixteen)
     ∙ ap (for_unit Sixteen) (sym (cond-true _ (read_lines version more) (Err (at_line version.number BadVersion))
     (ap is_version_one says ∙ names_one)))
 
@@ -73,10 +77,7 @@ unfolding script_meaning
 as_in_one text same = by_length (ltb MAX_SCRIPT (length text)) (significant_lines text) same
 
 module _ (batches : List (List Event)) (lines : List (List ℕ)) (trace text : List ℕ) where
-  abbrev in_sixteen : ScriptContents
-  in_sixteen = record { size = Sixteen; batches = batches; lines = lines }
-
-  reports_as_in_one : IsReport in_sixteen trace text → IsReportInOne batches trace text
+  reports_as_in_one : IsReport (in_sixteen batches lines) trace text → IsReportInOne batches trace text
   reports_as_in_one said = record {
     rows = said.rows;
     decisions = said.decisions;
@@ -85,7 +86,7 @@ module _ (batches : List (List Event)) (lines : List (List ℕ)) (trace text : L
     report = said.report;
   }
 
-  reports_in_sixteen : IsReportInOne batches trace text → IsReport in_sixteen trace text
+  reports_in_sixteen : IsReportInOne batches trace text → IsReport (in_sixteen batches lines) trace text
   reports_in_sixteen said = record {
     rows = said.rows;
     decisions = said.decisions;
@@ -160,6 +161,52 @@ short_script text script e =
       | inr short ↦ short
     ]
 
+-- what comes of a step and these lines behind it
+abbrev on : Size → List Line → Result Reading ScriptFault → Result Read ScriptFault
+on size more step = elim step [ Ok next ↦ resumed (Sized size) next more | Err fault ↦ Err fault ]
+
+-- reading goes on alike for both sizes
+goes_alike : (step : Result Reading ScriptFault) (more : List Line)
+    → ((so_far : Reading) → resumed (Sized Sixteen) so_far more ≡ resumed (Sized SixtyFour) so_far more)
+    → on Sixteen more step ≡ on SixtyFour more step
+goes_alike (Ok next) more alike = alike next
+goes_alike (Err fault) more alike = refl
+
+says_alike : (words : List (List ℕ)) → statement_of (Sized Sixteen) words ≡ statement_of (Sized SixtyFour) words
+unfolding statement_of
+says_alike [] = refl
+says_alike (word ∷ operands) = refl
+
+reads_alike : (lines : List Line) (so_far : Reading)
+    → resumed (Sized Sixteen) so_far lines ≡ resumed (Sized SixtyFour) so_far lines
+reads_alike [] so_far = refl
+reads_alike (line ∷ more) so_far =
+    ap (λ (says : Result Statement ScriptKind). on Sixteen more (after_statement so_far line.number says))
+    (says_alike line.words)
+    ∙ goes_alike (after_statement so_far line.number (statement_of (Sized SixtyFour) line.words)) more
+    (reads_alike more)
+
+-- what is read, as a script for a unit of this size
+abbrev of_size : Size → Read → ScriptContents
+of_size size all = record {
+  size = size;
+  start = reset_file (profile_of size);
+  batches = all.published.batches;
+  lines = all.published.lines;
+  expectations = all.expectations;
+}
+
+-- what was read of a script of version 1
+record WasRead (script : ScriptContents) (read : Result Read ScriptFault) : Type 0 where
+  all : Read
+  reads : read ≡ Ok all
+  is : of_size Sixteen all ≡ script
+
+was_read : (read : Result Read ScriptFault) (script : ScriptContents) → concluded (Sized Sixteen) read ≡ Ok script
+    → WasRead script read
+was_read (Ok all) script e = record { all = all; reads = refl; is = cc }
+was_read (Err fault) script e = absurd cc
+
 module _ (one two : List ℕ) (script : ScriptContents) (same : IsSameInTwo one two)
     (means : script_meaning one ≡ Ok script) where
   behind : StandsBehind 1 same.before same.after
@@ -168,28 +215,23 @@ module _ (one two : List ℕ) (script : ScriptContents) (same : IsSameInTwo one 
   short : length one ≤ MAX_SCRIPT
   short = short_script one script means
 
-  in_one : script_meaning one ≡ for_unit Sixteen (resumed nothing_read behind.more)
+  in_one : script_meaning one ≡ concluded (Sized Sixteen) (resumed (Sized Sixteen) nothing_begun behind.more)
   in_one = with_size one short (record { number = behind.at; words = one_says }) behind.more
       (lines_behind one (same.before ++ same.version ∷ same.after) same.lines_of_one
-      ∙ behind.stands same.version one_says same.says_one refl) Sixteen names_sixteen
+      ∙ behind.stands same.version one_says same.says_one refl) (Sized Sixteen) names_sixteen
 
-  in_two : script_meaning two ≡ for_unit SixtyFour (resumed nothing_read behind.more)
+  in_two : script_meaning two ≡ concluded (Sized SixtyFour) (resumed (Sized SixtyFour) nothing_begun behind.more)
   in_two = with_size two (let e = same.as_long in let s = short in omega arith)
       (record { number = behind.at; words = two_says }) behind.more
       (lines_behind two (same.before ++ same.other ∷ same.after) same.lines_of_two
-      ∙ behind.stands same.other two_says same.says_two refl) SixtyFour names_sixty_four
+      ∙ behind.stands same.other two_says same.says_two refl) (Sized SixtyFour) names_sixty_four
 
-  read : resumed nothing_read behind.more ≡ Ok (published_in script)
-  read = publications_in Sixteen (resumed nothing_read behind.more) script (sym in_one ∙ means)
+  read : WasRead script (resumed (Sized Sixteen) nothing_begun behind.more)
+  read = was_read (resumed (Sized Sixteen) nothing_begun behind.more) script (sym in_one ∙ means)
 
   same_batches : script_meaning two ≡ Ok (in_sixty_four script)
-  same_batches = in_two ∙ ap (for_unit SixtyFour) read
-
-  is_sixteen : script.size ≡ Sixteen
-  is_sixteen = let e : for_unit Sixteen (Ok (published_in script)) ≡ Ok script =
-      sym (ap (for_unit Sixteen) read) ∙ sym in_one ∙ means in
-      let same : record { size = Sixteen; batches = script.batches; lines = script.lines } ≡ script = cc in
-      sym (ap (λ (s : ScriptContents). s.size) same)
+  same_batches = in_two ∙ ap (concluded (Sized SixtyFour)) (sym (reads_alike behind.more nothing_begun) ∙ read.reads)
+      ∙ ap (λ (s : ScriptContents). Ok (in_sixty_four s)) read.is
 
 -- ---- version 2: rows are decided alike
 
@@ -203,13 +245,15 @@ fewer_events (batch ∷ batches) (suc done) all =
     list_all-append writes_sixteen batch (joined (take done batches))
     ∙ and_from _ _ both.0 (fewer_events batches done both.1)
 
-module _ (law : SizeLaw) (batches : List (List Event)) (lines : List (List ℕ))
-    (all : list_all writes_sixteen (joined batches) ≡ true) where
-  abbrev of_size : Size → ScriptContents
-  of_size size = record { size = size; batches = batches; lines = lines }
+module _ (law : SizeLaw) (read : Read) (all : list_all writes_sixteen (joined read.published.batches) ≡ true) where
+  abbrev sized : Size → ScriptContents
+  sized size = of_size size read
+
+  abbrev batches : List (List Event)
+  batches = read.published.batches
 
   decided_in_two : (rows : List Row) (decisions : List Decision)
-      → AreDecided (of_size Sixteen) rows decisions → AreDecided (of_size SixtyFour) rows decisions
+      → AreDecided (sized Sixteen) rows decisions → AreDecided (sized SixtyFour) rows decisions
   decided_in_two [] [] decided = tt
   decided_in_two [] (decision ∷ decisions) decided = absurd decided
   decided_in_two (row ∷ rows) [] decided = absurd decided
@@ -218,7 +262,7 @@ module _ (law : SizeLaw) (batches : List (List Event)) (lines : List (List ℕ))
       ((alike.by_bytes decision).0 decided.0, decided_in_two rows decisions decided.1)
 
   decided_in_one : (rows : List Row) (decisions : List Decision)
-      → AreDecided (of_size SixtyFour) rows decisions → AreDecided (of_size Sixteen) rows decisions
+      → AreDecided (sized SixtyFour) rows decisions → AreDecided (sized Sixteen) rows decisions
   decided_in_one [] [] decided = tt
   decided_in_one [] (decision ∷ decisions) decided = absurd decided
   decided_in_one (row ∷ rows) [] decided = absurd decided
@@ -227,7 +271,7 @@ module _ (law : SizeLaw) (batches : List (List Event)) (lines : List (List ℕ))
       ((alike.by_bytes decision).1 decided.0, decided_in_one rows decisions decided.1)
 
   reports_alike : (trace text : List ℕ)
-      → IsReport (of_size Sixteen) trace text ↔ IsReport (of_size SixtyFour) trace text
+      → IsReport (sized Sixteen) trace text ↔ IsReport (sized SixtyFour) trace text
   reports_alike trace text = (
     (λ said. record {
       rows = said.rows;
@@ -246,10 +290,40 @@ module _ (law : SizeLaw) (batches : List (List Event)) (lines : List (List ℕ))
   )
 
 pub version_two : SizeLaw → VersionTwoLaw
-version_two law one two script same means all = record {
-  meaning = same_batches one two script same means;
-  reports = λ trace text.
-      subst (λ (size : Size). IsReport (record script { size = size }) trace text
-      ↔ IsReport (in_sixty_four script) trace text) (sym (is_sixteen one two script same means))
-      (reports_alike law script.batches script.lines all trace text);
+version_two law one two script same means all =
+    let it = read one two script same means in
+    record {
+      meaning = same_batches one two script same means;
+      reports = λ trace text.
+          subst (λ (s : ScriptContents). IsReport s trace text ↔ IsReport (in_sixty_four s) trace text) it.is
+          (reports_alike law it.all
+          (ap (λ (s : ScriptContents). list_all writes_sixteen (joined s.batches)) it.is ∙ all) trace text);
+    }
+
+-- ---- versions without a head
+
+abbrev for_unit_of : Size → Publications → ScriptContents
+for_unit_of size all = record {
+  size = size;
+  start = reset_file (profile_of size);
+  batches = all.batches;
+  lines = all.lines;
+  expectations = [];
 }
+
+of_unit : (size : Size) (read : Result Publications ScriptFault) (script : ScriptContents)
+    → for_unit size read ≡ Ok script → HasNoHead size script
+of_unit size (Ok all) script e =
+    let is : for_unit_of size all ≡ script = cc in
+    record {
+      sized = sym (ap (λ (s : ScriptContents). s.size) is);
+      start = sym (ap (λ (s : ScriptContents). s.start) is);
+      nothing = sym (ap (λ (s : ScriptContents). s.expectations) is);
+    }
+of_unit size (Err fault) script e = absurd cc
+
+pub no_head : NoHeadLaw
+no_head text size script is means =
+    of_unit size (published_behind is.first is.more (Sized size)) script
+    (sym (by_lines text (short_script text script means) ∙ ap lines_meaning is.lines_are
+    ∙ ap (meaning_behind is.first is.more) is.says) ∙ means)

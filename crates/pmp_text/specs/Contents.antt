@@ -2,14 +2,19 @@
 use Rattle.std.specs.Prelude.{ℕ, List}
 use Rattle.pmp_core.specs.declared.event.Event.{Event}
 use Rattle.pmp_core.specs.declared.size.Size.{Size}
+use Rattle.pmp_core.specs.RegisterFile.{RegisterFile}
+use Rattle.pmp_text.specs.declared.expectation.Expectation.{Expectation}
 
 -- its publications, each a list of events, and for each of these the number of its line
 pub record Publications : Type 0 where
   pub batches : List (List Event)
   pub lines : List (List ℕ)
 
--- the size of the unit that it is for, its publications, and the lines of their events
+-- the size of the unit that it is for, the register file before the first event, its publications, the lines of their
+-- events, and what it expects of registers
 pub record ScriptContents : Type 0 where
   pub size : Size
+  pub start : RegisterFile
   pub batches : List (List Event)
   pub lines : List (List ℕ)
+  pub expectations : List Expectation

@@ -6,7 +6,7 @@ use Rattle.pmp_core.specs.declared.event.Event.{Event}
 use Rattle.pmp_core.specs.declared.event.Event.TheVariants.{Write, Reset}
 use Rattle.pmp_core.specs.declared.write_reasons.WriteReason.{WriteReason}
 use Rattle.pmp_core.specs.declared.write_reasons.WriteReason.TheVariants.{Absent, Bits, Frozen, Tor, Reserved, Lockdown}
-use Rattle.pmp_core.specs.declared.write_reasons.WriteReason.TheVariants.{Sticky, Bypass}
+use Rattle.pmp_core.specs.declared.write_reasons.WriteReason.TheVariants.{Sticky, Bypass, Grain}
 use Rattle.pmp_text.specs.declared.lines.hexadecimal.TheConstants.{VALUE_DIGITS}
 use Rattle.pmp_core.specs.RegisterFile.{RegisterFile}
 use Rattle.pmp_core.specs.RegisterValue.{register_value}
@@ -31,6 +31,7 @@ reason_text Reserved = codes "reserved"
 reason_text Lockdown = codes "lockdown"
 reason_text Sticky = codes "sticky"
 reason_text Bypass = codes "bypass"
+reason_text Grain = codes "grain"
 
 -- `0x` and sixteen digits
 abbrev pub value_text : ℕ → List ℕ

@@ -59,6 +59,6 @@ entry_row file i span since =
 -- a row for each entry, with what the list has for it
 pub record IsEntryText (file : RegisterFile) (since : List Since) (text : List ℕ) : Type 0 where
   pub span : ℕ → Option Span
-  pub spans : (i : ℕ) → i < length file.entries → IsSpan file.entries i (span i)
+  pub spans : (i : ℕ) → i < length file.entries → IsSpan file i (span i)
   pub rows : text ≡ flat_map (λ i. entry_row file i (span i) (slice_index_or since i no_since))
       (range_with_len 0 (length file.entries))

@@ -1,22 +1,26 @@
 -- What a log of events holds.
 use Rattle.std.specs.Prelude.{ℕ, List, [], ◌∷◌, ◌++◌, length}
 use Rattle.pmp_core.specs.declared.event.Event.{Event}
+use Rattle.pmp_text.specs.declared.expectation.Expectation.{Expectation}
 
--- events, the line of each, and how many are published with each publication and those before it
+-- events, the line of each, how many are published with each publication and those before it, and what is expected
 pub record Kept : Type 0 where
   pub events : List Event
   pub lines : List ℕ
   pub ends : List ℕ
+  pub expectations : List Expectation
 
 abbrev pub nothing_kept : Kept
-nothing_kept = record { events = []; lines = []; ends = [] }
+nothing_kept = record { events = []; lines = []; ends = []; expectations = [] }
 
 -- an event more
 abbrev pub with_event : Kept → (line : ℕ) → Event → Kept
-with_event kept line event =
-    record { events = kept.events ++ event ∷ []; lines = kept.lines ++ line ∷ []; ends = kept.ends }
+with_event kept line event = record kept { events = kept.events ++ event ∷ []; lines = kept.lines ++ line ∷ [] }
 
 -- a publication ends behind the last event
 abbrev pub with_end : Kept → Kept
-with_end kept =
-    record { events = kept.events; lines = kept.lines; ends = kept.ends ++ length kept.events ∷ [] }
+with_end kept = record kept { ends = kept.ends ++ length kept.events ∷ [] }
+
+-- an expectation more
+abbrev pub with_expectation : Kept → Expectation → Kept
+with_expectation kept expectation = record kept { expectations = kept.expectations ++ expectation ∷ [] }

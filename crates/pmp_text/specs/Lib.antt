@@ -5,9 +5,12 @@ pub mod Changes
 pub mod Contents
 pub mod Cutting
 pub mod Dumps
+pub mod GivenBack
 pub mod Effects
 pub mod EntryRows
 pub mod EventLogs
+pub mod Expected
+pub mod Heads
 pub mod Hexadecimal
 pub mod Inputs
 pub mod Lines

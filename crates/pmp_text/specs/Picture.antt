@@ -126,5 +126,5 @@ bands file runs = flat_map (λ (place, run). band file place run) (enumerate_fro
 -- the picture of the file's runs, of which there is one list
 pub record IsPicture (file : RegisterFile) (publications : ℕ) (text : List ℕ) : Type 0 where
   pub runs : List Run
-  pub runs_are : AreRuns file.entries runs
+  pub runs_are : AreRuns file runs
   pub drawn : text ≡ head file publications (length runs) ++ (bands file runs ++ foot)

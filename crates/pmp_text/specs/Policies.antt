@@ -163,6 +163,11 @@ policy_fields_fault publications row =
     if nat_lt publications row.from || nat_lt publications row.to then Some BadAfter
     else (if nat_le ADDRESS_LIMIT row.last then Some PastEnd else None)
 
+-- the same of fields that may end before they begin, of which the first fault is that they do
+abbrev pub proper_fields_fault : (publications : ℕ) → PolicyFields → Option TraceKind
+proper_fields_fault publications row =
+    if nat_lt row.to row.from || nat_lt row.last row.first then Some BadRow else policy_fields_fault publications row
+
 -- the fault of a row, of which the first is that it says nothing
 abbrev pub policy_row_fault : (publications : ℕ) → Option PolicyFields → Option TraceKind
 policy_row_fault publications None = Some BadRow

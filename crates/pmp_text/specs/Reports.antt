@@ -1,16 +1,17 @@
 -- The text of a report, and of each of its rows.
-use Rattle.std.specs.Prelude.{◌≡◌, ℕ, Bool, List, [], ◌∷◌, ◌++◌, length, map, take, Option, Some, None, Ok}
+use Rattle.std.specs.Prelude.{◌≡◌, ℕ, Bool, List, [], ◌∷◌, ◌++◌, fold, length, map, take, Option, Some, None, Ok}
 use Rattle.std.specs.Prelude.{if◌then◌else◌, codes, decimal}
 use Rattle.std.specs.List.{AllZip, zip, enumerate_from, flat_map}
 use Rattle.pmp_core.specs.declared.access.Access.{Access}
 use Rattle.pmp_core.specs.declared.decision.Cause.{Cause}
+use Rattle.pmp_core.specs.declared.event.Event.{Event}
 use Rattle.pmp_core.specs.declared.decision.Cause.TheVariants.{Rule, Split, NoMatch}
 use Rattle.pmp_core.specs.declared.decision.Decision.{Decision}
 use Rattle.pmp_core.specs.Decision.{IsDecision}
 use Rattle.pmp_core.specs.FaultCode.{fault_of}
-use Rattle.pmp_core.specs.Histories.{file_after}
+use Rattle.pmp_core.specs.Histories.{joined}
 use Rattle.pmp_core.specs.RegisterFile.{RegisterFile}
-use Rattle.pmp_core.specs.Size.{count_of}
+use Rattle.pmp_core.specs.RegisterWrite.{step}
 use Rattle.pmp_text.specs.declared.trace.Row.{Row}
 use Rattle.pmp_text.specs.Contents.{ScriptContents}
 use Rattle.pmp_text.specs.Traces.{row_fields, trace_meaning}
@@ -48,9 +49,13 @@ report_row number access decision =
 
 -- ---- a whole report
 
--- the register file after the first publications of a script, which is for a unit of its size
+-- the register file that these publications give, from the one before them on
+abbrev pub file_behind : (start : RegisterFile) → List (List Event) → RegisterFile
+file_behind start batches = fold step start (joined batches)
+
+-- the register file after the first publications of a script
 abbrev pub file_of_script : ScriptContents → (done : ℕ) → RegisterFile
-file_of_script script done = file_after (count_of script.size) (take done script.batches)
+file_of_script script done = file_behind script.start (take done script.batches)
 
 -- a decision for each row, each the manual's in the file after the publications that the row asks for (3.7.1.3)
 abbrev pub AreDecided : ScriptContents → List Row → List Decision → Type 0

@@ -35,5 +35,5 @@ run_line file run =
 -- a line for each of the file's runs, of which there is one list
 pub record IsMapText (file : RegisterFile) (text : List ℕ) : Type 0 where
   pub runs : List Run
-  pub runs_are : AreRuns file.entries runs
+  pub runs_are : AreRuns file runs
   pub lines : text ≡ flat_map (run_line file) runs

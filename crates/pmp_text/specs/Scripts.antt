@@ -1,18 +1,27 @@
--- What a script means: the size of its unit and its publications, or its fault.
+-- What a script means: where its unit begins, its publications and what it expects, or its fault.
 use Rattle.std.specs.Prelude.{ℕ, ◌+◌, List, [], ◌∷◌, length, map, filter, filter_map, find, Bool, true, false, not}
 use Rattle.std.specs.Prelude.{◌==◌, Option, Some, None, Result, Ok, Err, is_some, option_map, nat_lt, codes}
-use Rattle.std.specs.Prelude.{bytes_eq, slice_index, if◌then◌else◌}
-use Rattle.std.specs.List.{slice_split}
+use Rattle.std.specs.Prelude.{bytes_eq, slice_index, unwrap_or, if◌then◌else◌}
+use Rattle.std.specs.List.{list_any, slice_split}
 use Rattle.std.specs.Option.{option_or}
 use Rattle.pmp_core.specs.declared.event.Event.{Event}
 use Rattle.pmp_core.specs.declared.event.TheConstants.{BATCH_EVENTS}
 use Rattle.pmp_core.specs.declared.size.Size.{Size}
 use Rattle.pmp_core.specs.declared.size.Size.TheVariants.{Sixteen, SixtyFour}
+use Rattle.pmp_core.specs.Hart.{profile_of}
+use Rattle.pmp_core.specs.RegisterFile.{reset_file}
+use Rattle.pmp_text.specs.declared.expectation.Expectation.{Expectation}
 use Rattle.pmp_text.specs.declared.script.ScriptKind.{ScriptKind}
 use Rattle.pmp_text.specs.declared.script.ScriptKind.TheVariants.{BadVersion, BatchFull, Unpublished, TooLong}
+use Rattle.pmp_text.specs.declared.script.ScriptKind.TheVariants.{LateHead, Twice, NotHeld}
 use Rattle.pmp_text.specs.declared.script.ScriptFault.{ScriptFault}
 use Rattle.pmp_text.specs.declared.script.statement.Statement.{Statement}
 use Rattle.pmp_text.specs.declared.script.statement.Statement.TheVariants as statement
+use Rattle.pmp_text.specs.declared.script.statement.HeadStatement.{HeadStatement}
+use Rattle.pmp_text.specs.declared.script.head.HeadLine.{HeadLine}
+use Rattle.pmp_text.specs.declared.script.version.Version.{Version}
+use Rattle.pmp_text.specs.declared.script.version.Version.TheVariants.{Sized, Headed}
+use Rattle.pmp_text.specs.Heads.{first_not_held, is_same, own_fault, size_for, start_said}
 use Rattle.pmp_text.specs.Lines.{words, lines}
 use Rattle.pmp_text.specs.Statements.{statement_of}
 use Rattle.pmp_text.specs.Contents.{Publications, ScriptContents}
@@ -43,38 +52,81 @@ significant_lines text = significant_from 1 text
 
 -- ---- faults
 
--- the unit that a version is for: of 16 entries, or of 64
-abbrev pub size_of_version : List ℕ → Option Size
-size_of_version version =
-    if bytes_eq version (codes "1") then Some Sixteen
-    else (if bytes_eq version (codes "2") then Some SixtyFour else None)
+-- the version with this number
+abbrev pub version_numbered : List ℕ → Option Version
+version_numbered number =
+    if bytes_eq number (codes "1") then Some (Sized Sixteen)
+    else (if bytes_eq number (codes "2") then Some (Sized SixtyFour)
+    else (if bytes_eq number (codes "3") then Some Headed else None))
 
--- the first significant line has the words `pmp` and a version
-unfoldable pub size_named : List (List ℕ) → Option Size
-size_named (name ∷ version ∷ []) = if bytes_eq name (codes "pmp") then size_of_version version else None
-size_named _ = None
+-- the first significant line has the words `pmp` and the number of a version
+unfoldable pub version_named : List (List ℕ) → Option Version
+version_named (name ∷ number ∷ []) = if bytes_eq name (codes "pmp") then version_numbered number else None
+version_named _ = None
+
+-- the version that the farthest of these lines names
+abbrev pub version_above : List Line → Version
+version_above [] = Sized Sixteen
+version_above (line ∷ []) = unwrap_or (version_named line.words) (Sized Sixteen)
+version_above (line ∷ next ∷ before) = version_above (next ∷ before)
 
 -- one event line more, or none since a `publish`
 abbrev pub counted : Result Statement ScriptKind → ℕ → ℕ
 counted (Ok (statement.Event event)) count = count + 1
 counted (Ok statement.Publish) count = 0
+counted (Ok (statement.Head says)) count = count
+counted (Ok (statement.Expect register value)) count = count
 counted (Err kind) count = count
 
 -- how many event lines stand since the last `publish`, from the nearest line back
-abbrev pub open_events : List Line → ℕ
-open_events [] = 0
-open_events (line ∷ before) = counted (statement_of line.words) (open_events before)
+abbrev pub open_events : Version → List Line → ℕ
+open_events version [] = 0
+open_events version (line ∷ before) = counted (statement_of version line.words) (open_events version before)
+
+-- an event or a `publish` ends the head
+abbrev pub ends_head : Result Statement ScriptKind → Bool
+ends_head (Ok (statement.Event event)) = true
+ends_head (Ok statement.Publish) = true
+ends_head (Ok (statement.Head says)) = false
+ends_head (Ok (statement.Expect register value)) = false
+ends_head (Err kind) = false
+
+abbrev pub is_over : Version → List Line → Bool
+is_over version before = list_any (λ line. ends_head (statement_of version line.words)) before
+
+-- a line says the same of the hart, or sets the same register
+abbrev pub says_same : HeadStatement → Result Statement ScriptKind → Bool
+says_same says (Ok (statement.Event event)) = false
+says_same says (Ok statement.Publish) = false
+says_same says (Ok (statement.Head other)) = is_same says other
+says_same says (Ok (statement.Expect register value)) = false
+says_same says (Err kind) = false
+
+abbrev pub is_said : Version → List Line → HeadStatement → Bool
+is_said version before says = list_any (λ line. says_same says (statement_of version line.words)) before
+
+-- a line of the head is at fault where the head is over, or the same was said, or there is no such hart
+abbrev pub head_fault : (over said : Bool) → HeadStatement → Option ScriptKind
+head_fault over said says = if over then Some LateHead else (if said then Some Twice else own_fault says)
 
 -- a line that is no statement is at fault by itself, an event where as many are open before it as a batch holds
-abbrev pub statement_fault : (count : ℕ) → Result Statement ScriptKind → Option ScriptKind
-statement_fault count (Err kind) = Some kind
-statement_fault count (Ok statement.Publish) = None
-statement_fault count (Ok (statement.Event event)) = if nat_lt count BATCH_EVENTS then None else Some BatchFull
+abbrev pub statement_fault : (count : ℕ) → (over : Bool) → (said : HeadStatement → Bool) → Result Statement ScriptKind
+    → Option ScriptKind
+statement_fault count over said (Err kind) = Some kind
+statement_fault count over said (Ok statement.Publish) = None
+statement_fault count over said (Ok (statement.Event event)) = if nat_lt count BATCH_EVENTS then None else Some BatchFull
+statement_fault count over said (Ok (statement.Head says)) = head_fault over (said says) says
+statement_fault count over said (Ok (statement.Expect register value)) = None
+
+abbrev pub fault_behind : Version → (before : List Line) → Line → Option ScriptKind
+fault_behind version before line =
+    statement_fault (open_events version before) (is_over version before) (is_said version before)
+    (statement_of version line.words)
 
 -- the fault of a significant line, by its words and the significant lines before it, the nearest first
 abbrev pub line_fault : (before : List Line) → Line → Option ScriptKind
-line_fault [] line = if is_some (size_named line.words) then None else Some BadVersion
-line_fault (last ∷ before) line = statement_fault (open_events (last ∷ before)) (statement_of line.words)
+line_fault [] line = if is_some (version_named line.words) then None else Some BadVersion
+line_fault (last ∷ before) line = fault_behind (version_above (last ∷ before)) (last ∷ before) line
 
 -- the fault of a line with this number
 abbrev pub at_line : ℕ → ScriptKind → ScriptFault
@@ -92,22 +144,26 @@ first_fault before (line ∷ more) =
 abbrev pub event_in : Result Statement ScriptKind → Option Event
 event_in (Ok (statement.Event event)) = Some event
 event_in (Ok statement.Publish) = None
+event_in (Ok (statement.Head says)) = None
+event_in (Ok (statement.Expect register value)) = None
 event_in (Err kind) = None
 
-abbrev pub event_of : Line → Option Event
-event_of line = event_in (statement_of line.words)
+abbrev pub event_of : Version → Line → Option Event
+event_of version line = event_in (statement_of version line.words)
 
 -- the number of a line that adds one
-abbrev pub event_line_of : Line → Option ℕ
-event_line_of line = option_map (λ _. line.number) (event_of line)
+abbrev pub event_line_of : Version → Line → Option ℕ
+event_line_of version line = option_map (λ _. line.number) (event_of version line)
 
 abbrev pub publishes : Result Statement ScriptKind → Bool
 publishes (Ok (statement.Event event)) = false
 publishes (Ok statement.Publish) = true
+publishes (Ok (statement.Head says)) = false
+publishes (Ok (statement.Expect register value)) = false
 publishes (Err kind) = false
 
-abbrev pub is_publish : Line → Bool
-is_publish line = publishes (statement_of line.words)
+abbrev pub is_publish : Version → Line → Bool
+is_publish version line = publishes (statement_of version line.words)
 
 abbrev pub but_last : {X : Type 0} → List X → List X
 but_last [] = []
@@ -120,40 +176,102 @@ last_piece (piece ∷ []) = piece
 last_piece (piece ∷ next ∷ more) = last_piece (next ∷ more)
 
 -- the publications: the events of the pieces between `publish` lines, but of the last piece
-abbrev pub publications : List Line → Publications
-publications lines =
-    let pieces = but_last (slice_split is_publish lines) in
-    record { batches = map (filter_map event_of) pieces; lines = map (filter_map event_line_of) pieces }
+abbrev pub publications : Version → List Line → Publications
+publications version lines =
+    let pieces = but_last (slice_split (is_publish version) lines) in
+    record {
+      batches = map (filter_map (event_of version)) pieces;
+      lines = map (filter_map (event_line_of version)) pieces;
+    }
 
 -- the number of the first event line behind the last `publish`
-abbrev pub first_unpublished : List Line → Option ℕ
-first_unpublished lines =
+abbrev pub first_unpublished : Version → List Line → Option ℕ
+first_unpublished version lines =
     option_map (λ line. line.number)
-    (find (λ line. is_some (event_of line)) (last_piece (slice_split is_publish lines)))
+    (find (λ line. is_some (event_of version line)) (last_piece (slice_split (is_publish version) lines)))
+
+-- ---- the head and what is expected
+
+abbrev pub head_line_in : (number : ℕ) → Result Statement ScriptKind → Option HeadLine
+head_line_in number (Ok (statement.Event event)) = None
+head_line_in number (Ok statement.Publish) = None
+head_line_in number (Ok (statement.Head says)) = Some (record { line = number; statement = says })
+head_line_in number (Ok (statement.Expect register value)) = None
+head_line_in number (Err kind) = None
+
+-- the lines of the head
+abbrev pub head_lines : Version → List Line → List HeadLine
+head_lines version lines = filter_map (λ line. head_line_in line.number (statement_of version line.words)) lines
+
+-- what these lines expect, behind so many events
+abbrev pub expected_by : (events number : ℕ) → Result Statement ScriptKind → (later : ℕ → List Expectation)
+    → List Expectation
+expected_by events number (Ok (statement.Event event)) later = later (events + 1)
+expected_by events number (Ok statement.Publish) later = later events
+expected_by events number (Ok (statement.Head says)) later = later events
+expected_by events number (Ok (statement.Expect register value)) later =
+    record { register = register; value = value; line = number; events = events } ∷ later events
+expected_by events number (Err kind) later = later events
+
+abbrev pub expected_from : Version → (events : ℕ) → List Line → List Expectation
+expected_from version events [] = []
+expected_from version events (line ∷ more) =
+    expected_by events line.number (statement_of version line.words) (λ events. expected_from version events more)
 
 -- ---- the meaning
 
 -- the fault of a line comes first, then events that are never published
-abbrev pub fault_or_publications : Option ScriptFault → Option ℕ → Publications → Result Publications ScriptFault
+abbrev pub fault_or_publications : {X : Type 0} → Option ScriptFault → Option ℕ → X → Result X ScriptFault
 fault_or_publications (Some fault) unpublished published = Err fault
 fault_or_publications None (Some number) published = Err (at_line number Unpublished)
 fault_or_publications None None published = Ok published
 
--- these publications are for a unit of this size
+-- these publications are for the usual hart of this size, from its reset on
 abbrev pub for_unit : Size → Result Publications ScriptFault → Result ScriptContents ScriptFault
-for_unit size (Ok published) = Ok (record { size = size; batches = published.batches; lines = published.lines })
+for_unit size (Ok published) = Ok (record {
+  size = size;
+  start = reset_file (profile_of size);
+  batches = published.batches;
+  lines = published.lines;
+  expectations = [];
+})
 for_unit size (Err fault) = Err fault
 
--- what lines mean behind a line that names a size, or none
-abbrev pub meaning_behind : Line → List Line → Option Size → Result ScriptContents ScriptFault
-meaning_behind version more None = Err (at_line version.number BadVersion)
-meaning_behind version more (Some size) =
-    for_unit size (fault_or_publications (first_fault (version ∷ []) more) (first_unpublished more) (publications more))
+-- the first line of the head with a value that its register doesn't keep is at fault
+abbrev pub if_held : Option ℕ → ScriptContents → Result ScriptContents ScriptFault
+if_held (Some number) script = Err (at_line number NotHeld)
+if_held None script = Ok script
 
--- the first line is the version; publications stand behind it
+-- these publications are for the hart of a head, from the registers on that it sets
+abbrev pub for_head : List HeadLine → List Expectation → Result Publications ScriptFault
+    → Result ScriptContents ScriptFault
+for_head head expectations (Ok published) =
+    let start = start_said head in
+    if_held (first_not_held start head) (record {
+      size = size_for start;
+      start = start;
+      batches = published.batches;
+      lines = published.lines;
+      expectations = expectations;
+    })
+for_head head expectations (Err fault) = Err fault
+
+-- what lines publish behind the one that names their version
+abbrev pub published_behind : Line → List Line → Version → Result Publications ScriptFault
+published_behind first more version =
+    fault_or_publications (first_fault (first ∷ []) more) (first_unpublished version more) (publications version more)
+
+-- what lines mean behind a line that names a version, or none
+abbrev pub meaning_behind : Line → List Line → Option Version → Result ScriptContents ScriptFault
+meaning_behind first more None = Err (at_line first.number BadVersion)
+meaning_behind first more (Some (Sized size)) = for_unit size (published_behind first more (Sized size))
+meaning_behind first more (Some Headed) =
+    for_head (head_lines Headed more) (expected_from Headed 0 more) (published_behind first more Headed)
+
+-- the first line is the version; the head and publications stand behind it
 abbrev pub lines_meaning : List Line → Result ScriptContents ScriptFault
 lines_meaning [] = Err (at_line 1 BadVersion)
-lines_meaning (version ∷ more) = meaning_behind version more (size_named version.words)
+lines_meaning (version ∷ more) = meaning_behind version more (version_named version.words)
 
 -- what a text means; one of more bytes than the limit is too long, whatever it says
 unfoldable pub script_meaning : List ℕ → Result ScriptContents ScriptFault

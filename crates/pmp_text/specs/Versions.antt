@@ -1,24 +1,26 @@
 -- What the version of a script makes of it.
 use Rattle.std.specs.Prelude.{◌≡◌, ◌↔◌, ℕ, List, [], ◌∷◌, ◌++◌, All, length, map, take, Bool, true, false, ◌&&◌}
-use Rattle.std.specs.Prelude.{Result, Ok, Err, nat_lt, codes, bytes_eq, if◌then◌else◌}
+use Rattle.std.specs.Prelude.{Result, Ok, Err, Some, nat_lt, codes, bytes_eq, if◌then◌else◌}
 use Rattle.std.specs.List.{AllZip, list_all}
 use Rattle.pmp_core.specs.declared.decision.Decision.{Decision}
 use Rattle.pmp_core.specs.declared.event.Event.{Event}
-use Rattle.pmp_core.specs.declared.register_file.TheConstants.{ENTRIES}
+use Rattle.pmp_core.specs.declared.size.Size.{Size}
 use Rattle.pmp_core.specs.declared.size.Size.TheVariants.{Sixteen, SixtyFour}
 use Rattle.pmp_core.specs.Decision.{IsDecision}
+use Rattle.pmp_core.specs.Hart.{profile_of}
 use Rattle.pmp_core.specs.Histories.{joined, file_after}
+use Rattle.pmp_core.specs.RegisterFile.{IsLegal, reset_file}
 use Rattle.pmp_core.specs.SizeLaw.{writes_sixteen}
 use Rattle.pmp_text.specs.declared.script.ScriptFault.{ScriptFault}
 use Rattle.pmp_text.specs.declared.script.ScriptKind.TheVariants.{BadVersion, TooLong}
+use Rattle.pmp_text.specs.declared.script.version.Version.TheVariants.{Sized}
 use Rattle.pmp_text.specs.declared.trace.Row.{Row}
 use Rattle.pmp_text.specs.Contents.{Publications, ScriptContents}
 use Rattle.pmp_text.specs.declared.script.reader.TheConstants.{MAX_SCRIPT}
 use Rattle.pmp_text.specs.Lines.{words, lines}
 use Rattle.pmp_text.specs.Reports.{IsReport, file_of_script, report_text}
-use Rattle.pmp_text.specs.Scripts.{Line, at_line, counts, significant_lines, first_fault, first_unpublished}
-use Rattle.pmp_text.specs.Scripts.{publications}
-use Rattle.pmp_text.specs.Scripts.{fault_or_publications, for_unit, script_meaning}
+use Rattle.pmp_text.specs.Scripts.{Line, at_line, counts, significant_lines, published_behind, for_unit}
+use Rattle.pmp_text.specs.Scripts.{script_meaning, version_named}
 use Rattle.pmp_text.specs.Traces.{row_fields, trace_meaning}
 
 -- ---- version 1
@@ -33,7 +35,7 @@ abbrev pub lines_meaning_in_one : List Line → Result Publications ScriptFault
 lines_meaning_in_one [] = Err (at_line 1 BadVersion)
 lines_meaning_in_one (version ∷ more) =
     if is_version_one version.words
-    then fault_or_publications (first_fault (version ∷ []) more) (first_unpublished more) (publications more)
+    then published_behind version more (Sized Sixteen)
     else Err (at_line version.number BadVersion)
 
 -- what a text means where version 1 is the only one
@@ -55,19 +57,29 @@ pub record IsReportInOne (batches : List (List Event)) (trace text : List ℕ) :
   pub rows : List Row
   pub decisions : List Decision
   pub trace_means : trace_meaning (length batches) trace ≡ Ok (map row_fields rows)
-  pub decided : AllZip (λ row decision. IsDecision (file_after ENTRIES (take row.after batches)) row.access decision)
+  pub decided : AllZip (λ row decision. IsDecision (file_after (profile_of Sixteen) (take row.after batches)) row.access decision)
       rows decisions
   pub report : text ≡ report_text rows decisions
+
+-- these publications are done in a unit of sixteen entries, from its reset on, and nothing is expected
+abbrev pub in_sixteen : (batches : List (List Event)) → (lines : List (List ℕ)) → ScriptContents
+in_sixteen batches lines = record {
+  size = Sixteen;
+  start = reset_file (profile_of Sixteen);
+  batches = batches;
+  lines = lines;
+  expectations = [];
+}
 
 -- it has the fault or the publications that it has where that version is the only one, these are done in a unit of
 -- sixteen entries, and every trace has the report that it has there
 pub record MeansAsInOne (text : List ℕ) : Type 0 where
   pub meaning : script_meaning text ≡ for_unit Sixteen (meaning_in_one text)
   pub files : (batches : List (List Event)) (lines : List (List ℕ)) (done : ℕ)
-      → file_of_script (record { size = Sixteen; batches = batches; lines = lines }) done
-      ≡ file_after ENTRIES (take done batches)
+      → file_of_script (in_sixteen batches lines) done
+      ≡ file_after (profile_of Sixteen) (take done batches)
   pub reports : (batches : List (List Event)) (lines : List (List ℕ)) (trace text : List ℕ)
-      → IsReport (record { size = Sixteen; batches = batches; lines = lines }) trace text
+      → IsReport (in_sixteen batches lines) trace text
       ↔ IsReportInOne batches trace text
 
 abbrev pub VersionOneLaw : Type 0
@@ -88,9 +100,9 @@ pub record IsSameInTwo (one two : List ℕ) : Type 0 where
   pub says_two : words other ≡ codes "pmp" ∷ codes "2" ∷ []
   pub as_long : length two ≡ length one
 
--- the same publications, in a unit of sixty-four entries
+-- the same publications, in a unit of sixty-four entries, from its reset on
 abbrev pub in_sixty_four : ScriptContents → ScriptContents
-in_sixty_four script = record script { size = SixtyFour }
+in_sixty_four script = record script { size = SixtyFour; start = reset_file (profile_of SixtyFour) }
 
 -- the same publications, and the same report for every trace
 pub record ReportsAlike (two : List ℕ) (script : ScriptContents) : Type 0 where
@@ -101,3 +113,28 @@ pub record ReportsAlike (two : List ℕ) (script : ScriptContents) : Type 0 wher
 abbrev pub VersionTwoLaw : Type 0
 VersionTwoLaw = (one two : List ℕ) (script : ScriptContents) → IsSameInTwo one two → script_meaning one ≡ Ok script
     → list_all writes_sixteen (joined script.batches) ≡ true → ReportsAlike two script
+
+-- ---- versions without a head
+
+-- the first significant line of the text has the words `pmp` and the number of a version for a unit of this size
+pub record IsSized (text : List ℕ) (size : Size) : Type 0 where
+  pub first : Line
+  pub more : List Line
+  pub lines_are : significant_lines text ≡ first ∷ more
+  pub says : version_named first.words ≡ Some (Sized size)
+
+-- a script of version 1 or 2 is for the unit of its size, from its reset on, and expects nothing
+pub record HasNoHead (size : Size) (script : ScriptContents) : Type 0 where
+  pub sized : script.size ≡ size
+  pub start : script.start ≡ reset_file (profile_of size)
+  pub nothing : script.expectations ≡ []
+
+abbrev pub NoHeadLaw : Type 0
+NoHeadLaw = (text : List ℕ) (size : Size) (script : ScriptContents) → IsSized text size
+    → script_meaning text ≡ Ok script → HasNoHead size script
+
+-- ---- where units begin
+
+-- a script's unit begins with a register file that its hart can have
+abbrev pub LegalStartLaw : Type 0
+LegalStartLaw = (text : List ℕ) (script : ScriptContents) → script_meaning text ≡ Ok script → IsLegal script.start

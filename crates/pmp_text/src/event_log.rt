@@ -1,18 +1,19 @@
 //! Where the events of a script are kept.
 
 ghost use Rattle.std.specs.Prelude.{◌≡◌, ◌++◌, ◌∷◌, [], OnErr, OnOk, length};
-ghost use Rattle.pmp_text.specs.EventLogs.{Kept, nothing_kept, with_end, with_event};
+ghost use Rattle.pmp_text.specs.EventLogs.{Kept, nothing_kept, with_end, with_event, with_expectation};
 
 mod fixed;
 mod growing;
 
+use crate::expectation::Expectation;
 pub use fixed::FixedLog;
 pub use growing::GrowingLog;
 use pmp_core::Event;
 use std::alloc::AllocError;
 
-/// What a script's events are kept in while it is read, and from then on: vectors that grow, or arrays that may be full.
-/// The events of each publication stand behind those of the ones before it.
+/// What a script's events are kept in while it is read, and from then on: vectors that grow, or arrays that may be
+/// full. The events of each publication stand behind those of the ones before it.
 pub trait EventLog {
     ghost kept: { Self → Kept };
 
@@ -30,6 +31,11 @@ pub trait EventLog {
         ensures ok { OnOk result (kept self.new ≡ with_end (kept self.old)) }
         ensures err { OnErr result (kept self.new ≡ kept self.old) };
 
+    /// Appends what is expected of a register, or nothing.
+    fn expect(&mut self, expectation: Expectation) -> Result<(), AllocError>
+        ensures ok { OnOk result (kept self.new ≡ with_expectation (kept self.old) expectation) }
+        ensures err { OnErr result (kept self.new ≡ kept self.old) };
+
     /// All events.
     fn events(&self) -> &[Event]
         ensures { result.now ≡ (kept self.now).events };
@@ -41,4 +47,8 @@ pub trait EventLog {
     /// How many events are published with each publication and those before it.
     fn ends(&self) -> &[usize]
         ensures { result.now ≡ (kept self.now).ends };
+
+    /// What is expected of registers.
+    fn expectations(&self) -> &[Expectation]
+        ensures { result.now ≡ (kept self.now).expectations };
 }

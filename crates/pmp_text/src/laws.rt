@@ -5,7 +5,7 @@ ghost use Rattle.pmp_text.specs.Names.{NamesReadBackLaw};
 ghost use Rattle.pmp_text.specs.PolicyFaults.{FirstPolicyFaultLaw, LeastPolicyFaultLaw};
 ghost use Rattle.pmp_text.specs.Sizes.{EventLinesLaw, ScriptSizeLaw};
 ghost use Rattle.pmp_text.specs.TraceFaults.{FirstRowFaultLaw, LeastRowFaultLaw, RowOrderLaw};
-ghost use Rattle.pmp_text.specs.Versions.{VersionOneLaw, VersionTwoLaw};
+ghost use Rattle.pmp_text.specs.Versions.{LegalStartLaw, NoHeadLaw, VersionOneLaw, VersionTwoLaw};
 
 use pmp_core::laws::law_sizes;
 
@@ -62,3 +62,13 @@ pub fn law_version_two()
 {
     law_sizes();
 }
+
+/// A script of version 1 or 2 begins with the reset of the unit of its size, and expects nothing.
+pub fn law_no_head()
+    ensures { NoHeadLaw }
+{}
+
+/// A script's unit begins with a register file that its hart can have.
+pub fn law_legal_start()
+    ensures { LegalStartLaw }
+{}

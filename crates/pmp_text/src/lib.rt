@@ -5,6 +5,7 @@
 mod access_words;
 mod cutter;
 mod event_log;
+mod expectation;
 mod input;
 pub mod laws;
 mod lines;
@@ -19,14 +20,16 @@ mod trace;
 pub use access_words::{read_kind, read_mode};
 pub use cutter::{Cut, cut_piece};
 pub use event_log::{EventLog, FixedLog, GrowingLog};
+pub use expectation::Expectation;
 pub use input::{InputFault, MAX_LIMIT, read_bytes, read_script_bytes, read_trace_bytes};
 pub use lines::{
-    Breach, Change, EventPlace, NoMemory, Only, Since, write_changes, write_effect, write_entries,
-    write_picture, write_registers, write_row, write_runs, write_verdict,
+    Breach, Change, EventPlace, NoMemory, Only, Since, write_change, write_effect, write_entries,
+    write_expected, write_picture, write_registers, write_row, write_runs, write_script,
+    write_verdict,
 };
 pub use numbers::read_word_number;
 pub use output::{OutputFault, write_out};
-pub use policy::{Demand, Kinds, Modes, PolicyRow, read_policy};
+pub use policy::{Demand, Kinds, Modes, PolicyFields, PolicyRow, read_policy};
 pub use script::{MAX_SCRIPT, Script, ScriptFault, ScriptKind, read_script};
 pub use sink::Sink;
 pub use trace::{MAX_TRACE, Piece, Place, Row, TraceFault, TraceKind, read_piece, read_trace};

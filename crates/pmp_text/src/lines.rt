@@ -5,22 +5,26 @@ ghost use Rattle.std.specs.Prelude.{◌≡◌, ◌++◌, IfOk, IfSome, OnErr, On
 mod changes;
 mod effects;
 mod entries;
+mod expected;
 mod hexadecimal;
 mod marks;
 mod picture;
 mod registers;
 mod report;
 mod runs;
+mod script;
 mod since;
 mod verdict;
 
-pub use changes::{Change, Only, write_changes};
+pub use changes::{Change, Only, write_change};
 pub use effects::{EventPlace, write_effect};
 pub use entries::write_entries;
+pub use expected::write_expected;
 pub use picture::write_picture;
 pub use registers::write_registers;
 pub use report::write_row;
 pub use runs::write_runs;
+pub use script::write_script;
 pub use since::Since;
 pub use verdict::{Breach, write_verdict};
 /// There is no room for more of a text, as the calls say that append texts.

@@ -7,8 +7,10 @@ mod reader;
 mod row_fields;
 mod words;
 
+use crate::trace::TraceKind;
 use pmp_core::{Kind, Mode};
 pub use reader::read_policy;
+pub use row_fields::PolicyFields;
 
 /// What is demanded of the bytes that a row speaks of. A byte is open to a mode and a kind where the access of that one
 /// byte is allowed.
@@ -88,4 +90,24 @@ pub struct PolicyRow {
     pub ghost forward: { from ≤ to },
     pub ghost ordered: { first ≤ last },
     pub ghost inside: { last < ADDRESS_LIMIT },
+}
+
+impl PolicyRow {
+    ghost use Rattle.std.specs.Prelude.{IfErr, IfOk, None, Some};
+    ghost use Rattle.pmp_text.specs.Policies.{policy_fields, proper_fields_fault};
+
+    /// The row that these fields say beside a script with so many publications. `BadRow` where `to` or `last` lies
+    /// before its beginning, then `BadAfter` where there are fewer publications, then `PastEnd` where `last` is no
+    /// byte.
+    pub fn new(publications: u64, fields: PolicyFields) -> Result<PolicyRow, TraceKind>
+        ensures ok { IfOk result (λ row.
+            (proper_fields_fault publications fields ≡ None) × (policy_fields row ≡ fields)) }
+        ensures within { IfOk result (λ row. row.to ≤ publications) }
+        ensures err { IfErr result (λ kind. proper_fields_fault publications fields ≡ Some kind) }
+    {
+        if fields.to < fields.from || fields.last < fields.first {
+            return Err(TraceKind::BadRow);
+        }
+        fields.check(publications)
+    }
 }

@@ -5,18 +5,25 @@ ghost use Rattle.std.specs.Prelude.{slice_index_or};
 ghost use Rattle.pmp_core.specs.declared.event.TheConstants.{BATCH_EVENTS};
 ghost use Rattle.pmp_core.specs.Histories.{joined};
 ghost use Rattle.pmp_text.specs.Contents.{ScriptContents};
+ghost use Rattle.pmp_text.specs.Heads.{size_for};
 ghost use Rattle.pmp_text.specs.Steps.Cuts.{AreCut, AreEnds, cut_from, last_end};
 ghost use Rattle.pmp_text.specs.declared.script.ScriptKind.TheVariants.{Memory};
 
+mod hart_field;
+mod head;
 mod lines;
 mod progress;
 mod reader;
+mod reading;
 mod significant;
+mod start;
 mod statement;
+mod version;
 mod words;
 
 use crate::event_log::EventLog;
-use pmp_core::{BATCH_EVENTS, Event, Size};
+use crate::expectation::Expectation;
+use pmp_core::{BATCH_EVENTS, ENTRIES, Event, RegFile, Size};
 pub use reader::{MAX_SCRIPT, read_script};
 use std::alloc::AllocError;
 use std::marker::Model;
@@ -24,7 +31,7 @@ use std::marker::Model;
 /// What is wrong with a script.
 #[derive(Clone, Copy, Debug, PartialEq, Eq)]
 pub enum ScriptKind {
-    /// The first significant line is neither `pmp 1` nor `pmp 2`, or there is none.
+    /// The first significant line is none of `pmp 1`, `pmp 2` and `pmp 3`, or there is none.
     BadVersion,
     /// A later line is no statement.
     BadLine,
@@ -42,6 +49,18 @@ pub enum ScriptKind {
     TooLong,
     /// The log had no room for more.
     Memory,
+    /// A `hart` or `set` line stands behind the first `write`, `reset` or `publish`.
+    LateHead,
+    /// The same is said of the hart twice, or the same register is set twice.
+    Twice,
+    /// A number of entries that no hart has.
+    BadEntries,
+    /// A number of address bits that no hart has.
+    BadBits,
+    /// A grain that no hart has.
+    BadGrain,
+    /// A register doesn't keep the value that it is set to.
+    NotHeld,
 }
 
 /// What is wrong with a script, and where.
@@ -69,16 +88,19 @@ impl From<AllocError> for ScriptFault {
     }
 }
 
-/// The size of the unit that a script is for, and its publications, in their order, which a log keeps. Each is a batch
-/// of at most [`BATCH_EVENTS`] events, perhaps empty.
+/// Where the unit of a script begins, and its publications, in their order, which a log keeps with what is expected.
+/// Each publication is a batch of at most [`BATCH_EVENTS`] events, perhaps empty.
 #[derive(Drop)]
 pub struct Script<'a> {
     size: Size,
+    /// The register file before the first event.
+    start: RegFile,
     events: &'a [Event],
     /// The line of each event.
     lines: &'a [u64],
     /// How many events are published with each publication and those before it.
     ends: &'a [usize],
+    expectations: &'a [Expectation],
 }
 
 impl<'a> Model for Script<'a> {
@@ -86,11 +108,24 @@ impl<'a> Model for Script<'a> {
 
     ghost view = { λ script. record {
       size = script.size;
+      start = script.start;
       batches = cut_from 0 script.ends.now script.events.now;
       lines = cut_from 0 script.ends.now script.lines.now;
+      expectations = script.expectations.now;
     } };
 
     ghost invariant = { λ script. AreCut script.ends.now (length script.events.now) (length script.lines.now) };
+}
+
+/// The size that has room for a register file's entries.
+fn shown_size(file: &RegFile) -> Size
+    ensures { result ≡ size_for file.now }
+{
+    if usize::from(file.hart().entries()) > ENTRIES {
+        Size::SixtyFour
+    } else {
+        Size::Sixteen
+    }
 }
 
 /// How many events the first so many publications have.
@@ -119,27 +154,46 @@ fn bounds_of(ends: &[usize], index: usize) -> (usize, usize)
 
 impl<'a> Script<'a> {
     /// The script that a log keeps, all of whose events are published.
-    pub(crate) fn new<L: EventLog>(size: Size, log: &'a L) -> Script<'a>
+    pub(crate) fn new<L: EventLog>(size: Size, start: RegFile, log: &'a L) -> Script<'a>
         requires { let kept = L.kept log.now in AreCut kept.ends (length kept.events) (length kept.lines) }
         ensures { let kept = L.kept log.now in result ≡ record {
           size = size;
+          start = start;
           batches = cut_from 0 kept.ends kept.events;
           lines = cut_from 0 kept.ends kept.lines;
+          expectations = kept.expectations;
         } }
     {
         Script {
             size,
+            start,
             events: log.events(),
             lines: log.lines(),
             ends: log.ends(),
+            expectations: log.expectations(),
         }
     }
 
-    /// The size of the unit that the script is for.
+    /// The size of the unit that the script is for; of a hart with another number of entries the one that has room for
+    /// them.
     pub fn size(&self) -> Size
         ensures { result ≡ self.now.size }
     {
         self.size
+    }
+
+    /// The register file before the first event.
+    pub fn start(&self) -> RegFile
+        ensures { result ≡ self.now.start }
+    {
+        self.start
+    }
+
+    /// What is expected of registers, in the order of lines.
+    pub fn expectations(&self) -> &[Expectation]
+        ensures { result.now ≡ self.now.expectations }
+    {
+        self.expectations
     }
 
     /// How many publications there are.

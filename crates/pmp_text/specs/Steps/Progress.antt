@@ -1,16 +1,26 @@
 -- Reading a script line by line, behind its first significant line.
 use Rattle.std.specs.Prelude.{ℕ, List, [], ◌∷◌, ◌++◌, length, Option, Some, None, Result, Ok, Err, nat_lt, unwrap_or}
-use Rattle.std.specs.Prelude.{if◌then◌else◌}
+use Rattle.std.specs.Prelude.{◌+◌, Bool, true, false, if◌then◌else◌}
+use Rattle.std.specs.List.{list_any}
+use Rattle.pmp_core.specs.declared.csr.Csr.{Csr}
+use Rattle.pmp_core.specs.Hart.{profile_of}
+use Rattle.pmp_core.specs.RegisterFile.{RegisterFile, reset_file}
 use Rattle.pmp_core.specs.declared.event.Event.{Event}
 use Rattle.pmp_core.specs.declared.event.TheConstants.{BATCH_EVENTS}
 use Rattle.pmp_text.specs.declared.script.ScriptKind.{ScriptKind}
-use Rattle.pmp_text.specs.declared.script.ScriptKind.TheVariants.{BatchFull, Unpublished}
+use Rattle.pmp_text.specs.declared.script.ScriptKind.TheVariants.{BatchFull, NotHeld, Unpublished}
 use Rattle.pmp_text.specs.declared.script.ScriptFault.{ScriptFault}
 use Rattle.pmp_text.specs.declared.script.statement.Statement.{Statement}
 use Rattle.pmp_text.specs.declared.script.statement.Statement.TheVariants as statement
-use Rattle.pmp_text.specs.Contents.{Publications}
+use Rattle.pmp_text.specs.declared.script.statement.HeadStatement.{HeadStatement}
+use Rattle.pmp_text.specs.declared.script.head.HeadLine.{HeadLine}
+use Rattle.pmp_text.specs.declared.script.version.Version.{Version}
+use Rattle.pmp_text.specs.declared.script.version.Version.TheVariants.{Sized, Headed}
+use Rattle.pmp_text.specs.declared.expectation.Expectation.{Expectation}
+use Rattle.pmp_text.specs.Contents.{Publications, ScriptContents}
+use Rattle.pmp_text.specs.Heads.{first_not_held, is_same, start_said}
 use Rattle.pmp_text.specs.Statements.{statement_of}
-use Rattle.pmp_text.specs.Scripts.{Line, at_line}
+use Rattle.pmp_text.specs.Scripts.{Line, at_line, for_head, head_fault}
 
 -- the publications so far, the events of the open batch and their lines, and the line of the first of them
 pub record Progress : Type 0 where
@@ -49,24 +59,137 @@ with_event so_far number event =
     if nat_lt (length so_far.batch) BATCH_EVENTS then Ok (longer so_far number event)
     else Err (at_line number BatchFull)
 
+-- ---- the head
+
+-- the lines of the head so far, and whether an event or a `publish` came
+pub record HeadSoFar : Type 0 where
+  pub lines : List HeadLine
+  pub is_over : Bool
+
+abbrev pub no_head : HeadSoFar
+no_head = record { lines = []; is_over = false }
+
+abbrev pub over : HeadSoFar → HeadSoFar
+over head = record { lines = head.lines; is_over = true }
+
+abbrev pub says_in : List HeadLine → HeadStatement → Bool
+says_in lines says = list_any (λ line. is_same says line.statement) lines
+
+abbrev pub longer_head : HeadSoFar → ℕ → HeadStatement → HeadSoFar
+longer_head head number says =
+    record { lines = head.lines ++ record { line = number; statement = says } ∷ []; is_over = head.is_over }
+
+abbrev pub unless : {X : Type 0} → (number : ℕ) → Option ScriptKind → X → Result X ScriptFault
+unless number (Some kind) x = Err (at_line number kind)
+unless number None x = Ok x
+
+abbrev pub after_head : HeadSoFar → ℕ → HeadStatement → Result HeadSoFar ScriptFault
+after_head head number says =
+    unless number (head_fault head.is_over (says_in head.lines says) says) (longer_head head number says)
+
+-- ---- all
+
+-- what was read, and how many events that is
+pub record Reading : Type 0 where
+  pub progress : Progress
+  pub head : HeadSoFar
+  pub expectations : List Expectation
+  pub events : ℕ
+
+-- what is read in the end
+pub record Read : Type 0 where
+  pub published : Publications
+  pub head : List HeadLine
+  pub expectations : List Expectation
+
+abbrev pub nothing_begun : Reading
+nothing_begun = record { progress = nothing_read; head = no_head; expectations = []; events = 0 }
+
+abbrev pub with_publish : Reading → Reading
+with_publish so_far = record {
+  progress = published so_far.progress;
+  head = over so_far.head;
+  expectations = so_far.expectations;
+  events = so_far.events;
+}
+
+abbrev pub with_progress : Reading → Result Progress ScriptFault → Result Reading ScriptFault
+with_progress so_far (Ok progress) = Ok (record {
+  progress = progress;
+  head = over so_far.head;
+  expectations = so_far.expectations;
+  events = so_far.events + 1;
+})
+with_progress so_far (Err fault) = Err fault
+
+abbrev pub with_head : Reading → Result HeadSoFar ScriptFault → Result Reading ScriptFault
+with_head so_far (Ok head) = Ok (record {
+  progress = so_far.progress;
+  head = head;
+  expectations = so_far.expectations;
+  events = so_far.events;
+})
+with_head so_far (Err fault) = Err fault
+
+abbrev pub with_expected : Reading → ℕ → Csr → ℕ → Reading
+with_expected so_far number register value = record {
+  progress = so_far.progress;
+  head = so_far.head;
+  expectations = so_far.expectations
+      ++ record { register = register; value = value; line = number; events = so_far.events } ∷ [];
+  events = so_far.events;
+}
+
 -- what reading a line with this number makes of it, by what the line says
-abbrev pub after_statement : Progress → ℕ → Result Statement ScriptKind → Result Progress ScriptFault
+abbrev pub after_statement : Reading → ℕ → Result Statement ScriptKind → Result Reading ScriptFault
 after_statement so_far number (Err kind) = Err (at_line number kind)
-after_statement so_far number (Ok statement.Publish) = Ok (published so_far)
-after_statement so_far number (Ok (statement.Event event)) = with_event so_far number event
+after_statement so_far number (Ok statement.Publish) = Ok (with_publish so_far)
+after_statement so_far number (Ok (statement.Event event)) =
+    with_progress so_far (with_event so_far.progress number event)
+after_statement so_far number (Ok (statement.Head says)) = with_head so_far (after_head so_far.head number says)
+after_statement so_far number (Ok (statement.Expect register value)) =
+    Ok (with_expected so_far number register value)
 
-abbrev pub after_line : Progress → Line → Result Progress ScriptFault
-after_line so_far line = after_statement so_far line.number (statement_of line.words)
+abbrev pub after_line : Version → Reading → Line → Result Reading ScriptFault
+after_line version so_far line = after_statement so_far line.number (statement_of version line.words)
 
--- what was published, where the text ends; an event line that no `publish` follows is at fault, the first of them
-abbrev pub all_published : Option ℕ → Publications → Result Publications ScriptFault
-all_published None published = Ok published
-all_published (Some number) published = Err (at_line number Unpublished)
+-- what was read, where the text ends; an event line that no `publish` follows is at fault, the first of them
+abbrev pub all_published : Option ℕ → Read → Result Read ScriptFault
+all_published None read = Ok read
+all_published (Some number) read = Err (at_line number Unpublished)
 
-abbrev pub finished : Progress → Result Publications ScriptFault
-finished so_far = all_published so_far.since so_far.published
+abbrev pub read_in : Reading → Read
+read_in so_far = record {
+  published = so_far.progress.published;
+  head = so_far.head.lines;
+  expectations = so_far.expectations;
+}
+
+abbrev pub finished : Reading → Result Read ScriptFault
+finished so_far = all_published so_far.progress.since (read_in so_far)
 
 -- what comes of reading these lines next, to the end
-abbrev pub resumed : Progress → List Line → Result Publications ScriptFault
-resumed so_far [] = finished so_far
-resumed so_far (line ∷ more) = elim (after_line so_far line) [ Ok next ↦ resumed next more | Err fault ↦ Err fault ]
+abbrev pub resumed : Version → Reading → List Line → Result Read ScriptFault
+resumed version so_far [] = finished so_far
+resumed version so_far (line ∷ more) =
+    elim (after_line version so_far line) [ Ok next ↦ resumed version next more | Err fault ↦ Err fault ]
+
+-- the file that the lines of a head say, where registers keep the values that they are set to
+abbrev pub if_kept : Option ℕ → RegisterFile → Result RegisterFile ScriptFault
+if_kept (Some number) file = Err (at_line number NotHeld)
+if_kept None file = Ok file
+
+abbrev pub started : List HeadLine → Result RegisterFile ScriptFault
+started lines = let file = start_said lines in if_kept (first_not_held file lines) file
+
+-- what a script means of which this was read
+abbrev pub concluded : Version → Result Read ScriptFault → Result ScriptContents ScriptFault
+concluded version (Err fault) = Err fault
+concluded (Sized size) (Ok read) = Ok (record {
+  size = size;
+  start = reset_file (profile_of size);
+  batches = read.published.batches;
+  lines = read.published.lines;
+  expectations = read.expectations;
+})
+concluded Headed (Ok read) = for_head read.head read.expectations (Ok read.published)

@@ -1,9 +1,12 @@
 -- What a log and the batch that is open in it say of a script that is being read.
-use Rattle.std.specs.Prelude.{drop, length}
+use Rattle.std.specs.Prelude.{◌≡◌, drop, length}
+use Rattle.pmp_text.specs.declared.script.head.Head.{Head}
+use Rattle.pmp_text.specs.declared.script.reading.ScriptReading.{ScriptReading}
+use Rattle.pmp_text.specs.Heads.{hart_said}
 use Rattle.pmp_text.specs.declared.script.progress.OpenBatch.{OpenBatch}
 use Rattle.pmp_text.specs.EventLogs.{Kept}
 use Rattle.pmp_text.specs.Steps.Cuts.{AreOpen, cut_from}
-use Rattle.pmp_text.specs.Steps.Progress.{Progress}
+use Rattle.pmp_text.specs.Steps.Progress.{HeadSoFar, Progress, Reading}
 
 -- the publications that end in the log, and the events behind them
 abbrev pub progress_of : Kept → OpenBatch → Progress
@@ -21,3 +24,24 @@ progress_of kept open_batch = record {
 abbrev pub IsOpen : Kept → OpenBatch → Type 0
 IsOpen kept open_batch =
     AreOpen kept.ends open_batch.published (length kept.events) (length kept.lines) open_batch.since
+
+-- what a head says
+abbrev pub head_of : Head → HeadSoFar
+head_of head = record { lines = head.lines.items; is_over = head.is_over }
+
+-- its hart is the one that its lines say
+abbrev pub IsHead : Head → Type 0
+IsHead head = head.hart ≡ hart_said head.lines.items
+
+-- what the log, the open batch in it and the head say
+abbrev pub reading_of : Kept → ScriptReading → Reading
+reading_of kept reading = record {
+  progress = progress_of kept reading.batch;
+  head = head_of reading.head;
+  expectations = kept.expectations;
+  events = length kept.events;
+}
+
+pub record IsReading (kept : Kept) (reading : ScriptReading) : Type 0 where
+  pub batch : IsOpen kept reading.batch
+  pub head : IsHead reading.head

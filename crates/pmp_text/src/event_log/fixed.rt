@@ -4,40 +4,50 @@ ghost use Rattle.std.specs.Prelude.{◌≡◌, [], List, ℕ};
 ghost use Rattle.pmp_text.specs.EventLogs.{nothing_kept};
 
 use crate::event_log::EventLog;
+use crate::expectation::Expectation;
 use arrayvec::ArrayVec;
 use pmp_core::Event;
 use std::alloc::AllocError;
 
-/// Three arrays, for so many events and so many publications.
+/// Four arrays, for so many events, publications and expectations.
 #[derive(Drop)]
-pub struct FixedLog<const EVENTS: usize, const PUBLICATIONS: usize> {
+pub struct FixedLog<const EVENTS: usize, const PUBLICATIONS: usize, const EXPECTATIONS: usize> {
     events: ArrayVec<Event, EVENTS>,
     lines: ArrayVec<u64, EVENTS>,
     ends: ArrayVec<usize, PUBLICATIONS>,
+    expectations: ArrayVec<Expectation, EXPECTATIONS>,
 }
 
-impl<const EVENTS: usize, const PUBLICATIONS: usize> FixedLog<EVENTS, PUBLICATIONS> {
+impl<const EVENTS: usize, const PUBLICATIONS: usize, const EXPECTATIONS: usize> FixedLog<
+    EVENTS,
+    PUBLICATIONS,
+    EXPECTATIONS,
+> {
     /// An empty log.
     pub fn new() -> Self {
         FixedLog {
             events: ArrayVec::new(),
             lines: ArrayVec::new(),
             ends: ArrayVec::new(),
+            expectations: ArrayVec::new(),
         }
     }
 }
 
-impl<const EVENTS: usize, const PUBLICATIONS: usize> EventLog for FixedLog<EVENTS, PUBLICATIONS> {
+impl<const EVENTS: usize, const PUBLICATIONS: usize, const EXPECTATIONS: usize> EventLog
+    for FixedLog<EVENTS, PUBLICATIONS, EXPECTATIONS> {
     ghost kept = { λ log. record {
       events = log.events.items;
       lines = log.lines.items;
       ends = log.ends.items;
+      expectations = log.expectations.items;
     } };
 
     fn clear(&mut self) {
         self.events.clear();
         self.lines.clear();
         self.ends.clear();
+        self.expectations.clear();
     }
 
     fn push(&mut self, line: u64, event: Event) -> Result<(), AllocError> {
@@ -57,6 +67,13 @@ impl<const EVENTS: usize, const PUBLICATIONS: usize> EventLog for FixedLog<EVENT
         }
     }
 
+    fn expect(&mut self, expectation: Expectation) -> Result<(), AllocError> {
+        match self.expectations.try_push(expectation) {
+            Ok(()) => Ok(()),
+            Err(_) => Err(AllocError),
+        }
+    }
+
     fn events(&self) -> &[Event] {
         self.events.as_slice()
     }
@@ -67,5 +84,9 @@ impl<const EVENTS: usize, const PUBLICATIONS: usize> EventLog for FixedLog<EVENT
 
     fn ends(&self) -> &[usize] {
         self.ends.as_slice()
+    }
+
+    fn expectations(&self) -> &[Expectation] {
+        self.expectations.as_slice()
     }
 }

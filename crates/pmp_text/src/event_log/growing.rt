@@ -4,15 +4,17 @@ ghost use Rattle.std.specs.Prelude.{◌≡◌, [], List, ℕ};
 ghost use Rattle.pmp_text.specs.EventLogs.{nothing_kept};
 
 use crate::event_log::EventLog;
+use crate::expectation::Expectation;
 use pmp_core::Event;
 use std::alloc::{AllocError, Global};
 
-/// Three vectors.
+/// Four vectors.
 #[derive(Drop)]
 pub struct GrowingLog {
     events: Vec<Event>,
     lines: Vec<u64>,
     ends: Vec<usize>,
+    expectations: Vec<Expectation>,
 }
 
 impl GrowingLog {
@@ -22,6 +24,7 @@ impl GrowingLog {
             events: Vec::new(alloc),
             lines: Vec::new(alloc),
             ends: Vec::new(alloc),
+            expectations: Vec::new(alloc),
         }
     }
 }
@@ -31,12 +34,14 @@ impl EventLog for GrowingLog {
       events = log.events.items;
       lines = log.lines.items;
       ends = log.ends.items;
+      expectations = log.expectations.items;
     } };
 
     fn clear(&mut self) {
         self.events.clear();
         self.lines.clear();
         self.ends.clear();
+        self.expectations.clear();
     }
 
     fn push(&mut self, line: u64, event: Event) -> Result<(), AllocError> {
@@ -58,6 +63,13 @@ impl EventLog for GrowingLog {
         }
     }
 
+    fn expect(&mut self, expectation: Expectation) -> Result<(), AllocError> {
+        match self.expectations.push(expectation) {
+            Ok(()) => Ok(()),
+            Err(_) => Err(AllocError),
+        }
+    }
+
     fn events(&self) -> &[Event] {
         self.events.as_slice()
     }
@@ -68,5 +80,9 @@ impl EventLog for GrowingLog {
 
     fn ends(&self) -> &[usize] {
         self.ends.as_slice()
+    }
+
+    fn expectations(&self) -> &[Expectation] {
+        self.expectations.as_slice()
     }
 }

@@ -1,9 +1,8 @@
 //! Where two register files differ in what they let the modes do, as rows.
 
 ghost use Rattle.std.specs.Prelude.{◌≡◌, ◌++◌, IfOk, OnOk, OnErr};
-ghost use Rattle.std.specs.Io.{StartsWith};
-ghost use Rattle.pmp_text.specs.Changes.{asked_change, asked_row, change_by, change_count, change_of, change_row};
-ghost use Rattle.pmp_text.specs.Changes.{change_rows, change_text, goes_beyond, has_beyond, has_row, is_asked};
+ghost use Rattle.pmp_text.specs.Changes.{asked_change, asked_row, change_by, change_of, change_row, change_text};
+ghost use Rattle.pmp_text.specs.Changes.{goes_beyond, has_beyond, has_row, is_asked};
 
 use crate::lines::hexadecimal::{ADDRESS_DIGITS, Hex};
 use crate::lines::marks::Marks;
@@ -11,7 +10,6 @@ use crate::lines::{NoMemory, append_line};
 use crate::sink::Sink;
 use pmp_core::{Kind, Perms};
 use pmp_map::{ModeRights, RightsRun};
-use std::alloc::AllocError;
 
 /// How a new register file differs from an old one in what it lets the modes do with bytes.
 #[derive(Clone, Copy, Debug, PartialEq, Eq)]
@@ -85,7 +83,7 @@ fn change_word(change: Change) -> &'static str
 }
 
 #[tactic(auto, unfolding(crate::specs::Changes::change_row))]
-fn write_change<S: Sink>(out: &mut S, run: &RightsRun, change: Change) -> Result<(), AllocError>
+fn append_change<S: Sink>(out: &mut S, run: &RightsRun, change: Change) -> Result<(), NoMemory>
     ensures ok { OnOk result (S.text out.new ≡ S.text out.old ++ change_row run.now change) }
     ensures err { OnErr result (S.text out.new ≡ S.text out.old) }
 {
@@ -104,60 +102,24 @@ fn write_change<S: Sink>(out: &mut S, run: &RightsRun, change: Change) -> Result
     )
 }
 
-/// Appends the row of the run, if it has one, and answers whether it has.
+/// Appends the row of a run where the files differ as is asked, `FIRST,LAST,MOLD,SUOLD,MNEW,SUNEW,CHANGE` and LF: the
+/// first and the last byte in fourteen hexadecimal digits, what the old file lets machine mode do there and what the
+/// other two, the same of the new, and how they differ. Answers whether it has a row.
 #[tactic(auto, unfolding(crate::specs::Changes::asked_row, crate::specs::Changes::has_row))]
-fn write_asked<S: Sink>(
+pub fn write_change<S: Sink>(
     out: &mut S,
     run: &RightsRun,
     only: Option<Only>,
-) -> Result<bool, AllocError>
+) -> Result<bool, NoMemory>
     ensures ok { OnOk result (S.text out.new ≡ S.text out.old ++ asked_row only run.now) }
     ensures has { IfOk result (λ has. has ≡ has_row only run.now) }
     ensures err { OnErr result (S.text out.new ≡ S.text out.old) }
 {
     match change_of(run) {
         Some(change) if is_asked(only, change) => {
-            write_change(out, run, change)?;
+            append_change(out, run, change)?;
             Ok(true)
         }
         _ => Ok(false),
     }
-}
-
-fn write_all<S: Sink>(
-    out: &mut S,
-    runs: &[RightsRun],
-    only: Option<Only>,
-) -> Result<u64, AllocError>
-    ensures ok { OnOk result (S.text out.new ≡ S.text out.old ++ change_rows only runs.now) }
-    ensures counted { IfOk result (λ rows. rows ≡ change_count only runs.now) }
-    ensures err { OnErr result (StartsWith (S.text out.new) (S.text out.old)) }
-{
-    let mut rows = 0;
-    for run in runs {
-        if write_asked(out, run, only)? {
-            rows += 1;
-        }
-    }
-    Ok(rows)
-}
-
-/// Appends a row for each run where the files differ as is asked, `FIRST,LAST,MOLD,SUOLD,MNEW,SUNEW,CHANGE` and LF: the
-/// first and the last byte in fourteen hexadecimal digits, what the old file lets machine mode do there and what the
-/// other two, the same of the new, and how they differ. Answers how many rows these are.
-pub fn write_changes<S: Sink>(
-    out: &mut S,
-    runs: &[RightsRun],
-    only: Option<Only>,
-) -> Result<u64, NoMemory>
-    ensures ok { OnOk result (S.text out.new ≡ S.text out.old ++ change_rows only runs.now) }
-    ensures counted { IfOk result (λ rows. rows ≡ change_count only runs.now) }
-    ensures err { OnErr result (S.text out.new ≡ S.text out.old) }
-{
-    let before = out.position();
-    let written = write_all(out, runs, only);
-    if written.is_err() {
-        out.go_back(before);
-    }
-    written
 }

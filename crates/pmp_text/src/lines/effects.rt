@@ -51,6 +51,7 @@ fn reason_word(reason: WriteReason) -> &'static str
         WriteReason::Lockdown => "lockdown",
         WriteReason::Sticky => "sticky",
         WriteReason::Bypass => "bypass",
+        WriteReason::Grain => "grain",
     }
 }
 

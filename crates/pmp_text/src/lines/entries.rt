@@ -94,9 +94,9 @@ fn write_entry<S: Sink>(
     since: Since,
 ) -> Result<(), AllocError>
     requires { entry < length file.now.entries }
-    ensures span { IsSpan file.now.entries entry (span_of file.now.entries entry) }
+    ensures span { IsSpan file.now entry (span_of file.now entry) }
     ensures ok { OnOk result (S.text out.new
-        ≡ S.text out.old ++ entry_row file.now entry (span_of file.now.entries entry) since) }
+        ≡ S.text out.old ++ entry_row file.now entry (span_of file.now entry) since) }
     ensures err { OnErr result (S.text out.new ≡ S.text out.old) }
 {
     let matching = matching_word(file.matching(entry));

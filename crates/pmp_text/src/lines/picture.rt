@@ -315,7 +315,7 @@ fn write_band<S: Sink>(
 /// Appends a band for each run, from the top down.
 fn write_bands<S: Sink>(out: &mut S, file: &RegFile, runs: &[Run]) -> Result<(), AllocError>
     requires few { length runs.now ≤ RUNS }
-    requires runs { AreRuns file.now.entries runs.now }
+    requires runs { AreRuns file.now runs.now }
     requires owners { HasOwnersBelow (length file.now.entries) runs.now }
     ensures ok { OnOk result (S.text out.new ≡ S.text out.old ++ bands file.now runs.now) }
     ensures err { OnErr result (StartsWith (S.text out.new) (S.text out.old)) }
@@ -333,7 +333,7 @@ fn write_all<S: Sink>(
     publications: u64,
 ) -> Result<(), AllocError>
     requires few { length runs.now ≤ RUNS }
-    requires runs { AreRuns file.now.entries runs.now }
+    requires runs { AreRuns file.now runs.now }
     requires owners { HasOwnersBelow (length file.now.entries) runs.now }
     ensures ok { OnOk result ((text : List ℕ) × IsPicture file.now publications text
         × (S.text out.new ≡ S.text out.old ++ text)) }

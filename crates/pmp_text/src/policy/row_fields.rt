@@ -19,8 +19,8 @@ use crate::trace::TraceKind;
 use csv::ByteRecord;
 use pmp_core::ADDRESS_LIMIT;
 
-/// What the seven fields of a row say.
-#[derive(Clone, Copy)]
+/// What the seven fields of a row say, be it a row or not: its publications, modes, kinds, byte addresses and demand.
+#[derive(Clone, Copy, Debug, PartialEq, Eq)]
 pub struct PolicyFields {
     pub from: u64,
     pub to: u64,
@@ -99,8 +99,8 @@ impl PolicyFields {
         })
     }
 
-    /// The row, beside a script with so many publications.
-    fn check(self, publications: u64) -> Result<PolicyRow, TraceKind>
+    /// The row, beside a script with so many publications, where neither ends before it begins.
+    pub(crate) fn check(self, publications: u64) -> Result<PolicyRow, TraceKind>
         requires forward { self.from ≤ publications → self.from ≤ self.to }
         requires ordered { self.first ≤ self.last }
         ensures ok { IfOk result (λ row.

@@ -1,18 +1,14 @@
-//! What was read of a script so far.
+//! The batch that is open while a script is read.
 
-ghost use Rattle.std.specs.Prelude.{◌≡◌, Err, IfErr, IfOk, Ok, OnOk};
-ghost use Rattle.pmp_text.specs.EventLogs.{nothing_kept};
+ghost use Rattle.std.specs.Prelude.{◌≡◌, Ok, OnOk};
+ghost use Rattle.pmp_text.specs.EventLogs.{nothing_kept, with_end, with_event as pushed};
 ghost use Rattle.pmp_text.specs.Outcomes.{Gives};
-ghost use Rattle.pmp_text.specs.Scripts.{for_unit};
-ghost use Rattle.pmp_text.specs.Steps.Progress.{nothing_read, published, with_event, after_line, finished};
+ghost use Rattle.pmp_text.specs.Steps.Progress.{nothing_read, published, with_event};
 ghost use Rattle.pmp_text.specs.Steps.Reading.{IsOpen, progress_of};
-ghost use Rattle.pmp_text.specs.Steps.Views.{seen_line};
 
 use crate::event_log::EventLog;
-use crate::script::significant::NumberedLine;
-use crate::script::statement::{Statement, read_statement};
-use crate::script::{Script, ScriptFault, ScriptKind};
-use pmp_core::{BATCH_EVENTS, Event, Size};
+use crate::script::{ScriptFault, ScriptKind};
+use pmp_core::{BATCH_EVENTS, Event};
 
 /// The batch that is open: the last events of a log, behind those that are published.
 #[derive(Clone, Copy)]
@@ -35,9 +31,11 @@ impl OpenBatch {
         }
     }
 
-    fn publish<L: EventLog>(&mut self, log: &mut L) -> Result<(), ScriptFault>
+    /// Publishes the open batch, and opens an empty one.
+    pub fn publish<L: EventLog>(&mut self, log: &mut L) -> Result<(), ScriptFault>
         requires { IsOpen (L.kept log.old) self.old }
         ensures open { OnOk result (IsOpen (L.kept log.new) self.new) }
+        ensures ended { OnOk result (L.kept log.new ≡ with_end (L.kept log.old)) }
         ensures published { Gives (λ _. progress_of (L.kept log.new) self.new) result
             (Ok (published (progress_of (L.kept log.old) self.old))) }
     {
@@ -47,9 +45,16 @@ impl OpenBatch {
         Ok(())
     }
 
-    fn add<L: EventLog>(&mut self, log: &mut L, line: u64, event: Event) -> Result<(), ScriptFault>
+    /// Adds an event to the open batch.
+    pub fn add<L: EventLog>(
+        &mut self,
+        log: &mut L,
+        line: u64,
+        event: Event,
+    ) -> Result<(), ScriptFault>
         requires { IsOpen (L.kept log.old) self.old }
         ensures open { OnOk result (IsOpen (L.kept log.new) self.new) }
+        ensures pushed { OnOk result (L.kept log.new ≡ pushed (L.kept log.old) line event) }
         ensures added { Gives (λ _. progress_of (L.kept log.new) self.new) result
             (with_event (progress_of (L.kept log.old) self.old) line event) }
     {
@@ -61,34 +66,10 @@ impl OpenBatch {
         Ok(())
     }
 
-    /// Takes a significant line that isn't the script's first one. After an error the log is of no use.
-    pub fn take_line<L: EventLog>(
-        &mut self,
-        log: &mut L,
-        line: NumberedLine,
-    ) -> Result<(), ScriptFault>
-        requires { IsOpen (L.kept log.old) self.old }
-        ensures open { OnOk result (IsOpen (L.kept log.new) self.new) }
-        ensures taken { Gives (λ _. progress_of (L.kept log.new) self.new) result
-            (after_line (progress_of (L.kept log.old) self.old) (seen_line line.entry)) }
+    /// The line of the open batch's first event.
+    pub fn since(&self) -> Option<u64>
+        ensures { result ≡ self.now.since }
     {
-        match read_statement(line.bytes) {
-            Ok(Statement::Event(event)) => self.add(log, line.number, event),
-            Ok(Statement::Publish) => self.publish(log),
-            Err(kind) => Err(kind.at(line.number)),
-        }
-    }
-
-    /// The script for a unit of this size, if no events are left unpublished.
-    pub fn finish<L: EventLog>(self, log: &L, size: Size) -> Result<Script<'_>, ScriptFault>
-        requires { IsOpen (L.kept log.now) self }
-        ensures ok { IfOk result
-            (λ script. for_unit size (finished (progress_of (L.kept log.now) self)) ≡ Ok script) }
-        ensures err { IfErr result (λ fault. finished (progress_of (L.kept log.now) self) ≡ Err fault) }
-    {
-        match self.since {
-            None => Ok(Script::new(size, log)),
-            Some(line) => Err(ScriptKind::Unpublished.at(line)),
-        }
+        self.since
     }
 }

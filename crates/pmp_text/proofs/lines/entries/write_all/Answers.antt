@@ -15,10 +15,10 @@ loop-entry-preserved g c =
     let file = c.args.file.now in
     let since = c.args.since.now in
     record {
-      spans = below_more (λ i. IsSpan file.entries i (span_of file.entries i)) c.loop-entry.entry
+      spans = below_more (λ i. IsSpan file i (span_of file i)) c.loop-entry.entry
           c.loop-entry.invariant.spans c.write_entry.ensures.span;
       rows = rows_grow
-          (λ i. entry_row file i (span_of file.entries i) (slice_index_or since i no_since))
+          (λ i. entry_row file i (span_of file i) (slice_index_or since i no_since))
           (g.S.Sink.text c.args.out.now) (g.S.Sink.text c.loop-entry.out) _ c.loop-entry.entry
           (rw c.from.ensures at c.in_ok-write_entry.ensures.ok) c.loop-entry.invariant.rows;
     }
@@ -28,10 +28,10 @@ returns-clause-ok g c =
     let file = c.args.file.now in
     let since = c.args.since.now in
     let all : c.loop-entry.entry ≡ length file.entries = omega arith in (
-      flat_map (λ i. entry_row file i (span_of file.entries i) (slice_index_or since i no_since))
+      flat_map (λ i. entry_row file i (span_of file i) (slice_index_or since i no_since))
           (range_with_len 0 (length file.entries)),
       record {
-        span = span_of file.entries;
+        span = span_of file;
         spans = rw all at c.loop-entry.invariant.spans;
         rows = refl;
       },

@@ -7,8 +7,8 @@ use Rattle.pmp_text.proofs.lines.entries.write_all.Given as goal
 -- the rows so far, with the entries' spans
 abbrev pub invariant-loop-entry : goal.invariant-loop-entry
 invariant-loop-entry g l = record {
-  spans : (i : ℕ) → i < l.entry → IsSpan l.file.entries i (span_of l.file.entries i);
+  spans : (i : ℕ) → i < l.entry → IsSpan l.file i (span_of l.file i);
   rows : (g.S.Sink.text l.out) ≡ (g.S.Sink.text l.initial.out)
-      ++ flat_map (λ i. entry_row l.file i (span_of l.file.entries i) (slice_index_or l.since i no_since))
+      ++ flat_map (λ i. entry_row l.file i (span_of l.file i) (slice_index_or l.since i no_since))
       (range_with_len 0 l.entry);
 }

@@ -18,7 +18,7 @@ returns-clause-ok g c =
     λ row. OnOk c.append_line.result ((g.S.Sink.text c.append_line.new.out) ≡ (g.S.Sink.text c.args.out.now) ++ row) in
     let machine = ap perms_text c.rights.ensures.rights ∙ text_of_perms (rights file i M) in
     let others = ap perms_text c.rights-2.ensures.rights ∙ text_of_perms (rights file i U) in
-    let row = row_of_pieces file i (span_of file.entries i) c.args.since c.matching_word-matching.result.now
+    let row = row_of_pieces file i (span_of file i) c.args.since c.matching_word-matching.result.now
     (perms_text c.rights.result ++ (codes "," ++ perms_text c.rights-2.result))
     (lock_text c.lock.result ++ (codes "," ++ address_text c.is_address_frozen.result))
     (c.matching_word-matching.ensures ∙ ap matching_text c.matching.ensures)

@@ -1,6 +1,6 @@
-use Rattle.std.proofs.Common.{◌≡◌, ◌++◌, List, ℕ, length, refl, ap, ◌∙◌}
+use Rattle.std.proofs.Common.{◌++◌, List, ℕ, length, refl, ap, ◌∙◌}
 use Rattle.std.proofs.lemmas.Result.{on_err_weaker, on_ok_weaker}
-use Rattle.pmp_text.specs.Picture.{IsPicture, bands, head}
+use Rattle.pmp_text.specs.Picture.{bands, head}
 use Rattle.pmp_text.specs.PictureTexts.{foot}
 use Rattle.pmp_text.proofs.Picture.{three_appended}
 use Rattle.pmp_text.proofs.PictureTexts.{foot_is}

@@ -14,11 +14,11 @@ loop-place-init g c = sym (append-nil (g.S.Sink.text c.args.out.now))
 
 pub write_band-requires-clause-proper : goal.write_band-requires-clause-proper
 write_band-requires-clause-proper g c =
-    is_proper c.args.file.now.entries c.args.runs.now c.requires.runs c.loop-place.place c.loop-place-test.true none
+    is_proper c.args.file.now c.args.runs.now c.requires.runs c.loop-place.place c.loop-place-test.true none
 
 pub write_band-requires-clause-inside : goal.write_band-requires-clause-inside
 write_band-requires-clause-inside g c =
-    ends_in_memory c.args.file.now.entries c.args.runs.now c.requires.runs c.loop-place.place
+    ends_in_memory c.args.file.now c.args.runs.now c.requires.runs c.loop-place.place
     c.loop-place-test.true none
 
 pub loop-place-preserved : goal.loop-place-preserved

@@ -13,11 +13,11 @@ returns-in_default g c = rw c.at-in_default.ensures (inl
 pub returns-in_default-read_version : goal.returns-in_default-read_version
 returns-in_default-read_version g c =
     rw c.at-in_default-read_version.ensures (inl
-    (no_size c.args.text.now (omega arith) (seen_line c.in-Some.version) (lines_left c.next.new.self)
+    (no_size c.args.text.now (omega arith) (seen_line c.in-Some.first) (lines_left c.next.new.self)
     (sym c.new-lines.ensures ∙ c.in-Some.ensures.steps) (sym c.in_default-read_version.ensures)))
 
 pub returns : goal.returns
 returns g c =
-    rw (with_size c.args.text.now (omega arith) (seen_line c.in-Some.version) (lines_left c.next.new.self)
-    (sym c.new-lines.ensures ∙ c.in-Some.ensures.steps) c.in-Some-read_version.size
+    rw (with_size c.args.text.now (omega arith) (seen_line c.in-Some.first) (lines_left c.next.new.self)
+    (sym c.new-lines.ensures ∙ c.in-Some.ensures.steps) c.in-Some-read_version.version
     (sym c.in-Some-read_version.ensures)) c.read_statements.ensures

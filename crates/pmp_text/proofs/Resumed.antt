@@ -1,0 +1,337 @@
+-- Reading one line more, and so all of them, gives what is meant by the lines.
+use Rattle.std.proofs.Common.{◌≡◌, ℕ, ◌+◌, Bool, true, false, cond, ltb, List, [], ◌∷◌, ◌++◌, length}
+use Rattle.std.proofs.Common.{Option, Some, None, Result, Ok, Err, refl, sym, ap, ◌∙◌, append_assoc}
+use Rattle.std.specs.Prelude.{option_map, ◌||◌}
+use Rattle.std.specs.Option.{option_or}
+use Rattle.std.specs.List.{cons_option, onto_first}
+use Rattle.std.proofs.lemmas.List.Folds.{list_any-append}
+use Rattle.std.proofs.lemmas.List.{append-nil, length-append}
+use Rattle.pmp_core.specs.declared.event.Event.{Event}
+use Rattle.pmp_core.specs.declared.event.TheConstants.{BATCH_EVENTS}
+use Rattle.pmp_text.specs.declared.script.ScriptKind.{ScriptKind}
+use Rattle.pmp_text.specs.declared.script.ScriptKind.TheVariants.{BatchFull}
+use Rattle.pmp_text.specs.declared.script.ScriptFault.{ScriptFault}
+use Rattle.pmp_text.specs.declared.script.statement.Statement.{Statement}
+use Rattle.pmp_text.specs.declared.script.statement.Statement.TheVariants as statement
+use Rattle.pmp_text.specs.declared.expectation.Expectation.{Expectation}
+use Rattle.pmp_text.specs.declared.script.statement.HeadStatement.{HeadStatement}
+use Rattle.pmp_text.specs.declared.script.head.HeadLine.{HeadLine}
+use Rattle.pmp_text.specs.declared.script.version.Version.{Version}
+use Rattle.pmp_text.specs.Contents.{Publications}
+use Rattle.pmp_core.specs.declared.csr.Csr.{Csr}
+use Rattle.pmp_text.specs.Heads.{is_same}
+use Rattle.pmp_text.specs.Statements.{statement_of}
+use Rattle.pmp_text.specs.Scripts.{Line, at_line, counted, ends_head, says_same, open_events, is_over, is_said}
+use Rattle.pmp_text.specs.Scripts.{head_fault, statement_fault, fault_behind, line_fault, first_fault, event_of}
+use Rattle.pmp_text.specs.Scripts.{event_in, head_line_in, head_lines, expected_by, expected_from}
+use Rattle.pmp_text.specs.Scripts.{publishes, fault_or_publications}
+use Rattle.pmp_text.specs.Scripts.{version_above}
+use Rattle.pmp_text.specs.Scripts.{publications, first_unpublished}
+use Rattle.pmp_text.specs.Steps.Progress.{Progress, longer, published, over, says_in}
+use Rattle.pmp_text.specs.Steps.Progress.{longer_head, unless, Reading, Read, nothing_begun, with_publish}
+use Rattle.pmp_text.specs.Steps.Progress.{with_progress}
+use Rattle.pmp_text.specs.Steps.Progress.{with_head, with_expected, after_statement, all_published, read_in, resumed}
+use Rattle.pmp_text.proofs.Published.{all_from, all_from-event, all_from-nothing, all_from-passed, all_from-published}
+use Rattle.pmp_text.proofs.Published.{pieces_of, same_publications, since_from, since_from-event, since_from-nothing}
+use Rattle.pmp_text.proofs.Published.{since_from-passed, since_from-published, some_piece}
+
+module _ (version : Version) where
+  -- what is read in the end, where these lines follow, cut into these pieces
+  abbrev read_from : Reading → List Line → List (List Line) → Read
+  read_from so_far lines pieces = record {
+    published = all_from version so_far.progress pieces;
+    head = so_far.head.lines ++ head_lines version lines;
+    expectations = so_far.expectations ++ expected_from version so_far.events lines;
+  }
+
+  abbrev pub read_of : Publications → List HeadLine → List Expectation → Read
+  read_of published head expectations =
+      record { published = published; head = head; expectations = expectations }
+
+  same_read : (p q : Publications) (h k : List HeadLine) (e f : List Expectation) → p ≡ q → h ≡ k → e ≡ f
+      → read_of p h e ≡ read_of q k f
+  same_read p q h k e f same_p same_h same_e = λ i. read_of (same_p i) (same_h i) (same_e i)
+
+  -- what is meant by lines that have this first fault, or none
+  abbrev meant_by : Reading → Option ScriptFault → List Line → List (List Line) → Result Read ScriptFault
+  meant_by so_far fault lines pieces =
+      fault_or_publications fault (since_from version so_far.progress.since pieces) (read_from so_far lines pieces)
+
+  -- what is meant by lines behind others
+  abbrev meant_from : Reading → (before lines : List Line) → Result Read ScriptFault
+  meant_from so_far before lines = meant_by so_far (first_fault before lines) lines (pieces_of version lines)
+
+  same_meant : (fault : Option ScriptFault) (since other : Option ℕ) (read again : Read) → since ≡ other → read ≡ again
+      → fault_or_publications fault since read ≡ fault_or_publications fault other again
+  same_meant fault since other read again same_since same_read =
+      λ i. fault_or_publications fault (same_since i) (same_read i)
+
+  pub meant_from-nothing : (before lines : List Line) → meant_from nothing_begun before lines
+      ≡ fault_or_publications (first_fault before lines) (first_unpublished version lines)
+      (read_of (publications version lines) (head_lines version lines) (expected_from version 0 lines))
+  meant_from-nothing before lines = same_meant (first_fault before lines) _ _ _ _
+      (since_from-nothing version (pieces_of version lines))
+      (same_read _ _ _ _ _ _ (all_from-nothing version (pieces_of version lines)) refl refl)
+
+  -- ---- what is known of the lines before
+
+  -- the machine knows of the lines before, which stand the nearest first
+  pub record Knows (so_far : Reading) (before : List Line) : Type 0 where
+    pub count : length so_far.progress.batch ≡ open_events version before
+    pub over : so_far.head.is_over ≡ is_over version before
+    pub said : (says : HeadStatement) → says_in so_far.head.lines says ≡ is_said version before says
+
+  -- ---- one line more
+
+  -- reading this line and then the rest, against what is meant by them
+  module _ (so_far : Reading) (last : Line) (front : List Line) (above : version_above (last ∷ front) ≡ version)
+      (knows : Knows so_far (last ∷ front)) (line : Line) (more : List Line) where
+    abbrev reads : Result Reading ScriptFault → Result Read ScriptFault
+    reads step = elim step [ Ok next ↦ resumed version next more | Err fault ↦ Err fault ]
+
+    -- the first fault behind the line
+    abbrev later : Option ScriptFault
+    later = first_fault (line ∷ last ∷ front) more
+
+    -- the pieces with the line, which is a `publish` or not
+    abbrev cut : Bool → List (List Line)
+    cut publish = cond publish ([] ∷ pieces_of version more) (onto_first line (pieces_of version more))
+
+    abbrev faulty : Result Statement ScriptKind → Option ScriptKind
+    faulty says = statement_fault (open_events version (last ∷ front)) (is_over version (last ∷ front))
+        (is_said version (last ∷ front)) says
+
+    abbrev means : Result Statement ScriptKind → Result Read ScriptFault
+    means says = meant_by so_far (option_or (option_map (at_line line.number) (faulty says)) later)
+        (line ∷ more) (cut (publishes says))
+
+    -- the line's own fault
+    own : line_fault (last ∷ front) line ≡ faulty (statement_of version line.words)
+    own = ap (λ (v : Version). fault_behind v (last ∷ front) line) above
+
+    agree : (says : Result Statement ScriptKind) → statement_of version line.words ≡ says
+        → reads (after_statement so_far line.number says) ≡ means says
+        → resumed version so_far (line ∷ more) ≡ meant_from so_far (last ∷ front) (line ∷ more)
+    agree says e same = ap (λ (r : Result Statement ScriptKind). reads (after_statement so_far line.number r)) e ∙ same
+        ∙ sym (ap means e)
+        ∙ sym (ap (λ (f : Option ScriptKind). meant_by so_far (option_or (option_map (at_line line.number) f) later)
+        (line ∷ more) (cut (publishes (statement_of version line.words)))) own)
+
+    -- what the line adds to the head and to what is expected
+    head_here : (says : Result Statement ScriptKind) → statement_of version line.words ≡ says
+        → head_lines version (line ∷ more)
+        ≡ cons_option (head_line_in line.number says) (head_lines version more)
+    head_here says e = ap (λ (r : Result Statement ScriptKind).
+        cons_option (head_line_in line.number r) (head_lines version more)) e
+
+    expected_here : (says : Result Statement ScriptKind) → statement_of version line.words ≡ says
+        → expected_from version so_far.events (line ∷ more)
+        ≡ expected_by so_far.events line.number says (λ events. expected_from version events more)
+    expected_here says e = ap (λ (r : Result Statement ScriptKind).
+        expected_by so_far.events line.number r (λ events. expected_from version events more)) e
+
+    publish_agrees : statement_of version line.words ≡ Ok statement.Publish
+        → resumed version (with_publish so_far) more ≡ meant_from (with_publish so_far) (line ∷ last ∷ front) more
+        → resumed version (with_publish so_far) more ≡ means (Ok statement.Publish)
+    publish_agrees says same = same ∙ same_meant later _ _ _ _
+        (sym (since_from-published version so_far.progress.since (pieces_of version more) (some_piece version more)))
+        (same_read _ _ _ _ _ _
+        (sym (all_from-published version so_far.progress (pieces_of version more) (some_piece version more)))
+        (ap (λ (h : List HeadLine). so_far.head.lines ++ h) (sym (head_here _ says)))
+        (ap (λ (e : List Expectation). so_far.expectations ++ e) (sym (expected_here _ says))))
+
+    -- a line of the head, or one that is expected: the pieces are as without it
+    passes : (next : Reading) → next.progress ≡ so_far.progress → event_of version line ≡ None
+        → next.head.lines ++ head_lines version more ≡ so_far.head.lines ++ head_lines version (line ∷ more)
+        → next.expectations ++ expected_from version next.events more
+        ≡ so_far.expectations ++ expected_from version so_far.events (line ∷ more)
+        → resumed version next more ≡ meant_from next (line ∷ last ∷ front) more
+        → resumed version next more ≡ meant_by so_far later (line ∷ more) (cut false)
+    passes next progress none heads expected same = same ∙ same_meant later _ _ _ _
+        (ap (λ (p : Progress). since_from version p.since (pieces_of version more)) progress
+        ∙ sym (since_from-passed version line none so_far.progress.since
+        (pieces_of version more) (some_piece version more)))
+        (same_read _ _ _ _ _ _
+        (ap (λ (p : Progress). all_from version p (pieces_of version more)) progress
+        ∙ sym (all_from-passed version so_far.progress line none (pieces_of version more)))
+        heads expected)
+
+    expected_agrees : (register : Csr) (value : ℕ)
+        → statement_of version line.words ≡ Ok (statement.Expect register value)
+        → resumed version (with_expected so_far line.number register value) more
+        ≡ meant_from (with_expected so_far line.number register value) (line ∷ last ∷ front) more
+        → resumed version (with_expected so_far line.number register value) more
+        ≡ means (Ok (statement.Expect register value))
+    expected_agrees register value says same =
+        passes (with_expected so_far line.number register value) refl (ap event_in says)
+        (ap (λ (h : List HeadLine). so_far.head.lines ++ h) (sym (head_here _ says)))
+        (append_assoc so_far.expectations _ _
+        ∙ ap (λ (e : List Expectation). so_far.expectations ++ e) (sym (expected_here _ says))) same
+
+    module _ (says : HeadStatement) where
+      abbrev next_head : Reading
+      next_head = record so_far { head = longer_head so_far.head line.number says }
+
+      head_own : Option ScriptKind → Option ScriptFault
+      head_own fault = option_map (at_line line.number) fault
+
+      by_fault : (fault : Option ScriptKind)
+          → (fault ≡ None → resumed version next_head more ≡ meant_by so_far later (line ∷ more) (cut false))
+          → reads (with_head so_far (unless line.number fault (longer_head so_far.head line.number says)))
+          ≡ meant_by so_far (option_or (option_map (at_line line.number) fault) later) (line ∷ more) (cut false)
+      by_fault None same = same refl
+      by_fault (Some fault) same = refl
+
+      head_agrees : statement_of version line.words ≡ Ok (statement.Head says)
+          → resumed version next_head more ≡ meant_from next_head (line ∷ last ∷ front) more
+          → reads (after_statement so_far line.number (Ok (statement.Head says))) ≡ means (Ok (statement.Head says))
+      head_agrees is same =
+          by_fault (head_fault so_far.head.is_over (says_in so_far.head.lines says) says)
+          (λ _. passes next_head refl (ap event_in is)
+          (append_assoc so_far.head.lines _ _
+          ∙ ap (λ (h : List HeadLine). so_far.head.lines ++ h) (sym (head_here _ is)))
+          (ap (λ (e : List Expectation). so_far.expectations ++ e) (sym (expected_here _ is))) same)
+          ∙ (λ i. meant_by so_far (option_or (option_map (at_line line.number)
+          (head_fault (knows.over i) (knows.said says i) says)) later) (line ∷ more) (cut false))
+
+    module _ (event : Event) where
+      abbrev next_one : Reading
+      next_one = record {
+        progress = longer so_far.progress line.number event;
+        head = over so_far.head;
+        expectations = so_far.expectations;
+        events = so_far.events + 1;
+      }
+
+      -- the fault of the event itself, by whether the open batch has room for it
+      abbrev own_fault : (room : Bool) → Option ScriptFault
+      own_fault room = option_map (at_line line.number) (cond room None (Some BatchFull))
+
+      by_room : (room : Bool)
+          → (room ≡ true → resumed version next_one more ≡ meant_by so_far later (line ∷ more) (cut false))
+          → reads (with_progress so_far
+          (cond room (Ok (longer so_far.progress line.number event)) (Err (at_line line.number BatchFull))))
+          ≡ meant_by so_far (option_or (own_fault room) later) (line ∷ more) (cut false)
+      by_room true same = same refl
+      by_room false same = refl
+
+      event_agrees : statement_of version line.words ≡ Ok (statement.Event event)
+          → (ltb (length so_far.progress.batch) BATCH_EVENTS ≡ true
+          → resumed version next_one more ≡ meant_from next_one (line ∷ last ∷ front) more)
+          → reads (after_statement so_far line.number (Ok (statement.Event event)))
+          ≡ means (Ok (statement.Event event))
+      event_agrees says same =
+          by_room (ltb (length so_far.progress.batch) BATCH_EVENTS)
+          (λ room. same room ∙ same_meant later _ _ _ _
+          (sym (since_from-event version line event says so_far.progress.since
+          (pieces_of version more) (some_piece version more)))
+          (same_read _ _ _ _ _ _ (sym (all_from-event version so_far.progress line event says (pieces_of version more)))
+          (ap (λ (h : List HeadLine). so_far.head.lines ++ h) (sym (head_here _ says)))
+          (ap (λ (e : List Expectation). so_far.expectations ++ e) (sym (expected_here _ says)))))
+          ∙ ap (λ (n : ℕ). meant_by so_far (option_or (own_fault (ltb n BATCH_EVENTS)) later) (line ∷ more) (cut false))
+          knows.count
+
+  -- ---- what is known behind one line more
+
+  module _ (so_far : Reading) (front : List Line) (knows : Knows so_far front) (line : Line) where
+    counted_as : (says : Result Statement ScriptKind) → statement_of version line.words ≡ says
+        → counted says (open_events version front) ≡ open_events version (line ∷ front)
+    counted_as says e = sym (ap (λ (r : Result Statement ScriptKind). counted r (open_events version front)) e)
+
+    over_as : (says : Result Statement ScriptKind) → statement_of version line.words ≡ says
+        → (ends_head says || is_over version front) ≡ is_over version (line ∷ front)
+    over_as says e = sym (ap (λ (r : Result Statement ScriptKind). ends_head r || is_over version front) e)
+
+    said_as : (here : HeadStatement) (says : Result Statement ScriptKind) → statement_of version line.words ≡ says
+        → (says_same here says || is_said version front here) ≡ is_said version (line ∷ front) here
+    said_as here says e = sym (ap (λ (r : Result Statement ScriptKind).
+        says_same here r || is_said version front here) e)
+
+    knows_publish : statement_of version line.words ≡ Ok statement.Publish → Knows (with_publish so_far) (line ∷ front)
+    knows_publish e = record {
+      count = counted_as _ e;
+      over = over_as _ e;
+      said = λ here. knows.said here ∙ said_as here _ e;
+    }
+
+    knows_event : (event : Event) → statement_of version line.words ≡ Ok (statement.Event event)
+        → Knows (record {
+          progress = longer so_far.progress line.number event;
+          head = over so_far.head;
+          expectations = so_far.expectations;
+          events = so_far.events + 1;
+        }) (line ∷ front)
+    knows_event event e = record {
+      count = length-append so_far.progress.batch (event ∷ []) ∙ ap (λ (n : ℕ). n + 1) knows.count ∙ counted_as _ e;
+      over = over_as _ e;
+      said = λ here. knows.said here ∙ said_as here _ e;
+    }
+
+    knows_expected : (register : Csr) (value : ℕ)
+        → statement_of version line.words ≡ Ok (statement.Expect register value)
+        → Knows (with_expected so_far line.number register value) (line ∷ front)
+    knows_expected register value e = record {
+      count = knows.count ∙ counted_as _ e;
+      over = knows.over ∙ over_as _ e;
+      said = λ here. knows.said here ∙ said_as here _ e;
+    }
+
+    said_too : (a b : Bool) → (a || (b || false)) ≡ (b || a)
+    said_too true true = refl
+    said_too true false = refl
+    said_too false true = refl
+    said_too false false = refl
+
+    knows_head : (says : HeadStatement) → statement_of version line.words ≡ Ok (statement.Head says)
+        → Knows (record so_far { head = longer_head so_far.head line.number says }) (line ∷ front)
+    knows_head says e = record {
+      count = knows.count ∙ counted_as _ e;
+      over = knows.over ∙ over_as _ e;
+      said = λ here. list_any-append (λ it. is_same here it.statement) so_far.head.lines _
+          ∙ said_too (says_in so_far.head.lines here) (is_same here says)
+          ∙ ap (λ (b : Bool). is_same here says || b) (knows.said here) ∙ said_as here _ e;
+    }
+
+  -- ---- all lines
+
+  -- reading these lines gives what is meant by them, whatever was read before
+  abbrev HoldsOf : List Line → Type 0
+  HoldsOf lines = (so_far : Reading) (last : Line) (front : List Line) → version_above (last ∷ front) ≡ version
+      → Knows so_far (last ∷ front) → resumed version so_far lines ≡ meant_from so_far (last ∷ front) lines
+
+  by_saying : (says : Result Statement ScriptKind) (line : Line) (more : List Line)
+      → statement_of version line.words ≡ says → HoldsOf more → HoldsOf (line ∷ more)
+  by_saying (Err kind) line more says same so_far last front above knows =
+      agree so_far last front above knows line more (Err kind) says refl
+  by_saying (Ok statement.Publish) line more says same so_far last front above knows =
+      agree so_far last front above knows line more (Ok statement.Publish) says
+      (publish_agrees so_far last front above knows line more says
+      (same (with_publish so_far) line (last ∷ front) above (knows_publish so_far (last ∷ front) knows line says)))
+  by_saying (Ok (statement.Event event)) line more says same so_far last front above knows =
+      agree so_far last front above knows line more (Ok (statement.Event event)) says
+      (event_agrees so_far last front above knows line more event says
+      (λ room. same (next_one so_far last front above knows line more event) line (last ∷ front) above
+      (knows_event so_far (last ∷ front) knows line event says)))
+  by_saying (Ok (statement.Head here)) line more says same so_far last front above knows =
+      agree so_far last front above knows line more (Ok (statement.Head here)) says
+      (head_agrees so_far last front above knows line more here says
+      (same (next_head so_far last front above knows line more here) line (last ∷ front) above
+      (knows_head so_far (last ∷ front) knows line here says)))
+  by_saying (Ok (statement.Expect register value)) line more says same so_far last front above knows =
+      agree so_far last front above knows line more (Ok (statement.Expect register value)) says
+      (expected_agrees so_far last front above knows line more register value says
+      (same (with_expected so_far line.number register value) line (last ∷ front) above
+      (knows_expected so_far (last ∷ front) knows line register value says)))
+
+  nothing_left : (so_far : Reading) (since : Option ℕ)
+      → all_published since (read_in so_far) ≡ fault_or_publications None (option_or since None)
+      (read_from so_far [] ([] ∷ []))
+  nothing_left so_far None = ap (λ (all : Read). Ok all) (sym (same_read _ _ _ _ _ _
+      (same_publications version _ _ _ _
+      (append-nil so_far.progress.published.batches) (append-nil so_far.progress.published.lines))
+      (append-nil so_far.head.lines) (append-nil so_far.expectations)))
+  nothing_left so_far (Some number) = refl
+
+  pub reading_means : (lines : List Line) → HoldsOf lines
+  reading_means [] = λ so_far last front above knows. nothing_left so_far so_far.progress.since
+  reading_means (line ∷ more) = by_saying (statement_of version line.words) line more refl (reading_means more)

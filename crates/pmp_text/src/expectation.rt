@@ -1,0 +1,25 @@
+//! What a script expects of a register.
+
+use pmp_core::Csr;
+
+/// What a register has at a place in a script, by a line of the script.
+#[derive(Clone, Copy, Debug, PartialEq, Eq)]
+pub struct Expectation {
+    pub register: Csr,
+    pub value: u64,
+    /// The line, counted from 1.
+    pub line: u64,
+    /// How many events of the script stand before it.
+    pub events: u64,
+}
+
+impl Default for Expectation {
+    fn default() -> Self {
+        Expectation {
+            register: Csr::Mseccfg,
+            value: 0,
+            line: 0,
+            events: 0,
+        }
+    }
+}

@@ -1,0 +1,146 @@
+//! What a head says of the hart.
+
+ghost use Rattle.std.specs.Prelude.{◌≡◌, ◌<◌, ◌==◌, IfSome, position};
+ghost use Rattle.pmp_text.specs.Heads.{hart_with, hart_kind, same_field};
+ghost use Rattle.pmp_text.specs.declared.script.hart_field.TheConstants.{GRAINS};
+ghost use Rattle.pmp_text.specs.Statements.{byte_number, field_of, grain_number, smepmp_field};
+
+use crate::numbers::read_word_number;
+use crate::script::ScriptKind;
+use pmp_core::{Hart, HartFault};
+
+/// The grains that there are, in bytes: that of G is at place G.
+pub const GRAINS: [u64; 11] = [4, 8, 16, 32, 64, 128, 256, 512, 1024, 2048, 4096];
+
+/// One thing that a head says of the hart.
+#[derive(Clone, Copy, Debug, PartialEq, Eq)]
+pub enum HartField {
+    Entries(u8),
+    /// The manual's G.
+    Grain(u8),
+    /// How many bits a physical address has.
+    Bits(u8),
+    Smepmp(bool),
+}
+
+/// A number below 256; a larger one is of this kind.
+fn read_byte(word: &[u8], kind: ScriptKind) -> Result<u8, ScriptKind>
+    ensures { result ≡ byte_number kind word.now }
+{
+    let number = read_word_number(word).ok_or(ScriptKind::BadNumber)?;
+    if number < 256 {
+        Ok(number as u8)
+    } else {
+        Err(kind)
+    }
+}
+
+fn place_of_grain(bytes: u64) -> Option<usize>
+    ensures place { result ≡ position (λ grain. grain == bytes) GRAINS }
+    ensures small { IfSome result (λ place. place < 256) }
+{
+    GRAINS.iter().position(|grain| *grain == bytes)
+}
+
+/// G of a grain in bytes.
+fn read_grain(word: &[u8]) -> Result<u8, ScriptKind>
+    ensures { result ≡ grain_number word.now }
+{
+    let number = read_word_number(word).ok_or(ScriptKind::BadNumber)?;
+    let place = place_of_grain(number).ok_or(ScriptKind::BadGrain)?;
+    Ok(place as u8)
+}
+
+fn read_smepmp(word: &[u8]) -> Result<HartField, ScriptKind>
+    ensures { result ≡ smepmp_field word.now }
+{
+    if word == b"yes".as_slice() {
+        Ok(HartField::Smepmp(true))
+    } else if word == b"no".as_slice() {
+        Ok(HartField::Smepmp(false))
+    } else {
+        Err(ScriptKind::BadLine)
+    }
+}
+
+/// What a field's name and its value say.
+pub fn read_field(name: &[u8], value: &[u8]) -> Result<HartField, ScriptKind>
+    ensures { result ≡ field_of name.now value.now }
+{
+    if name == b"entries".as_slice() {
+        Ok(HartField::Entries(read_byte(value, ScriptKind::BadEntries)?))
+    } else if name == b"grain".as_slice() {
+        Ok(HartField::Grain(read_grain(value)?))
+    } else if name == b"bits".as_slice() {
+        Ok(HartField::Bits(read_byte(value, ScriptKind::BadBits)?))
+    } else if name == b"smepmp".as_slice() {
+        read_smepmp(value)
+    } else {
+        Err(ScriptKind::BadLine)
+    }
+}
+
+impl HartField {
+    /// Whether the other is of the same field.
+    pub fn is_same(self, other: HartField) -> bool
+        ensures { result ≡ same_field self other }
+    {
+        match (self, other) {
+            (HartField::Entries(_), HartField::Entries(_)) => true,
+            (HartField::Grain(_), HartField::Grain(_)) => true,
+            (HartField::Bits(_), HartField::Bits(_)) => true,
+            (HartField::Smepmp(_), HartField::Smepmp(_)) => true,
+            _ => false,
+        }
+    }
+
+    /// The hart with this in place of what it had, or why there is none.
+    pub fn put_into(self, hart: Hart) -> Result<Hart, ScriptKind>
+        ensures { result ≡ hart_with hart self }
+    {
+        let made = match self {
+            HartField::Entries(entries) => {
+                Hart::new(
+                    entries,
+                    hart.grain(),
+                    hart.address_bits(),
+                    hart.has_smepmp(),
+                )
+            }
+            HartField::Grain(grain) => {
+                Hart::new(
+                    hart.entries(),
+                    grain,
+                    hart.address_bits(),
+                    hart.has_smepmp(),
+                )
+            }
+            HartField::Bits(bits) => {
+                Hart::new(hart.entries(), hart.grain(), bits, hart.has_smepmp())
+            }
+            HartField::Smepmp(has_smepmp) => {
+                Hart::new(
+                    hart.entries(),
+                    hart.grain(),
+                    hart.address_bits(),
+                    has_smepmp,
+                )
+            }
+        };
+        match made {
+            Ok(hart) => Ok(hart),
+            Err(fault) => Err(kind_of(fault)),
+        }
+    }
+}
+
+/// How a script refuses a number that no hart has.
+fn kind_of(fault: HartFault) -> ScriptKind
+    ensures { result ≡ hart_kind fault }
+{
+    match fault {
+        HartFault::Entries => ScriptKind::BadEntries,
+        HartFault::Grain => ScriptKind::BadGrain,
+        HartFault::AddressBits => ScriptKind::BadBits,
+    }
+}

@@ -1,0 +1,48 @@
+//! Versions of scripts.
+
+ghost use Rattle.std.specs.Prelude.{◌≡◌};
+ghost use Rattle.pmp_text.specs.Lines.{words};
+ghost use Rattle.pmp_text.specs.Scripts.{version_named, version_numbered};
+
+use crate::script::words::Words;
+use pmp_core::Size;
+
+/// A version of scripts.
+#[derive(Clone, Copy, Debug, PartialEq, Eq)]
+pub enum Version {
+    /// Version 1 or 2: for the usual hart of this size.
+    Sized(Size),
+    /// Version 3: a head says the hart and what its registers have before the first event.
+    Headed,
+}
+
+/// The version with this number.
+fn version_numbered(number: &[u8]) -> Option<Version>
+    ensures { result ≡ version_numbered number.now }
+{
+    if number == b"1".as_slice() {
+        Some(Version::Sized(Size::Sixteen))
+    } else if number == b"2".as_slice() {
+        Some(Version::Sized(Size::SixtyFour))
+    } else if number == b"3".as_slice() {
+        Some(Version::Headed)
+    } else {
+        None
+    }
+}
+
+/// The version that a script's first line names.
+#[tactic(auto, unfolding(crate::specs::Scripts::version_named))]
+pub fn read_version(line: &[u8]) -> Option<Version>
+    ensures { result ≡ version_named (words line.now) }
+{
+    let mut words = Words::new(line);
+    let (Some(name), Some(number), None) = (words.next(), words.next(), words.next()) else {
+        return None;
+    };
+    if name == b"pmp".as_slice() {
+        version_numbered(number)
+    } else {
+        None
+    }
+}
