@@ -10,12 +10,11 @@ use Rattle.std.proofs.lemmas.List.Sums.{sum_by_more_le}
 use Rattle.pmp_core.specs.declared.access.Access.{Access}
 use Rattle.pmp_core.specs.declared.decision.Decision.{Decision}
 use Rattle.pmp_core.specs.declared.event.Event.{Event}
-use Rattle.pmp_core.specs.Size.{count_of}
 use Rattle.pmp_core.specs.Decision.{IsDecision}
 use Rattle.pmp_core.specs.Histories.{joined}
-use Rattle.pmp_core.specs.ReachableLaw.{LegalLaw}
 use Rattle.pmp_core.specs.Ranges.{decision_of}
-use Rattle.pmp_core.specs.RegisterFile.{HasAddresses, RegisterFile, reset_file}
+use Rattle.pmp_core.specs.RegisterFile.{HasAddresses, IsLegal, RegisterFile}
+use Rattle.pmp_core.proofs.Legal.{legal_addresses, replay_legal_from}
 use Rattle.pmp_share.specs.declared.room.TheConstants.{HISTORY_LIMIT}
 use Rattle.pmp_share.specs.Batches.{Batches, event_count, file_from}
 use Rattle.pmp_share.specs.Room.{has_room}
@@ -80,7 +79,7 @@ module _ (script : ScriptContents) where
         ∙ ap (λ (l : List Row). take n rows ++ l) (drop-take n m rows)
 
     pub decided_next : (after : ℕ) (base : RegisterFile) (published : Batches) (decided new : List Decision)
-        → AreDecidedSoFar script rows after decided → base ≡ reset_file (count_of script.size)
+        → AreDecidedSoFar script rows after decided → base ≡ script.start
         → published ≡ take after script.batches
         → new ≡ decided ++ decided_in (file_from base published) (asking after (drop (length decided) rows))
         → AreDecidedSoFar script rows (after + 1) new
@@ -93,7 +92,7 @@ module _ (script : ScriptContents) where
         let f = decision_for script in
         let now : new ≡ decided ++ map f front =
         added ∙ ap (λ (f : RegisterFile). decided ++ decided_in (file_from f published) front) based
-        ∙ ap (λ (p : Batches). decided ++ decided_in (file_from (reset_file (count_of script.size)) p) front) done
+        ∙ ap (λ (p : Batches). decided ++ decided_in (file_from script.start p) front) done
         ∙ ap (λ (l : List Decision). decided ++ l) next.decisions in
         let many : length new ≡ n + m =
         ap (λ (l : List Decision). length l) now ∙ length-append decided (map f front)
@@ -141,14 +140,15 @@ module _ (script : ScriptContents) where
 
 -- what is computed from an entry's ranges is the manual's decision
 abbrev pub ByRanges : Type 0
-ByRanges = (file : RegisterFile) (access : Access) → HasAddresses file.entries
+ByRanges = (file : RegisterFile) (access : Access) → HasAddresses file
     → IsDecision file access (decision_of file access)
 
-pub are_decided : LegalLaw → ByRanges → (script : ScriptContents) (rows : List Row)
+pub are_decided : ByRanges → (script : ScriptContents) → IsLegal script.start → (rows : List Row)
     → AreDecided script rows (map (decision_for script) rows)
-are_decided legal by_ranges script [] = tt
-are_decided legal by_ranges script (row ∷ rows) = (
+are_decided by_ranges script legal [] = tt
+are_decided by_ranges script legal (row ∷ rows) = (
   by_ranges (file_of_script script row.after) row.access
-      (legal (count_of script.size) (joined (take row.after script.batches))).addresses,
-  are_decided legal by_ranges script rows,
+      (legal_addresses (file_of_script script row.after)
+      (replay_legal_from script.start legal (joined (take row.after script.batches)))),
+  are_decided by_ranges script legal rows,
 )

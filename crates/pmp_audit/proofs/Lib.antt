@@ -8,6 +8,7 @@ pub mod Lists
 pub mod LongReports
 pub mod LongParts
 pub mod LongListings
+pub mod FilesBetween
 pub mod LongAudits
 pub mod LongSteps
 pub mod LongPieces
@@ -24,4 +25,5 @@ pub mod PolicySteps
 pub mod PolicySearch
 pub mod PolicyVerdicts
 pub mod OnePolicyAnswer
+pub mod Differences
 pub mod OneDifference

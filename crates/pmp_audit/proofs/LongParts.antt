@@ -1,5 +1,5 @@
 -- Two parts of a piece, of which each was read apart, are the piece.
-use Rattle.std.proofs.Common.{◌≡◌, ℕ, zero, suc, ◌+◌, ◌^◌, ◌<◌, Bool, true, false, cond, List, [], ◌∷◌, ◌++◌, length}
+use Rattle.std.proofs.Common.{◌≡◌, ℕ, suc, ◌+◌, ◌<◌, true, false, cond, List, [], ◌∷◌, ◌++◌, length}
 use Rattle.std.proofs.Common.{map, Option, Some, None, Result, Ok, Err, refl, sym, ap, ◌∙◌, arith, take, drop}
 use Rattle.std.proofs.Common.{get_or}
 use Rattle.std.specs.Prelude.{◌==◌, filter_map, option_map, slice_get, IfOk, Vec}

@@ -20,7 +20,8 @@ one_difference one_list old old_after new new_after only one other text another 
     let olds = one_file old old_after said.old_file too.old_file said.old_gives too.old_gives in
     let news = one_file new new_after said.new_file too.new_file said.new_gives too.new_gives in
     let runs =
-    one_list too.old_file too.new_file said.runs too.runs (rw (olds, news) at said.runs_are) too.runs_are in (
-      said.counted ∙ ap (change_count only) runs ∙ sym too.counted,
-      said.text_is ∙ ap (change_rows only) runs ∙ sym too.text_is,
+    one_list too.old_file too.new_file said.changes.runs too.changes.runs (rw (olds, news) at said.changes.runs_are)
+    too.changes.runs_are in (
+      said.changes.counted ∙ ap (change_count only) runs ∙ sym too.changes.counted,
+      said.changes.text_is ∙ ap (change_rows only) runs ∙ sym too.changes.text_is,
     )

@@ -5,7 +5,6 @@ use Rattle.std.specs.List.{flat_map, range_with_len, slice_index_or}
 use Rattle.pmp_core.specs.declared.event.Event.{Event}
 use Rattle.pmp_core.specs.declared.span.Span.{Span}
 use Rattle.pmp_core.specs.RegisterFile.{RegisterFile, is_frozen, is_held}
-use Rattle.pmp_core.specs.Size.{count_of}
 use Rattle.pmp_core.specs.SpanLaw.{OneSpanLaw}
 use Rattle.pmp_core.proofs.Decisions.{least_once}
 use Rattle.pmp_text.specs.declared.lines.since.Since.{Since}
@@ -16,7 +15,9 @@ use Rattle.pmp_audit.specs.EntryList.{IsEntryList}
 use Rattle.pmp_audit.specs.Laws.{OneEntryListLaw}
 use Rattle.pmp_audit.specs.AskedFile.{asked_count}
 use Rattle.pmp_audit.specs.Since.{IsFrom, IsSince}
-use Rattle.pmp_core.proofs.Legal.{length-file_after}
+use Rattle.pmp_core.specs.RegisterFile.{IsLegal}
+use Rattle.pmp_text.proofs.Starts.{legal_start}
+use Rattle.pmp_audit.proofs.EntriesSince.{same_entries}
 
 -- pieces that are alike, place by place
 same_pieces : (one other : ℕ → List ℕ) (from count : ℕ) → ((i : ℕ) → i < from + count → one i ≡ other i)
@@ -27,17 +28,17 @@ same_pieces one other from (suc count) same =
     let rest = same_pieces one other (from + 1) count (λ i below. same i (omega arith)) in
     cc
 
-one_since : (n : ℕ) (batches : List (List Event)) (i : ℕ) (one other : Since) → IsSince n batches i one
-    → IsSince n batches i other → one ≡ other
-one_since n batches i one other is also =
+one_since : (start : RegisterFile) (batches : List (List Event)) (i : ℕ) (one other : Since) → IsSince start batches i one
+    → IsSince start batches i other → one ≡ other
+one_since start batches i one other is also =
     ap (λ (k : Option ℕ). record one { frozen = k })
-    (least_once (IsFrom is_frozen n batches i) one.frozen other.frozen is.frozen also.frozen)
+    (least_once (IsFrom is_frozen start batches i) one.frozen other.frozen is.frozen also.frozen)
     ∙ ap (λ (k : Option ℕ). record other { held = k })
-    (least_once (IsFrom is_held n batches i) one.held other.held is.held also.held)
+    (least_once (IsFrom is_held start batches i) one.held other.held is.held also.held)
 
 module _ (one_span : OneSpanLaw) where
-  module _ (script : ScriptContents) (done : ℕ) (text other : List ℕ) (one : IsEntryList script done text)
-      (two : IsEntryList script done other) where
+  module _ (script : ScriptContents) (legal : IsLegal script.start) (done : ℕ) (text other : List ℕ)
+      (one : IsEntryList script done text) (two : IsEntryList script done other) where
     abbrev file_shown : RegisterFile
     file_shown = file_of_script script done
 
@@ -48,11 +49,11 @@ module _ (one_span : OneSpanLaw) where
         → row_shown i (one.rows.span i) (slice_index_or one.since i no_since)
         ≡ row_shown i (two.rows.span i) (slice_index_or two.since i no_since)
     same_row i below =
-        let n = count_of script.size in
+        let start = script.start in
         let batches = take done script.batches in
-        let inside : i < n = omega (arith, length-file_after n batches) in
-        let span = one_span file_shown.entries i _ _ (one.rows.spans i below) (two.rows.spans i below) in
-        let since = one_since n batches i _ _ (one.since_are i inside) (two.since_are i inside) in
+        let inside : i < start.profile.entries = omega (arith, below, same_entries start legal batches file_shown refl) in
+        let span = one_span file_shown i _ _ (one.rows.spans i below) (two.rows.spans i below) in
+        let since = one_since start batches i _ _ (one.since_are i inside) (two.since_are i inside) in
         ap (λ (s : Option Span). row_shown i s (slice_index_or one.since i no_since)) span
         ∙ ap (λ (s : Since). row_shown i (two.rows.span i) s) since
 
@@ -68,4 +69,4 @@ module _ (one_span : OneSpanLaw) where
   one_entry_list script after text other one two =
       let same : two.contents ≡ one.contents = let both = sym two.script_means ∙ one.script_means in cc in
       let two_is = subst (λ contents. IsEntryList contents (asked_count after contents) other) same two.text_is in
-      same_list one.contents (asked_count after one.contents) text other one.text_is two_is
+      same_list one.contents (legal_start script one.contents one.script_means) (asked_count after one.contents) text other one.text_is two_is

@@ -5,7 +5,6 @@ use Rattle.std.proofs.Math.Bridge.{le_prop}
 use Rattle.std.proofs.lemmas.Bool.{cases_lt, false≢true}
 use Rattle.std.specs.Prelude.{IsSome}
 use Rattle.pmp_core.specs.declared.access.TheConstants.{ADDRESS_LIMIT}
-use Rattle.pmp_core.specs.declared.entry.Entry.{Entry}
 use Rattle.pmp_core.specs.Matching.{Matches}
 use Rattle.pmp_core.specs.RegisterFile.{RegisterFile}
 use Rattle.pmp_core.proofs.Decisions.{least_once}
@@ -31,9 +30,9 @@ same_run one other first last owner =
     ∙ ap (λ (n : ℕ). record { first = other.first; last = n; owner = one.owner }) last
     ∙ ap (λ (o : Option ℕ). record { first = other.first; last = other.last; owner = o }) owner
 
-module _ (entries : List Entry) (IsSo : ℕ → Type 0) (row : PolicyRow) where
+module _ (file : RegisterFile) (IsSo : ℕ → Type 0) (row : PolicyRow) where
   abbrev First : Run → Type 0
-  First run = IsFirstRun entries IsSo row run
+  First run = IsFirstRun file IsSo row run
 
   begins_by : (one other : Run) → First one → First other → one.first ≤ other.first
   begins_by one other is too = elim (cases_lt other.first one.first) [
@@ -46,7 +45,7 @@ module _ (entries : List Entry) (IsSo : ℕ → Type 0) (row : PolicyRow) where
     same_first = let here = begins_by one other is too in let there = begins_by other one too is in omega arith
 
     same_owner : one.owner ≡ other.owner
-    same_owner = least_once (λ i. Matches entries i one.first) one.owner other.owner
+    same_owner = least_once (λ i. Matches file i one.first) one.owner other.owner
         (is.owned one.first (omega arith, is.proper))
         (too.owned one.first (omega (arith, same_first), omega (arith, same_first, too.proper)))
 
@@ -64,7 +63,7 @@ module _ (entries : List Entry) (IsSo : ℕ → Type 0) (row : PolicyRow) where
       let there = ends_by other one too is in
       same_run one other (same_first one other is too) (omega arith) (same_owner one other is too)
 
-  pub one_first : (one other : Option Run) → IsFirstOf entries IsSo row one → IsFirstOf entries IsSo row other
+  pub one_first : (one other : Option Run) → IsFirstOf file IsSo row one → IsFirstOf file IsSo row other
       → one ≡ other
   one_first None None is too = refl
   one_first None (Some run) is too =
@@ -102,7 +101,7 @@ module _ (state : ℕ → RegisterFile) (row : PolicyRow) (from to : ℕ) where
       let there = breaks_by other one too is in
       let done : one.done ≡ other.done = omega arith in
       let moved = subst (λ (n : ℕ). IsFirstIn (state n) row (Some one.run)) done is.here in
-      let runs = one_first (state other.done).entries (IsBroken (state other.done) row) row (Some one.run)
+      let runs = one_first (state other.done) (IsBroken (state other.done) row) row (Some one.run)
       (Some other.run) moved too.here in
       same_breach one other done cc
 
@@ -116,19 +115,19 @@ module _ (state : ℕ → RegisterFile) (row : PolicyRow) (from to : ℕ) where
   one_of_all (Some one) (Some other) is too = ap Some (same_breaches one other is too)
 
   loose_of : Option Run → Type 0
-  loose_of run = IsFirstOf (state to).entries (IsLoose (state to) row) row run
+  loose_of run = IsFirstOf (state to) (IsLoose (state to) row) row run
 
   one_loose : (one other : Option Breach) → IsFirstLoose state row to one → IsFirstLoose state row to other
       → one ≡ other
   one_loose None None is too = refl
   one_loose None (Some breach) is too =
       absurd (none_is_some breach.run
-      (one_first (state to).entries (IsLoose (state to) row) row None (Some breach.run) is too.1))
+      (one_first (state to) (IsLoose (state to) row) row None (Some breach.run) is too.1))
   one_loose (Some breach) None is too =
       absurd (none_is_some breach.run
-      (one_first (state to).entries (IsLoose (state to) row) row None (Some breach.run) too is.1))
+      (one_first (state to) (IsLoose (state to) row) row None (Some breach.run) too is.1))
   one_loose (Some one) (Some other) is too =
-      let runs = one_first (state to).entries (IsLoose (state to) row) row (Some one.run) (Some other.run) is.1 too.1 in
+      let runs = one_first (state to) (IsLoose (state to) row) row (Some one.run) (Some other.run) is.1 too.1 in
       ap Some (same_breach one other (is.0 ∙ sym too.0) cc)
 
   -- a row without a breach has none

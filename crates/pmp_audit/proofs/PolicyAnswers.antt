@@ -1,7 +1,6 @@
 -- What a policy asks of a byte is answered by its owner.
-use Rattle.std.proofs.Common.{◌≡◌, ℕ, ◌+◌, ◌<◌, ◌≤◌, Bool, true, false, not, length, Option, Some, None, refl, sym, ap}
-use Rattle.std.proofs.Common.{subst, ◌∙◌, inl, inr, arith}
-use Rattle.std.specs.Prelude.{unwrap_or}
+use Rattle.std.proofs.Common.{◌≡◌, ℕ, ◌+◌, ◌<◌, Bool, true, false, not, length, Option, None, refl, sym, ap}
+use Rattle.std.proofs.Common.{subst, ◌∙◌, inl, inr}
 use Rattle.std.specs.List.{list_all, range_with_len}
 use Rattle.std.proofs.lemmas.Bool.{and_from, and_parts, false≢true, not-false, not-true, or_cases, or_left, or_right}
 use Rattle.pmp_core.specs.declared.access.Kind.{Kind}
@@ -11,10 +10,7 @@ use Rattle.pmp_core.specs.declared.access.Mode.TheVariants.{M, S, U}
 use Rattle.pmp_core.specs.declared.access.TheConstants.{ADDRESS_LIMIT}
 use Rattle.pmp_core.specs.Decision.{IsOwner}
 use Rattle.pmp_core.specs.Matching.{Matches}
-use Rattle.pmp_core.specs.declared.size.Size.{Size}
-use Rattle.pmp_core.specs.declared.size.Size.TheVariants.{Sixteen, SixtyFour}
 use Rattle.pmp_core.specs.RegisterFile.{RegisterFile, is_frozen, is_held}
-use Rattle.pmp_core.specs.Size.{count_of}
 use Rattle.pmp_core.proofs.Decisions.{least_once}
 use Rattle.pmp_map.specs.Answers.{owned_rights}
 use Rattle.pmp_map.specs.OpenBytes.{IsAnswered, holds}
@@ -39,7 +35,7 @@ so_given false true same = absurd (false≢true same)
 so_given false false same = refl
 
 module _ (file : RegisterFile) (row : PolicyRow) (byte : ℕ) (owner : Option ℕ) (inside : byte < ADDRESS_LIMIT)
-    (owned : IsOwner file.entries byte owner) where
+    (owned : IsOwner file byte owner) where
   module _ (allowed : Bool) where
     found_kind : (mode : Mode) (kind : Kind) → has_mode row.modes mode ≡ true
         → finds_kind allowed (owned_rights file owner mode) row.kinds kind ≡ true → IsFound allowed file row byte
@@ -91,8 +87,8 @@ module _ (file : RegisterFile) (row : PolicyRow) (byte : ℕ) (owner : Option �
         let so = so_given allowed _ (answer_by_owner file byte owner allowed mode kind owned answered) in
         finds_by_mode mode (and_from _ _ named (finds_by_kind mode kind (and_from _ _ has so)))
 
-  same_owner : (other : Option ℕ) → IsOwner file.entries byte other → other ≡ owner
-  same_owner other is = least_once (λ i. Matches file.entries i byte) other owner is owned
+  same_owner : (other : Option ℕ) → IsOwner file byte other → other ≡ owner
+  same_owner other is = least_once (λ i. Matches file i byte) other owner is owned
 
   loose : not (holds file owner) ≡ true → IsLoose file row byte
   loose free (other, is, held) =
@@ -107,13 +103,5 @@ module _ (file : RegisterFile) (row : PolicyRow) (byte : ℕ) (owner : Option �
   no_by_owner question.IsLoose answer free = free (owner, owned, not-false _ answer)
 
 -- where all entries up to the last are frozen, all are
-pub held_or_all : (file : RegisterFile) (owner : Option ℕ) (last place : ℕ) → last + 1 ≡ length file.entries
-    → place ≡ unwrap_or owner last → is_held file place ≡ holds file owner
-held_or_all file None last place count at =
-    ap (λ (n : ℕ). list_all (is_frozen file) (range_with_len 0 (n + 1))) at
-    ∙ ap (λ (n : ℕ). list_all (is_frozen file) (range_with_len 0 n)) count
-held_or_all file (Some i) last place count at = ap (is_held file) at
-
-pub one_entry_at_least : (size : Size) → 1 ≤ count_of size
-one_entry_at_least Sixteen = omega arith
-one_entry_at_least SixtyFour = omega arith
+pub all_up_to : (file : RegisterFile) (last : ℕ) → last + 1 ≡ length file.entries → is_held file last ≡ holds file None
+all_up_to file last count = ap (λ (n : ℕ). list_all (is_frozen file) (range_with_len 0 n)) count

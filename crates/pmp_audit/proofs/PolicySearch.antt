@@ -10,11 +10,11 @@ use Rattle.pmp_audit.specs.PolicyQuestions.{IsYes}
 
 -- what was found in a file was found in the state that it is
 pub found_in : (asked : Question) (row : PolicyRow) (file state : RegisterFile) (found is : Option Run) → file ≡ state
-    → found ≡ is → IsFirstOf file.entries (IsYes asked file row) row found
-    → IsFirstOf state.entries (IsYes asked state row) row is
+    → found ≡ is → IsFirstOf file (IsYes asked file row) row found
+    → IsFirstOf state (IsYes asked state row) row is
 found_in asked row file state found is same given here =
-    let there = subst (λ (f : RegisterFile). IsFirstOf f.entries (IsYes asked f row) row found) same here in
-    subst (λ (r : Option Run). IsFirstOf state.entries (IsYes asked state row) row r) given there
+    let there = subst (λ (f : RegisterFile). IsFirstOf f (IsYes asked f row) row found) same here in
+    subst (λ (r : Option Run). IsFirstOf state (IsYes asked state row) row r) given there
 
 -- one state more without a breach
 pub none_before : (state : ℕ → RegisterFile) (row : PolicyRow) (from done : ℕ)

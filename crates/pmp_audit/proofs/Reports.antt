@@ -4,8 +4,7 @@ use Rattle.std.proofs.Common.{get_or, take, drop, refl, sym, ap, ◌∙◌, appe
 use Rattle.std.specs.Prelude.{count_by}
 use Rattle.std.specs.List.{enumerate_from, flat_map, zip}
 use Rattle.std.proofs.lemmas.List.{append-nil, drop_more, flat_map_more, length-append, length-take, take_more}
-use Rattle.std.proofs.lemmas.List.Sums.{count_by-le-length, sum_by-append}
-use Rattle.std.proofs.lemmas.Slice.Zip.{AllZip-long, all_zipped_more}
+use Rattle.std.proofs.lemmas.List.Sums.{sum_by-append}
 use Rattle.pmp_core.specs.declared.decision.Decision.{Decision}
 use Rattle.pmp_core.specs.Decision.{IsDecision}
 use Rattle.pmp_text.specs.declared.trace.Row.{Row}

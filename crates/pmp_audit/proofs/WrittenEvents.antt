@@ -8,14 +8,14 @@ use Rattle.std.proofs.lemmas.List.Concat.{flat_map-append}
 use Rattle.std.proofs.lemmas.List.Sums.{sum_by-cons}
 use Rattle.std.proofs.lemmas.Slice.Zip.{length-zip, get_or-zip}
 use Rattle.pmp_core.specs.declared.event.Event.{Event}
-use Rattle.pmp_core.specs.RegisterFile.{RegisterFile, reset_file}
+use Rattle.pmp_core.specs.RegisterFile.{RegisterFile}
 use Rattle.pmp_core.specs.RegisterWrite.{step}
 use Rattle.pmp_text.specs.Contents.{ScriptContents}
 use Rattle.pmp_text.specs.Effects.{effect_row}
 use Rattle.pmp_text.proofs.Words.{range_more}
-use Rattle.pmp_audit.specs.declared.write_list.WriteSummary.{WriteSummary}
+use Rattle.pmp_audit.specs.declared.write_list.EventSummary.{EventSummary}
 use Rattle.pmp_audit.specs.WriteList.{PlacedEvent, placed, events_of, file_before, rows_text, is_not_stored}
-use Rattle.pmp_audit.specs.WriteList.{write_summary}
+use Rattle.pmp_audit.specs.WriteList.{event_summary}
 use Rattle.pmp_audit.specs.EventRows.{file_left, rows_from, turned_from, Written, AreWritten}
 
 -- ---- more events
@@ -98,34 +98,34 @@ one_written from to it row file counted turned = record {
 
 -- ---- by places
 
-module _ (n : ℕ) where
+module _ (start : RegisterFile) where
   abbrev row_at : List PlacedEvent → (k : ℕ) → PlacedEvent → List ℕ
   row_at events k it = effect_row (record {
     number = k + 1;
     publication = it.publication;
     line = it.line;
-  }) (file_before n events k) it.event
+  }) (file_before start events k) it.event
 
   there : (before rest : List PlacedEvent) (it : PlacedEvent)
-      → file_before n (before ++ it ∷ rest) (length before) ≡ file_left (reset_file n) before
+      → file_before start (before ++ it ∷ rest) (length before) ≡ file_left start before
   there before rest it =
-      ap (file_left (reset_file n)) (take-append-le (length before) before (it ∷ rest) (omega arith)
+      ap (file_left start) (take-append-le (length before) before (it ∷ rest) (omega arith)
       ∙ take_all (length before) before (omega arith))
 
   module _ (it : PlacedEvent) (before rest : List PlacedEvent) where
     moved : (before ++ it ∷ []) ++ rest ≡ before ++ it ∷ rest
     moved = append_assoc before (it ∷ []) rest
 
-    next_file : file_left (reset_file n) (before ++ it ∷ []) ≡ step (file_left (reset_file n) before) it.event
-    next_file = left-append (reset_file n) before (it ∷ [])
+    next_file : file_left start (before ++ it ∷ []) ≡ step (file_left start before) it.event
+    next_file = left-append start before (it ∷ [])
 
   rows_by_place : (before rest : List PlacedEvent)
       → flat_map (λ (k, it). row_at (before ++ rest) k it) (enumerate_from (length before) rest)
-      ≡ rows_from (length before + 1) (file_left (reset_file n) before) rest
+      ≡ rows_from (length before + 1) (file_left start before) rest
   rows_by_place before [] = refl
   rows_by_place before (it ∷ rest) =
       let all = before ++ it ∷ rest in
-      let file = file_left (reset_file n) before in
+      let file = file_left start before in
       let row : RegisterFile → List ℕ = λ f. effect_row (record {
         number = length before + 1;
         publication = it.publication;
@@ -140,33 +140,33 @@ module _ (n : ℕ) where
       ∙ ap (λ (l : List ℕ). row file ++ l) tail
 
   turned_by_place : (before rest : List PlacedEvent)
-      → count_by (λ (k, it). is_not_stored (file_before n (before ++ rest) k) it.event)
+      → count_by (λ (k, it). is_not_stored (file_before start (before ++ rest) k) it.event)
       (enumerate_from (length before) rest)
-      ≡ turned_from (file_left (reset_file n) before) rest
+      ≡ turned_from (file_left start before) rest
   turned_by_place before [] = refl
   turned_by_place before (it ∷ rest) =
       let all = before ++ it ∷ rest in
-      let file = file_left (reset_file n) before in
-      let more = count_by (λ (k, x). is_not_stored (file_before n all k) x.event)
+      let file = file_left start before in
+      let more = count_by (λ (k, x). is_not_stored (file_before start all k) x.event)
       (enumerate_from (length before + 1) rest) in
       let tail : more ≡ turned_from (step file it.event) rest =
       rw (moved it before rest, length_push before it, next_file it before rest) at
       (turned_by_place (before ++ it ∷ []) rest) in
-      sum_by-cons (λ (k, x). cond (is_not_stored (file_before n all k) x.event) 1 0)
+      sum_by-cons (λ (k, x). cond (is_not_stored (file_before start all k) x.event) 1 0)
       (length before, it) (enumerate_from (length before + 1) rest)
       ∙ ap (λ (f : RegisterFile). cond (is_not_stored f it.event) 1 0 + more) (there before rest it)
       ∙ ap (λ (m : ℕ). cond (is_not_stored file it.event) 1 0 + m) tail
 
-  pub rows_all : (events : List PlacedEvent) → rows_from 1 (reset_file n) events ≡ rows_text n events
+  pub rows_all : (events : List PlacedEvent) → rows_from 1 start events ≡ rows_text start events
   unfolding rows_text
   rows_all events = sym (rows_by_place [] events)
 
-  pub summary_all : (events : List PlacedEvent) (summary : WriteSummary) → summary.events ≡ 0 + length events
-      → summary.not_stored ≡ 0 + turned_from (reset_file n) events → summary ≡ write_summary n events
-  unfolding write_summary
+  pub summary_all : (events : List PlacedEvent) (summary : EventSummary) → summary.events ≡ 0 + length events
+      → summary.not_stored ≡ 0 + turned_from start events → summary ≡ event_summary start events
+  unfolding event_summary
   summary_all events summary all_counted all_turned =
       let counted : summary.events ≡ length events = omega arith in
-      let turned : summary.not_stored ≡ turned_from (reset_file n) events = omega arith in
+      let turned : summary.not_stored ≡ turned_from start events = omega arith in
       ap (λ (m : ℕ). record { events = m; not_stored = summary.not_stored }) counted
       ∙ ap (λ (m : ℕ). record { events = length events; not_stored = m })
       (turned ∙ sym (turned_by_place [] events))

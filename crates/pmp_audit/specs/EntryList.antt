@@ -1,6 +1,5 @@
 -- What a list of entries says.
 use Rattle.std.specs.Prelude.{ℕ, List, take}
-use Rattle.pmp_core.specs.Size.{count_of}
 use Rattle.pmp_text.specs.declared.lines.since.Since.{Since}
 use Rattle.pmp_text.specs.Contents.{ScriptContents}
 use Rattle.pmp_text.specs.EntryRows.{IsEntryText}
@@ -10,5 +9,5 @@ use Rattle.pmp_audit.specs.Since.{AreSince}
 -- a row for each entry of the file that so many publications give, with since when the entry is frozen and held
 pub record IsEntryList (script : ScriptContents) (done : ℕ) (text : List ℕ) : Type 0 where
   pub since : List Since
-  pub since_are : AreSince (count_of script.size) (take done script.batches) since
+  pub since_are : AreSince script.start (take done script.batches) since
   pub rows : IsEntryText (file_of_script script done) since text

@@ -3,7 +3,7 @@ use Rattle.std.specs.Prelude.{◌≡◌, ℕ, ◌+◌, List, [], ◌∷◌, ◌+
 use Rattle.pmp_core.specs.RegisterFile.{RegisterFile}
 use Rattle.pmp_core.specs.RegisterWrite.{step}
 use Rattle.pmp_text.specs.Effects.{effect_row}
-use Rattle.pmp_audit.specs.declared.write_list.WriteSummary.{WriteSummary}
+use Rattle.pmp_audit.specs.declared.write_list.EventSummary.{EventSummary}
 use Rattle.pmp_audit.specs.WriteList.{PlacedEvent, is_not_stored}
 
 abbrev pub file_left : RegisterFile → List PlacedEvent → RegisterFile
@@ -26,7 +26,7 @@ turned_from file (it ∷ rest) =
 pub record Written : Type 0 where
   pub text : List ℕ
   pub file : RegisterFile
-  pub summary : WriteSummary
+  pub summary : EventSummary
 
 -- these events were done from here to there and counted, and their rows joined the text
 pub record AreWritten (from to : Written) (events : List PlacedEvent) : Type 0 where

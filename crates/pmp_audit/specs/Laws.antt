@@ -2,14 +2,13 @@
 use Rattle.std.specs.Prelude.{◌≡◌, ℕ, ◌≤◌, false, List, take, Option, Some, None}
 use Rattle.pmp_core.specs.declared.decision.Decision.{Decision}
 use Rattle.pmp_core.specs.declared.event.Event.{Event}
-use Rattle.pmp_core.specs.RegisterFile.{is_frozen, is_held}
-use Rattle.pmp_core.specs.Histories.{file_after}
+use Rattle.pmp_core.specs.RegisterFile.{RegisterFile, IsLegal, is_frozen, is_held}
 use Rattle.pmp_core.specs.LockLaw.{StaysFrozen}
 use Rattle.pmp_core.specs.ProtectionLaw.{StaysProtected}
 use Rattle.pmp_text.specs.declared.lines.since.Since.{Since}
 use Rattle.pmp_text.specs.declared.trace.Row.{Row}
 use Rattle.pmp_text.specs.Contents.{ScriptContents}
-use Rattle.pmp_text.specs.Reports.{AreDecided}
+use Rattle.pmp_text.specs.Reports.{AreDecided, file_behind}
 use Rattle.pmp_text.specs.declared.lines.changes.Only.{Only}
 use Rattle.pmp_audit.specs.declared.policy_check.PolicySummary.{PolicySummary}
 use Rattle.pmp_audit.specs.declared.policy_check.steps.Pace.{Pace}
@@ -48,18 +47,18 @@ OneEntryListLaw = (script : List ℕ) (after : Option ℕ) (text other : List �
 
 -- with no number the entry isn't frozen in the end; with one, it is frozen after the first k batches and after any
 -- number from there on, with the same configuration and the same bytes
-abbrev pub IsKept : (n : ℕ) → List (List Event) → (i : ℕ) → Option ℕ → Type 0
-IsKept n batches i None = is_frozen (file_after n batches) i ≡ false
-IsKept n batches i (Some k) =
-    (done : ℕ) → k ≤ done → StaysFrozen (file_after n (take k batches)) (file_after n (take done batches)) i
+abbrev pub IsKept : (start : RegisterFile) → List (List Event) → (i : ℕ) → Option ℕ → Type 0
+IsKept start batches i None = is_frozen (file_behind start batches) i ≡ false
+IsKept start batches i (Some k) =
+    (done : ℕ) → k ≤ done → StaysFrozen (file_behind start (take k batches)) (file_behind start (take done batches)) i
 
 -- with no number the entry isn't held in the end; with one, what it and the entries before it decide after the first k
 -- batches is protected from there on
-abbrev pub Protects : (n : ℕ) → List (List Event) → (i : ℕ) → Option ℕ → Type 0
-Protects n batches i None = is_held (file_after n batches) i ≡ false
-Protects n batches i (Some k) =
-    (done : ℕ) → k ≤ done → StaysProtected (file_after n (take k batches)) (file_after n (take done batches)) i
+abbrev pub Protects : (start : RegisterFile) → List (List Event) → (i : ℕ) → Option ℕ → Type 0
+Protects start batches i None = is_held (file_behind start batches) i ≡ false
+Protects start batches i (Some k) =
+    (done : ℕ) → k ≤ done → StaysProtected (file_behind start (take k batches)) (file_behind start (take done batches)) i
 
 abbrev pub SinceLaw : Type 0
-SinceLaw = (n : ℕ) (batches : List (List Event)) (i : ℕ) (since : Since)
-    → IsSince n batches i since → IsKept n batches i since.frozen × Protects n batches i since.held
+SinceLaw = (start : RegisterFile) (batches : List (List Event)) (i : ℕ) (since : Since)
+    → IsLegal start → IsSince start batches i since → IsKept start batches i since.frozen × Protects start batches i since.held

@@ -7,6 +7,7 @@ pub mod LongAudit
 pub mod AskedFile
 pub mod View
 pub mod RightsDiff
+pub mod Expectations
 pub mod WriteList
 pub mod Since
 pub mod EntryList

@@ -1,15 +1,13 @@
 -- What the rows of a policy come to, by bytes and by states of the register file (Volume II, 3.7.1.3).
 use Rattle.std.specs.Prelude.{◌≡◌, ◌≢◌, ℕ, ◌+◌, ◌<◌, ◌≤◌, Bool, true, false, List, [], ◌∷◌, length, map, take, count_by}
-use Rattle.std.specs.Prelude.{Option, Some, None, IsSome, is_some, Ok, Err, ◌⊎◌}
+use Rattle.std.specs.Prelude.{Option, Some, None, IsSome, is_some, Ok, Err, ◌⊎◌, option_map}
 use Rattle.std.specs.List.{AllZip, enumerate_from, flat_map}
 use Rattle.pmp_core.specs.declared.access.Kind.{Kind}
 use Rattle.pmp_core.specs.declared.access.Mode.{Mode}
-use Rattle.pmp_core.specs.declared.entry.Entry.{Entry}
 use Rattle.pmp_core.specs.declared.event.Event.{Event}
 use Rattle.pmp_core.specs.Decision.{IsOwner}
-use Rattle.pmp_core.specs.Histories.{file_after, joined}
+use Rattle.pmp_core.specs.Histories.{joined}
 use Rattle.pmp_core.specs.RegisterFile.{RegisterFile}
-use Rattle.pmp_core.specs.Size.{count_of}
 use Rattle.pmp_map.specs.declared.run.Run.{Run}
 use Rattle.pmp_map.specs.OpenBytes.{IsAnswered, IsHeldByte}
 use Rattle.pmp_map.specs.Runs.{IsInRun}
@@ -20,8 +18,11 @@ use Rattle.pmp_text.specs.declared.policy.PolicyRow.{PolicyRow}
 use Rattle.pmp_text.specs.declared.trace.TraceFault.{TraceFault}
 use Rattle.pmp_text.specs.Contents.{ScriptContents}
 use Rattle.pmp_text.specs.Outcomes.{no_input_for_rows}
-use Rattle.pmp_text.specs.Policies.{has_kind, has_mode, policy_fields, policy_meaning}
+use Rattle.pmp_text.specs.declared.policy.row_fields.PolicyFields.{PolicyFields}
+use Rattle.pmp_text.specs.Policies.{has_kind, has_mode, policy_fields, policy_meaning, proper_fields_fault}
+use Rattle.pmp_text.specs.Reports.{file_behind}
 use Rattle.pmp_text.specs.Scripts.{script_meaning}
+use Rattle.pmp_text.specs.Tables.{at_row}
 use Rattle.pmp_text.specs.Verdicts.{verdict_row}
 use Rattle.pmp_audit.specs.declared.fault.AuditFault.{AuditFault}
 use Rattle.pmp_audit.specs.declared.fault.AuditFault.TheVariants.{Policy, Script}
@@ -43,7 +44,7 @@ step_count Events batches publications = length (joined (take publications batch
 
 -- the register file after so many steps
 abbrev pub state_after : Pace → ScriptContents → (done : ℕ) → RegisterFile
-state_after pace script done = file_after (count_of script.size) (take done (steps_of pace script.batches))
+state_after pace script done = file_behind script.start (take done (steps_of pace script.batches))
 
 -- ---- one state
 
@@ -68,25 +69,25 @@ abbrev pub IsLoose : RegisterFile → PolicyRow → (byte : ℕ) → Type 0
 IsLoose file row byte = ¬ (IsHeldByte file byte)
 
 -- the run begins at the first byte of the row's range that is so, and goes on in the range as far as its owner does
-pub record IsFirstRun (entries : List Entry) (IsSo : ℕ → Type 0) (row : PolicyRow) (run : Run) : Type 0 where
+pub record IsFirstRun (file : RegisterFile) (IsSo : ℕ → Type 0) (row : PolicyRow) (run : Run) : Type 0 where
   pub proper : run.first ≤ run.last
   pub from : row.first ≤ run.first
   pub to : run.last ≤ row.last
   pub all : (byte : ℕ) → IsInRun run byte → IsSo byte
   pub first : (byte : ℕ) → row.first ≤ byte → byte < run.first → ¬ (IsSo byte)
-  pub owned : (byte : ℕ) → IsInRun run byte → IsOwner entries byte run.owner
-  pub apart : run.last < row.last → (other : Option ℕ) → IsOwner entries (run.last + 1) other → run.owner ≢ other
+  pub owned : (byte : ℕ) → IsInRun run byte → IsOwner file byte run.owner
+  pub apart : run.last < row.last → (other : Option ℕ) → IsOwner file (run.last + 1) other → run.owner ≢ other
 
 -- that run, or none where no byte of the range is so
-abbrev pub IsFirstOf : (entries : List Entry) → (ℕ → Type 0) → PolicyRow → Option Run → Type 0
-IsFirstOf entries IsSo row None = (byte : ℕ) → row.first ≤ byte → byte ≤ row.last → ¬ (IsSo byte)
-IsFirstOf entries IsSo row (Some run) = IsFirstRun entries IsSo row run
+abbrev pub IsFirstOf : RegisterFile → (ℕ → Type 0) → PolicyRow → Option Run → Type 0
+IsFirstOf file IsSo row None = (byte : ℕ) → row.first ≤ byte → byte ≤ row.last → ¬ (IsSo byte)
+IsFirstOf file IsSo row (Some run) = IsFirstRun file IsSo row run
 
 -- ---- all states
 
 -- the first run that breaks the demand in this state, or none
 abbrev pub IsFirstIn : RegisterFile → PolicyRow → Option Run → Type 0
-IsFirstIn file row = IsFirstOf file.entries (IsBroken file row) row
+IsFirstIn file row = IsFirstOf file (IsBroken file row) row
 
 -- the first breach of the states from the one after so many steps to the one after so many: first in time, and then in
 -- address
@@ -103,9 +104,9 @@ IsFirstOfAll state row from to (Some breach) = IsFirstBreach state row from to b
 
 -- the first run that isn't held in the last state, or none
 abbrev pub IsFirstLoose : (state : ℕ → RegisterFile) → PolicyRow → (to : ℕ) → Option Breach → Type 0
-IsFirstLoose state row to None = IsFirstOf (state to).entries (IsLoose (state to) row) row None
+IsFirstLoose state row to None = IsFirstOf (state to) (IsLoose (state to) row) row None
 IsFirstLoose state row to (Some breach) =
-    (breach.done ≡ to) × IsFirstOf (state to).entries (IsLoose (state to) row) row (Some breach.run)
+    (breach.done ≡ to) × IsFirstOf (state to) (IsLoose (state to) row) row (Some breach.run)
 
 -- a hold is asked for where nothing is open
 abbrev pub IsVerdictBy : Demand → (state : ℕ → RegisterFile) → PolicyRow → (from to : ℕ) → Option Breach → Type 0
@@ -139,6 +140,25 @@ pub record PolicySays (pace : Pace) (script policy : List ℕ) (summary : Policy
   pub judged : AllZip (IsVerdict pace contents) rows verdicts
   pub text_is : text ≡ verdicts_text verdicts
   pub counted : summary ≡ policy_summary verdicts
+
+-- the script means this, the fields are a row beside it, and the text has the verdict on it, as row of this number
+pub record VerdictSays (pace : Pace) (script : List ℕ) (number : ℕ) (fields : PolicyFields) (verdict : Option Breach)
+    (text : List ℕ) : Type 0 where
+  pub contents : ScriptContents
+  pub script_means : script_meaning script ≡ Ok contents
+  pub row : PolicyRow
+  pub row_is : policy_fields row ≡ fields
+  pub proper : proper_fields_fault (length contents.batches) fields ≡ None
+  pub judged : IsVerdict pace contents row verdict
+  pub text_is : text ≡ verdict_row number verdict
+
+-- the script's own fault, then that of the row with this number
+abbrev pub VerdictRefuses : (script : List ℕ) → (number : ℕ) → PolicyFields → AuditFault → Type 0
+VerdictRefuses script number fields (Script fault) = script_meaning script ≡ Err fault
+VerdictRefuses script number fields (Policy fault) =
+    (contents : ScriptContents) × (script_meaning script ≡ Ok contents)
+    × (option_map (at_row number) (proper_fields_fault (length contents.batches) fields) ≡ Some fault)
+VerdictRefuses script number fields _ = ⊥
 
 -- the script has no fault, and the policy has this one, or its input failed
 pub record IsFaultyPolicy (script policy : List ℕ) (fault : TraceFault) : Type 0 where

@@ -20,18 +20,21 @@ pub record GivesFile (script : List ℕ) (after : Option ℕ) (file : RegisterFi
   pub within : asked_count after contents ≤ length contents.batches
   pub file_is : file ≡ file_of_script contents (asked_count after contents)
 
--- both scripts give a file, the text has a row for each of the longest ranges of bytes where these differ as is asked,
--- and the rows are counted
+-- the text has a row for each of the longest ranges of bytes where the files differ as is asked, and they are counted
+pub record ChangesSay (old new : RegisterFile) (only : Option Only) (rows : ℕ) (text : List ℕ) : Type 0 where
+  pub runs : List RightsRun
+  pub runs_are : AreRightsRuns old new runs
+  pub text_is : text ≡ change_rows only runs
+  pub counted : rows ≡ change_count only runs
+
+-- both scripts give a file, and the text says where these differ as is asked
 pub record DiffSays (old : List ℕ) (old_after : Option ℕ) (new : List ℕ) (new_after : Option ℕ) (only : Option Only)
     (rows : ℕ) (text : List ℕ) : Type 0 where
   pub old_file : RegisterFile
   pub new_file : RegisterFile
   pub old_gives : GivesFile old old_after old_file
   pub new_gives : GivesFile new new_after new_file
-  pub runs : List RightsRun
-  pub runs_are : AreRightsRuns old_file new_file runs
-  pub text_is : text ≡ change_rows only runs
-  pub counted : rows ≡ change_count only runs
+  pub changes : ChangesSay old_file new_file only rows text
 
 -- the new script is refused as any is, where the old one gives a file
 abbrev pub NewRefuses : (old : List ℕ) → (old_after : Option ℕ) → (new : List ℕ) → (new_after : Option ℕ)

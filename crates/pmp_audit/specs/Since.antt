@@ -4,21 +4,22 @@ use Rattle.std.specs.List.{list_all, slice_index_or}
 use Rattle.pmp_core.specs.declared.event.Event.{Event}
 use Rattle.pmp_core.specs.RegisterFile.{RegisterFile, is_frozen, is_held}
 use Rattle.pmp_core.specs.Decision.{IsLeast}
-use Rattle.pmp_core.specs.Histories.{joined, file_after}
+use Rattle.pmp_core.specs.Histories.{joined}
 use Rattle.pmp_core.specs.Histories.{is_write}
 use Rattle.pmp_text.specs.declared.lines.since.Since.{Since}
 use Rattle.pmp_text.specs.EntryRows.{no_since}
+use Rattle.pmp_text.specs.Reports.{file_behind}
 
--- in a unit of n entries, entry i is so after the first k batches, and the batches behind them hold no reset
-pub record IsFrom (is_so : RegisterFile → ℕ → Bool) (n : ℕ) (batches : List (List Event)) (i k : ℕ) : Type 0 where
-  pub after : is_so (file_after n (take k batches)) i ≡ true
+-- in a unit that begins with this file, entry i is so after the first k batches, and the batches behind them hold no reset
+pub record IsFrom (is_so : RegisterFile → ℕ → Bool) (start : RegisterFile) (batches : List (List Event)) (i k : ℕ) : Type 0 where
+  pub after : is_so (file_behind start (take k batches)) i ≡ true
   pub writes : list_all is_write (joined (drop k batches)) ≡ true
 
 -- the least such k, or none: since when the entry is frozen, and since when it is held
-pub record IsSince (n : ℕ) (batches : List (List Event)) (i : ℕ) (since : Since) : Type 0 where
-  pub frozen : IsLeast (IsFrom is_frozen n batches i) since.frozen
-  pub held : IsLeast (IsFrom is_held n batches i) since.held
+pub record IsSince (start : RegisterFile) (batches : List (List Event)) (i : ℕ) (since : Since) : Type 0 where
+  pub frozen : IsLeast (IsFrom is_frozen start batches i) since.frozen
+  pub held : IsLeast (IsFrom is_held start batches i) since.held
 
 -- the list has it for each of the entries
-abbrev pub AreSince : (n : ℕ) → List (List Event) → List Since → Type 0
-AreSince n batches since = (i : ℕ) → i < n → IsSince n batches i (slice_index_or since i no_since)
+abbrev pub AreSince : (start : RegisterFile) → List (List Event) → List Since → Type 0
+AreSince start batches since = (i : ℕ) → i < start.profile.entries → IsSince start batches i (slice_index_or since i no_since)

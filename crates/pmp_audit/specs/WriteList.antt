@@ -1,19 +1,19 @@
 -- What is said of a script's events, and when that is refused.
-use Rattle.std.specs.Prelude.{◌≡◌, ℕ, ◌+◌, ◌==◌, Bool, false, not, List, [], length, map, take, count_by, Ok, Err}
+use Rattle.std.specs.Prelude.{◌≡◌, ℕ, ◌+◌, ◌==◌, Bool, false, not, List, [], ◌++◌, length, map, take, count_by, fold, Ok, Err}
 use Rattle.std.specs.List.{enumerate_from, flat_map, range_with_len, slice_index_or, zip}
 use Rattle.pmp_core.specs.declared.event.Event.{Event}
 use Rattle.pmp_core.specs.declared.event.Event.TheVariants.{Write, Reset}
-use Rattle.pmp_core.specs.Histories.{replay}
 use Rattle.pmp_core.specs.RegisterFile.{RegisterFile}
 use Rattle.pmp_core.specs.RegisterValue.{register_value}
-use Rattle.pmp_core.specs.RegisterWrite.{written}
-use Rattle.pmp_core.specs.Size.{count_of}
+use Rattle.pmp_core.specs.RegisterWrite.{step, written}
 use Rattle.pmp_text.specs.Contents.{ScriptContents}
 use Rattle.pmp_text.specs.Effects.{effect_row}
 use Rattle.pmp_text.specs.Scripts.{script_meaning}
 use Rattle.pmp_audit.specs.declared.fault.AuditFault.{AuditFault}
 use Rattle.pmp_audit.specs.declared.fault.AuditFault.TheVariants.{Script}
+use Rattle.pmp_audit.specs.declared.write_list.EventSummary.{EventSummary}
 use Rattle.pmp_audit.specs.declared.write_list.WriteSummary.{WriteSummary}
+use Rattle.pmp_audit.specs.Expectations.{differing, expected_rows}
 
 -- an event of a script, with the number of its publication and that of its line
 pub record PlacedEvent : Type 0 where
@@ -37,15 +37,15 @@ abbrev pub placed_events : ScriptContents → List PlacedEvent
 placed_events script = events_of script (length script.batches)
 
 -- the register file that the first k of these events leave
-abbrev pub file_before : (n : ℕ) → List PlacedEvent → (k : ℕ) → RegisterFile
-file_before n events k = replay n (map (λ it. it.event) (take k events))
+abbrev pub file_before : (start : RegisterFile) → List PlacedEvent → (k : ℕ) → RegisterFile
+file_before start events k = fold step start (map (λ it. it.event) (take k events))
 
 -- a row for each event, numbered from 1, in the file that the events before it leave
-unfoldable pub rows_text : (n : ℕ) → List PlacedEvent → List ℕ
-rows_text n events =
+unfoldable pub rows_text : (start : RegisterFile) → List PlacedEvent → List ℕ
+rows_text start events =
     flat_map (λ (k, it).
     effect_row (record { number = k + 1; publication = it.publication; line = it.line })
-    (file_before n events k) it.event)
+    (file_before start events k) it.event)
     (enumerate_from 0 events)
 
 -- a write that isn't stored as written, so that it has a reason
@@ -54,18 +54,33 @@ is_not_stored file (Write csr value) = not (register_value (written file csr val
 is_not_stored file Reset = false
 
 -- how many events there are, and how many of them are such writes
-unfoldable pub write_summary : (n : ℕ) → List PlacedEvent → WriteSummary
-write_summary n events = record {
+unfoldable pub event_summary : (start : RegisterFile) → List PlacedEvent → EventSummary
+event_summary start events = record {
   events = length events;
-  not_stored = count_by (λ (k, it). is_not_stored (file_before n events k) it.event) (enumerate_from 0 events);
+  not_stored = count_by (λ (k, it). is_not_stored (file_before start events k) it.event) (enumerate_from 0 events);
 }
 
--- the script means this, the text has a row for each of its events, and they are counted
+-- the rows of events, and behind them those of what is expected
+abbrev pub all_rows : ScriptContents → List ℕ
+all_rows script = rows_text script.start (placed_events script) ++ expected_rows script script.expectations
+
+-- what is counted of both
+abbrev pub write_summary : ScriptContents → WriteSummary
+write_summary script =
+    let of_events = event_summary script.start (placed_events script) in
+    record {
+      events = of_events.events;
+      not_stored = of_events.not_stored;
+      expectations = length script.expectations;
+      differing = differing script script.expectations;
+    }
+
+-- the script means this, the text has a row for each of its events and of its expectations, and they are counted
 pub record WritesSay (script : List ℕ) (summary : WriteSummary) (text : List ℕ) : Type 0 where
   pub contents : ScriptContents
   pub script_means : script_meaning script ≡ Ok contents
-  pub rows : text ≡ rows_text (count_of contents.size) (placed_events contents)
-  pub counted : summary ≡ write_summary (count_of contents.size) (placed_events contents)
+  pub rows : text ≡ all_rows contents
+  pub counted : summary ≡ write_summary contents
 
 -- the script's own fault
 abbrev pub WritesRefuse : (script : List ℕ) → AuditFault → Type 0

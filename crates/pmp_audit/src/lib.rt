@@ -5,6 +5,7 @@
 mod access_check;
 mod answer;
 mod asked_count;
+mod expectations;
 mod fault;
 mod gate;
 pub mod laws;
@@ -23,8 +24,8 @@ pub use access_check::{append_check, check};
 pub use fault::{AuditFault, Side};
 pub use gate::{Gate, OpenGate};
 pub use long_audit::{PIECE, audit_long};
-pub use policy_check::{Pace, PolicySummary, check_policy};
-pub use rights_diff::diff;
+pub use policy_check::{Pace, PolicySummary, append_verdict, check_policy};
+pub use rights_diff::{append_diff, diff};
 pub use shared_audit::audit_shared;
 pub use trace_audit::{Summary, audit};
 pub use view::{View, append_view, dump, entries_of, map_of, picture_of, show};

@@ -3,9 +3,9 @@
 ghost use Rattle.std.specs.Prelude.{◌≡◌, ◌+◌, ◌^◌, ◌<◌, ◌≤◌, ◌++◌, All, IfOk, IfErr, OnOk, length, is_some};
 ghost use Rattle.std.specs.Prelude.{if◌then◌else◌};
 ghost use Rattle.pmp_text.specs.Verdicts.{verdict_row};
-ghost use Rattle.pmp_audit.specs.Answers.{IsWritten, IsRefused};
+ghost use Rattle.pmp_audit.specs.Answers.{Declines, IsAppended, IsWritten, IsRefused};
 ghost use Rattle.pmp_audit.specs.Fault.{fault_of_policy};
-ghost use Rattle.pmp_audit.specs.PolicyCheck.{PolicySays, PolicyRefuses};
+ghost use Rattle.pmp_audit.specs.PolicyCheck.{PolicySays, PolicyRefuses, VerdictRefuses, VerdictSays};
 ghost use Rattle.pmp_audit.specs.PolicyRows.{AreJudged};
 
 mod question;
@@ -16,7 +16,10 @@ use crate::answer::write_answer;
 use crate::fault::AuditFault;
 use crate::policy_check::search::judge;
 use crate::policy_check::steps::Steps;
-use pmp_text::{Breach, GrowingLog, PolicyRow, read_policy, read_script, write_verdict};
+use pmp_text::{
+    Breach, EventLog, GrowingLog, PolicyFields, PolicyRow, Sink, TraceFault, read_policy,
+    read_script, write_verdict,
+};
 use std::alloc::{AllocError, Global};
 use std::io::Write;
 pub use steps::Pace;
@@ -53,12 +56,35 @@ pub fn check_policy<W: Write>(
         Err(fault) => return Err(AuditFault::of_policy(fault)),
     };
     let mut text = Vec::new(alloc);
-    let steps = Steps {
-        script: &script,
-        pace,
-    };
+    let steps = Steps::new(&script, pace);
     let summary = write_verdicts(&mut text, &steps, &rows)?;
     write_answer(writer, &text, summary)
+}
+
+/// Appends the verdict on one row, as that of the row with this number, and answers the row's first breach. The
+/// script's events are kept in the log, and `Memory` says that they have no room there, or the text none.
+///
+/// The script's fault comes before any of the row.
+pub fn append_verdict<L: EventLog, S: Sink>(
+    log: &mut L,
+    pace: Pace,
+    script: &[u8],
+    number: u64,
+    fields: PolicyFields,
+    out: &mut S,
+) -> Result<Option<Breach>, AuditFault>
+    ensures ok { IfOk result
+        (IsAppended (VerdictSays pace script.now number fields) (S.text out.old) (S.text out.new)) }
+    ensures err { IfErr result (Declines (VerdictRefuses script.now number fields)) }
+{
+    let script = read_script(log, script)?;
+    let row = match PolicyRow::new(script.batches(), fields) {
+        Ok(row) => row,
+        Err(kind) => return Err(AuditFault::Policy(TraceFault { kind, row: number })),
+    };
+    let verdict = judge(&Steps::new(&script, pace), &row);
+    write_verdict(out, number, verdict)?;
+    Ok(verdict)
 }
 
 /// Appends the verdicts on the rows.

@@ -43,7 +43,7 @@ impl<'a> Replay<'a> {
         Replay {
             script,
             done: 0,
-            file: RegFile::reset_of(script.size()),
+            file: script.start(),
             map: None,
         }
     }

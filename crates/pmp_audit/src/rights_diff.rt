@@ -1,18 +1,18 @@
 //! Where the register files of two scripts differ in what they let the modes do.
 
 ghost use Rattle.std.specs.Prelude.{IfOk, IfErr};
-ghost use Rattle.pmp_audit.specs.Answers.{IsWritten, IsRefused};
-ghost use Rattle.pmp_audit.specs.RightsDiff.{DiffRefuses, DiffSays, GivesFile};
+ghost use Rattle.pmp_audit.specs.Answers.{Declines, IsAppended, IsWritten, IsRefused};
+ghost use Rattle.pmp_audit.specs.RightsDiff.{ChangesSay, DiffRefuses, DiffSays, GivesFile};
 ghost use Rattle.pmp_audit.specs.Sides.{FailsFile, FailsOn};
 
 use crate::answer::write_answer;
 use crate::asked_count::asked_count;
 use crate::fault::{AuditFault, Side};
 use crate::replay::Replay;
-use pmp_core::RegFile;
-use pmp_map::rights_runs;
-use pmp_text::{GrowingLog, Only, read_script, write_changes};
-use std::alloc::Global;
+use pmp_core::{ADDRESS_LIMIT, RegFile};
+use pmp_map::rights_run_from;
+use pmp_text::{EventLog, GrowingLog, Only, Sink, read_script, write_change};
+use std::alloc::{AllocError, Global};
 use std::io::Write;
 
 /// Writes a row for each of the longest ranges of bytes where the two register files differ in what they let the modes
@@ -38,17 +38,57 @@ pub fn diff<W: Write>(
         (IsRefused (DiffSays old.now old_after new.now new_after only) (W.contents writer.old) (W.contents writer.new)
         (DiffRefuses old.now old_after new.now new_after)) }
 {
-    let old_file = file_on(alloc, Side::Old, old, old_after)?;
-    let new_file = file_on(alloc, Side::New, new, new_after)?;
-    let runs = rights_runs(alloc, &old_file, &new_file)?;
     let mut text = Vec::new(alloc);
-    let rows = write_changes(&mut text, &runs, only)?;
+    let mut log = GrowingLog::new(alloc);
+    let rows = append_diff(&mut log, old, old_after, new, new_after, only, &mut text)?;
     write_answer(writer, &text, rows)
 }
 
+/// Appends the text that `diff` writes. The events of one script after the other are kept in the log, and `Memory` says
+/// that they have no room there, or the text none.
+pub fn append_diff<L: EventLog, S: Sink>(
+    log: &mut L,
+    old: &[u8],
+    old_after: Option<u64>,
+    new: &[u8],
+    new_after: Option<u64>,
+    only: Option<Only>,
+    out: &mut S,
+) -> Result<u64, AuditFault>
+    ensures ok { IfOk result
+        (IsAppended (DiffSays old.now old_after new.now new_after only) (S.text out.old) (S.text out.new)) }
+    ensures err { IfErr result (Declines (DiffRefuses old.now old_after new.now new_after)) }
+{
+    let old_file = file_on(log, Side::Old, old, old_after)?;
+    let new_file = file_on(log, Side::New, new, new_after)?;
+    let rows = write_differences(out, &old_file, &new_file, only)?;
+    Ok(rows)
+}
+
+/// Appends a row for each of the longest ranges where the files differ as is asked, and answers how many these are.
+fn write_differences<S: Sink>(
+    out: &mut S,
+    old: &RegFile,
+    new: &RegFile,
+    only: Option<Only>,
+) -> Result<u64, AllocError>
+    ensures { IfOk result (IsAppended (ChangesSay old.now new.now only) (S.text out.old) (S.text out.new)) }
+{
+    let mut rows = 0;
+    let mut first = 0;
+    while first < ADDRESS_LIMIT {
+        let run = rights_run_from(old, new, first);
+        if write_change(out, &run, only)? {
+            rows += 1;
+        }
+        first = run.last + 1;
+    }
+    Ok(rows)
+}
+
 /// The register file of the script on this side.
-fn file_on(
-    alloc: Global,
+fn file_on<L: EventLog>(
+    log: &mut L,
     side: Side,
     script: &[u8],
     after: Option<u64>,
@@ -56,19 +96,22 @@ fn file_on(
     ensures ok { IfOk result (λ file. GivesFile script.now after file) }
     ensures err { IfErr result (FailsOn side script.now after) }
 {
-    match file_after(alloc, script, after) {
+    match file_after(log, script, after) {
         Ok(file) => Ok(file),
         Err(fault) => Err(fault.on_side(side)),
     }
 }
 
 /// The register file after the first `after` publications of the script, or after all of them where that is none.
-fn file_after(alloc: Global, script: &[u8], after: Option<u64>) -> Result<RegFile, AuditFault>
+fn file_after<L: EventLog>(
+    log: &mut L,
+    script: &[u8],
+    after: Option<u64>,
+) -> Result<RegFile, AuditFault>
     ensures ok { IfOk result (λ file. GivesFile script.now after file) }
     ensures err { IfErr result (FailsFile script.now after) }
 {
-    let mut log = GrowingLog::new(alloc);
-    let script = read_script(&mut log, script)?;
+    let script = read_script(log, script)?;
     let count = asked_count(&script, after)?;
     Ok(*Replay::after(&script, count).file())
 }

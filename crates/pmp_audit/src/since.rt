@@ -3,8 +3,7 @@
 ghost use Rattle.std.specs.Prelude.{◌≡◌, ◌<◌, ◌≤◌, ℕ, length, take};
 ghost use Rattle.std.specs.List.{list_all, slice_index_or};
 ghost use Rattle.pmp_core.specs.Histories.{is_write};
-ghost use Rattle.pmp_core.specs.RegisterFile.{is_frozen, is_held};
-ghost use Rattle.pmp_core.specs.Size.{count_of};
+ghost use Rattle.pmp_core.specs.RegisterFile.{IsLegal, is_frozen, is_held};
 ghost use Rattle.pmp_text.specs.EntryRows.{no_since};
 ghost use Rattle.pmp_audit.specs.Since.{AreSince};
 ghost use Rattle.pmp_audit.specs.SinceStep.{since_after};
@@ -50,12 +49,13 @@ fn count_in(since: &mut [Since], file: &RegFile, are_writes: bool, done: u64)
 }
 
 /// The script after its first `count` publications, and for each entry that is frozen there the number of the
-/// publication that froze it: it has been frozen ever since. The same for each entry that is held, that is, frozen with
-/// all entries before it.
+/// publication that froze it, 0 where the script begins with it frozen: it has been frozen ever since. The same for
+/// each entry that is held, that is, frozen with all entries before it.
 pub fn since_of<'a>(script: &'a Script<'a>, count: u64) -> (Replay<'a>, [Since; MAX_ENTRIES])
-    requires { count ≤ length script.now.batches }
+    requires legal { IsLegal script.now.start }
+    requires within { count ≤ length script.now.batches }
     ensures position { result.0 ≡ record { script = script.now; done = count } }
-    ensures since { AreSince (count_of script.now.size) (take count script.now.batches) result.1 }
+    ensures since { AreSince script.now.start (take count script.now.batches) result.1 }
 {
     let none = Since {
         frozen: None,
@@ -63,6 +63,7 @@ pub fn since_of<'a>(script: &'a Script<'a>, count: u64) -> (Replay<'a>, [Since; 
     };
     let mut since = [none; MAX_ENTRIES];
     let mut replay = Replay::new(script);
+    count_in(&mut since, replay.file(), true, 0);
     for index in 0..count {
         replay.advance(index + 1);
         let are_writes = are_writes(script.batch(index));

@@ -1,6 +1,7 @@
 //! What is shown of the register file after publications of a script.
 
 ghost use Rattle.std.specs.Prelude.{◌≡◌, ◌≤◌, ◌++◌, List, ℕ, IfOk, IfErr, OnOk, length};
+ghost use Rattle.pmp_core.specs.RegisterFile.{IsLegal};
 ghost use Rattle.pmp_audit.specs.Answers.{Declines, IsAppended, IsWritten, IsRefused};
 ghost use Rattle.pmp_audit.specs.AskedFile.{FileRefuses};
 ghost use Rattle.pmp_audit.specs.View.{IsViewText, ViewSays};
@@ -12,9 +13,10 @@ use crate::fault::AuditFault;
 use crate::replay::Replay;
 use crate::since::since_of;
 use pmp_map::RunMap;
+use pmp_text::laws::law_legal_start;
 use pmp_text::{
     EventLog, GrowingLog, Script, Sink, read_script, write_entries, write_picture, write_registers,
-    write_runs,
+    write_runs, write_script,
 };
 use std::alloc::{AllocError, Global};
 use std::io::Write;
@@ -23,6 +25,8 @@ use std::io::Write;
 #[derive(Clone, Copy)]
 pub enum View {
     Registers,
+    /// A script that begins with the registers.
+    Script,
     Runs,
     /// The runs, as a picture.
     Picture,
@@ -131,6 +135,7 @@ pub fn append_view<L: EventLog, S: Sink>(
 {
     let script = read_script(log, script)?;
     let done = asked_count(&script, after)?;
+    law_legal_start();
     write_view(out, view, &script, done)?;
     Ok(())
 }
@@ -142,12 +147,14 @@ fn write_view<S: Sink>(
     script: &Script,
     done: u64,
 ) -> Result<(), AllocError>
-    requires { done ≤ length script.now.batches }
+    requires legal { IsLegal script.now.start }
+    requires within { done ≤ length script.now.batches }
     ensures { OnOk result ((text : List ℕ) × IsViewText view script.now done text
         × (S.text out.new ≡ S.text out.old ++ text)) }
 {
     match view {
         View::Registers => write_registers(out, Replay::after(script, done).file()),
+        View::Script => write_script(out, Replay::after(script, done).file()),
         View::Runs => {
             let replay = Replay::after(script, done);
             write_runs(out, replay.file(), &RunMap::build(replay.file()))

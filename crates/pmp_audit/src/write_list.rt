@@ -3,15 +3,15 @@
 ghost use Rattle.std.specs.Prelude.{◌≡◌, ◌+◌, ◌^◌, ◌<◌, ◌≤◌, IfOk, IfErr, ◌++◌, length, if◌then◌else◌};
 ghost use Rattle.pmp_core.specs.RegisterFile.{RegisterFile};
 ghost use Rattle.pmp_core.specs.RegisterWrite.{step};
-ghost use Rattle.pmp_core.specs.Size.{count_of};
 ghost use Rattle.pmp_text.specs.declared.script.reader.TheConstants.{MAX_SCRIPT};
 ghost use Rattle.pmp_text.specs.Sizes.{script_size};
 ghost use Rattle.pmp_audit.specs.Answers.{Declines, IsAppended, IsWritten, IsRefused};
 ghost use Rattle.pmp_audit.specs.EventRows.{AreWritten};
-ghost use Rattle.pmp_audit.specs.WriteList.{placed, placed_events, rows_text, is_not_stored, write_summary};
-ghost use Rattle.pmp_audit.specs.WriteList.{WritesSay, WritesRefuse};
+ghost use Rattle.pmp_audit.specs.WriteList.{all_rows, placed, placed_events, rows_text, is_not_stored, event_summary};
+ghost use Rattle.pmp_audit.specs.WriteList.{WritesSay, WritesRefuse, write_summary};
 
 use crate::answer::write_answer;
+use crate::expectations::write_expectations;
 use crate::fault::AuditFault;
 use pmp_core::{Event, RegFile};
 use pmp_text::laws::law_script_size;
@@ -19,15 +19,19 @@ use pmp_text::{EventLog, EventPlace, GrowingLog, Script, Sink, read_script, writ
 use std::alloc::{AllocError, Global};
 use std::io::Write;
 
-/// How many events a script has, and how many of them are writes that the register doesn't read as they were written.
+/// How many events a script has, and how many of them are writes that the register doesn't read as they were written;
+/// how often it expects something of a register, and how often that differs.
 #[derive(Clone, Copy, Debug, Default, PartialEq, Eq)]
 pub struct WriteSummary {
     pub events: u64,
     pub not_stored: u64,
+    pub expectations: u64,
+    pub differing: u64,
 }
 
 /// Writes a row for each event of the script, in their order: what it wrote, what the register read before and after,
-/// and why that isn't what was written.
+/// and why that isn't what was written. Behind these it writes a row for each expectation: what the register reads
+/// there, and whether that is what is expected.
 ///
 /// The text is whole before its first byte is written, so every refusal but `Output` leaves the output untouched.
 pub fn writes<W: Write>(
@@ -58,18 +62,41 @@ pub fn append_writes<L: EventLog, S: Sink>(
 {
     let script = read_script(log, script)?;
     law_script_size();
-    Ok(write_events(out, &script)?)
+    Ok(write_script(out, &script)?)
 }
 
-fn write_events<S: Sink>(out: &mut S, script: &Script) -> Result<WriteSummary, AllocError>
+/// Appends the rows of a script's events, and behind them those of what it expects.
+fn write_script<S: Sink>(out: &mut S, script: &Script) -> Result<WriteSummary, AllocError>
+    requires { script_size script.now.batches ≤ MAX_SCRIPT }
+    ensures rows { IfOk result (λ _. S.text out.new ≡ S.text out.old ++ all_rows script.now) }
+    ensures counted { IfOk result (λ summary. summary ≡ write_summary script.now) }
+{
+    let EventSummary { events, not_stored } = write_events(out, script)?;
+    let differing = write_expectations(out, script)?;
+    Ok(WriteSummary {
+        events,
+        not_stored,
+        expectations: script.expectations().len() as u64,
+        differing,
+    })
+}
+
+/// How many events a script has, and how many of them are writes that the register doesn't read as they were written.
+#[derive(Clone, Copy, Default)]
+struct EventSummary {
+    events: u64,
+    not_stored: u64,
+}
+
+fn write_events<S: Sink>(out: &mut S, script: &Script) -> Result<EventSummary, AllocError>
     requires { script_size script.now.batches ≤ MAX_SCRIPT }
     ensures rows { IfOk result (λ _. S.text out.new ≡ S.text out.old
-        ++ rows_text (count_of script.now.size) (placed_events script.now)) }
+        ++ rows_text script.now.start (placed_events script.now)) }
     ensures counted { IfOk result
-        (λ summary. summary ≡ write_summary (count_of script.now.size) (placed_events script.now)) }
+        (λ summary. summary ≡ event_summary script.now.start (placed_events script.now)) }
 {
-    let mut file = RegFile::reset_of(script.size());
-    let mut summary = WriteSummary::default();
+    let mut file = script.start();
+    let mut summary = EventSummary::default();
     for index in 0..script.batches() {
         let lines = script.lines(index);
         let events = script.batch(index);
@@ -82,11 +109,11 @@ fn write_events<S: Sink>(out: &mut S, script: &Script) -> Result<WriteSummary, A
 fn write_publication<S: Sink>(
     out: &mut S,
     file: &mut RegFile,
-    before: WriteSummary,
+    before: EventSummary,
     publication: u64,
     lines: &[u64],
     events: &[Event],
-) -> Result<WriteSummary, AllocError>
+) -> Result<EventSummary, AllocError>
     requires room { before.events + length events.now < 2 ^ 64 }
     requires within { before.not_stored ≤ before.events }
     ensures written { IfOk result (λ after. AreWritten
@@ -119,7 +146,7 @@ fn is_not_stored(after: &RegFile, event: Event) -> bool
     }
 }
 
-impl WriteSummary {
+impl EventSummary {
     /// One more event.
     fn count(&mut self, is_not_stored: bool)
         requires room { self.old.events + 1 < 2 ^ 64 }

@@ -6,13 +6,14 @@ ghost use Rattle.pmp_share.specs.declared.opening.TheConstants.{CHECKERS};
 use crate::count::{begin, end};
 use crate::outcome::{Tried, answered_if, refused_if};
 use crate::texts::{
-    CHANGES, ENTRIES, LAST_ROW, POLICY, REGISTERS, REPORT, RUNS, SCRIPT, TRACE, VERDICTS,
+    CHANGES, ENTRIES, EVENTS, GIVEN, HEADED, LAST_ROW, POLICY, REGISTERS, REPORT, RUNS, SCRIPT,
+    TRACE, VERDICTS,
 };
 use crate::worked::decision_after;
 use arrayvec::ArrayVec;
 use pmp_audit::{
-    AuditFault, OpenGate, PIECE, Pace, PolicySummary, Summary, audit, audit_long, audit_shared,
-    check, check_policy, diff, dump, entries_of, map_of,
+    AuditFault, OpenGate, PIECE, Pace, PolicySummary, Summary, View, WriteSummary, audit,
+    audit_long, audit_shared, check, check_policy, diff, dump, entries_of, map_of, show, writes,
 };
 use pmp_core::Access;
 use pmp_share::{CHECKERS, ShareFault};
@@ -33,6 +34,9 @@ pub enum Answering {
     MapOf,
     EntriesOf,
     Dump,
+    /// The registers as a script.
+    DumpScript,
+    Writes,
     Diff,
 }
 
@@ -40,6 +44,13 @@ pub enum Answering {
 type Output = ArrayVec<u8, 1024>;
 
 const SUMMARY: Summary = Summary { rows: 4, faults: 2 };
+
+const WRITTEN: WriteSummary = WriteSummary {
+    events: 1,
+    not_stored: 0,
+    expectations: 1,
+    differing: 0,
+};
 
 const JUDGED: PolicySummary = PolicySummary { rows: 2, broken: 1 };
 
@@ -80,6 +91,8 @@ impl Answering {
             Answering::MapOf => RUNS,
             Answering::EntriesOf => ENTRIES,
             Answering::Dump => REGISTERS,
+            Answering::DumpScript => GIVEN,
+            Answering::Writes => EVENTS,
             Answering::Diff => CHANGES,
             _ => REPORT,
         }
@@ -109,6 +122,8 @@ impl Answering {
             Answering::MapOf => is_done(map_of(alloc, SCRIPT, Some(1), output)),
             Answering::EntriesOf => is_done(entries_of(alloc, SCRIPT, Some(1), output)),
             Answering::Dump => is_done(dump(alloc, SCRIPT, Some(1), output)),
+            Answering::DumpScript => is_done(show(alloc, View::Script, SCRIPT, Some(1), output)),
+            Answering::Writes => Ok(writes(alloc, HEADED, output)? == WRITTEN),
             Answering::Diff => Ok(diff(alloc, SCRIPT, Some(0), SCRIPT, None, None, output)? == 1),
         }
     }

@@ -23,7 +23,7 @@ pub enum Case {
 }
 
 /// Each case once, with the word of the command line that stands for it.
-pub static CASES: [(&str, Case); 36] = [
+pub static CASES: [(&str, Case); 38] = [
     ("start", Case::Start),
     ("start_from", Case::StartFrom),
     ("submit", Case::Share(Sharing::Submit)),
@@ -53,7 +53,7 @@ pub static CASES: [(&str, Case); 36] = [
     ("write_registers", Case::Append(Writing::Registers)),
     ("write_entries", Case::Append(Writing::Entries)),
     ("write_verdict", Case::Append(Writing::Verdict)),
-    ("write_changes", Case::Append(Writing::Changes)),
+    ("write_change", Case::Append(Writing::Changes)),
     ("check", Case::Answer(Answering::Check)),
     ("audit", Case::Answer(Answering::Audit)),
     ("audit_shared_1", Case::Answer(Answering::SharedAudit(1))),
@@ -65,6 +65,8 @@ pub static CASES: [(&str, Case); 36] = [
     ("map_of", Case::Answer(Answering::MapOf)),
     ("entries_of", Case::Answer(Answering::EntriesOf)),
     ("dump", Case::Answer(Answering::Dump)),
+    ("dump_script", Case::Answer(Answering::DumpScript)),
+    ("writes", Case::Answer(Answering::Writes)),
     ("diff", Case::Answer(Answering::Diff)),
 ];
 

@@ -10,6 +10,21 @@ write pmpaddr1 0x200001ff
 publish
 ";
 
+/// A hart, a register before the first event, and what is expected of another behind it.
+pub const HEADED: &[u8] = b"pmp 3
+hart entries 8
+set pmpaddr0 0x200001ff
+write pmpcfg0 0x19
+expect pmpcfg0 0x19
+publish
+";
+
+/// The rows of its event and of what it expects.
+pub const EVENTS: &[u8] =
+    b"1,1,4,pmpcfg0,0x0000000000000019,0x0000000000000000,0x0000000000000019,stored,,
+,,5,pmpcfg0,0x0000000000000019,,0x0000000000000019,expected,,
+";
+
 pub const TRACE: &[u8] = b"after,mode,kind,start,length
 0,U,load,0x80000000,4
 1,U,load,0x80000000,4
@@ -60,6 +75,16 @@ pub const ENTRIES: &[u8] = b"0,napot,00000080000000,00000080000fff,rwx,r--,-,-,,
 13,off,-,-,rwx,---,-,-,,
 14,off,-,-,rwx,---,-,-,,
 15,off,-,-,rwx,---,-,-,,
+";
+
+/// A script of the registers after the first publication.
+pub const GIVEN: &[u8] = b"pmp 3
+hart entries 16
+hart grain 4
+hart bits 56
+hart smepmp yes
+set pmpcfg0 0x0000000000000019
+set pmpaddr0 0x00000000200001ff
 ";
 
 /// The registers after the first publication.

@@ -7,7 +7,7 @@ use crate::worked::{decision_after, file_after};
 use pmp_core::{Access, MAX_ENTRIES, Perms};
 use pmp_map::{ModeRights, RightsRun, Run, RunMap};
 use pmp_text::{
-    Breach, Since, write_changes, write_entries, write_registers, write_row, write_runs,
+    Breach, Since, write_change, write_entries, write_registers, write_row, write_runs,
     write_verdict,
 };
 use std::alloc::{AllocError, Global};
@@ -69,7 +69,7 @@ const OPENED: RightsRun = RightsRun {
 const OLD_BYTES: &[u8] = b"old bytes\n";
 
 fn append_changes(out: &mut Vec<u8>) -> Result<(), AllocError> {
-    write_changes(out, &[OPENED], None)?;
+    write_change(out, &OPENED, None)?;
     Ok(())
 }
 

@@ -1,6 +1,6 @@
 //! What a row of a policy asks of the bytes of one owner.
 
-ghost use Rattle.std.specs.Prelude.{◌≡◌, ◌<◌, IfSome, length};
+ghost use Rattle.std.specs.Prelude.{◌≡◌, ◌<◌, IfSome, None, length};
 ghost use Rattle.pmp_core.specs.Rights.{Rights, perms_of};
 ghost use Rattle.pmp_map.specs.OpenBytes.{holds};
 ghost use Rattle.pmp_audit.specs.PolicyCheck.{is_broken_by};
@@ -53,13 +53,25 @@ fn finds_owned(allowed: bool, file: &RegFile, owner: Option<u8>, row: &PolicyRow
         || finds_mode(allowed, file, owner, row, Mode::U)
 }
 
+/// Whether all entries are frozen.
+fn are_all_frozen(file: &RegFile) -> bool
+    ensures { result ≡ holds file.now None }
+{
+    match file.entries().checked_sub(1) {
+        Some(last) => file.is_held(last),
+        None => true,
+    }
+}
+
 /// Whether the owner is held: it is frozen with all entries before it, or where there is none, all entries are.
 fn is_held(file: &RegFile, owner: Option<u8>) -> bool
     requires { IfSome owner (λ entry. entry < length file.now.entries) }
     ensures { result ≡ holds file.now owner }
 {
-    let last = file.size().entries() - 1;
-    file.is_held(owner.unwrap_or(last))
+    match owner {
+        Some(entry) => file.is_held(entry),
+        None => are_all_frozen(file),
+    }
 }
 
 /// What a demand is broken by: that a byte is open, or that it is closed.

@@ -14,7 +14,7 @@ use pmp_text::{Breach, Demand, PolicyRow};
 /// The first run of the row's range of which the answer is yes, from the first such byte on and as far as the range
 /// goes.
 fn first_run(file: &RegFile, row: &PolicyRow, question: Question) -> Option<Run>
-    ensures { IsFirstOf file.now.entries (IsYes question file.now row.now) row.now result }
+    ensures { IsFirstOf file.now (IsYes question file.now row.now) row.now result }
 {
     let mut first = row.first;
     while first <= row.last {

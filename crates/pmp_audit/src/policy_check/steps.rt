@@ -24,6 +24,14 @@ pub struct Steps<'a> {
 }
 
 impl<'a> Steps<'a> {
+    /// The steps of a script, asked so often.
+    pub fn new(script: &'a Script<'a>, pace: Pace) -> Steps<'a>
+        ensures script { result.script.now ≡ script.now }
+        ensures pace { result.pace ≡ pace }
+    {
+        Steps { script, pace }
+    }
+
     /// How many steps the first publications are.
     pub fn count(&self, publications: u64) -> u64
         requires { publications ≤ length self.now.script.now.batches }
@@ -60,7 +68,7 @@ impl<'a> Steps<'a> {
         requires { done ≤ length (steps_of self.now.pace self.now.script.now.batches) }
         ensures { result ≡ state_after self.now.pace self.now.script.now done }
     {
-        let mut file = RegFile::reset_of(self.script.size());
+        let mut file = self.script.start();
         for index in 0..done {
             self.advance(&mut file, index);
         }

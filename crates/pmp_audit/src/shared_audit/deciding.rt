@@ -1,8 +1,6 @@
 //! All rows of a trace, decided while the script's publications are done.
 
 ghost use Rattle.std.specs.Prelude.{◌≡◌, ◌<◌, ◌≤◌, [], IfOk, IfErr, All, length, map};
-ghost use Rattle.pmp_core.specs.RegisterFile.{reset_file};
-ghost use Rattle.pmp_core.specs.Size.{count_of};
 ghost use Rattle.pmp_share.specs.declared.opening.TheConstants.{CHECKERS};
 ghost use Rattle.pmp_share.specs.declared.room.TheConstants.{HISTORY_LIMIT};
 ghost use Rattle.pmp_share.specs.Object.{no_batches};
@@ -17,7 +15,7 @@ use super::rounds::decide_asking;
 use crate::fault::AuditFault;
 use crate::gate::Gate;
 use pmp_core::Decision;
-use pmp_share::{Checker, Publisher, start_of};
+use pmp_share::{Checker, Publisher, start_from};
 use pmp_text::{Row, Script};
 use std::alloc::Global;
 use std::sync::Wait;
@@ -36,7 +34,7 @@ fn decide_rows<R: Threads + Wait + Sync, G: Gate + Sync>(
     requires some { 0 < length checkers.items }
     requires few { length checkers.items ≤ CHECKERS }
     requires same_unit { All (λ checker. checker.unit ≡ publisher.old.unit) checkers.items }
-    requires base { publisher.old.unit.base ≡ reset_file (count_of script.now.size) }
+    requires base { publisher.old.unit.base ≡ script.now.start }
     requires published { publisher.old.published ≡ no_batches }
     requires pending { publisher.old.pending ≡ [] }
     requires size { script_size script.now.batches ≤ HISTORY_LIMIT }
@@ -77,7 +75,7 @@ pub(crate) fn decide_shared<R: Threads + Wait + Sync, G: Gate + Sync>(
     ensures decided { IfOk result (λ decided. decided.items ≡ map (decision_for script.now) rows.now) }
     ensures refused { IfErr result (MayStop script.now.batches (map row_fields rows.now)) }
 {
-    let (mut publisher, checkers) = start_of(rt, alloc, script.size(), k)?;
+    let (mut publisher, checkers) = start_from(rt, alloc, &script.start().save(), k)?;
     let decided = decide_rows(rt, alloc, gate, &mut publisher, checkers, script, rows);
     publisher.end(rt);
     decided

@@ -14,7 +14,8 @@ says g c =
     let policy_means : policy_meaning (length script.batches) c.args.policy.now ≡ Ok (map policy_fields rows) =
     rw (c.deref.ensures.value, ← c.batches.ensures) c.in-Ok.ensures.given in
     policy_says c.args.pace c.args.script.now c.args.policy.now script rows _ _ c.deref-2.result.now
-    c.in_ok-summary.summary c.in_ok-script.ensures policy_means c.in_ok-summary.ensures c.new-text.ensures.items
+    c.in_ok-summary.summary c.in_ok-script.ensures policy_means
+    (rw (c.new-steps.ensures.pace, c.new-steps.ensures.script) at c.in_ok-summary.ensures) c.new-text.ensures.items
     c.deref-2.ensures.value
 
 pub returns-clause-ok : goal.returns-clause-ok

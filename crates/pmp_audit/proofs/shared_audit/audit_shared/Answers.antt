@@ -25,7 +25,8 @@ says g c =
     c.in_ok-decisions.ensures.decided ∙ ap (map (decision_for script)) c.deref.ensures.value in
     let decided : AreDecided script rows decisions =
     subst (AreDecided script rows) (sym made)
-    (are_decided c.law_legal.ensures c.law_decided_by_ranges.ensures script rows) in
+    (are_decided c.law_decided_by_ranges.ensures script
+    (c.law_legal_start.ensures c.args.script.now script c.in_ok-script.ensures) rows) in
     let after = c.list_decisions.new.report.items in
     let reported : IsReported script rows c.new-report.result.items after c.in_ok-summary.summary = record {
       decisions = decisions;

@@ -1,5 +1,4 @@
 use Rattle.std.proofs.Common.{◌≡◌, take}
-use Rattle.pmp_core.specs.Size.{count_of}
 use Rattle.pmp_audit.specs.Since.{AreSince}
 use Rattle.pmp_audit.proofs.since.since_of.Given as goal
 
@@ -7,5 +6,5 @@ use Rattle.pmp_audit.proofs.since.since_of.Given as goal
 abbrev pub invariant-loop-index : goal.invariant-loop-index
 invariant-loop-index l = record {
   position : l.replay ≡ record { script = l.script; done = l.index };
-  so_far : AreSince (count_of l.script.size) (take l.index l.script.batches) l.since;
+  so_far : AreSince l.script.start (take l.index l.script.batches) l.since;
 }

@@ -1,5 +1,4 @@
 use Rattle.std.proofs.Common.{◌≡◌, ◌+◌, ◌++◌, ℕ, List, length, ap, ◌∙◌, arith}
-use Rattle.pmp_core.specs.Size.{count_of}
 use Rattle.pmp_audit.specs.WriteList.{placed_events}
 use Rattle.pmp_audit.proofs.WrittenEvents.{length-placed, events_more, written_then, rows_all, summary_all}
 use Rattle.pmp_audit.proofs.write_list.write_events.Goals as goal
@@ -24,12 +23,12 @@ returns-clause-rows g c =
     omega (arith, c.batches-index-end.ensures) in
     (rw all at c.loop-index.invariant.written.rows)
     ∙ ap (λ (l : List ℕ). (g.S.Sink.text c.args.out.now) ++ l)
-    (rows_all (count_of c.args.script.now.size) (placed_events c.args.script.now))
+    (rows_all c.args.script.now.start (placed_events c.args.script.now))
 
 pub returns-clause-counted : goal.returns-clause-counted
 returns-clause-counted g c =
     let all : c.loop-index.index ≡ length c.args.script.now.batches =
     omega (arith, c.batches-index-end.ensures) in
     let written = rw all at c.loop-index.invariant.written in
-    summary_all (count_of c.args.script.now.size) (placed_events c.args.script.now) c.loop-index.summary
+    summary_all c.args.script.now.start (placed_events c.args.script.now) c.loop-index.summary
     written.counted written.turned

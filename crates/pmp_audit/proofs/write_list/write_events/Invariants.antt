@@ -1,6 +1,4 @@
 use Rattle.std.proofs.Common.{◌*◌, ◌≤◌}
-use Rattle.pmp_core.specs.RegisterFile.{reset_file}
-use Rattle.pmp_core.specs.Size.{count_of}
 use Rattle.pmp_audit.specs.EventRows.{AreWritten}
 use Rattle.pmp_audit.specs.WriteList.{events_of}
 use Rattle.pmp_audit.proofs.write_list.write_events.Given as goal
@@ -11,7 +9,7 @@ invariant-loop-index g l = record {
   written : AreWritten
       (record {
         text = (g.S.Sink.text l.initial.out);
-        file = reset_file (count_of l.script.size);
+        file = l.script.start;
         summary = record { events = 0; not_stored = 0 };
       })
       (record { text = (g.S.Sink.text l.out); file = l.file; summary = l.summary })

@@ -44,7 +44,8 @@ decide_rows-decided-requires-clause-same_unit g c κs lived =
     alike (λ checker. checker.unit) _ _ _ c.in_ok-publisher.ensures.checkers
 
 pub decide_rows-decided-requires-clause-base : goal.decide_rows-decided-requires-clause-base
-decide_rows-decided-requires-clause-base g c κs lived = rw c.size.ensures at c.in_ok-publisher.ensures.base
+decide_rows-decided-requires-clause-base g c κs lived =
+    c.in_ok-publisher.ensures.base ∙ c.save.ensures.restored ∙ c.start.ensures
 
 pub returns-clause-decided : goal.returns-clause-decided
 returns-clause-decided g c = c.decide_rows-decided.ensures.decided

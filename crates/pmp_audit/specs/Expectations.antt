@@ -1,0 +1,30 @@
+-- What is said of what a script expects.
+use Rattle.std.specs.Prelude.{ℕ, ◌==◌, Bool, not, List, fold, take, count_by}
+use Rattle.std.specs.List.{flat_map}
+use Rattle.pmp_core.specs.Histories.{joined}
+use Rattle.pmp_core.specs.RegisterFile.{RegisterFile}
+use Rattle.pmp_core.specs.RegisterValue.{register_value}
+use Rattle.pmp_core.specs.RegisterWrite.{step}
+use Rattle.pmp_text.specs.declared.expectation.Expectation.{Expectation}
+use Rattle.pmp_text.specs.Contents.{ScriptContents}
+use Rattle.pmp_text.specs.Expected.{expected_row}
+
+-- the register file that the first so many events of a script leave
+abbrev pub file_at_event : ScriptContents → (events : ℕ) → RegisterFile
+file_at_event script events = fold step script.start (take events (joined script.batches))
+
+-- what the register reads behind the events that stand before the expectation
+abbrev pub value_there : ScriptContents → Expectation → ℕ
+value_there script expectation = register_value (file_at_event script expectation.events) expectation.register
+
+abbrev pub differs : ScriptContents → Expectation → Bool
+differs script expectation = not (value_there script expectation == expectation.value)
+
+-- a row for each expectation
+abbrev pub expected_rows : ScriptContents → List Expectation → List ℕ
+expected_rows script expectations =
+    flat_map (λ expectation. expected_row expectation (value_there script expectation)) expectations
+
+-- how many of them differ
+abbrev pub differing : ScriptContents → List Expectation → ℕ
+differing script expectations = count_by (differs script) expectations
