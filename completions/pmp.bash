@@ -10,7 +10,8 @@ _pmp() {
         check) words='--explain --after --expect M S U fetch load store stdin'; files=yes ;;
         audit) words='--explain --checkers --long --jobs --first-row stdin'; files=yes ;;
         policy) words='--explain --each-write stdin'; files=yes ;;
-        dump | map | picture | entries) words='--explain --after stdin'; files=yes ;;
+        dump) words='--explain --after --script stdin'; files=yes ;;
+        map | picture | entries) words='--explain --after stdin'; files=yes ;;
         writes) words='--explain stdin'; files=yes ;;
         diff) words='--explain --old-after --new-after --only stdin'; files=yes ;;
         help) words="$commands script trace rows" ;;

@@ -16,6 +16,7 @@ complete -c pmp -n '__fish_seen_subcommand_from help' -f -a "$commands script tr
 complete -c pmp -n "__fish_seen_subcommand_from $commands" -l explain -d 'explain a refusal'
 complete -c pmp -n '__fish_seen_subcommand_from check dump map picture entries' -l after -x \
     -d 'take the first N publications'
+complete -c pmp -n '__fish_seen_subcommand_from dump' -l script -d 'write a script of these registers'
 complete -c pmp -n '__fish_seen_subcommand_from check' -l expect -x -a 'allow fault' \
     -d 'end with status 0 where this is the answer'
 complete -c pmp -n '__fish_seen_subcommand_from check' -a 'M S U fetch load store'

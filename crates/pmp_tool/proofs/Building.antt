@@ -12,7 +12,7 @@ use Rattle.clap.specs.declared.builder.arg.Arg.{Arg}
 use Rattle.clap.specs.declared.builder.command.Command.{Command}
 use Rattle.pmp_tool.specs.Building.{Builds, IsCommand, IsTaken}
 use Rattle.pmp_tool.specs.CommandLines.{pmp_app, with_command, with_count, with_flag, with_option}
-use Rattle.pmp_tool.specs.CommandLines.{with_topics, with_views, with_word}
+use Rattle.pmp_tool.specs.CommandLines.{with_script, with_topics, with_views, with_word}
 
 same_globals : (old added : Bool) → added ≡ false → (old || added) ≡ old
 same_globals old added none = rw none (or-false old)
@@ -47,11 +47,11 @@ command_built old sub new added app given program command =
 
 -- clap's exact statements hold of the program's command
 is_exact : is_simple_and_free pmp_app ≡ true
-unfolding clap_on_literals with_word with_option with_flag with_count with_command with_views with_topics
+unfolding clap_on_literals with_word with_option with_flag with_script with_count with_command with_views with_topics
 is_exact = refl
 
 is_read : is_simple pmp_app ≡ true
-unfolding clap_on_literals with_word with_option with_flag with_count with_command with_views with_topics
+unfolding clap_on_literals with_word with_option with_flag with_script with_count with_command with_views with_topics
 is_read = refl
 
 abbrev Fails : List Text → Result ArgMatches Error → App → Type 0

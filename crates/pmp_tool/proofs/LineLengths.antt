@@ -9,6 +9,7 @@ use Rattle.pmp_tool.specs.declared.refusal.Refusal.TheVariants.{BadLength, PastE
 use Rattle.pmp_tool.specs.declared.refusal.Refusal.TheVariants.{OddCfg, BadNumber, BatchFull, Unpublished, TooLong}
 use Rattle.pmp_tool.specs.declared.refusal.Refusal.TheVariants.{BadHeader, BadRow, BadAfter, Order, BadWord, Memory}
 use Rattle.pmp_tool.specs.declared.refusal.Refusal.TheVariants.{NoPlace, Full, Moved, Input, Output}
+use Rattle.pmp_tool.specs.declared.refusal.Refusal.TheVariants.{LateHead, Twice, BadEntries, BadBits, NotHeld, BadGrain}
 use Rattle.pmp_tool.specs.LineLengths.{LineFitsLaw}
 use Rattle.pmp_tool.specs.Refusals.{name_of, number_of, refusal_text}
 
@@ -35,6 +36,12 @@ number_fits Moved = omega arith
 number_fits Memory = omega arith
 number_fits Input = omega arith
 number_fits Output = omega arith
+number_fits LateHead = omega arith
+number_fits Twice = omega arith
+number_fits BadEntries = omega arith
+number_fits BadBits = omega arith
+number_fits NotHeld = omega arith
+number_fits BadGrain = omega arith
 
 name_fits : (refusal : Refusal) → length (name_of refusal) ≤ 11
 name_fits BadLength = omega arith
@@ -58,6 +65,12 @@ name_fits Moved = omega arith
 name_fits Memory = omega arith
 name_fits Input = omega arith
 name_fits Output = omega arith
+name_fits LateHead = omega arith
+name_fits Twice = omega arith
+name_fits BadEntries = omega arith
+name_fits BadBits = omega arith
+name_fits NotHeld = omega arith
+name_fits BadGrain = omega arith
 
 refusal_fits : (refusal : Refusal) → length (refusal_text refusal) ≤ 14
 refusal_fits refusal =

@@ -31,6 +31,10 @@ count_rule id most = record (new_rule id) {
   parser = Some (parser.Signed (pos 1) (pos most));
 }
 
+-- `--script`, which has another place than the script's path
+abbrev pub script_rule : Rule
+script_rule = record (flag_rule (codes "as-script")) { long = Some (codes "script") }
+
 unfoldable pub with_word : App → (id : Text) → App
 with_word app id = with_rule app (word_rule id)
 
@@ -39,6 +43,9 @@ with_option app id = with_rule app (option_rule id)
 
 unfoldable pub with_flag : App → (id : Text) → App
 with_flag app id = with_rule app (flag_rule id)
+
+unfoldable pub with_script : App → App
+with_script app = with_rule app script_rule
 
 -- `--after N`
 abbrev pub with_after : App → App
@@ -73,9 +80,13 @@ diff_app =
     with_option (with_option (with_option (with_word (script_app (codes "diff")) (codes "new")) (codes "old-after"))
     (codes "new-after")) (codes "only")
 
--- `NAME SCRIPT [--explain] [--after N]`, as `dump`, `map`, `picture` and `entries` are
+-- `NAME SCRIPT [--explain] [--after N]`, as `map`, `picture` and `entries` are
 abbrev pub file_app : (name : Text) → App
 file_app name = with_after (script_app name)
+
+-- `dump SCRIPT [--explain] [--after N] [--script]`
+abbrev pub dump_app : App
+dump_app = with_script (file_app (codes "dump"))
 
 -- it has a version, its words begin with a subcommand, and help answers where there are none
 abbrev pub as_top : App → App
@@ -97,7 +108,7 @@ with_command program command = with_subcommand program command.top
 -- a program with a command more for each view of a register file
 unfoldable pub with_views : App → App
 with_views program =
-    with_command (with_command (with_command (with_command program (file_app (codes "dump")))
+    with_command (with_command (with_command (with_command program dump_app)
     (file_app (codes "map"))) (file_app (codes "picture"))) (file_app (codes "entries"))
 
 -- a topic of help, `help NAME`: as a command it wants a word, and takes none

@@ -15,7 +15,7 @@ use Rattle.pmp_text.specs.Numbers.{word_number}
 use Rattle.pmp_audit.specs.declared.policy_check.steps.Pace.{Pace}
 use Rattle.pmp_audit.specs.declared.policy_check.steps.Pace.TheVariants.{Events, Publications}
 use Rattle.pmp_audit.specs.declared.view.View.{View}
-use Rattle.pmp_audit.specs.declared.view.View.TheVariants.{Registers, Runs, Picture, Entries}
+use Rattle.pmp_audit.specs.declared.view.View.TheVariants.{Registers, Script, Runs, Picture, Entries}
 use Rattle.pmp_tool.specs.declared.command.Command.{Command}
 use Rattle.pmp_tool.specs.declared.command.CommandName.{CommandName}
 use Rattle.pmp_tool.specs.declared.command.CommandName.TheVariants as name
@@ -202,11 +202,17 @@ abbrev pub policy_in : List Row → Result Task Refusal
 policy_in rows = result_map (λ policy. Policy policy (pace_of (first_of (codes "each-write") rows)))
     (second_in (codes "policy") rows)
 
+-- a script with the option, and else the registers
+abbrev pub dump_view_of : Option Text → View
+dump_view_of word = if flag_of word then Script else Registers
+
 -- what a command's matches ask for
 abbrev pub task_in : CommandName → List Row → Result Task Refusal
 task_in name.Check rows = check_in rows
 task_in name.Audit rows = audit_in rows
 task_in name.Policy rows = policy_in rows
+task_in name.Dump rows = result_map (Show (dump_view_of (first_of (codes "as-script") rows)))
+    (after_of (first_of (codes "after") rows))
 task_in (name.Show view) rows = result_map (Show view) (after_of (first_of (codes "after") rows))
 task_in name.Writes rows = Ok Writes
 task_in name.Diff rows = diff_in rows
@@ -216,7 +222,7 @@ command_named word =
     if bytes_eq word (codes "check") then Some name.Check
     else (if bytes_eq word (codes "audit") then Some name.Audit
     else (if bytes_eq word (codes "policy") then Some name.Policy
-    else (if bytes_eq word (codes "dump") then Some (name.Show Registers)
+    else (if bytes_eq word (codes "dump") then Some name.Dump
     else (if bytes_eq word (codes "map") then Some (name.Show Runs)
     else (if bytes_eq word (codes "picture") then Some (name.Show Picture)
     else (if bytes_eq word (codes "entries") then Some (name.Show Entries)

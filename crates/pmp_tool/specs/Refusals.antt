@@ -19,6 +19,7 @@ use Rattle.pmp_tool.specs.declared.refusal.Refusal.TheVariants.{BadLength, PastE
 use Rattle.pmp_tool.specs.declared.refusal.Refusal.TheVariants.{OddCfg, BadNumber, BatchFull, Unpublished, TooLong}
 use Rattle.pmp_tool.specs.declared.refusal.Refusal.TheVariants.{BadHeader, BadRow, BadAfter, Order, BadWord, Memory}
 use Rattle.pmp_tool.specs.declared.refusal.Refusal.TheVariants.{NoPlace, Full, Moved, Input, Output}
+use Rattle.pmp_tool.specs.declared.refusal.Refusal.TheVariants.{LateHead, Twice, BadEntries, BadBits, NotHeld, BadGrain}
 
 abbrev pub number_of : Refusal → ℕ
 number_of BadLength = 3
@@ -42,6 +43,12 @@ number_of Moved = 32
 number_of Memory = 40
 number_of Input = 41
 number_of Output = 42
+number_of LateHead = 50
+number_of Twice = 51
+number_of BadEntries = 52
+number_of BadBits = 53
+number_of NotHeld = 54
+number_of BadGrain = 55
 
 abbrev pub name_of : Refusal → List ℕ
 name_of BadLength = codes "BadLength"
@@ -65,6 +72,12 @@ name_of Moved = codes "Moved"
 name_of Memory = codes "Memory"
 name_of Input = codes "Input"
 name_of Output = codes "Output"
+name_of LateHead = codes "LateHead"
+name_of Twice = codes "Twice"
+name_of BadEntries = codes "BadEntries"
+name_of BadBits = codes "BadBits"
+name_of NotHeld = codes "NotHeld"
+name_of BadGrain = codes "BadGrain"
 
 -- 3 where memory, input, output or a shared unit failed, and else 2
 abbrev pub status_of : Refusal → ℕ
@@ -138,6 +151,12 @@ refusal_of_script script.BatchFull = BatchFull
 refusal_of_script script.Unpublished = Unpublished
 refusal_of_script script.TooLong = TooLong
 refusal_of_script script.Memory = Memory
+refusal_of_script script.LateHead = LateHead
+refusal_of_script script.Twice = Twice
+refusal_of_script script.BadEntries = BadEntries
+refusal_of_script script.BadBits = BadBits
+refusal_of_script script.NotHeld = NotHeld
+refusal_of_script script.BadGrain = BadGrain
 
 abbrev pub refusal_of_trace : TraceKind → Refusal
 refusal_of_trace trace.BadHeader = BadHeader

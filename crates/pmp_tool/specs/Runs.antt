@@ -120,6 +120,7 @@ abbrev pub outcome_status : Outcome → ℕ
 outcome_status (Decided decision expected) = if is_met expected decision then 0 else 1
 outcome_status (Audited summary) = if summary.faults == 0 then 0 else 1
 outcome_status (Judged summary) = if summary.broken == 0 then 0 else 1
-outcome_status (Replayed summary) = if summary.not_stored == 0 then 0 else 1
+outcome_status (Replayed summary) =
+    if summary.differing == 0 then (if summary.not_stored == 0 then 0 else 1) else 1
 outcome_status (Compared rows) = if rows == 0 then 0 else 1
 outcome_status _ = 0

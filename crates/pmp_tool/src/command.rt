@@ -5,9 +5,9 @@ ghost use Rattle.clap.specs.Words.{first_of, found_of, rows_of, subcommand_rows_
 ghost use Rattle.pmp_text.specs.AccessWords.{kind_named, mode_named};
 ghost use Rattle.pmp_text.specs.Numbers.{word_number};
 ghost use Rattle.pmp_tool.specs.Commands.{access_of, access_task, after_of, asked, asked_of, audit_in, check_in};
-ghost use Rattle.pmp_tool.specs.Commands.{checkers_of, command_named, diff_in, first_row_given, first_row_of, flag_of};
-ghost use Rattle.pmp_tool.specs.Commands.{has_option, jobs_of, long_audit_in, pace_of, policy_in, required, second_in};
-ghost use Rattle.pmp_tool.specs.Commands.{task_in, task_of, whole_audit_in};
+ghost use Rattle.pmp_tool.specs.Commands.{checkers_of, command_named, diff_in, dump_view_of, first_row_given};
+ghost use Rattle.pmp_tool.specs.Commands.{first_row_of, flag_of, has_option, jobs_of, long_audit_in, pace_of};
+ghost use Rattle.pmp_tool.specs.Commands.{policy_in, required, second_in, task_in, task_of, whole_audit_in};
 ghost use Rattle.pmp_tool.specs.Expected.{expected_of};
 ghost use Rattle.pmp_tool.specs.OnlyWord.{only_of};
 ghost use Rattle.pmp_tool.specs.Refusals.{result_map};
@@ -68,6 +68,7 @@ enum CommandName {
     Check,
     Audit,
     Policy,
+    Dump,
     Show(View),
     Writes,
     Diff,
@@ -80,7 +81,7 @@ fn read_name(word: &str) -> Option<CommandName>
         "check" => Some(CommandName::Check),
         "audit" => Some(CommandName::Audit),
         "policy" => Some(CommandName::Policy),
-        "dump" => Some(CommandName::Show(View::Registers)),
+        "dump" => Some(CommandName::Dump),
         "map" => Some(CommandName::Show(View::Runs)),
         "picture" => Some(CommandName::Show(View::Picture)),
         "entries" => Some(CommandName::Show(View::Entries)),
@@ -109,6 +110,7 @@ fn read_request<'a>(name: CommandName, words: &ArgMatches<'a>) -> Result<Request
         CommandName::Check => read_check(words),
         CommandName::Audit => read_audit(words),
         CommandName::Policy => read_policy(words),
+        CommandName::Dump => Ok(Request::Show(dump_view(words), read_after(words, "after")?)),
         CommandName::Show(view) => Ok(Request::Show(view, read_after(words, "after")?)),
         CommandName::Writes => Ok(Request::Writes),
         CommandName::Diff => read_diff(words),
@@ -183,6 +185,17 @@ fn has_flag(words: &ArgMatches, id: &str) -> bool
     match words.get_str(id) {
         Some(word) => word == "true",
         None => false,
+    }
+}
+
+/// What a dump shows.
+fn dump_view(words: &ArgMatches) -> View
+    ensures { result ≡ dump_view_of (first_of (codes "as-script") (rows_of (found_of words.now))) }
+{
+    if has_flag(words, "as-script") {
+        View::Script
+    } else {
+        View::Registers
     }
 }
 

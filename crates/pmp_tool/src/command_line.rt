@@ -3,11 +3,11 @@
 ghost use Rattle.std.specs.Prelude.{◌≡◌, map, false, IfOk, IfErr, string_bytes};
 ghost use Rattle.clap.specs.Words.{App, HasKind, fault_of, new_app, rule_of};
 ghost use Rattle.pmp_tool.specs.Building.{Builds, IsBuilt, IsCommand, IsTaken};
-ghost use Rattle.pmp_tool.specs.CommandLines.{audit_app, check_app, count_rule, diff_app, file_app, flag_rule};
-ghost use Rattle.pmp_tool.specs.CommandLines.{option_rule};
+ghost use Rattle.pmp_tool.specs.CommandLines.{audit_app, check_app, count_rule, diff_app, dump_app, file_app};
+ghost use Rattle.pmp_tool.specs.CommandLines.{flag_rule, option_rule, script_rule};
 ghost use Rattle.pmp_tool.specs.CommandLines.{pmp_app, policy_app, script_app, top_app, topic_app, with_after};
 ghost use Rattle.pmp_tool.specs.CommandLines.{with_command, with_count, with_flag, with_option, with_topics};
-ghost use Rattle.pmp_tool.specs.CommandLines.{with_views, with_word, word_rule};
+ghost use Rattle.pmp_tool.specs.CommandLines.{with_script, with_views, with_word, word_rule};
 
 use crate::jobs::JOBS;
 use crate::{help, topics};
@@ -65,14 +65,20 @@ fn topic<'a>(alloc: Global, name: &'a str, text: &'a str) -> Built<'a>
 fn with_views<'a>(alloc: Global, program: Built<'a>) -> Built<'a>
     ensures { Builds with_views program.entry result }
 {
-    let dump = of_file(alloc, "dump", help::DUMP, help::MORE_OF_DUMP);
-    let program = with_command(program, dump);
+    let program = with_command(program, dump(alloc));
     let map = of_file(alloc, "map", help::MAP, help::MORE_OF_MAP);
     let program = with_command(program, map);
     let picture = of_file(alloc, "picture", help::PICTURE, help::MORE_OF_PICTURE);
     let program = with_command(program, picture);
     let entries = of_file(alloc, "entries", help::ENTRIES, help::MORE_OF_ENTRIES);
     with_command(program, entries)
+}
+
+fn dump<'a>(alloc: Global) -> Built<'a>
+    ensures { IsBuilt result dump_app }
+{
+    let command = of_file(alloc, "dump", help::DUMP, help::MORE_OF_DUMP);
+    with_script(alloc, command)
 }
 
 fn check<'a>(alloc: Global) -> Built<'a>
@@ -230,6 +236,20 @@ fn flag<'a>(alloc: Global, id: &'a str, help: &'a str) -> Arg<'a>
         .long(id)
         .action(ArgAction::SetTrue)
         .help(help)
+}
+
+/// With `--script`, whose place isn't that of the script's path.
+fn with_script<'a>(alloc: Global, command: Built<'a>) -> Built<'a>
+    ensures { Builds with_script command.entry result }
+{
+    command?.arg(script_flag(alloc))
+}
+
+fn script_flag<'a>(alloc: Global) -> Arg<'a>
+    ensures rule { rule_of result ≡ script_rule }
+    ensures local { result.global ≡ false }
+{
+    flag(alloc, "as-script", help::AS_SCRIPT).long("script")
 }
 
 fn with_count<'a>(

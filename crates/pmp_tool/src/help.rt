@@ -16,6 +16,9 @@ pub const POLICY: &str =
 
 pub const DUMP: &str = "Writes the unit's registers after publications of a script";
 
+pub const AS_SCRIPT: &str =
+    "Writes a script of version 3 whose unit begins with these registers, in place of a line for each";
+
 pub const MAP: &str = "Writes which bytes each entry owns after publications of a script";
 
 pub const PICTURE: &str =
@@ -304,7 +307,7 @@ docs/FORMATS.md describes scripts, the entry lines, and every refusal with its
 number.";
 
 pub const MORE_OF_WRITES: &str = "\
-Each line is an event of the script, in order:
+Each line is an event of the script, in order, and behind these what it expects:
 N,PUBLICATION,LINE,REGISTER,WRITTEN,BEFORE,AFTER,EFFECT,REASONS,ENTRIES.
   WRITTEN     the value that is written
   BEFORE      the value that the register reads before
@@ -312,7 +315,7 @@ N,PUBLICATION,LINE,REGISTER,WRITTEN,BEFORE,AFTER,EFFECT,REASONS,ENTRIES.
   EFFECT      stored, ignored or altered: AFTER is what was written, what was there
               before, or neither
   REASONS     why AFTER isn't what was written:
-    absent    it is not zero for an entry that the unit doesn't have
+    absent    it is not zero for an entry or a register that the hart doesn't have
     bits      the register doesn't have these bits
     frozen    it would change a frozen entry
     tor       it would change the low end of a frozen entry's range
@@ -321,11 +324,14 @@ N,PUBLICATION,LINE,REGISTER,WRITTEN,BEFORE,AFTER,EFFECT,REASONS,ENTRIES.
               without rule-locking bypass
     sticky    it would clear lockdown or the allow-list policy
     bypass    it would set rule-locking bypass, and an entry is locked
-  ENTRIES     the entries for which frozen, tor, reserved or lockdown holds
-A reset has the word reset for REGISTER and EFFECT.
+    grain     it has NA4, or address bits, below the hart's grain
+  ENTRIES     the entries for which frozen, tor, reserved, lockdown or grain holds
+A reset has the word reset for REGISTER and EFFECT. What is expected has LINE,
+REGISTER, its value for WRITTEN, what the register reads there for AFTER, and
+expected or differs for EFFECT.
 
 Exit status:
-  0  every write is stored as written
+  0  every write is stored as written, and all that is expected is there
   1  one isn't
   2  no answer: the words or the script are at fault
   3  no answer: memory, the script's input or the output failed

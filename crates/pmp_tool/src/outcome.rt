@@ -8,12 +8,13 @@ use pmp_audit::{PolicySummary, Summary, WriteSummary};
 use pmp_core::Decision;
 
 /// The exit status of texts and lists that were written, of an answer that is the expected one, of accesses that are
-/// all allowed, of a policy that holds, of writes that are all stored, and of register files that don't differ as is
-/// asked.
+/// all allowed, of a policy that holds, of writes that are all stored with all that is expected, and of register files
+/// that don't differ as is asked.
 const DONE: u8 = 0;
 
 /// The exit status of an answer that isn't the expected one, of an access of a trace that is refused, of a policy that
-/// is broken, of a write that isn't stored as written, and of register files that differ.
+/// is broken, of a write that isn't stored as written, of a register that differs from what is expected, and of
+/// register files that differ.
 const OTHER: u8 = 1;
 
 /// What the program did.
@@ -42,6 +43,7 @@ impl Outcome {
             Outcome::Decided(decision, expected) if !expected.is_met(decision) => OTHER,
             Outcome::Audited(summary) => status_of(summary.faults),
             Outcome::Judged(summary) => status_of(summary.broken),
+            Outcome::Replayed(summary) if summary.differing > 0 => OTHER,
             Outcome::Replayed(summary) => status_of(summary.not_stored),
             Outcome::Compared(rows) => status_of(rows),
             _ => DONE,

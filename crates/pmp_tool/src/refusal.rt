@@ -54,6 +54,18 @@ pub enum Refusal {
     Input = 41,
     /// An output that can't be written.
     Output = 42,
+    /// A line of a script's head behind an event or a `publish`.
+    LateHead = 50,
+    /// The same said twice in a script's head.
+    Twice = 51,
+    /// A number of entries that no hart has.
+    BadEntries = 52,
+    /// A number of address bits that no hart has.
+    BadBits = 53,
+    /// A value that a register doesn't keep.
+    NotHeld = 54,
+    /// A grain that no hart has.
+    BadGrain = 55,
 }
 
 impl Refusal {
@@ -88,6 +100,12 @@ impl Refusal {
             Refusal::Memory => "Memory",
             Refusal::Input => "Input",
             Refusal::Output => "Output",
+            Refusal::LateHead => "LateHead",
+            Refusal::Twice => "Twice",
+            Refusal::BadEntries => "BadEntries",
+            Refusal::BadBits => "BadBits",
+            Refusal::NotHeld => "NotHeld",
+            Refusal::BadGrain => "BadGrain",
         }
     }
 
@@ -140,6 +158,12 @@ impl From<ScriptKind> for Refusal {
             ScriptKind::Unpublished => Refusal::Unpublished,
             ScriptKind::TooLong => Refusal::TooLong,
             ScriptKind::Memory => Refusal::Memory,
+            ScriptKind::LateHead => Refusal::LateHead,
+            ScriptKind::Twice => Refusal::Twice,
+            ScriptKind::BadEntries => Refusal::BadEntries,
+            ScriptKind::BadBits => Refusal::BadBits,
+            ScriptKind::NotHeld => Refusal::NotHeld,
+            ScriptKind::BadGrain => Refusal::BadGrain,
         }
     }
 }

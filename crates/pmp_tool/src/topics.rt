@@ -10,13 +10,23 @@ A script says which registers firmware writes, and when its writes count:
   publish
 
 A line without words, and one whose first word begins with #, is skipped. The
-first other line is pmp 1 for a unit of 16 entries, or pmp 2 for one of 64, and
-each later one is one of these:
+first other line is pmp 1 for a unit of 16 entries, pmp 2 for one of 64, or
+pmp 3 for any hart, and each later one is one of these:
   write NAME VALUE  a write to the register joins the open batch
   reset             a reset of the hart joins the open batch
   publish           the open batch becomes the next publication, and an empty
                     one is open: the events of a publication, its writes and
                     resets, take effect together, in their order
+
+In version 3 there may be these too, hart and set before the first event or
+publish, in any order and each once, and expect anywhere:
+  hart entries N    0 to 64 entries, else 16
+  hart grain BYTES  4, 8, 16 and so on to 4096, else 4
+  hart bits N       34 to 56 bits of a physical address, else 56
+  hart smepmp WORD  yes or no, else yes
+  set NAME VALUE    what the register has at first, bound by no lock; a reset
+                    leaves nothing of it
+  expect NAME VALUE  what the register reads here: pmp writes has a row for it
 
   NAME   mseccfg; pmpcfg0, pmpcfg2, .. pmpcfg14; pmpaddr0 to pmpaddr63; or the
          register's number behind 0x, as 0x3a0
@@ -81,7 +91,7 @@ FIRST,LAST,OWNER,MRIGHTS,SURIGHTS
 `pmp entries` for each entry:
 ENTRY,MATCHING,FIRST,LAST,MRIGHTS,SURIGHTS,LOCK,ADDRESS,SINCE,HOLDS
 
-`pmp writes` for each write and reset of the script:
+`pmp writes` for each write and reset of the script, and each expect behind them:
 N,PUBLICATION,LINE,REGISTER,WRITTEN,BEFORE,AFTER,EFFECT,REASONS,ENTRIES
 
 `pmp diff` for each longest range of bytes where two scripts differ:

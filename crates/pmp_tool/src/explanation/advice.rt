@@ -9,9 +9,11 @@ pub fn wanted(line: &FaultLine) -> &'static str {
         Refusal::BadLength => "a length from 1 to 4096",
         Refusal::PastEnd => "bytes that end at or below 2^56",
         Refusal::BadVersion => {
-            "pmp 1 for a unit of 16 entries, or pmp 2 for one of 64, before every line but comments"
+            "pmp 1 for a unit of 16 entries, pmp 2 for one of 64, or pmp 3 for any hart, before every line but comments"
         }
-        Refusal::BadLine => "write NAME VALUE, reset or publish, with no further words",
+        Refusal::BadLine => {
+            "write NAME VALUE, reset or publish, in version 3 hart FIELD VALUE, set or expect too, and no further words"
+        }
         Refusal::BadName => {
             "mseccfg, pmpcfg0, pmpcfg2, .. pmpcfg14, pmpaddr0 to pmpaddr63, or the register's number behind 0x"
         }
@@ -39,6 +41,12 @@ pub fn wanted(line: &FaultLine) -> &'static str {
         Refusal::Input =>
             "a path that can be opened and read; stdin is standard input, and a dash isn't",
         Refusal::Output => "an output that takes the whole answer",
+        Refusal::LateHead => "hart and set before the first write, reset or publish",
+        Refusal::Twice => "each field of the hart once, and each register set once",
+        Refusal::BadEntries => "0 to 64 entries",
+        Refusal::BadBits => "34 to 56 address bits",
+        Refusal::NotHeld => "a value that the register of this hart keeps",
+        Refusal::BadGrain => "a grain of 4, 8, 16 and so on to 4096 bytes",
     }
 }
 
@@ -79,5 +87,11 @@ pub fn remedy(refusal: Refusal) -> &'static str {
         Refusal::Memory => "end other programs, raise the limit, or cut the trace",
         Refusal::Input => "see that the path is right and may be read",
         Refusal::Output => "throw away what was written, which is a beginning of the answer",
+        Refusal::LateHead => "move the line up, or write the register",
+        Refusal::Twice => "leave one of the two lines out",
+        Refusal::BadEntries => "look for another unit of the number",
+        Refusal::BadBits => "give the bits of a physical address, not those of a register",
+        Refusal::NotHeld => "see whether the hart lines say the hart that had the value",
+        Refusal::BadGrain => "give the grain in bytes",
     }
 }
