@@ -137,6 +137,76 @@ async function goTo(name, text, by, at, access) {
     return stateShown();
 }
 
+// Policies and differences.
+
+// A demand that the module refuses or not, by numbers.
+function verdictOf(text, change) {
+    const row = {number: 1, from: 0, to: 2, first: 0, last: 9, modes: 3, kind: 3, demand: 0, pace: 0, ...change};
+    for (const name of ['number', 'from', 'to', 'first', 'last']) row[name] = BigInt(row[name]);
+    return asList(page.unit.verdict(encodeText(text), row));
+}
+
+async function verdictsShown(policy, by) {
+    byId('each-write').checked = by === 'write';
+    byId('policy').value = policy;
+    tellInput(byId('policy'));
+    await page.demands.finished;
+    const seen = isSeen(byId('policy-fault'));
+    const asRow = (cells) => cells.slice(0, 6).join(',');
+    return {
+        rows: rowsOf('verdicts').map(asRow),
+        answers: page.demands.fault ? [] : page.demands.lines.map(asRow),
+        fault: seen ? byId('policy-fault-line').textContent : '',
+        wanted: seen ? byId('policy-fault-wanted').textContent : '',
+    };
+}
+
+// The moment that each of the first breaches leads to.
+function breachesGoneTo(most) {
+    const rows = [...byId('verdicts').tBodies[0].rows].filter(isSeen).slice(0, most);
+    return rows.flatMap((row) => [...row.querySelectorAll('button')]).map((button) => {
+        button.click();
+        return {...page.moment};
+    });
+}
+
+function diffOf(old, oldAfter, text, newAfter) {
+    const answer = page.unit.diff(encodeText(old), BigInt(oldAfter), encodeText(text), BigInt(newAfter));
+    return [...asList(answer), answer.side];
+}
+
+function differencesShown(old, afters) {
+    ['old-after', 'new-after'].forEach((id, place) => { byId(id).value = afters[place]; });
+    byId('old-script').value = old;
+    tellInput(byId('old-script'));
+    const {status, text} = page.differences.answer;
+    return {
+        rows: linesShown('differences', ','),
+        answer: [status, text],
+        fault: isSeen(byId('old-fault')) ? byId('old-fault-line').textContent : '',
+    };
+}
+
+async function findingsShown() {
+    await page.demands.finished;
+    return {
+        address: location.hash,
+        policy: page.demands.state,
+        policyText: byId('policy').value,
+        verdicts: rowsOf('verdicts'),
+        old: page.differences.state,
+        oldText: byId('old-script').value,
+        differences: rowsOf('differences'),
+    };
+}
+
+async function findingsSet(policyName, oldName, policy, old, by, afters) {
+    page.demands.put({...(policyName ? {name: policyName} : {text: `${policy}\n`}), by});
+    page.differences.put({...(oldName ? {name: oldName} : {text: `${old}\n`}), afters});
+    await page.noteAddress();
+    return findingsShown();
+}
+
 // The page for people.
 
 const parts = (color) => color.match(/[\d.]+/g).map(Number);
@@ -180,7 +250,7 @@ function contrasts() {
 // What has the focus, and whether one sees that.
 function focusShown() {
     const element = document.activeElement;
-    const shown = element.id === 'file' ? document.querySelector('label[for=file]') : element;
+    const shown = element.type === 'file' ? element.labels[0] : element;
     const ring = element.closest('.editor') ?? shown;
     const place = ring.getBoundingClientRect();
     return {

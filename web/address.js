@@ -1,5 +1,7 @@
 // The state in the address, behind its #: boot=NAME or script=TEXT, by=write where single writes are asked of, at=N,
-// access=MODE,KIND,START,LENGTH. TEXT is the script, squeezed and in base64 as addresses take it.
+// access=MODE,KIND,START,LENGTH; policy=NAME or rows=TEXT, and pace=write where a policy asks after each write;
+// old=NAME or before=TEXT, and done=N,M where not all publications of the old and the new script are. TEXT is a text,
+// squeezed and in base64 as addresses take it.
 
 const LONGEST_ADDRESS = 32768;
 
@@ -28,21 +30,40 @@ async function readAddress(hash) {
     if (/^[0-9]{1,9}$/.test(fields.get('at') ?? '')) state.at = Number(fields.get('at'));
     const access = (fields.get('access') ?? '').split(',');
     if (access.length === 4) state.access = access;
+    const pace = fields.get('pace') === 'write' ? 'write' : 'publication';
+    state.policy = {...await readText(fields, 'policy', 'rows'), by: pace};
+    const [oldAfter, newAfter] = [...(fields.get('done') ?? '').split(','), ''];
+    state.old = {...await readText(fields, 'old', 'before'), afters: [oldAfter, newAfter]};
     return state;
 }
 
-// The state as it stands behind the #. A script that is too long isn't in it.
+// A text by its name, or as it is, or none.
+async function readText(fields, name, text) {
+    if (fields.has(name)) return {name: fields.get(name)};
+    return fields.has(text) ? {text: await unsqueezeText(fields.get(text))} : {};
+}
+
+// A text as fields of an address have it: an example by its name, another one squeezed, an empty one not at all.
+async function textFields({name, text}, nameField, textField) {
+    if (name) return [`${nameField}=${encodeURIComponent(name)}`];
+    return text ? [`${textField}=${await squeezeText(text)}`] : [];
+}
+
+// The state as it stands behind the #, or nothing where its texts are too long.
 async function addressOf(state) {
     const fields = [];
     if (state.boot) {
         fields.push(`boot=${encodeURIComponent(state.boot)}`);
     } else {
-        const squeezed = await squeezeText(state.text);
-        if (squeezed.length > LONGEST_ADDRESS) return '';
-        fields.push(`script=${squeezed}`);
+        fields.push(`script=${await squeezeText(state.text)}`);
     }
     if (state.by === 'write') fields.push('by=write');
     if (Number.isFinite(state.at)) fields.push(`at=${state.at}`);
     fields.push(`access=${state.access.map(encodeURIComponent).join(',')}`);
-    return `#${fields.join('&')}`;
+    fields.push(...await textFields(state.policy, 'policy', 'rows'));
+    if (state.policy.by === 'write') fields.push('pace=write');
+    fields.push(...await textFields(state.old, 'old', 'before'));
+    if (state.old.afters.join('') !== '') fields.push(`done=${state.old.afters.map(encodeURIComponent).join(',')}`);
+    const address = `#${fields.join('&')}`;
+    return address.length > LONGEST_ADDRESS ? '' : address;
 }

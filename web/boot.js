@@ -8,6 +8,7 @@ class Boot {
         this.fault = null;
         this.events = []; // in order, each with the line that says it
         this.places = new Map(); // of a line's event in that list
+        this.expectations = new Map(); // of a line that expects a value, its row's fields
         this.ends = [0];
         const publications = unit.publications(this.script);
         if (publications.status !== 0) {
@@ -19,7 +20,10 @@ class Boot {
             this.fault = writes;
             return;
         }
-        this.events = linesOf(writes.text, ',').map(readEvent);
+        const rows = linesOf(writes.text, ',');
+        this.events = rows.filter(isEvent).map(readEvent);
+        const expectations = rows.filter((fields) => !isEvent(fields));
+        this.expectations = new Map(expectations.map((fields) => [Number(fields[2]), fields]));
         this.places = new Map(this.events.map((event, place) => [event.line, place]));
         this.ends = endsOf(this.events, Number(publications.text));
     }
@@ -50,12 +54,24 @@ class Boot {
         return this.singly;
     }
 
-    // The script with a publish behind each event, and no other.
+    // The script with a publish behind each event, and no other. Its head stays, and its expectations go.
     eachWrite() {
-        const entries = linesOf(this.unit.entries(this.script, 0).text, ',').length;
         const statements = this.events.map((event) => `${event.statement}\npublish\n`);
-        return `pmp ${entries === 16 ? 1 : 2}\n${statements.join('')}`;
+        return `${headOf(this.script)}${statements.join('')}`;
     }
+}
+
+// The lines of a script that say which unit it has, and what that holds at first: its version, and `hart` and `set`.
+function headOf(script) {
+    const lines = decodeText(script).split('\n').map((line) => line.match(/[^ \t\r]+/g) ?? []);
+    const significant = lines.filter((words) => words.length > 0 && !words[0].startsWith('#'));
+    const head = significant.filter(([word], place) => place === 0 || word === 'hart' || word === 'set');
+    return head.map((words) => `${words.join(' ')}\n`).join('');
+}
+
+// Whether a row is an event's. An expectation's row has no number.
+function isEvent(fields) {
+    return fields[0] !== '';
 }
 
 function readEvent(fields) {

@@ -2,11 +2,11 @@
 
 const byId = (id) => document.getElementById(id);
 const data = JSON.parse(byId('data').textContent);
-const MEMORY = 40;
 const MOST_WRITES = 500;
 const SHORT_SCRIPT = 65536; // as many letters are asked of at each key; with more the page waits for a pause
 const PAUSE = 300;
-const SIGNS = {ignored: '✕', altered: '≠', wrong: '!', done: '●'};
+const NOTING = 100; // milliseconds
+const SIGNS = {ignored: '✕', altered: '≠', wrong: '!', done: '●', expected: '=', differs: '✕'};
 
 function sayRefusal({status, line}) {
     if (status === NO_ANSWER.status) return 'No answer';
@@ -35,6 +35,10 @@ class Page {
         this.picture = new Picture(byId('picture'), data.darkPicture);
         const words = ['mode', 'kind', 'start', 'length'].map(byId);
         this.access = new Access(unit, words, byId('access-now'), byId('decisions'));
+        const changed = () => this.noteAddress();
+        this.demands = new Demands(unit, data.policies, (moment) => this.goToMoment(moment), changed);
+        const kept = () => (this.name === '' ? {text: this.editor.text} : {name: this.name});
+        this.differences = new Differences(unit, data.boots, kept, changed);
         for (const name of Object.keys(data.boots)) byId('boot').add(new Option(name, name));
         byId('boot').add(new Option('your own', ''));
         this.listen();
@@ -96,6 +100,8 @@ class Page {
             unread = 'The address has no state that this page can read.';
         }
         if (state?.access) this.access.state = state.access;
+        this.demands.state = state?.policy ?? {by: 'publication'};
+        this.differences.state = state?.old ?? {afters: ['', '']};
         const own = state?.text !== undefined;
         const known = Object.hasOwn(data.boots, state?.boot);
         const name = known ? state.boot : Object.keys(data.boots)[0];
@@ -161,8 +167,12 @@ class Page {
         if (this.boot.fault === null) {
             this.showWrites();
             this.moveTo(this.moment);
+            this.demands.ask(this.boot);
+            this.differences.ask(this.boot);
         } else {
             this.access.stop();
+            this.demands.ask(null);
+            this.differences.ask(null);
             const wrong = {kind: 'wrong', sign: SIGNS.wrong};
             this.editor.mark((line) => (line === this.boot.fault.line ? wrong : undefined), 0);
         }
@@ -177,6 +187,13 @@ class Page {
         this.showMoment();
         this.showAnswers();
         this.markLines(this.boot.eventsAt(this.moment));
+    }
+
+    // The moment of a finding, where the sliders are seen and have the focus.
+    goToMoment(moment) {
+        this.moveTo(moment);
+        byId(moment.by).focus();
+        this.noteAddress();
     }
 
     accessChanged() {
@@ -213,11 +230,12 @@ class Page {
 
     // The last of all, since to scroll the script lays the page out.
     markLines(done) {
-        const {events, places} = this.boot;
+        const {events, places, expectations} = this.boot;
         const now = events[done - 1]?.line ?? 0;
         this.editor.mark((line) => {
             const place = places.get(line);
-            const kind = events[place]?.effect in SIGNS ? events[place].effect : place < done ? 'done' : '';
+            const effect = events[place]?.effect ?? expectations.get(line)?.[7];
+            const kind = effect in SIGNS ? effect : place < done ? 'done' : '';
             return kind === '' ? undefined : {kind, sign: SIGNS[kind]};
         }, now);
         if (now > 0 && done < events.length) this.editor.show(now);
@@ -273,14 +291,19 @@ class Page {
             ? `All of ${counted(this.boot.events.length, 'event')} are stored as written.`
             : `${wrong.length} of ${counted(this.boot.events.length, 'event')}`
                 + (wrong.length > MOST_WRITES ? `; the first ${MOST_WRITES}:` : ':');
-        const lines = wrong.slice(0, MOST_WRITES).map((event) => event.fields);
+        const differing = [...this.boot.expectations.values()].filter((fields) => fields[7] === 'differs');
+        if (differing.length > 0) {
+            byId('writes-count').prepend(`Expected values that differ: ${differing.length}. `);
+        }
+        const lines = [...wrong.map((event) => event.fields), ...differing].slice(0, MOST_WRITES)
+            .sort((one, other) => one[2] - other[2]);
         byId('writes').hidden = lines.length === 0;
         fillTable(byId('writes'), lines, (row, fields) => {
             const line = Number(fields[2]);
             row.className = fields[7];
             makeButton(row.cells[2], `Line ${line} of the script`, () => this.editor.goTo(line));
         });
-        this.showReasons(new Set(lines.flatMap((fields) => fields[8].split(' '))));
+        this.showReasons(new Set(lines.flatMap((fields) => fields[8].match(/[a-z]+/g) ?? [])));
     }
 
     showReasons(reasons) {
@@ -292,11 +315,22 @@ class Page {
         byId('reasons').replaceChildren(...items);
     }
 
-    async noteAddress() {
-        const state = {boot: this.name, text: this.editor.text, ...this.moment, access: this.access.state};
+    // A browser takes few changes of the address in a second, so those that come soon after one another are one.
+    noteAddress() {
+        this.noting ??= new Promise((go) => setTimeout(go, NOTING)).then(() => {
+            this.noting = null;
+            return this.writeAddress();
+        });
+        return this.noting;
+    }
+
+    async writeAddress() {
+        const {access, demands, differences, moment} = this;
+        const state = {boot: this.name, text: this.editor.text, ...moment, access: access.state};
+        [state.policy, state.old] = [demands.state, differences.state];
         const address = await addressOf(state);
         history.replaceState(null, '', address === '' ? location.pathname + location.search : address);
-        if (address === '') tell('The script is too long for the address: send it beside a link.');
+        if (address === '') tell('The texts are too long for the address: send them beside a link.');
     }
 }
 

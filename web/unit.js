@@ -1,13 +1,17 @@
 // The unit: the proved module, and what it is asked. Each answer is {status, line, text}: status 0 and a text as the
 // program writes it, or the number of a refusal, with the script's line that is at fault, or 0.
 //
-// The module's memory has a room for a script, its length and its bytes, and one for an answer: a line, a length, and
-// bytes. They stand behind all that the module has of its own. Its addresses have 64 bits, so they are BigInts.
+// The module's memory has two rooms for scripts, each its length and its bytes, one for a demand, and one for an answer:
+// a line, a length, and bytes. They stand behind all that the module has of its own. Its addresses have 64 bits, so they
+// are BigInts.
 
 const WORD = 8;
 const WASM_PAGE = 65536;
+const DEMAND = 5 * WORD + 4 * 4;
+const OF_THE_NEW = 256; // is added to the status where the new of two scripts is at fault
 const TOO_LONG = 17;
 const BAD_WORD = 24;
+const MEMORY = 40;
 const MODES = {U: 0, S: 1, M: 3};
 const KINDS = {fetch: 0, load: 1, store: 2};
 const NO_ANSWER = {status: -1, line: 0, text: ''};
@@ -27,12 +31,14 @@ class Unit {
         this.exports = new WebAssembly.Instance(this.module).exports;
         const {memory, __heap_base: base} = this.exports;
         this.script = Math.ceil(Number(base.value) / WORD) * WORD;
-        this.answer = this.script + WORD + this.limits.MAX_SCRIPT;
+        this.other = this.script + WORD + this.limits.MAX_SCRIPT;
+        this.demand = this.other + WORD + this.limits.MAX_SCRIPT;
+        this.answer = this.demand + DEMAND;
         const end = this.answer + 2 * WORD + this.limits.MAX_ANSWER;
         const missing = Math.ceil((end - memory.buffer.byteLength) / WASM_PAGE);
         if (missing > 0) memory.grow(BigInt(missing));
         this.memory = memory;
-        this.held = null;
+        this.held = new Map(); // what script a room has
     }
 
     publications(script) {
@@ -65,14 +71,40 @@ class Unit {
         return this.ask('check', script, BigInt(after), MODES[mode], KINDS[kind], start, length);
     }
 
-    // A call of an export, whose first parameter is the script's room and whose last one is the answer's. Where the
-    // module traps, which no call is meant to do, that is told, and the next one asks a module that is begun anew.
+    // The verdict row of one row of a policy: {number, from, to, first, last}, which are BigInts, and {modes, kind,
+    // demand, pace}, which are numbers.
+    verdict(script, row) {
+        const view = new DataView(this.memory.buffer);
+        [row.number, row.from, row.to, row.first, row.last].forEach((word, place) => {
+            view.setBigUint64(this.demand + place * WORD, word, true);
+        });
+        [row.modes, row.kind, row.demand, row.pace].forEach((word, place) => {
+            view.setUint32(this.demand + 5 * WORD + place * 4, word, true);
+        });
+        return this.ask('verdict', script, BigInt(this.demand));
+    }
+
+    // The rows of a difference, or a refusal with the side that is at fault, "old" or "new", or "" where none is.
+    diff(old, oldAfter, script, newAfter) {
+        const answer = this.call('diff', [[this.script, old], [this.other, script]],
+            [BigInt(this.script), oldAfter, BigInt(this.other), newAfter]);
+        if (answer.status >= OF_THE_NEW) return {...answer, status: answer.status - OF_THE_NEW, side: 'new'};
+        return {...answer, side: answer.status === MEMORY ? '' : 'old'};
+    }
+
+    // A call of an export whose first parameter is the script's room.
     ask(name, script, ...words) {
-        if (script.length > this.limits.MAX_SCRIPT) return {status: TOO_LONG, line: 0, text: ''};
+        return this.call(name, [[this.script, script]], [BigInt(this.script), ...words]);
+    }
+
+    // A call of an export whose last parameter is the answer's room, with scripts in their rooms. Where the module
+    // traps, which no call is meant to do, that is told, and the next one asks a module that is begun anew.
+    call(name, scripts, words) {
+        const long = scripts.findIndex(([, script]) => script.length > this.limits.MAX_SCRIPT);
+        if (long >= 0) return {status: TOO_LONG + long * OF_THE_NEW, line: 0, text: ''};
         try {
-            this.put(script);
-            const rooms = [BigInt(this.script), ...words, BigInt(this.answer)];
-            return this.read(this.exports[`tilvenka_page_${name}`](...rooms));
+            for (const [room, script] of scripts) this.put(room, script);
+            return this.read(this.exports[`tilvenka_page_${name}`](...words, BigInt(this.answer)));
         } catch (trap) {
             if (!(trap instanceof WebAssembly.RuntimeError)) throw trap;
             this.traps += 1;
@@ -83,15 +115,15 @@ class Unit {
         }
     }
 
-    // No call changes the script's room, so it is filled once for each script.
-    put(script) {
+    // No call changes a script's room, so it is filled once for each script.
+    put(room, script) {
         const view = new DataView(this.memory.buffer);
         view.setBigUint64(this.answer, 0n, true);
         view.setBigUint64(this.answer + WORD, 0n, true);
-        if (this.held === script) return;
-        view.setBigUint64(this.script, BigInt(script.length), true);
-        new Uint8Array(this.memory.buffer, this.script + WORD, script.length).set(script);
-        this.held = script;
+        if (this.held.get(room) === script) return;
+        view.setBigUint64(room, BigInt(script.length), true);
+        new Uint8Array(this.memory.buffer, room + WORD, script.length).set(script);
+        this.held.set(room, script);
     }
 
     read(status) {

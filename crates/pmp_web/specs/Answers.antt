@@ -1,5 +1,5 @@
 -- What an export answers, by its status and the room of its answer.
-use Rattle.std.specs.Prelude.{◌≡◌, ◌⊎◌, ℕ, List, length, Ok, Option, Some, None, decimal}
+use Rattle.std.specs.Prelude.{◌≡◌, ◌⊎◌, ℕ, List, [], length, Ok, Option, Some, None, decimal}
 use Rattle.pmp_core.specs.declared.access.Access.{Access}
 use Rattle.pmp_core.specs.declared.decision.Decision.{Decision}
 use Rattle.pmp_text.specs.Contents.{ScriptContents}
@@ -10,17 +10,27 @@ use Rattle.pmp_audit.specs.AccessCheck.{CheckSays}
 use Rattle.pmp_audit.specs.Answers.{Declines}
 use Rattle.pmp_audit.specs.AskedFile.{FileRefuses}
 use Rattle.pmp_audit.specs.WriteList.{WritesSay}
+use Rattle.pmp_audit.specs.PolicyCheck.{VerdictRefuses, VerdictSays}
+use Rattle.pmp_audit.specs.RightsDiff.{DiffSays}
+use Rattle.pmp_text.specs.declared.lines.verdict.Breach.{Breach}
 use Rattle.pmp_web.specs.declared.rooms.Answer.{Answer}
+use Rattle.pmp_web.specs.declared.request.Question.{Question}
 use Rattle.pmp_web.specs.Request.{IsNamed, no_access}
 use Rattle.pmp_web.specs.Rooms.{text_in}
 use Rattle.pmp_web.specs.Status.{line_of, number_of}
 
--- the call refuses, with the number of the refusal and its line
+-- the call refuses, with the number of the refusal and its line, and the room is empty
 pub record IsRefusal (Refuses : AuditFault → Type 0) (status : ℕ) (answer : Answer) : Type 0 where
   pub fault : AuditFault
   pub why : Declines Refuses fault
   pub number : status ≡ number_of fault
   pub line : answer.line ≡ line_of fault
+  pub empty : text_in answer ≡ []
+
+-- the numbers of the question name nothing, and the room is empty
+pub record IsUnasked (number status : ℕ) (answer : Answer) : Type 0 where
+  pub status_is : status ≡ number
+  pub empty : text_in answer ≡ []
 
 -- the room holds a text of which Says is true, or the call refuses
 abbrev pub Answers : (Says : List ℕ → Type 0) → (Refuses : AuditFault → Type 0) → (status : ℕ) → Answer → Type 0
@@ -45,4 +55,21 @@ abbrev pub AnswersCheck : (script : List ℕ) → (after mode kind start length 
 AnswersCheck script after mode kind start length status answer =
     ((access : Access) × IsNamed access mode kind start length × (no_access mode kind start length ≡ None)
     × Answers (CheckAnswerSays script access after) (FileRefuses script (Some after)) status answer)
-    ⊎ (no_access mode kind start length ≡ Some status)
+    ⊎ ((number : ℕ) × (no_access mode kind start length ≡ Some number) × IsUnasked number status answer)
+
+-- the text has the verdict on the row
+abbrev pub VerdictAnswerSays : (script : List ℕ) → Question → (text : List ℕ) → Type 0
+VerdictAnswerSays script it text =
+    (verdict : Option Breach) × VerdictSays it.pace script it.number it.fields verdict text
+
+-- the row that the numbers name has its verdict, or they name none
+abbrev pub AnswersVerdict : (script : List ℕ) → Option Question → (status : ℕ) → Answer → Type 0
+AnswersVerdict script None status answer = IsUnasked 24 status answer
+AnswersVerdict script (Some it) status answer =
+    Answers (VerdictAnswerSays script it) (VerdictRefuses script it.number it.fields) status answer
+
+-- the text has the rows of the difference
+abbrev pub DiffAnswerSays : (old : List ℕ) → (old_after : ℕ) → (new : List ℕ) → (new_after : ℕ) → (text : List ℕ)
+    → Type 0
+DiffAnswerSays old old_after new new_after text =
+    (rows : ℕ) × DiffSays old (Some old_after) new (Some new_after) None rows text

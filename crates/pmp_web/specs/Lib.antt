@@ -2,4 +2,5 @@
 pub mod Rooms
 pub mod Status
 pub mod Request
+pub mod Demand
 pub mod Answers

@@ -2,8 +2,8 @@
 //!
 //! No function has a condition on what the rooms hold: whatever it is, the answer is defined. A script is the first
 //! bytes of its room, and an answer those of its own. The status is 0 where there is one, and else the number of the
-//! refusal, whose line stands beside the answer. The definitions that the contracts cite are those of the program's
-//! answers, in `specs/` of `pmp_audit`.
+//! refusal, whose line stands in the answer's room, without a text. The definitions that the contracts cite are those
+//! of the program's answers, in `specs/` of `pmp_audit`.
 //!
 //! An access is named as in the C library: by its mode (0 user, 1 supervisor, 3 machine), its kind (0 fetch, 1 load,
 //! 2 store), the byte address of its first byte, and its length in bytes.
@@ -14,7 +14,9 @@ ghost use Rattle.pmp_audit.specs.AskedFile.{FileRefuses};
 ghost use Rattle.pmp_audit.specs.View.{ViewSays};
 ghost use Rattle.pmp_audit.specs.WriteList.{WritesRefuse};
 ghost use Rattle.pmp_audit.specs.declared.view.View.TheVariants.{Entries, Picture, Registers, Runs};
-ghost use Rattle.pmp_web.specs.Answers.{Answers, AnswersCheck, CountSays, RowsSay};
+ghost use Rattle.pmp_audit.specs.RightsDiff.{DiffRefuses};
+ghost use Rattle.pmp_web.specs.Answers.{Answers, AnswersCheck, AnswersVerdict, CountSays, DiffAnswerSays, RowsSay};
+ghost use Rattle.pmp_web.specs.Demand.{question_of};
 ghost use Rattle.pmp_web.specs.Rooms.{script_in, text_in};
 
 mod answering;
@@ -23,7 +25,7 @@ mod rooms;
 mod status;
 
 use pmp_audit::View;
-pub use rooms::{Answer, Script};
+pub use rooms::{Answer, Demand, Script};
 
 /// How many publications the script has, in decimal.
 #[unsafe(no_mangle)]
@@ -95,6 +97,40 @@ pub extern "C" fn tilvenka_page_check(
 {
     match request::access_of(mode, kind, start, length) {
         Ok(access) => answering::check(script, after, &access, answer),
-        Err(number) => number,
+        Err(number) => answering::refuse_question(answer, number),
     }
+}
+
+/// The verdict on one row of a policy, as `pmp policy` writes it. Numbers that name nothing are told before the script
+/// is read, as 24; the row's own faults after it: 21 where `to` or `last` lies before its beginning, 22 where there are
+/// fewer publications, 4 where `last` is no byte.
+#[unsafe(no_mangle)]
+pub extern "C" fn tilvenka_page_verdict(
+    script: &Script,
+    demand: &Demand,
+    answer: &mut Answer,
+) -> u32
+    ensures { AnswersVerdict (script_in script.now) (question_of demand.now) result answer.new }
+{
+    match request::question_of(demand) {
+        Some(question) => answering::verdict(script, &question, answer),
+        None => answering::refuse_question(answer, request::BAD_WORD),
+    }
+}
+
+/// Where the modes may do another thing after so many publications of the new script than after so many of the old one,
+/// as `pmp diff` writes it. To the number of a refusal of the new script 256 is added.
+#[unsafe(no_mangle)]
+pub extern "C" fn tilvenka_page_diff(
+    old: &Script,
+    old_after: u64,
+    new: &Script,
+    new_after: u64,
+    answer: &mut Answer,
+) -> u32
+    ensures { let old = script_in old.now in let new = script_in new.now in
+        Answers (DiffAnswerSays old old_after new new_after)
+        (DiffRefuses old (Some old_after) new (Some new_after)) result answer.new }
+{
+    answering::diff(old, old_after, new, new_after, answer)
 }

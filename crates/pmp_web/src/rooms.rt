@@ -28,6 +28,40 @@ pub struct Answer {
     pub bytes: [u8; MAX_ANSWER],
 }
 
+/// The room of what a row of a policy says, in numbers.
+#[repr(C)]
+#[derive(Clone, Copy)]
+pub struct Demand {
+    /// The number of the row.
+    pub number: u64,
+    /// The least number of publications that are done.
+    pub from: u64,
+    /// The greatest number of publications that are done.
+    pub to: u64,
+    /// The byte address of the first byte.
+    pub first: u64,
+    /// The byte address of the last byte.
+    pub last: u64,
+    /// A bit for each mode, with the mode's number: bit 0 for user, 1 for supervisor, 3 for machine mode.
+    pub modes: u32,
+    /// 0 a fetch, 1 a load, 2 a store, 3 each of the three.
+    pub kind: u32,
+    /// 0 never, 1 always, 2 held.
+    pub demand: u32,
+    /// 0 after each publication, 1 after each event.
+    pub pace: u32,
+}
+
+impl Answer {
+    /// Empties the room.
+    pub fn clear(&mut self)
+        ensures { text_in self.new ≡ [] }
+    {
+        self.line = 0;
+        self.length = 0;
+    }
+}
+
 impl Script {
     /// The script.
     pub fn text(&self) -> &[u8]

@@ -1,0 +1,148 @@
+"""What checks/page compares of the page's parts "Policy" and "Difference" with what `pmp policy` and `pmp diff` write:
+the module's bytes, and the texts that are shown.
+
+A policy's rows are read by the page's own JavaScript, so their texts are compared too: each mode, kind, demand and
+pace, rows at edges, and rows that are refused."""
+import itertools
+import pathlib
+import re
+import subprocess
+
+HEADER = "from,to,modes,kind,first,last,demand\n"
+MODES = ("M", "S", "U", "MS", "UM", "SU", "USM")
+KINDS = ("fetch", "load", "store", "any")
+DEMANDS = ("never", "always", "held")
+RANGES = (("0", "0"), ("0", "0xffffffffffffff"), ("0x80000000", "0x80000fff"), ("2147483647", "0x80000000"),
+          ("0xffffffffffffff", "0xffffffffffffff"))
+SCRIPT = "pmp 1\nwrite pmpaddr0 0x200001ff\nwrite pmpcfg0 0x99\npublish\nreset\npublish\n"
+ROW = "0,,SU,any,0,9,never\n"
+READ = {
+    "no rows": HEADER, "other line ends": HEADER.replace("\n", "\r") + ROW.replace("\n", "\r\n\n\r"),
+    "a byte-order mark": "\ufeff" + HEADER + ROW,
+    "quotes that open and close": HEADER + '"0"0,"","S"U,any,"0",9,"never"', "no last line end": (HEADER + ROW)[:-1],
+    "a header in quotes": '"from",to,modes,kind,first,last,demand\n' + ROW, "long numbers":
+    HEADER + "00000000000000000000,,M,load,0x0000000000000000,00000000000000000009,held\n",
+}
+REFUSED = {
+    "no header": (20, 0, ROW), "another header": (20, 0, HEADER.replace("to", "until") + ROW),
+    "a header too long": (20, 0, HEADER.replace("demand", "demand,") + ROW), "nothing": (20, 0, "\n"),
+    "six fields": (21, 2, HEADER + ROW + "0,,SU,any,0,9\n"), "eight fields": (21, 1, HEADER + ROW.replace("\n", ",\n")),
+    "a blank": (21, 1, HEADER + " " + ROW), "a line of a blank": (21, 2, HEADER + ROW + " \n"),
+    "no from": (21, 1, HEADER + ROW[1:]), "a mode twice": (21, 1, HEADER + ROW.replace("SU", "SS")),
+    "no mode": (21, 1, HEADER + ROW.replace("SU", "")), "another mode": (21, 1, HEADER + ROW.replace("SU", "s")),
+    "another kind": (21, 1, HEADER + ROW.replace("any", "Any")),
+    "a property": (21, 1, HEADER + ROW.replace("any", "toString")),
+    "another demand": (21, 1, HEADER + ROW.replace("never", "ever")), "0X": (21, 1, HEADER + ROW.replace("9", "0X9")),
+    "2^64": (21, 1, HEADER + ROW.replace("9", str(2 ** 64))), "to below from": (21, 1, HEADER + "2,1" + ROW[2:]),
+    "last below first": (21, 1, HEADER + ROW.replace(",0,9", ",9,8")),
+    "too many, from": (22, 1, HEADER + "3" + ROW[1:]),
+    "too many, to": (22, 1, HEADER + "0,3" + ROW[2:]), "past the end": (4, 1, HEADER + ROW.replace("9", str(2 ** 56))),
+    "form before number": (21, 1, HEADER + "3,,SU,any,9,8,never\n"),
+    "number before end": (22, 1, HEADER + "3" + ROW[1:].replace("9", str(2 ** 56))),
+    "an open quote": (21, 1, HEADER + '"' + ROW), "the first of two": (22, 1, HEADER + "3" + ROW[1:] + "x\n"),
+}
+# Numbers that no text of a policy gives the module: what they change of a right row, and the refusal.
+NUMBERS = (({"modes": 0}, 24), ({"modes": 4}, 24), ({"modes": 16}, 24), ({"kind": 4}, 24), ({"demand": 3}, 24),
+           ({"pace": 2}, 24), ({"from": "2", "to": "1"}, 21), ({"first": "10"}, 21), ({"to": "3"}, 22),
+           ({"last": str(2 ** 56)}, 4), ({"pace": 2, "first": "10"}, 24), ({"to": "3", "last": str(2 ** 56)}, 22))
+
+
+class Findings:
+    def __init__(self, tally, program, work):
+        self.tally = tally
+        self.program = program
+        self.file = pathlib.Path(work, "second")
+
+    def run(self, command, options, first, second):
+        """[status, place, text] of a command on two inputs; place is the words of a refusal before its number."""
+        self.file.write_bytes(second.encode())
+        done = subprocess.run([self.program, command, *options, "stdin", str(self.file)], input=first.encode(),
+                              capture_output=True, check=False)
+        refused = re.match(r"pmp: (?:(.*): )?refused (\d+) ", done.stderr.decode())
+        return [int(refused[2]), refused[1] or "", ""] if refused else [0, "", done.stdout.decode()]
+
+    # Policies.
+
+    def compare_policies(self, tab, boots, policies):
+        made = HEADER + "".join(f"{first}{','.join((modes, kind, *span, demand))}\n"
+                                for first, (modes, kind, span, demand) in zip(itertools.cycle(("0,,", "1,1,", "0,0,")),
+                                itertools.product(MODES, KINDS, RANGES, DEMANDS)))
+        for name, script in boots.items():
+            for policy, text in policies.items():
+                self.compare_verdicts(tab, f"{name} by {policy}", script, text)
+        for name in ("smepmp-boot", "enclaves"):
+            self.compare_verdicts(tab, f"{name} by rows of each kind", boots[name], made)
+        for name, text in READ.items():
+            self.compare_verdicts(tab, name, SCRIPT, text)
+        for name, (status, row, text) in REFUSED.items():
+            place = f"policy row {row}" if row else ""
+            self.tally.compare(f"{name}: refused", self.run("policy", [], SCRIPT, text), [status, place, ""])
+            self.compare_verdicts(tab, name, SCRIPT, text)
+        for change, status in NUMBERS:
+            self.tally.compare(f"{change}: the module", tab.call("verdictOf", SCRIPT, change), [status, 0, ""])
+
+    def compare_verdicts(self, tab, name, script, policy):
+        """What is shown of a policy after each publication, and after each write, and where a breach leads."""
+        tab.call("type", script)
+        for by, options in (("publication", []), ("write", ["--each-write"])):
+            status, place, text = self.run("policy", options, script, policy)
+            shown = tab.call("verdictsShown", policy, by)
+            place_shown = f"{name} after each {by}"
+            rows = text.splitlines()
+            self.tally.compare(f"{place_shown}: verdicts", shown["rows"], rows[:500])
+            self.tally.compare(f"{place_shown}: the module's", shown["answers"], rows)
+            head = f"{place.capitalize() or 'Policy'}: refused {status} "
+            self.tally.has(f"{place_shown}: {shown['fault']!r}", shown["fault"].startswith(head) if status
+                           else shown["fault"] == "")
+            self.tally.compare(f"{place_shown}: what is wanted", bool(shown["wanted"]), bool(status))
+            moments = [{"by": by, "at": int(it.split(",")[2])} for it in rows[:40] if ",broken," in it]
+            self.tally.compare(f"{place_shown}: where breaches lead", tab.call("breachesGoneTo", 40), moments)
+
+    # Differences.
+
+    def compare_differences(self, tab, boots):
+        for (old, text), (new, script) in itertools.product(boots.items(), repeat=2):
+            ends = [it.count("\npublish") for it in (text, script)]
+            for afters in {("", ""), ("0", str(ends[1])), (str(ends[0] // 2), "1"), (str(ends[0]), "0x0")}:
+                self.compare_difference(tab, f"{old} to {new} at {afters}", text, script, afters)
+        for name, text, afters in (("a line of the old", "pmp 1\nwrote\n", ("", "")),
+                                   ("the old's end", SCRIPT, ("3", "")), ("the new's end", SCRIPT, ("", "3")),
+                                   ("both ends", SCRIPT, ("3", "3")),
+                                   ("a line and the new's end", "pmp 1\n\nreset\n", ("", "3")),
+                                   ("no number", SCRIPT, ("", "x")), ("2^64", SCRIPT, (str(2 ** 64), "")),
+                                   ("no line", " ", ("", "")), ("an old of another size", "pmp 2\n", ("", ""))):
+            self.compare_difference(tab, name, text, SCRIPT, afters)
+        fault = "pmp 1\nwrite pmpaddr64 0\n"
+        status, _, _ = self.run("diff", [], SCRIPT, fault)
+        self.tally.compare("a line of the new", tab.call("diffOf", SCRIPT, "0", fault, "0"), [status, 2, "", "new"])
+        self.tally.compare("lines of both", tab.call("diffOf", fault, "0", fault, "0"), [status, 2, "", "old"])
+
+    def compare_difference(self, tab, name, old, new, afters):
+        options = [f"--{side}-after={after}" for side, after in zip(("old", "new"), afters) if after]
+        status, place, text = self.run("diff", options, old, new)
+        tab.call("type", new)
+        shown = tab.call("differencesShown", old, afters)
+        self.tally.compare(f"{name}: rows", shown["rows"], text)
+        self.tally.compare(f"{name}: the module's", shown["answer"], [status, text])
+        where = re.sub("^(old|new)", lambda it: f"{it[1].capitalize()} script", place).replace(" line", ", line")
+        head = f"{where}: refused {status} " if where else f"Refused {status} "
+        self.tally.has(f"{name}: {shown['fault']!r}", shown["fault"].startswith(head) if status else not shown["fault"])
+
+    # Both.
+
+    def compare_all(self, tab, opened, url, boots):
+        policies = tab.ask("data.policies")
+        self.tally.has("example policies", len(policies) > 1)
+        self.compare_policies(tab, boots, policies)
+        self.compare_differences(tab, boots)
+        self.compare_addresses(tab, opened, url, boots, policies)
+
+    def compare_addresses(self, tab, opened, url, boots, policies):
+        """A link to a finding opens it, with examples by their names, and with texts of one's own."""
+        policy = policies["smepmp-boot"]
+        for names, by in ((("smepmp-boot", "first"), "write"), ((), "publication")):
+            tab.call("openBoot", "smepmp-boot")
+            state = tab.call("findingsSet", *(names or (None, None)), policy, boots["enclaves"], by, ["2", "3"])
+            other = opened(url + state["address"])
+            self.tally.compare(f"findings by the address, of {names}", other.ask("findingsShown()"), state)
+            self.tally.compare("complaints", other.complaints(), [])

@@ -1,0 +1,143 @@
+// The part "Policy": what a policy demands of the script, and how each of its rows is judged.
+
+const MOST_DEMANDS = 500;
+const PACES = {publication: 0, write: 1};
+
+// A row's demand in words.
+function sayDemand([from, to, modes, kind, first, last, demand]) {
+    return `${demand} ${modes} ${kind} ${first} to ${last}, from ${from} on${to === '' ? '' : `, up to ${to}`}`;
+}
+
+class Demands {
+    // moved: a function that takes the moment of a breach; changed: one that notes the state
+    constructor(unit, policies, moved, changed) {
+        this.unit = unit;
+        this.policies = policies;
+        this.moved = moved;
+        this.changed = changed;
+        this.area = byId('policy');
+        this.turn = 0;
+        this.boot = null;
+        this.fault = null;
+        this.finished = Promise.resolve();
+        for (const name of Object.keys(policies)) byId('policy-name').add(new Option(name, name));
+        byId('policy-name').add(new Option('your own', ''));
+        byId('policy-name').value = '';
+        this.listen();
+    }
+
+    listen() {
+        byId('policy-name').addEventListener('change', (event) => {
+            const name = event.target.value;
+            this.put(name === '' ? {text: this.area.value} : {name});
+        });
+        this.area.addEventListener('input', () => this.put({text: this.area.value}));
+        byId('each-write').addEventListener('change', () => this.put(this.state));
+        byId('policy-go').addEventListener('click', () => this.goTo(this.fault.place));
+    }
+
+    // By whose number breaches are told.
+    get by() {
+        return byId('each-write').checked ? 'write' : 'publication';
+    }
+
+    // What the address has: the name of an example or the text, and the pace.
+    get state() {
+        const name = byId('policy-name').value;
+        return {...(name === '' ? {text: this.area.value} : {name}), by: this.by};
+    }
+
+    put(state) {
+        this.state = state;
+        this.ask(this.boot);
+        this.changed();
+    }
+
+    set state({name, text, by}) {
+        const known = Object.hasOwn(this.policies, name ?? '');
+        byId('policy-name').value = known ? name : '';
+        const wanted = known ? this.policies[name] : text ?? '';
+        if (this.area.value !== wanted) this.area.value = wanted;
+        if (by) byId('each-write').checked = by === 'write';
+    }
+
+    // Begins to judge the boot, or nothing where there is none without a fault. What was asked before is given up.
+    ask(boot) {
+        this.turn += 1;
+        this.boot = boot;
+        this.lines = [];
+        const asked = boot !== null && this.area.value !== '';
+        const {rows, fault} = asked ? readPolicy(this.area.value, boot.publications, data.limits.MAX_TRACE)
+            : {rows: [], fault: null};
+        this.showFault(fault);
+        byId('verdicts-region').hidden = rows.length === 0;
+        byId('verdicts-count').textContent = !asked || fault ? '' : 'The policy has no rows, so it holds.';
+        this.finished = rows.length === 0 ? Promise.resolve() : this.judgeAll(rows, this.turn);
+    }
+
+    // In slices, so that the page answers meanwhile.
+    async judgeAll(rows, turn) {
+        const by = this.by;
+        byId('verdicts').setAttribute('aria-busy', 'true');
+        let until = 0;
+        for (const row of rows) {
+            if (performance.now() >= until) {
+                byId('verdicts-count').textContent = `${this.lines.length} of ${counted(rows.length, 'row')} so far`;
+                await new Promise((go) => setTimeout(go));
+                if (turn !== this.turn) return;
+                until = performance.now() + SLICE;
+            }
+            const answer = this.unit.verdict(this.boot.script, {...row, pace: PACES[by]});
+            if (answer.status !== 0) {
+                this.showFault({...answer, row: Number(row.number), place: row.place, wanted: sayAdvice(answer)});
+                break;
+            }
+            this.lines.push([...linesOf(answer.text, ',')[0], sayDemand(row.words)]);
+        }
+        this.draw(by);
+        byId('verdicts').setAttribute('aria-busy', 'false');
+    }
+
+    draw(by) {
+        const table = byId('verdicts');
+        byId('verdicts-region').hidden = this.fault !== null;
+        if (this.fault !== null) {
+            byId('verdicts-count').textContent = '';
+            return;
+        }
+        const broken = this.lines.filter((fields) => fields[1] !== 'holds');
+        byId('verdicts-count').textContent = `${broken.length} of ${counted(this.lines.length, 'row')} broken`
+            + (this.lines.length > MOST_DEMANDS ? `; the first ${MOST_DEMANDS} rows:` : '.');
+        table.caption.textContent = 'Each row of the policy with its first breach, in time and then in address: '
+            + `after so many ${by === 'write' ? 'events' : 'publications'}. Entry - is none.`;
+        fillTable(table, this.lines.slice(0, MOST_DEMANDS), (row, fields) => {
+            row.className = fields[1];
+            if (fields[2] === '') return;
+            const at = Number(fields[2]);
+            makeButton(row.cells[2], `Row ${fields[0]}: go to ${by} ${at}`, () => this.moved({by, at}));
+        });
+    }
+
+    showFault(fault) {
+        this.fault = fault;
+        byId('policy-fault').hidden = fault === null;
+        this.area.ariaInvalid = String(fault !== null);
+        if (fault === null) return;
+        byId('policy-fault-line').textContent = sayPolicyFault(fault);
+        byId('policy-fault-wanted').textContent = fault.wanted;
+        byId('policy-go').hidden = fault.status === TOO_LONG;
+    }
+
+    // Selects the line that begins at the place.
+    goTo(place) {
+        const length = this.area.value.slice(place).search(/[\r\n]|$/);
+        this.area.focus();
+        this.area.setSelectionRange(place, place + length);
+    }
+}
+
+function sayPolicyFault({status, row}) {
+    if (status === NO_ANSWER.status) return 'No answer';
+    const place = row > 0 ? `Policy row ${row}: refused` : 'Policy: refused';
+    return `${place} ${status} ${data.refusals[status].name}`;
+}

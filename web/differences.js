@@ -1,0 +1,135 @@
+// The part "Difference": where the script lets the modes do other things than an older one does.
+
+const MOST_DIFFERENCES = 500;
+
+class Differences {
+    // kept: a function that gives the script as it is, {name, text}; changed: one that notes the state
+    constructor(unit, boots, kept, changed) {
+        this.unit = unit;
+        this.boots = boots;
+        this.kept = kept;
+        this.changed = changed;
+        this.area = byId('old-script');
+        this.boot = null;
+        for (const name of Object.keys(boots)) byId('old-name').add(new Option(name, name));
+        byId('old-name').add(new Option('your own', ''));
+        byId('old-name').value = '';
+        this.listen();
+    }
+
+    listen() {
+        byId('old-name').addEventListener('change', (event) => {
+            const name = event.target.value;
+            this.put(name === '' ? {text: this.area.value} : {name});
+        });
+        byId('keep-old').addEventListener('click', () => this.put(this.kept()));
+        this.area.addEventListener('input', () => this.put({text: this.area.value}));
+        for (const id of ['old-after', 'new-after']) byId(id).addEventListener('input', () => this.put(this.state));
+        byId('old-file').addEventListener('change', (event) => {
+            this.opened = this.openFile(event.target.files[0]);
+            event.target.value = '';
+        });
+        byId('differences-part').addEventListener('drop', (event) => {
+            if (event.dataTransfer.files.length === 0) return;
+            event.preventDefault();
+            event.stopPropagation();
+            this.opened = this.openFile(event.dataTransfer.files[0]);
+        });
+        byId('old-go').addEventListener('click', () => this.goTo(this.answer.line));
+    }
+
+    async openFile(file) {
+        if (!file) return;
+        if (file.size > data.limits.MAX_SCRIPT) this.show({...NO_ANSWER, status: TOO_LONG, side: 'old'});
+        else this.put({text: decodeText(await file.arrayBuffer())});
+    }
+
+    // What the address has: the name of an example or the text, and how many publications of each are done.
+    get state() {
+        const name = byId('old-name').value;
+        const afters = [byId('old-after').value, byId('new-after').value];
+        return {...(name === '' ? {text: this.area.value} : {name}), afters};
+    }
+
+    set state({name, text, afters}) {
+        const known = Object.hasOwn(this.boots, name ?? '');
+        byId('old-name').value = known ? name : '';
+        const wanted = known ? this.boots[name] : text ?? '';
+        if (this.area.value !== wanted) this.area.value = wanted;
+        if (afters) [byId('old-after').value, byId('new-after').value] = afters;
+    }
+
+    put(state) {
+        this.state = state;
+        this.ask(this.boot);
+        this.changed();
+    }
+
+    // Compares with the boot, or with nothing where there is none without a fault.
+    ask(boot) {
+        this.boot = boot;
+        this.show(boot === null || this.area.value === '' ? null : this.compare());
+    }
+
+    // Where a number is empty it is that of all publications.
+    compare() {
+        const [oldAfter, newAfter] = ['old-after', 'new-after'].map((id) => byId(id).value);
+        for (const word of [oldAfter, newAfter]) {
+            if (word !== '' && readNumber(word) === null) return {...NO_ANSWER, status: BAD_WORD, side: ''};
+        }
+        const old = encodeText(this.area.value);
+        let done = readNumber(oldAfter);
+        if (done === null) {
+            const all = this.unit.publications(old);
+            if (all.status !== 0) return {...all, side: all.status === MEMORY ? '' : 'old'};
+            done = BigInt(all.text);
+        }
+        return this.unit.diff(old, done, this.boot.script, readNumber(newAfter) ?? BigInt(this.boot.publications));
+    }
+
+    show(answer) {
+        this.answer = answer;
+        const fails = answer !== null && answer.status !== 0;
+        byId('old-fault').hidden = !fails;
+        const wrong = fails && answer.side === 'old' && answer.status !== BAD_AFTER;
+        this.area.ariaInvalid = String(wrong);
+        for (const [id, side] of [['old-after', 'old'], ['new-after', 'new']]) {
+            const unread = byId(id).value !== '' && readNumber(byId(id).value) === null;
+            byId(id).ariaInvalid = String(unread || (fails && answer.status === BAD_AFTER && answer.side === side));
+        }
+        if (fails) {
+            byId('old-fault-line').textContent = saySideFault(answer);
+            byId('old-fault-advice').textContent = sayAdvice(answer);
+            byId('old-go').hidden = answer.side !== 'old' || answer.line === 0;
+        }
+        const lines = answer === null || fails ? [] : linesOf(answer.text, ',');
+        byId('differences-region').hidden = lines.length === 0;
+        byId('differences-count').textContent = answer === null || fails ? '' : sayDifferences(lines.length);
+        fillTable(byId('differences'), lines.slice(0, MOST_DIFFERENCES), (row, fields) => {
+            row.className = fields[6];
+        });
+    }
+
+    // Selects the line of the old script.
+    goTo(line) {
+        const lines = this.area.value.split('\n');
+        const before = lines.slice(0, line - 1).reduce((sum, one) => sum + one.length + 1, 0);
+        this.area.focus();
+        this.area.setSelectionRange(before, before + (lines[line - 1] ?? '').length);
+    }
+}
+
+function sayDifferences(count) {
+    if (count === 0) return 'Both let the modes do the same with every byte.';
+    return `${counted(count, 'range')} with other rights`
+        + (count > MOST_DIFFERENCES ? `; the first ${MOST_DIFFERENCES}:` : ':');
+}
+
+// As the program says which of the two scripts is at fault, and where.
+function saySideFault(fault) {
+    if (fault.status === NO_ANSWER.status) return 'No answer';
+    const refused = `refused ${fault.status} ${data.refusals[fault.status].name}`;
+    if (fault.side === '') return `Refused ${refused.slice('refused '.length)}`;
+    const side = fault.side === 'old' ? 'Old script' : 'New script';
+    return fault.line > 0 ? `${side}, line ${fault.line}: ${refused}` : `${side}: ${refused}`;
+}

@@ -1,0 +1,121 @@
+// A policy as text: its records, and what each row demands, as docs/FORMATS.md says. The program's module takes numbers
+// alone, so what a text means is judged here, by the same order of refusals.
+
+const BAD_HEADER = 20;
+const BAD_ROW = 21;
+const BAD_AFTER = 22;
+const PAST_END = 4;
+const END_OF_MEMORY = 1n << 56n;
+const FIELDS = ['from', 'to', 'modes', 'kind', 'first', 'last', 'demand'];
+const MODE_BITS = {U: 1, S: 2, M: 8};
+const POLICY_KINDS = {...KINDS, any: 3};
+const DEMANDS = {never: 0, always: 1, held: 2};
+
+// The records of a CSV, each with its fields and the place in the text where it begins. Blank lines are none.
+function recordsOf(text) {
+    const reader = new Records();
+    for (let place = text.startsWith('\ufeff') ? 1 : 0; place < text.length; place++) reader.take(text[place], place);
+    reader.endRecord();
+    return reader.records;
+}
+
+class Records {
+    constructor() {
+        this.records = [];
+        this.begin();
+    }
+
+    begin() {
+        this.record = null;
+        this.field = '';
+        this.state = 'start'; // of a field; else 'plain', 'quoted', or 'closed' behind a quote in a quoted one
+    }
+
+    take(letter, place) {
+        const isEnd = letter === '\n' || letter === '\r';
+        if (this.record === null) {
+            if (isEnd) return;
+            this.record = {place, fields: []};
+        }
+        if (this.state === 'quoted') {
+            if (letter === '"') this.state = 'closed';
+            else this.field += letter;
+        } else if (letter === '"' && this.state !== 'plain') {
+            if (this.state === 'closed') this.field += letter;
+            this.state = 'quoted';
+        } else if (letter === ',') {
+            this.endField();
+        } else if (isEnd) {
+            this.endRecord();
+        } else {
+            this.field += letter;
+            this.state = 'plain';
+        }
+    }
+
+    endField() {
+        this.record.fields.push(this.field);
+        this.field = '';
+        this.state = 'start';
+    }
+
+    endRecord() {
+        if (this.record === null) return;
+        this.endField();
+        this.records.push(this.record);
+        this.begin();
+    }
+}
+
+// The policy of a text over a script with so many publications: {rows, fault}. Each row is what the module takes, with
+// its words; a fault is {status, row, place, wanted}, with row 0 where it is none of a row.
+function readPolicy(text, publications, mostBytes) {
+    if (encodeText(text).length > mostBytes) {
+        return {rows: [], fault: {status: TOO_LONG, row: 0, place: 0, wanted: ''}};
+    }
+    const [header, ...records] = recordsOf(text);
+    if (header?.fields.join() !== FIELDS.join() || header.fields.length !== FIELDS.length) {
+        const wanted = `The first record has to be ${FIELDS.join()}.`;
+        return {rows: [], fault: {status: BAD_HEADER, row: 0, place: header?.place ?? 0, wanted}};
+    }
+    const rows = [];
+    for (const {fields, place} of records) {
+        const read = readRow(fields, BigInt(publications));
+        const row = rows.length + 1;
+        if (read.wanted) return {rows: [], fault: {status: read.status, row, place, wanted: read.wanted}};
+        rows.push({...read, number: BigInt(row), words: fields, place});
+    }
+    return {rows, fault: null};
+}
+
+// A row's numbers, or {status, wanted} of the first rule that it breaks.
+function readRow(fields, publications) {
+    const bad = (wanted, status = BAD_ROW) => ({status, wanted});
+    if (fields.length !== FIELDS.length) return bad(`Wanted: the seven fields ${FIELDS.join()}. Here: ${fields.length}.`);
+    const [from, first, last] = [fields[0], fields[4], fields[5]].map(readNumber);
+    const to = fields[1] === '' ? publications : readNumber(fields[1]);
+    const [modes, kind, demand] = [readModes(fields[2]), wordIn(POLICY_KINDS, fields[3]), wordIn(DEMANDS, fields[6])];
+    if (from === null) return bad('from has to be a number of publications.');
+    if (to === null) return bad('to has to be a number of publications, or empty for all.');
+    if (fields[1] !== '' && to < from) return bad('to has to be at least from.');
+    if (modes === null) return bad('modes has to be one to three of the letters M, S and U, none twice.');
+    if (kind === null) return bad('kind has to be fetch, load, store or any.');
+    if (first === null) return bad('first has to be a byte address, a number.');
+    if (last === null) return bad('last has to be a byte address, a number.');
+    if (last < first) return bad('last has to be at least first.');
+    if (demand === null) return bad('demand has to be never, always or held.');
+    if (from > publications || to > publications) {
+        return bad(`The script has no more than ${counted(Number(publications), 'publication')}.`, BAD_AFTER);
+    }
+    if (last >= END_OF_MEMORY) return bad('last has to be below 2^56.', PAST_END);
+    return {from, to, first, last, modes, kind, demand};
+}
+
+function readModes(word) {
+    if (!/^[MSU]{1,3}$/.test(word) || new Set(word).size !== word.length) return null;
+    return [...word].reduce((bits, letter) => bits | MODE_BITS[letter], 0);
+}
+
+function wordIn(words, word) {
+    return Object.hasOwn(words, word) ? words[word] : null;
+}
