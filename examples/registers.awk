@@ -1,4 +1,4 @@
-# Turns registers, as a debugger prints them, into a script for pmp that leaves a unit with them:
+# Turns registers, as a debugger prints them, into a script for pmp whose unit begins with them:
 #
 #   awk -f examples/registers.awk registers.txt >now.pmp
 #
@@ -12,10 +12,10 @@
 # such a register in another form is refused, and all others are passed over. Where a debugger doesn't know mseccfg,
 # -v mseccfg=0x7 gives its value, and it is 0 where nothing does.
 #
-# The script is of version 2, for a unit of 64 entries, where a register of entries 16 to 63 is there; else of version
-# 1, for one of 16 entries. Ask about all its publications: the registers are written in an order that no lock and no
-# lockdown stands in the way of, which isn't the hart's. Registers that no unit has are refused, by a line on standard
-# error, status 1 and no script.
+# The script is of version 3 and has no publication: each register is set, whatever locks it is under. What the hart is,
+# the registers don't say, but for entries 16 to 63: -v entries=8, -v grain=4096, -v bits=38 and -v smepmp=no do, and
+# what isn't said is 16 entries, or 64, 4 bytes, 56 bits, and Smepmp. pmp refuses a value that such a hart can't hold, by
+# its line. Registers that no RV64 hart has are refused here, by a line on standard error, status 1 and no script.
 
 function refuse(words) {
     print "registers: " words | "cat 1>&2"
@@ -42,11 +42,7 @@ function take(name, number, where) {
     if (name in value) refuse(where ": " name " stands at " place[name] " too")
     value[name] = sixteen(number)
     place[name] = where
-    where = where ": no unit has " number " in " name ": "
-    if (length(value[name]) > 16) refuse(where "a register has 64 bits")
-    if (name ~ /^pmpaddr/ && value[name] !~ /^00[0-3]/) refuse(where "write it without bits 63 to 54")
-    if (name ~ /^pmpcfg/ && value[name] !~ /^([0189].)+$/) refuse(where "write it without bits 6 and 5 of each byte")
-    if (name == "mseccfg" && value[name] !~ /^0+[0-7]$/) refuse(where "write it without bits 63 to 3")
+    if (length(value[name]) > 16) refuse(where ": " number " in " name ": a register has 64 bits")
 }
 
 # The register that has entry i's configuration.
@@ -54,30 +50,27 @@ function configuration(i) {
     return "pmpcfg" (i - i % 8) / 4
 }
 
-# That what entry i matches, and for whom, is there, and that a unit has it.
+# That what entry i matches is there.
 function look_at(i,    name, byte, where) {
     name = configuration(i)
     if (!(name in value) && ("pmpaddr" i) in value) refuse(place["pmpaddr" i] ": pmpaddr" i " is there without " name)
     if (!(name in value)) return
     byte = substr(value[name], 15 - i % 8 * 2, 2)
     where = place[name] ": entry " i
-    if (byte ~ /[26ae]$/ && !is_lockdown)
-        refuse(where " has W without R, as no unit has it while MML is 0: -v mseccfg=.. gives the value of mseccfg")
-    if (byte ~ /^[19]|[89a-f]$/ && !(("pmpaddr" i) in value)) refuse(where " is on, without pmpaddr" i)
-    if (byte ~ /^[08][89a-f]$/ && i > 0 && !(("pmpaddr" (i - 1)) in value))
+    if (byte ~ /[89a-f]$|^[13579bdf]/ && !(("pmpaddr" i) in value)) refuse(where " is on, without pmpaddr" i)
+    if (byte ~ /^[02468ace][89a-f]$/ && i > 0 && !(("pmpaddr" (i - 1)) in value))
         refuse(where " is TOR, without pmpaddr" (i - 1))
 }
 
-# A publication has at most 64 events.
+# Sets those of the registers that aren't 0, as a reset leaves them.
 function add(name, digits) {
-    if (events++ == 64) print "publish"
+    digits = value[name]
     sub(/^0+/, "", digits)
-    print "write " name " 0x" (digits == "" ? 0 : digits)
+    if (digits != "") print "set " name " 0x" digits
 }
 
-# Writes those of the registers that aren't 0, as a reset leaves them.
 function add_all(kind, most, step,    i) {
-    for (i = 0; i < most; i += step) if (value[kind i] ~ /[1-9a-f]/) add(kind i, value[kind i])
+    for (i = 0; i < most; i += step) add(kind i)
 }
 
 { sub(/\r$/, "") }
@@ -104,16 +97,16 @@ END {
     if (!registers) refuse("there is no pmpcfg and no pmpaddr register")
     if (mseccfg != "" && mseccfg !~ /^0x[0-9a-fA-F]+$/) refuse("mseccfg=" mseccfg " isn't 0x and hexadecimal digits")
     if (mseccfg != "") take("mseccfg", mseccfg, "-v mseccfg=" mseccfg)
-    last = substr(value["mseccfg"], 16) + 0
-    is_lockdown = last % 2 == 1
     for (i = 0; i < 64; i++) look_at(i)
-    for (i = 16; i < 64; i++) if (("pmpaddr" i) in value || configuration(i) in value) version = 2
-    print "pmp " (version ? version : 1)
+    for (i = 16; i < 64 && entries == ""; i++)
+        if (("pmpaddr" i) in value || configuration(i) in value) entries = 64
+    print "pmp 3"
     print "# the registers of a hart" (place["mseccfg"] == "" ? ", with mseccfg taken as 0" : "")
-    add("mseccfg", 4)
-    if (is_lockdown) add("mseccfg", 5)
-    add_all("pmpaddr", 64, 1)
+    if (entries != "") print "hart entries " entries
+    if (grain != "") print "hart grain " grain
+    if (bits != "") print "hart bits " bits
+    if (smepmp != "") print "hart smepmp " smepmp
     add_all("pmpcfg", 16, 2)
-    add("mseccfg", last)
-    print "publish"
+    add_all("pmpaddr", 64, 1)
+    add("mseccfg")
 }

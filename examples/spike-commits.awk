@@ -1,4 +1,4 @@
-# Turns the log of Spike's commits into a script for pmp that writes what the PMP registers kept:
+# Turns the log of Spike's commits into a script for pmp that writes what the PMP registers kept, and expects it there:
 #
 #   spike --log-commits --log=boot.log firmware.elf
 #   awk -f examples/spike-commits.awk boot.log >boot.pmp
@@ -9,13 +9,15 @@
 #
 # the hart, the mode, the address and the code of the instruction, and then what it wrote: of a CSR the number, the name
 # and the value that it has then. The value that was written isn't in the log, so the script doesn't show which writes
-# were altered or ignored. Where pmp writes has a row that isn't stored, the unit doesn't keep what Spike's hart kept.
+# were altered or ignored. Where pmp writes has a row that differs, the unit doesn't keep what Spike's hart kept, and it
+# ends with status 1.
 #
 # It takes the writes of hart 0, or of another by -v hart=1, and makes each write a publication. Any of several harts
 # may boot the others, so it says on standard error how many writes each other hart has.
 #
-# The script is of version 2, for a unit of 64 entries, where a value other than zero is written to a register of
-# entries 16 to 63; else it is of version 1, for one of 16 entries.
+# The script is of version 3. What the hart is, the log doesn't say, but for entries 16 to 63, where a value other than
+# zero is written to a register of theirs: -v entries=8, -v grain=4096, -v bits=38 and -v smepmp=no do, and what isn't
+# said is 16 entries, or 64, 4 bytes, 56 bits, and Smepmp.
 #
 # A line that names such a register in another form is refused, but for the names of functions and the instructions'
 # words that the option -l puts into a log. All others are passed over.
@@ -49,7 +51,7 @@ function take(name, value) {
     sub(/^0x0+/, "0x", value)
     if (value == "0x") value = "0x0"
     if (high == "" && value != "0x0" && name ~ /^pmpcfg([4689]|1)|^pmpaddr(1[6-9]|[2-6][0-9])/) high = name
-    script[++writes] = "write " name " " value
+    script[++writes] = "write " name " " value "\npublish\nexpect " name " " value
 }
 
 BEGIN {
@@ -85,8 +87,15 @@ END {
         say("the log has no write of hart " hart (harts ? ": choose another, as by -v hart=" busiest : ""))
         exit 1
     }
-    print "pmp " (high == "" ? 1 : 2)
+    print "pmp 3"
     print "# from Spike's log of hart " hart ", with the values that the registers kept, a publication for each write"
-    if (high != "") print "# version 2, since a value is written to " high
-    for (i = 1; i <= writes; i++) print script[i] "\npublish"
+    if (entries == "" && high != "") {
+        print "# 64 entries, since a value is written to " high
+        entries = 64
+    }
+    if (entries != "") print "hart entries " entries
+    if (grain != "") print "hart grain " grain
+    if (bits != "") print "hart bits " bits
+    if (smepmp != "") print "hart smepmp " smepmp
+    for (i = 1; i <= writes; i++) print script[i]
 }
