@@ -95,6 +95,7 @@ impl Hart {
     }
 
     /// The hart of a unit of this size, with the finest grain, the widest addresses and Smepmp.
+    #[inline(always)]
     pub fn of(size: Size) -> Hart
         ensures { result ≡ profile_of size }
     {
@@ -136,7 +137,7 @@ impl Hart {
 
     /// The hart that a number spells; for 64, which spells none, that of sixty-four entries which `of` gives, and for
     /// every other number that spells none that of sixteen.
-    #[inline]
+    #[inline(always)]
     pub fn from_number(number: u64) -> Hart
         ensures { result ≡ saved_hart number }
     {
@@ -150,8 +151,7 @@ impl Hart {
     }
 
     /// The hart that a number with bit 32 spells, or the usual one of sixteen entries.
-    #[cold]
-    #[inline(never)]
+    #[inline(always)]
     fn spelled(number: u64) -> Hart
         requires { number / 2 ^ 32 ≡ 1 }
         ensures { result ≡ saved_hart number }
@@ -166,6 +166,7 @@ impl Hart {
     }
 
     /// How many entries there are.
+    #[inline]
     pub fn entries(&self) -> u8
         ensures count { result ≡ self.now.entries }
         ensures most { result ≤ MAX_ENTRIES }
@@ -174,6 +175,7 @@ impl Hart {
     }
 
     /// The manual's G: the grain is `2^(G+2)` bytes.
+    #[inline]
     pub fn grain(&self) -> u8
         ensures grain { result ≡ self.now.grain }
         ensures most { result ≤ MAX_GRAIN }
@@ -182,7 +184,7 @@ impl Hart {
     }
 
     /// The address as a top of range sees it, without the bits below the grain.
-    #[inline]
+    #[inline(always)]
     pub fn tor_address(&self, address: u64) -> u64
         ensures { result ≡ tor_address self.now.grain address }
     {
@@ -190,7 +192,7 @@ impl Hart {
     }
 
     /// The address as a naturally aligned power of two sees it: with all ones below the grain.
-    #[inline]
+    #[inline(always)]
     pub fn napot_address(&self, address: u64) -> u64
         ensures seen { result ≡ napot_address self.now.grain address }
         ensures within { address < WORD_ADDRESSES → result < WORD_ADDRESSES }
@@ -212,7 +214,7 @@ impl Hart {
     }
 
     /// The configuration as it is stored: OFF in place of NA4 where the grain is above four bytes.
-    #[inline]
+    #[inline(always)]
     pub fn selectable(&self, configuration: Configuration) -> Configuration
         ensures { result ≡ selectable self.now.grain configuration }
     {
@@ -227,6 +229,7 @@ impl Hart {
     }
 
     /// How many bits a physical address has.
+    #[inline]
     pub fn address_bits(&self) -> u8
         ensures { result ≡ self.now.address_bits }
     {
@@ -234,6 +237,7 @@ impl Hart {
     }
 
     /// Whether there is `mseccfg`, with Smepmp.
+    #[inline]
     pub fn has_smepmp(&self) -> bool
         ensures { result ≡ self.now.has_smepmp }
     {
@@ -241,6 +245,7 @@ impl Hart {
     }
 
     /// How many word addresses there are: an address register keeps the numbers below.
+    #[inline(always)]
     pub fn word_addresses(&self) -> u64
         ensures { result ≡ word_addresses self.now }
     {

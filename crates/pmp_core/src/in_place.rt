@@ -11,47 +11,24 @@ ghost use Rattle.pmp_core.specs.WriteReasons.{is_reason, is_entry_reason, is_too
 
 mod decision;
 
-use crate::configuration::{AddressMatching, Configuration};
+use crate::configuration::AddressMatching;
 use crate::csr::Csr;
 use crate::event::Event;
-use crate::mseccfg::MseccfgFields;
 use crate::register_file::RegFile;
-use crate::register_write::{ENTRIES_PER_CFG, stored_over, without_reserved};
+use crate::register_write::{ENTRIES_PER_CFG, stored_over};
 use crate::saved_registers::SavedRegisters;
 use crate::size::MAX_ENTRIES;
 use crate::write_reasons::WriteReason;
 
 impl SavedRegisters {
     /// How many entries the unit has.
-    #[inline]
+    #[inline(always)]
     pub fn count(&self) -> usize
         ensures count { result ≡ (hart_in self.now).entries }
         ensures entries { result ≡ length (restored_file self.now).entries }
         ensures most { result ≤ MAX_ENTRIES }
     {
         usize::from(self.hart().entries())
-    }
-
-    #[inline]
-    fn configuration(&self, place: usize) -> Configuration
-        requires { place < MAX_ENTRIES }
-        ensures { result ≡ (restored_entry self.now place).configuration }
-    {
-        let configuration = Configuration::from_byte(self.configurations[place]);
-        let admitted = if self.fields().mml {
-            configuration
-        } else {
-            without_reserved(configuration)
-        };
-        self.hart().selectable(admitted)
-    }
-
-    #[inline]
-    fn address(&self, place: usize) -> u64
-        requires { place < MAX_ENTRIES }
-        ensures { result ≡ (restored_entry self.now place).address }
-    {
-        self.addresses[place] % self.hart().word_addresses()
     }
 
     /// The configuration byte of the entry, if there is one.
@@ -67,24 +44,24 @@ impl SavedRegisters {
     }
 
     /// What the address register of an entry reads.
-    #[inline]
+    #[inline(always)]
     #[tactic(auto, using(crate::proofs::InPlace::few_in))]
     fn read_address(&self, index: usize) -> u64
         requires { index < (hart_in self.now).entries }
         ensures { let entry = restored_entry self.now index in
             result ≡ read_address (hart_in self.now).grain entry.configuration.matching entry.address }
     {
-        let address = self.address(index);
         let hart = self.hart();
+        let address = self.address_on(hart, index);
         if hart.grain() == 0 {
             address
         } else {
-            hart.read_address(self.configuration(index).matching, address)
+            hart.read_address(self.configuration_on(hart, index).matching, address)
         }
     }
 
     /// What the address register of the entry reads, if there is one.
-    #[inline]
+    #[inline(always)]
     fn address_value(&self, index: usize) -> u64
         ensures { result ≡ register_value (restored_file self.now) (Csr.Addr index) }
     {
@@ -121,37 +98,39 @@ impl SavedRegisters {
     }
 
     /// Whether entry `index` keeps its address: it is frozen, or the next entry is frozen and TOR.
-    #[inline]
+    #[inline(always)]
     #[tactic(auto, using(crate::proofs::InPlace::few_in))]
     fn is_address_frozen(&self, index: usize) -> bool
         requires { index < (hart_in self.now).entries }
         ensures { result ≡ is_address_frozen (restored_file self.now) index }
     {
-        if self.fields().rlb {
+        let hart = self.hart();
+        if self.fields_on(hart).rlb {
             return false;
         }
-        if self.configuration(index).locked {
+        if self.configuration_on(hart, index).locked {
             return true;
         }
         if index + 1 >= self.count() {
             return false;
         }
-        let next = self.configuration(index + 1);
+        let next = self.configuration_on(hart, index + 1);
         next.locked && next.matching == AddressMatching::Tor
     }
 
     /// Whether the entry is frozen.
-    #[inline]
+    #[inline(always)]
     #[tactic(auto, using(crate::proofs::InPlace::few_in))]
     fn is_frozen(&self, index: usize) -> bool
         requires { index < (hart_in self.now).entries }
         ensures { result ≡ is_frozen (restored_file self.now) index }
     {
-        self.configuration(index).locked && !self.fields().rlb
+        let hart = self.hart();
+        self.configuration_on(hart, index).locked && !self.fields_on(hart).rlb
     }
 
     /// Whether the entry isn't frozen, and its address is the low end of a frozen range.
-    #[inline]
+    #[inline(always)]
     #[tactic(auto, using(crate::proofs::InPlace::few_in))]
     fn is_low_end(&self, index: usize) -> bool
         requires { index < (hart_in self.now).entries }
@@ -162,7 +141,7 @@ impl SavedRegisters {
     }
 
     /// Whether the entry's address register doesn't read the value so, by its mode and the grain.
-    #[inline]
+    #[inline(always)]
     #[tactic(auto, using(crate::proofs::InPlace::few_in))]
     fn is_too_fine(&self, index: usize, value: u64) -> bool
         requires { index < (hart_in self.now).entries }
@@ -173,7 +152,7 @@ impl SavedRegisters {
     }
 
     /// Whether this reason holds for the entry of the address register.
-    #[inline]
+    #[inline(always)]
     #[tactic(auto, using(crate::proofs::InPlace::few_in))]
     fn is_own_entry_reason(&self, reason: WriteReason, index: usize, value: u64) -> bool
         requires { index < (hart_in self.now).entries }
@@ -189,7 +168,7 @@ impl SavedRegisters {
     }
 
     /// Whether this is a reason why the address register wouldn't read the value, if it were written now.
-    #[inline]
+    #[inline(always)]
     pub fn is_address_reason(&self, reason: WriteReason, register: u8, value: u64) -> bool
         ensures { result ≡ is_reason reason (restored_file self.now) (Csr.Addr register) value }
     {
@@ -211,14 +190,15 @@ impl SavedRegisters {
         ensures changed { result ≡ true → restored_file self.new ≢ restored_file self.old }
     {
         let index = usize::from(register);
-        let address = value % self.hart().word_addresses();
+        let hart = self.hart();
+        let address = value % hart.word_addresses();
         if index >= self.count() {
             return false;
         }
         if self.is_address_frozen(index) {
             return false;
         }
-        if self.address(index) == address {
+        if self.address_on(hart, index) == address {
             return false;
         }
         self.addresses[index] = address;
@@ -237,8 +217,9 @@ impl SavedRegisters {
         ensures same { result ≡ false → self.new ≡ self.old }
         ensures changed { result ≡ true → restored_entry self.new place ≢ restored_entry self.old place }
     {
-        let old = self.configuration(place);
-        let new = stored_over(self.hart(), old, byte, &self.fields()).byte();
+        let hart = self.hart();
+        let old = self.configuration_on(hart, place);
+        let new = stored_over(hart, old, byte, &self.fields_on(hart)).byte();
         if new == old.byte() {
             return false;
         }

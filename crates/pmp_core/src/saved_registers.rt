@@ -8,7 +8,7 @@ use crate::configuration::Configuration;
 use crate::entry::Entry;
 use crate::hart::Hart;
 use crate::mseccfg::MseccfgFields;
-use crate::register_write::stored_over;
+use crate::register_write::without_reserved;
 use crate::size::MAX_ENTRIES;
 
 /// The registers of a unit, for a snapshot or for memory that isn't Rattle's. `RegFile::restore` takes every choice of
@@ -29,7 +29,7 @@ pub struct SavedRegisters {
 
 impl SavedRegisters {
     /// The hart.
-    #[inline]
+    #[inline(always)]
     pub fn hart(&self) -> Hart
         ensures { result ≡ hart_in self.now }
     {
@@ -37,34 +37,71 @@ impl SavedRegisters {
     }
 
     /// What `mseccfg` says of the unit, if its hart has it.
-    #[inline]
+    #[inline(always)]
     pub fn fields(&self) -> MseccfgFields
         ensures { result ≡ fields_in self.now }
     {
-        if self.hart().has_smepmp() {
+        self.fields_on(self.hart())
+    }
+
+    /// The same, of the unit's own hart.
+    #[inline(always)]
+    pub fn fields_on(&self, hart: Hart) -> MseccfgFields
+        requires { hart ≡ hart_in self.now }
+        ensures { result ≡ fields_in self.now }
+    {
+        if hart.has_smepmp() {
             MseccfgFields::from_value(self.mseccfg)
         } else {
             MseccfgFields::RESET
         }
     }
 
-    /// The entry at this place.
-    pub fn entry(&self, place: usize) -> Entry
+    /// What is stored of the entry's configuration.
+    #[inline(always)]
+    pub fn configuration(&self, place: usize) -> Configuration
         requires { place < MAX_ENTRIES }
+        ensures { result ≡ (restored_entry self.now place).configuration }
+    {
+        self.configuration_on(self.hart(), place)
+    }
+
+    /// The same, of the unit's own hart.
+    #[inline(always)]
+    pub fn configuration_on(&self, hart: Hart, place: usize) -> Configuration
+        requires hart { hart ≡ hart_in self.now }
+        requires place { place < MAX_ENTRIES }
+        ensures { result ≡ (restored_entry self.now place).configuration }
+    {
+        let configuration = Configuration::from_byte(self.configurations[place]);
+        let admitted = if self.fields_on(hart).mml {
+            configuration
+        } else {
+            without_reserved(configuration)
+        };
+        hart.selectable(admitted)
+    }
+
+    /// The word address that the entry's register keeps. The hart is the unit's own.
+    #[inline(always)]
+    pub fn address_on(&self, hart: Hart, place: usize) -> u64
+        requires hart { hart ≡ hart_in self.now }
+        requires place { place < MAX_ENTRIES }
+        ensures { result ≡ (restored_entry self.now place).address }
+    {
+        self.addresses[place] % hart.word_addresses()
+    }
+
+    /// The entry at this place. The hart is the unit's own, which a loop over entries finds out once.
+    #[inline(always)]
+    pub fn entry_on(&self, hart: Hart, place: usize) -> Entry
+        requires hart { hart ≡ hart_in self.now }
+        requires place { place < MAX_ENTRIES }
         ensures { result ≡ restored_entry self.now place }
     {
-        let with_bypass = MseccfgFields {
-            rlb: true,
-            ..self.fields()
-        };
         Entry {
-            configuration: stored_over(
-                self.hart(),
-                Configuration::RESET,
-                self.configurations[place],
-                &with_bypass,
-            ),
-            address: self.addresses[place] % self.hart().word_addresses(),
+            configuration: self.configuration_on(hart, place),
+            address: self.address_on(hart, place),
         }
     }
 }
@@ -93,7 +130,8 @@ pub fn restore_entries(saved: &SavedRegisters, entries: &mut [Entry])
     requires { length entries.old ≤ MAX_ENTRIES }
     ensures { entries.new ≡ restored_entries saved.now (length entries.old) }
 {
+    let hart = saved.hart();
     for place in 0..entries.len() {
-        entries[place] = saved.entry(place);
+        entries[place] = saved.entry_on(hart, place);
     }
 }

@@ -7,24 +7,26 @@ ghost use Rattle.pmp_core.specs.SavedRegisters.{hart_in, restored_file};
 
 use crate::access::{Access, Mode};
 use crate::decision::{Cause, Decision};
+use crate::hart::Hart;
 use crate::perms::Perms;
 use crate::range::{ByteRange, range_by};
 use crate::rights::{default_rights_by, rule_rights};
 use crate::saved_registers::SavedRegisters;
 
 impl SavedRegisters {
-    /// Where the entry matches.
-    #[inline]
+    /// Where the entry matches. The hart is the unit's own, which a loop over entries finds out once.
+    #[inline(always)]
     #[tactic(auto, using(crate::proofs::InPlace::few_in))]
-    fn range(&self, index: usize) -> ByteRange
-        requires { index < (hart_in self.now).entries }
+    fn range(&self, hart: Hart, index: usize) -> ByteRange
+        requires hart { hart ≡ hart_in self.now }
+        requires index { index < (hart_in self.now).entries }
         ensures { result ≡ range_of (restored_file self.now) index }
     {
         let low = match index.checked_sub(1) {
-            Some(before) => self.address(before),
+            Some(before) => self.address_on(hart, before),
             None => 0,
         };
-        range_by(self.hart(), low, &self.entry(index))
+        range_by(hart, low, &self.entry_on(hart, index))
     }
 
     /// Writes where each entry matches.
@@ -32,8 +34,9 @@ impl SavedRegisters {
         requires { length ranges.old ≡ length (restored_file self.now).entries }
         ensures { ranges.new ≡ ranges_of (restored_file self.now) }
     {
+        let hart = self.hart();
         for index in 0..ranges.len() {
-            ranges[index] = self.range(index);
+            ranges[index] = self.range(hart, index);
         }
     }
 
@@ -44,10 +47,11 @@ impl SavedRegisters {
         requires { entry < (hart_in self.now).entries }
         ensures { result ≡ perms_of (rights (restored_file self.now) entry mode) }
     {
+        let hart = self.hart();
         rule_rights(
-            &self.configuration(usize::from(entry)),
+            &self.configuration_on(hart, usize::from(entry)),
             mode,
-            &self.fields(),
+            &self.fields_on(hart),
         )
     }
 
@@ -83,8 +87,9 @@ impl SavedRegisters {
     pub fn decide(&self, access: &Access) -> Decision
         ensures { result ≡ decision_of (restored_file self.now) access.now }
     {
+        let hart = self.hart();
         for index in 0..self.count() {
-            let range = self.range(index);
+            let range = self.range(hart, index);
             if range.is_touched(access) {
                 return self.decide_in(index, &range, access);
             }

@@ -7,7 +7,7 @@ use Rattle.pmp_core.proofs.saved_registers.restore_entries.Goals as goal
 
 pub loop-place-preserved : goal.loop-place-preserved
 loop-place-preserved c =
-    rw c.entry.ensures
+    rw c.entry_on.ensures
     (fill_by_more (restored_entry c.args.saved.now) c.loop-place.entries c.loop-place.place reset_entry (omega arith)
     c.loop-place.invariant)
 

@@ -4,8 +4,8 @@ use Rattle.pmp_core.proofs.InPlace.{length_in}
 use Rattle.pmp_core.proofs.Places.{all_decoded}
 use Rattle.pmp_core.proofs.saved_registers.SavedRegisters.decode.Goals as goal
 
-pub range-requires : goal.range-requires
-range-requires c = omega (arith, length_in c.args.self.now)
+pub range-requires-clause-index : goal.range-requires-clause-index
+range-requires-clause-index c = omega (arith, length_in c.args.self.now)
 
 pub returns : goal.returns
 returns c = let file = restored_file c.args.self.now in all_decoded file.profile file.entries c.loop-index.ranges (omega arith)

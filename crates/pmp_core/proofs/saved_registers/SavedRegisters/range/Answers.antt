@@ -14,22 +14,22 @@ returns c =
     let is : low ≡ low_in saved c.args.index = elim c.match-checked_sub.branch [
       | in-Some w ↦
           let some = w.in-Some.ensures in
-          w.low-is ∙ w.address-low.ensures ∙ low_after saved c.args.index w.in-Some.before some.0 some.1
+          w.low-is ∙ w.address_on-low.ensures ∙ low_after saved c.args.index w.in-Some.before some.0 some.1
       | in-None w ↦
           let none = w.in-None.ensures in
           w.low-is ∙ low_first saved c.args.index (omega (arith, none))
     ] in
     c.range_by.ensures
-    ∙ ap (λ (p : Profile). range_by p.grain c.entry.result.configuration.matching low c.entry.result.address)
-    c.hart.ensures
-    ∙ ap (λ (e : Entry). range_by (hart_in saved).grain e.configuration.matching low e.address) c.entry.ensures
-    ∙ range_in_place saved low c.args.index c.requires is
+    ∙ ap (λ (p : Profile). range_by p.grain c.entry_on.result.configuration.matching low c.entry_on.result.address)
+    c.requires.hart
+    ∙ ap (λ (e : Entry). range_by (hart_in saved).grain e.configuration.matching low e.address) c.entry_on.ensures
+    ∙ range_in_place saved low c.args.index c.requires.index is
 
 pub range_by-requires-clause-low : goal.range_by-requires-clause-low
 range_by-requires-clause-low c = elim c.match-checked_sub.branch [
-  | in-Some w ↦ rw (w.low-is, w.address-low.ensures) (few_bits c.args.self.now _)
+  | in-Some w ↦ rw (w.low-is, w.address_on-low.ensures) (few_bits c.args.self.now _)
   | in-None w ↦ rw w.low-is (omega arith)
 ]
 
 pub range_by-requires-clause-address : goal.range_by-requires-clause-address
-range_by-requires-clause-address c = rw c.entry.ensures (few_bits c.args.self.now c.args.index)
+range_by-requires-clause-address c = rw c.entry_on.ensures (few_bits c.args.self.now c.args.index)

@@ -11,8 +11,8 @@ pub returns : goal.returns
 returns c =
     let saved = c.args.self.now in
     c.rule_rights.ensures
-    ∙ ap (λ (m : MseccfgFields). perms_of (rule_rights m.mml c.configuration.result c.args.mode))
-    (c.fields.ensures ∙ sym (mseccfg_in saved))
+    ∙ ap (λ (m : MseccfgFields). perms_of (rule_rights m.mml c.configuration_on.result c.args.mode))
+    (c.fields_on.ensures ∙ sym (mseccfg_in saved))
     ∙ ap (λ (k : Configuration). perms_of (rule_rights (restored_file saved).mseccfg.mml k c.args.mode))
-    (c.configuration.ensures ∙ ap (λ (i : ℕ). (restored_entry saved i).configuration) c.from.ensures
+    (c.configuration_on.ensures ∙ ap (λ (i : ℕ). (restored_entry saved i).configuration) c.from.ensures
     ∙ sym (ap (λ (e : Entry). e.configuration) (entry_in saved c.args.entry c.requires)))
