@@ -46,7 +46,7 @@ impl SavedRegisters {
 
     /// The same, of the unit's own hart.
     #[inline(always)]
-    pub fn fields_on(&self, hart: Hart) -> MseccfgFields
+    pub(crate) fn fields_on(&self, hart: Hart) -> MseccfgFields
         requires { hart ≡ hart_in self.now }
         ensures { result ≡ fields_in self.now }
     {
@@ -59,7 +59,7 @@ impl SavedRegisters {
 
     /// What is stored of the entry's configuration.
     #[inline(always)]
-    pub fn configuration(&self, place: usize) -> Configuration
+    pub(crate) fn configuration(&self, place: usize) -> Configuration
         requires { place < MAX_ENTRIES }
         ensures { result ≡ (restored_entry self.now place).configuration }
     {
@@ -68,7 +68,7 @@ impl SavedRegisters {
 
     /// The same, of the unit's own hart.
     #[inline(always)]
-    pub fn configuration_on(&self, hart: Hart, place: usize) -> Configuration
+    pub(crate) fn configuration_on(&self, hart: Hart, place: usize) -> Configuration
         requires hart { hart ≡ hart_in self.now }
         requires place { place < MAX_ENTRIES }
         ensures { result ≡ (restored_entry self.now place).configuration }
@@ -84,7 +84,7 @@ impl SavedRegisters {
 
     /// The word address that the entry's register keeps. The hart is the unit's own.
     #[inline(always)]
-    pub fn address_on(&self, hart: Hart, place: usize) -> u64
+    pub(crate) fn address_on(&self, hart: Hart, place: usize) -> u64
         requires hart { hart ≡ hart_in self.now }
         requires place { place < MAX_ENTRIES }
         ensures { result ≡ (restored_entry self.now place).address }
@@ -94,7 +94,7 @@ impl SavedRegisters {
 
     /// The entry at this place. The hart is the unit's own, which a loop over entries finds out once.
     #[inline(always)]
-    pub fn entry_on(&self, hart: Hart, place: usize) -> Entry
+    pub(crate) fn entry_on(&self, hart: Hart, place: usize) -> Entry
         requires hart { hart ≡ hart_in self.now }
         requires place { place < MAX_ENTRIES }
         ensures { result ≡ restored_entry self.now place }
