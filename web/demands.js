@@ -20,8 +20,7 @@ class Demands {
         this.boot = null;
         this.fault = null;
         this.finished = Promise.resolve();
-        for (const name of Object.keys(policies)) byId('policy-name').add(new Option(name, name));
-        byId('policy-name').add(new Option('your own', ''));
+        offerNames(byId('policy-name'), policies);
         byId('policy-name').value = '';
         this.listen();
     }

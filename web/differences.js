@@ -11,8 +11,7 @@ class Differences {
         this.changed = changed;
         this.area = byId('old-script');
         this.boot = null;
-        for (const name of Object.keys(boots)) byId('old-name').add(new Option(name, name));
-        byId('old-name').add(new Option('your own', ''));
+        offerNames(byId('old-name'), boots);
         byId('old-name').value = '';
         this.listen();
     }

@@ -39,8 +39,7 @@ class Page {
         this.demands = new Demands(unit, data.policies, (moment) => this.goToMoment(moment), changed);
         const kept = () => (this.name === '' ? {text: this.editor.text} : {name: this.name});
         this.differences = new Differences(unit, data.boots, kept, changed);
-        for (const name of Object.keys(data.boots)) byId('boot').add(new Option(name, name));
-        byId('boot').add(new Option('your own', ''));
+        offerNames(byId('boot'), data.boots);
         this.listen();
     }
 
