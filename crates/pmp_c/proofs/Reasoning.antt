@@ -8,7 +8,7 @@ use Rattle.pmp_core.specs.RegisterFile.{RegisterFile, IsLegal}
 use Rattle.pmp_core.specs.RegisterValue.{register_value}
 use Rattle.pmp_core.specs.RegisterWrite.{written}
 use Rattle.pmp_core.specs.WriteReasons.{is_reason}
-use Rattle.pmp_core.proofs.Reasons.{HasNone, has_none, no_reasons}
+use Rattle.pmp_core.proofs.EachReason.{HasNone, has_none, no_reasons}
 use Rattle.pmp_core.proofs.ReasonsLaw.{write_reasons_law}
 use Rattle.pmp_c.specs.Reasons.{reasons_number}
 

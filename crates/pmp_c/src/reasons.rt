@@ -4,9 +4,9 @@ ghost use Rattle.std.specs.Prelude.{◌≡◌, ◌≤◌};
 ghost use Rattle.pmp_core.specs.Configuration.{bit_of};
 ghost use Rattle.pmp_core.specs.RegisterWrite.{written};
 ghost use Rattle.pmp_core.specs.SavedRegisters.{restored_file};
-ghost use Rattle.pmp_c.specs.Reasons.{reasons_number};
+ghost use Rattle.pmp_c.specs.Reasons.{bits_of, reasons_number};
 
-use pmp_core::{Csr, RegFile, SavedRegisters, WriteReason};
+use pmp_core::{Csr, Reasons, SavedRegisters};
 
 #[inline(always)]
 fn bit(holds: bool) -> u32
@@ -16,40 +16,44 @@ fn bit(holds: bool) -> u32
     u32::from(holds)
 }
 
-/// The reasons of a write to an address register, by its own entry.
+/// A bit for each reason that holds, in their order.
+#[inline(always)]
+fn bits(reasons: Reasons) -> u32
+    ensures bits { result ≡ bits_of reasons }
+    ensures most { result ≤ 511 }
+{
+    bit(reasons.absent)
+        + 2 * bit(reasons.bits)
+        + 4 * bit(reasons.frozen)
+        + 8 * bit(reasons.tor)
+        + 16 * bit(reasons.reserved)
+        + 32 * bit(reasons.lockdown)
+        + 64 * bit(reasons.sticky)
+        + 128 * bit(reasons.bypass)
+        + 256 * bit(reasons.grain)
+}
+
+/// The reasons of a write.
+#[cold]
+#[inline(never)]
+fn reasons_of(registers: &SavedRegisters, csr: Csr, value: u64) -> u32
+    ensures reasons { result ≡ reasons_number (restored_file registers.now) csr value }
+    ensures most { result ≤ 511 }
+{
+    bits(registers.reasons(csr, value))
+}
+
+/// The reasons of a write to an address register: none where the register will read the value.
 #[inline]
 pub fn address_reasons(registers: &SavedRegisters, register: u8, value: u64) -> u32
     ensures reasons { result ≡ reasons_number (restored_file registers.now) (Csr.Addr register) value }
     ensures most { result ≤ 511 }
 {
-    bit(registers.is_address_reason(WriteReason::Absent, register, value))
-        + 2 * bit(registers.is_address_reason(WriteReason::Bits, register, value))
-        + 4 * bit(registers.is_address_reason(WriteReason::Frozen, register, value))
-        + 8 * bit(registers.is_address_reason(WriteReason::Tor, register, value))
-        + 16 * bit(registers.is_address_reason(WriteReason::Reserved, register, value))
-        + 32 * bit(registers.is_address_reason(WriteReason::Lockdown, register, value))
-        + 64 * bit(registers.is_address_reason(WriteReason::Sticky, register, value))
-        + 128 * bit(registers.is_address_reason(WriteReason::Bypass, register, value))
-        + 256 * bit(registers.is_address_reason(WriteReason::Grain, register, value))
-}
-
-/// The reasons of any write, by the whole file.
-#[cold]
-#[inline(never)]
-fn file_reasons(registers: &SavedRegisters, csr: Csr, value: u64) -> u32
-    ensures reasons { result ≡ reasons_number (restored_file registers.now) csr value }
-    ensures most { result ≤ 511 }
-{
-    let file = RegFile::restore(registers);
-    bit(file.is_reason(WriteReason::Absent, csr, value))
-        + 2 * bit(file.is_reason(WriteReason::Bits, csr, value))
-        + 4 * bit(file.is_reason(WriteReason::Frozen, csr, value))
-        + 8 * bit(file.is_reason(WriteReason::Tor, csr, value))
-        + 16 * bit(file.is_reason(WriteReason::Reserved, csr, value))
-        + 32 * bit(file.is_reason(WriteReason::Lockdown, csr, value))
-        + 64 * bit(file.is_reason(WriteReason::Sticky, csr, value))
-        + 128 * bit(file.is_reason(WriteReason::Bypass, csr, value))
-        + 256 * bit(file.is_reason(WriteReason::Grain, csr, value))
+    if registers.address_after(register, value) == value {
+        0
+    } else {
+        reasons_of(registers, Csr::Addr(register), value)
+    }
 }
 
 /// The reasons of a write that is done: none where the register reads the value.
@@ -61,6 +65,6 @@ pub fn reasons_between(before: &SavedRegisters, after: &SavedRegisters, csr: Csr
     if after.read(csr) == value {
         0
     } else {
-        file_reasons(before, csr, value)
+        reasons_of(before, csr, value)
     }
 }

@@ -20,7 +20,7 @@ use crate::request::{Request, access_of};
 use crate::rights::{MIXED, row_answer, row_rights};
 use crate::row::row_of;
 use crate::tables::Tables;
-use pmp_core::{ByteRange, Csr, MAX_ENTRIES, RegFile, SavedRegisters};
+use pmp_core::{ByteRange, Csr, MAX_ENTRIES, PlainRegisters, RegFile, SavedRegisters};
 use pmp_map::{run_around, stretch_from};
 
 /// A unit. All zero it is one of sixteen entries after reset, whose map isn't built.
@@ -176,7 +176,8 @@ impl Unit {
         self.registers.decode(ranges);
         let stretch = stretch_from(ranges, start);
         if start + length <= stretch.end {
-            row_rights(&row_of(&self.registers, stretch.owner), mode)
+            let plain = PlainRegisters::of(&self.registers);
+            row_rights(&row_of(&plain, stretch.owner), mode)
         } else {
             MIXED
         }
@@ -211,10 +212,11 @@ impl Unit {
         let ranges = &mut decoded[..self.registers.count()];
         self.registers.decode(ranges);
         let run = run_around(ranges, byte);
+        let plain = PlainRegisters::of(&self.registers);
         Around {
             first: run.first,
             last: run.last,
-            answer: row_answer(&row_of(&self.registers, run.owner), mode),
+            answer: row_answer(&row_of(&plain, run.owner), mode),
         }
     }
 

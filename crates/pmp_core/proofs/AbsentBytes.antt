@@ -10,7 +10,7 @@ use Rattle.std.proofs.lemmas.List.{get_or-drop}
 use Rattle.std.proofs.lemmas.Bool.Decides.{nat_tests}
 use Rattle.pmp_core.specs.RegisterWrite.{holds_byte_of}
 use Rattle.pmp_core.specs.WriteReasons.{byte_for, has_absent_byte}
-use Rattle.pmp_core.proofs.Reasons.{none_between, none_at, none_in, none_of}
+use Rattle.pmp_core.proofs.EachReason.{none_between, none_at, none_in, none_of}
 use Rattle.pmp_core.proofs.StoredBytes.{and_true, not_same}
 
 -- the byte isn't zero, and a unit of n entries has none that pmpcfg q holds it for

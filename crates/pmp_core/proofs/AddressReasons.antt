@@ -17,7 +17,7 @@ use Rattle.pmp_core.specs.RegisterValue.{register_value}
 use Rattle.pmp_core.specs.RegisterWrite.{is_address_frozen, written}
 use Rattle.pmp_core.specs.WriteReasons.{is_changed, changes_frozen, is_low_end, is_too_fine}
 use Rattle.pmp_core.proofs.Grains.{read_again, read_within, tor_most}
-use Rattle.pmp_core.proofs.Reasons.{none_at_entry, none_at_entries, HasNone}
+use Rattle.pmp_core.proofs.EachReason.{none_at_entry, none_at_entries, HasNone}
 use Rattle.pmp_core.proofs.StoredBytes.{and_true, not_same}
 
 module _ (file : RegisterFile) (legal : IsLegal file) (i value : ℕ) where
@@ -51,10 +51,10 @@ module _ (file : RegisterFile) (legal : IsLegal file) (i value : ℕ) where
   nothing entry is = rw is (omega (arith, tor_most file.profile.grain 0))
 
   -- what the register reads after the write: frozen, not there, or neither
-  reads_frozen : is_address_frozen file i ≡ true → register_value (written file (Addr i) value) (Addr i) ≡ now
+  pub reads_frozen : is_address_frozen file i ≡ true → register_value (written file (Addr i) value) (Addr i) ≡ now
   reads_frozen frozen = rw frozen refl
 
-  reads_nothing : length file.entries ≤ i → register_value (written file (Addr i) value) (Addr i) ≡ 0
+  pub reads_nothing : length file.entries ≤ i → register_value (written file (Addr i) value) (Addr i) ≡ 0
   reads_nothing past = elim (is_address_frozen file i) as
       (λ frozen. (let entry = entry_at (cond frozen file.entries set_address) i in
       read_address file.profile.grain entry.configuration.matching entry.address) ≡ 0) [
@@ -62,7 +62,7 @@ module _ (file : RegisterFile) (legal : IsLegal file) (i value : ℕ) where
         | false ↦ nothing _ (get_or_past set_address i reset_entry (simp length-set past))
       ]
 
-  reads_value : is_address_frozen file i ≡ false → i < length file.entries
+  pub reads_value : is_address_frozen file i ≡ false → i < length file.entries
       → register_value (written file (Addr i) value) (Addr i) ≡ reads (value % words)
   reads_value free inside = rw free (rw get_or-set_same refl)
 

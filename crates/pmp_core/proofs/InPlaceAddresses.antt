@@ -12,7 +12,7 @@ use Rattle.pmp_core.specs.declared.write_reasons.WriteReason.{WriteReason}
 use Rattle.pmp_core.specs.declared.write_reasons.WriteReason.TheVariants.{Absent, Bits, Frozen, Tor, Reserved, Lockdown}
 use Rattle.pmp_core.specs.declared.write_reasons.WriteReason.TheVariants.{Sticky, Bypass, Grain}
 use Rattle.pmp_core.specs.WriteReasons.{is_changed, is_reason, is_entry_reason, is_some_entry_reason, is_too_fine}
-use Rattle.pmp_core.proofs.Reasons.{none_between}
+use Rattle.pmp_core.proofs.EachReason.{none_between, not_own}
 use Rattle.pmp_core.specs.declared.configuration.AddressMatching.{AddressMatching}
 use Rattle.pmp_core.specs.declared.configuration.Configuration.{Configuration}
 use Rattle.pmp_core.specs.declared.csr.Csr.TheVariants.{Addr}
@@ -69,7 +69,7 @@ module _ (saved : SavedRegisters) (i value : ℕ) where
   abbrev pub words : ℕ
   words = word_addresses (hart_in saved)
 
-  words_in : word_addresses file.profile ≡ words
+  pub words_in : word_addresses file.profile ≡ words
   words_in = ap word_addresses (profile_in saved)
 
   pub address_absent : count_in saved ≤ i → file ≡ written file (Addr i) value
@@ -144,15 +144,7 @@ any_past p n i others past = none_between p 0 n (λ k _ near. others k (λ here.
 -- a reason that an address register can have by one of its entries it has by its own alone
 own_alone : (reason : WriteReason) (file : RegisterFile) (i value k : ℕ) → k ≢ i
     → is_entry_reason reason file (Addr i) value k ≡ false
-own_alone Absent file i value k other = refl
-own_alone Bits file i value k other = refl
-own_alone Frozen file i value k other = rw (ne_eqb i k (λ e. other (sym e))) (and_right _ false refl)
-own_alone Tor file i value k other = rw (ne_eqb i k (λ e. other (sym e))) (and_right _ false refl)
-own_alone Reserved file i value k other = refl
-own_alone Lockdown file i value k other = refl
-own_alone Sticky file i value k other = refl
-own_alone Bypass file i value k other = refl
-own_alone Grain file i value k other = rw (ne_eqb i k (λ e. other (sym e))) refl
+own_alone reason file i value k other = not_own reason file (Addr i) value k (ne_eqb i k (λ e. other (sym e)))
 
 module _ (saved : SavedRegisters) (i value : ℕ) (reason : WriteReason) where
   pub own_turned : i < count_in saved → is_some_entry_reason reason (restored_file saved) (Addr i) value
@@ -178,7 +170,7 @@ module _ (saved : SavedRegisters) (i : ℕ) (inside : i < count_in saved) where
   abbrev pub reads_in : ℕ → ℕ
   reads_in address = read_address (hart_in saved).grain (restored_entry saved i).configuration.matching address
 
-  reads_same : (address : ℕ) → read_address (restored_file saved).profile.grain
+  pub reads_same : (address : ℕ) → read_address (restored_file saved).profile.grain
       (entry_at (restored_file saved).entries i).configuration.matching address ≡ reads_in address
   reads_same address =
       ap (λ (p : Profile). read_address p.grain (entry_at (restored_file saved).entries i).configuration.matching

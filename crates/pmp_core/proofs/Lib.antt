@@ -27,7 +27,7 @@ mod InPlaceAddresses
 mod InPlaceConfigurations
 mod InPlaceSecurity
 pub mod Today
-pub mod Reasons
+pub mod EachReason
 pub mod WordBytes
 pub mod AbsentBytes
 pub mod WordReasons

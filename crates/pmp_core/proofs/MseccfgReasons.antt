@@ -10,7 +10,7 @@ use Rattle.pmp_core.specs.Mseccfg.{mseccfg_value, mseccfg_written}
 use Rattle.pmp_core.specs.RegisterFile.{RegisterFile, reset_mseccfg, is_frozen, IsLegal}
 use Rattle.pmp_core.specs.RegisterValue.{register_value}
 use Rattle.pmp_core.specs.RegisterWrite.{is_any_locked, written}
-use Rattle.pmp_core.proofs.Reasons.{none_at_entries, HasNone}
+use Rattle.pmp_core.proofs.EachReason.{none_at_entries, HasNone}
 use Rattle.pmp_core.proofs.StoredBytes.{and_true, bit_back, not_same}
 
 bit_is : (r : ℕ) → r < 2 → bit_of (r == 1) ≡ r

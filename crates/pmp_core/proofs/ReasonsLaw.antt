@@ -6,7 +6,7 @@ use Rattle.pmp_core.specs.RegisterFile.{RegisterFile, IsLegal}
 use Rattle.pmp_core.specs.RegisterValue.{register_value}
 use Rattle.pmp_core.specs.RegisterWrite.{written}
 use Rattle.pmp_core.specs.WriteReasonsLaw.{WriteReasonsLaw}
-use Rattle.pmp_core.proofs.Reasons.{HasNone, has_none, no_reasons}
+use Rattle.pmp_core.proofs.EachReason.{HasNone, has_none, no_reasons}
 use Rattle.pmp_core.proofs.AddressReasons.{address_stored, address_reasonless}
 use Rattle.pmp_core.proofs.MseccfgReasons.{mseccfg_stored, mseccfg_reasonless}
 use Rattle.pmp_core.proofs.WordReasons.{word_stored, word_reasonless}

@@ -17,7 +17,7 @@ use Rattle.pmp_core.specs.RegisterWrite.{holds_byte_of, written}
 use Rattle.pmp_core.specs.WriteReasons.{byte_for, changes_frozen, adds_reserved, adds_barred, is_too_fine}
 use Rattle.pmp_core.proofs.AbsentBytes.{is_absent_byte, zero_byte, entry_byte, beside_zero}
 use Rattle.pmp_core.proofs.Legal.{configured_place, length-written}
-use Rattle.pmp_core.proofs.Reasons.{none_between, none_at, none_in, none_of, none_at_entry, none_at_entries, HasNone}
+use Rattle.pmp_core.proofs.EachReason.{none_between, none_at, none_in, none_of, none_at_entry, none_at_entries, HasNone}
 use Rattle.pmp_core.proofs.StoredBytes.{is_plain, byte_plain, IsTaken, left_of, taken, stored_as_taken}
 use Rattle.pmp_core.proofs.WordBytes.{byte, byte_small, word_from, word_gives}
 

@@ -6,6 +6,7 @@ use Rattle.std.specs.Int.{w64, to_le_bytes}
 use Rattle.pmp_core.specs.declared.csr.Csr.{Csr}
 use Rattle.pmp_core.specs.declared.csr.Csr.TheVariants.{Cfg, Addr, Mseccfg}
 use Rattle.pmp_core.specs.declared.mseccfg.MseccfgFields.{MseccfgFields}
+use Rattle.pmp_core.specs.declared.reasons.Reasons.{Reasons}
 use Rattle.pmp_core.specs.declared.write_reasons.WriteReason.{WriteReason}
 use Rattle.pmp_core.specs.declared.write_reasons.WriteReason.TheVariants.{Absent, Bits, Frozen, Tor, Reserved, Lockdown}
 use Rattle.pmp_core.specs.declared.write_reasons.WriteReason.TheVariants.{Sticky, Bypass, Grain}
@@ -26,6 +27,12 @@ all_reasons = Absent ∷ Bits ∷ Frozen ∷ Tor ∷ Reserved ∷ Lockdown ∷ S
 -- the byte for entry i in a value of pmpcfg q (3.7.1)
 abbrev pub byte_for : (q value i : ℕ) → ℕ
 byte_for q value i = slice_index (to_le_bytes w64 value) (i - 4 * q)
+
+-- the register has entry i's byte or address (3.7.1)
+abbrev pub is_register_of : Csr → (i : ℕ) → Bool
+is_register_of (Cfg q) i = holds_byte_of q i
+is_register_of (Addr k) i = k == i
+is_register_of Mseccfg i = false
 
 -- the register has entry i's byte or address, and reads another than the value has
 abbrev pub is_changed : RegisterFile → Csr → (value i : ℕ) → Bool
@@ -154,3 +161,17 @@ is_reason Grain file csr value = is_some_entry_reason Grain file csr value
 -- the reasons why the register doesn't read the value, in this order
 abbrev pub write_reasons : RegisterFile → Csr → (value : ℕ) → List WriteReason
 write_reasons file csr value = filter (λ reason. is_reason reason file csr value) all_reasons
+
+-- of each reason, whether it is one why the register doesn't read the value
+abbrev pub reasons_of : RegisterFile → Csr → (value : ℕ) → Reasons
+reasons_of file csr value = record {
+  absent = is_reason Absent file csr value;
+  bits = is_reason Bits file csr value;
+  frozen = is_reason Frozen file csr value;
+  tor = is_reason Tor file csr value;
+  reserved = is_reason Reserved file csr value;
+  lockdown = is_reason Lockdown file csr value;
+  sticky = is_reason Sticky file csr value;
+  bypass = is_reason Bypass file csr value;
+  grain = is_reason Grain file csr value;
+}

@@ -1,7 +1,7 @@
 //! The hart of a unit: how many entries it has, how fine they are, how wide its addresses are, and whether it has
 //! Smepmp.
 
-ghost use Rattle.std.specs.Prelude.{◌≡◌, ◌<◌, ◌≤◌, IfOk, IfErr, None, Some};
+ghost use Rattle.std.specs.Prelude.{◌≡◌, ◌<◌, ◌≤◌, IfOk, IfErr, MatchOption, None, Some};
 ghost use Rattle.pmp_core.specs.declared.hart.TheConstants.{MAX_GRAIN};
 ghost use Rattle.pmp_core.specs.declared.register_write.TheConstants.{WORD_ADDRESSES};
 ghost use Rattle.pmp_core.specs.declared.size.TheConstants.{MAX_ENTRIES};
@@ -135,18 +135,30 @@ impl Hart {
         }
     }
 
+    /// The hart of a number that can spell none: for 64 that of sixty-four entries which `of` gives, and else that of
+    /// sixteen. Nearly all units have one of these, and what is inlined into a branch that has it is compiled for them.
+    #[inline(always)]
+    pub(crate) fn unspelled(number: u64) -> Option<Hart>
+        ensures { MatchOption result (number / 2 ^ 32 ≡ 1) (λ hart. hart ≡ saved_hart number) }
+    {
+        if number >> 32 == 1 {
+            None
+        } else if number == 64 {
+            Some(Hart::of(Size::SixtyFour))
+        } else {
+            Some(Hart::of(Size::Sixteen))
+        }
+    }
+
     /// The hart that a number spells; for 64, which spells none, that of sixty-four entries which `of` gives, and for
     /// every other number that spells none that of sixteen.
     #[inline(always)]
     pub fn from_number(number: u64) -> Hart
         ensures { result ≡ saved_hart number }
     {
-        if number == 64 {
-            Hart::of(Size::SixtyFour)
-        } else if number >> 32 == 1 {
-            Hart::spelled(number)
-        } else {
-            Hart::of(Size::Sixteen)
+        match Hart::unspelled(number) {
+            Some(hart) => hart,
+            None => Hart::spelled(number),
         }
     }
 

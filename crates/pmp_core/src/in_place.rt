@@ -1,24 +1,24 @@
 //! Registers that stay plain numbers: reads and writes that look at the entries that they need, and convert no others.
 
-ghost use Rattle.std.specs.Prelude.{◌≡◌, ◌≢◌, ◌*◌, ◌<◌, ◌≤◌, ◌&&◌, not, true, false, length};
-ghost use Rattle.pmp_core.specs.Configuration.{byte_of};
-ghost use Rattle.pmp_core.specs.Grain.{read_address};
-ghost use Rattle.pmp_core.specs.RegisterFile.{entry_at, is_frozen};
-ghost use Rattle.pmp_core.specs.RegisterValue.{configuration_word, register_value};
-ghost use Rattle.pmp_core.specs.RegisterWrite.{stored_over, is_address_frozen, is_any_locked, written};
+ghost use Rattle.std.specs.Prelude.{◌≡◌, ◌≢◌, ◌<◌, ◌≤◌, true, false, length};
+ghost use Rattle.pmp_core.specs.Ranges.{decision_of, ranges_of};
+ghost use Rattle.pmp_core.specs.RegisterValue.{register_value};
+ghost use Rattle.pmp_core.specs.RegisterWrite.{stored_over, written};
 ghost use Rattle.pmp_core.specs.SavedRegisters.{hart_in, fields_in, restored_entry, restored_file, IsSetAt};
-ghost use Rattle.pmp_core.specs.WriteReasons.{is_reason, is_entry_reason, is_too_fine};
+ghost use Rattle.pmp_core.specs.WriteReasons.{reasons_of};
 
-mod decision;
-
-use crate::configuration::AddressMatching;
+use crate::access::Access;
 use crate::csr::Csr;
+use crate::decision::Decision;
 use crate::event::Event;
+use crate::hart::Hart;
+use crate::plain_registers::PlainRegisters;
+use crate::range::ByteRange;
+use crate::reasons::Reasons;
 use crate::register_file::RegFile;
 use crate::register_write::{ENTRIES_PER_CFG, stored_over};
 use crate::saved_registers::SavedRegisters;
 use crate::size::MAX_ENTRIES;
-use crate::write_reasons::WriteReason;
 
 impl SavedRegisters {
     /// How many entries the unit has.
@@ -28,60 +28,33 @@ impl SavedRegisters {
         ensures entries { result ≡ length (restored_file self.now).entries }
         ensures most { result ≤ MAX_ENTRIES }
     {
-        usize::from(self.hart().entries())
+        PlainRegisters::of(self).count()
     }
 
-    /// The configuration byte of the entry, if there is one.
-    #[inline]
-    fn byte(&self, index: usize) -> u8
-        ensures { result ≡ byte_of (entry_at (restored_file self.now).entries index).configuration }
+    /// The value of the configuration register.
+    #[inline(never)]
+    fn read_configurations(&self, register: u8) -> u64
+        ensures { result ≡ register_value (restored_file self.now) (Csr.Cfg register) }
     {
-        if index < self.count() {
-            self.configuration(index).byte()
-        } else {
-            0
+        if register % 2 == 1 {
+            return 0;
+        }
+        match PlainRegisters::of_unspelled(self) {
+            Some(plain) => plain.configuration_word(register),
+            None => PlainRegisters::of(self).configuration_word(register),
         }
     }
 
-    /// What the address register of an entry reads.
+    /// The value of the address register.
     #[inline(always)]
-    #[tactic(auto, using(crate::proofs::InPlace::few_in))]
-    fn read_address(&self, index: usize) -> u64
-        requires { index < (hart_in self.now).entries }
-        ensures { let entry = restored_entry self.now index in
-            result ≡ read_address (hart_in self.now).grain entry.configuration.matching entry.address }
+    fn read_address(&self, register: u8) -> u64
+        ensures { result ≡ register_value (restored_file self.now) (Csr.Addr register) }
     {
-        let hart = self.hart();
-        let address = self.address_on(hart, index);
-        if hart.grain() == 0 {
-            address
-        } else {
-            hart.read_address(self.configuration_on(hart, index).matching, address)
+        let index = usize::from(register);
+        match PlainRegisters::of_unspelled(self) {
+            Some(plain) => plain.address_value(index),
+            None => PlainRegisters::of(self).address_value(index),
         }
-    }
-
-    /// What the address register of the entry reads, if there is one.
-    #[inline(always)]
-    fn address_value(&self, index: usize) -> u64
-        ensures { result ≡ register_value (restored_file self.now) (Csr.Addr index) }
-    {
-        if index < self.count() {
-            self.read_address(index)
-        } else {
-            0
-        }
-    }
-
-    /// Packs the bytes of the eight entries that the configuration register holds, if there are any.
-    fn configuration_word(&self, register: u8) -> u64
-        ensures { result ≡ configuration_word (restored_file self.now).entries (4 * register) }
-    {
-        let first = 4 * usize::from(register);
-        let mut bytes = [0; 8];
-        for place in 0..bytes.len() {
-            bytes[place] = self.byte(first + place);
-        }
-        u64::from_le_bytes(bytes)
     }
 
     /// The value of a register.
@@ -90,96 +63,62 @@ impl SavedRegisters {
         ensures { result ≡ register_value (restored_file self.now) csr }
     {
         match csr {
-            Csr::Cfg(register) if register % 2 == 1 => 0,
-            Csr::Cfg(register) => self.configuration_word(register),
-            Csr::Addr(register) => self.address_value(usize::from(register)),
-            Csr::Mseccfg => self.fields().value(),
+            Csr::Cfg(register) => self.read_configurations(register),
+            Csr::Addr(register) => self.read_address(register),
+            Csr::Mseccfg => PlainRegisters::of(self).fields().value(),
         }
     }
 
-    /// Whether entry `index` keeps its address: it is frozen, or the next entry is frozen and TOR.
+    /// What the address register reads once the value is written to it.
     #[inline(always)]
-    #[tactic(auto, using(crate::proofs::InPlace::few_in))]
-    fn is_address_frozen(&self, index: usize) -> bool
-        requires { index < (hart_in self.now).entries }
-        ensures { result ≡ is_address_frozen (restored_file self.now) index }
+    pub fn address_after(&self, register: u8, value: u64) -> u64
+        ensures { let csr = Csr.Addr register in
+            result ≡ register_value (written (restored_file self.now) csr value) csr }
     {
-        let hart = self.hart();
-        if self.fields_on(hart).rlb {
-            return false;
-        }
-        if self.configuration_on(hart, index).locked {
-            return true;
-        }
-        if index + 1 >= self.count() {
-            return false;
-        }
-        let next = self.configuration_on(hart, index + 1);
-        next.locked && next.matching == AddressMatching::Tor
-    }
-
-    /// Whether the entry is frozen.
-    #[inline(always)]
-    #[tactic(auto, using(crate::proofs::InPlace::few_in))]
-    fn is_frozen(&self, index: usize) -> bool
-        requires { index < (hart_in self.now).entries }
-        ensures { result ≡ is_frozen (restored_file self.now) index }
-    {
-        let hart = self.hart();
-        self.configuration_on(hart, index).locked && !self.fields_on(hart).rlb
-    }
-
-    /// Whether the entry isn't frozen, and its address is the low end of a frozen range.
-    #[inline(always)]
-    #[tactic(auto, using(crate::proofs::InPlace::few_in))]
-    fn is_low_end(&self, index: usize) -> bool
-        requires { index < (hart_in self.now).entries }
-        ensures { result ≡ (not (is_frozen (restored_file self.now) index)
-            && is_address_frozen (restored_file self.now) index) }
-    {
-        !self.is_frozen(index) && self.is_address_frozen(index)
-    }
-
-    /// Whether the entry's address register doesn't read the value so, by its mode and the grain.
-    #[inline(always)]
-    #[tactic(auto, using(crate::proofs::InPlace::few_in))]
-    fn is_too_fine(&self, index: usize, value: u64) -> bool
-        requires { index < (hart_in self.now).entries }
-        ensures { result ≡ is_too_fine (restored_file self.now) (Csr.Addr index) value index }
-    {
-        let matching = self.configuration(index).matching;
-        self.hart().read_address(matching, value) != value
-    }
-
-    /// Whether this reason holds for the entry of the address register.
-    #[inline(always)]
-    #[tactic(auto, using(crate::proofs::InPlace::few_in))]
-    fn is_own_entry_reason(&self, reason: WriteReason, index: usize, value: u64) -> bool
-        requires { index < (hart_in self.now).entries }
-        ensures { result ≡ is_entry_reason reason (restored_file self.now) (Csr.Addr index) value index }
-    {
-        let is_other = value != self.read_address(index);
-        match reason {
-            WriteReason::Frozen => self.is_frozen(index) && is_other,
-            WriteReason::Tor => self.is_low_end(index) && is_other,
-            WriteReason::Grain => self.is_too_fine(index, value),
-            _ => false,
+        match PlainRegisters::of_unspelled(self) {
+            Some(plain) => plain.address_after(register, value),
+            None => PlainRegisters::of(self).address_after(register, value),
         }
     }
 
-    /// Whether this is a reason why the address register wouldn't read the value, if it were written now.
-    #[inline(always)]
-    pub fn is_address_reason(&self, reason: WriteReason, register: u8, value: u64) -> bool
-        ensures { result ≡ is_reason reason (restored_file self.now) (Csr.Addr register) value }
+    /// Writes where each entry matches.
+    pub fn decode(&self, ranges: &mut [ByteRange])
+        requires { length ranges.old ≡ length (restored_file self.now).entries }
+        ensures { ranges.new ≡ ranges_of (restored_file self.now) }
     {
-        let index = usize::from(register);
-        let is_there = index < self.count();
-        match reason {
-            WriteReason::Absent => value != 0 && !is_there,
-            WriteReason::Bits => value / self.hart().word_addresses() != 0,
-            _ if is_there => self.is_own_entry_reason(reason, index, value),
-            _ => false,
+        match PlainRegisters::of_unspelled(self) {
+            Some(plain) => plain.decode(ranges),
+            None => PlainRegisters::of(self).decode(ranges),
         }
+    }
+
+    /// Decides an access, in one pass over the entries, of which it decodes no more than it passes.
+    #[inline]
+    pub fn decide(&self, access: &Access) -> Decision
+        ensures { result ≡ decision_of (restored_file self.now) access.now }
+    {
+        match PlainRegisters::of_unspelled(self) {
+            Some(plain) => plain.decide(access),
+            None => self.decide_on_any(access),
+        }
+    }
+
+    /// The same on any hart. It stands alone since it would else take room from the other pass.
+    #[cold]
+    #[inline(never)]
+    fn decide_on_any(&self, access: &Access) -> Decision
+        ensures { result ≡ decision_of (restored_file self.now) access.now }
+    {
+        PlainRegisters::of(self).decide(access)
+    }
+
+    /// Why the register wouldn't read the value, if it were written now.
+    #[cold]
+    #[inline(never)]
+    pub fn reasons(&self, csr: Csr, value: u64) -> Reasons
+        ensures { result ≡ reasons_of (restored_file self.now) csr value }
+    {
+        PlainRegisters::of(self).reasons(csr, value)
     }
 
     /// Writes an address register, and answers whether that changed it.
@@ -190,25 +129,26 @@ impl SavedRegisters {
         ensures changed { result ≡ true → restored_file self.new ≢ restored_file self.old }
     {
         let index = usize::from(register);
-        let hart = self.hart();
-        let address = value % hart.word_addresses();
-        if index >= self.count() {
+        let plain = PlainRegisters::of(self);
+        let address = value % plain.hart.word_addresses();
+        if index >= plain.count() {
             return false;
         }
-        if self.is_address_frozen(index) {
+        if plain.is_address_frozen(index) {
             return false;
         }
-        if self.address_on(hart, index) == address {
+        if plain.address(index) == address {
             return false;
         }
         self.addresses[index] = address;
         true
     }
 
-    /// Writes a byte over an entry's configuration, and answers whether that changed it.
-    #[inline]
-    fn write_configuration(&mut self, place: usize, byte: u8) -> bool
-        requires { place < MAX_ENTRIES }
+    /// Writes a byte over an entry's configuration, and answers whether that changed it. The hart is the unit's own.
+    #[inline(always)]
+    fn write_configuration(&mut self, hart: Hart, place: usize, byte: u8) -> bool
+        requires hart { hart ≡ hart_in self.old }
+        requires place { place < MAX_ENTRIES }
         ensures set { let entry = restored_entry self.old place in let fields = fields_in self.old in
             IsSetAt self.old self.new place
             (record entry {
@@ -217,9 +157,9 @@ impl SavedRegisters {
         ensures same { result ≡ false → self.new ≡ self.old }
         ensures changed { result ≡ true → restored_entry self.new place ≢ restored_entry self.old place }
     {
-        let hart = self.hart();
-        let old = self.configuration_on(hart, place);
-        let new = stored_over(hart, old, byte, &self.fields_on(hart)).byte();
+        let plain = PlainRegisters { saved: self, hart };
+        let old = plain.configuration(place);
+        let new = stored_over(hart, old, byte, &plain.fields()).byte();
         if new == old.byte() {
             return false;
         }
@@ -227,8 +167,11 @@ impl SavedRegisters {
         true
     }
 
-    /// Writes a configuration register, the lowest byte to the lowest entry, and answers whether that changed it.
-    fn write_configurations(&mut self, register: u8, value: u64) -> bool
+    /// Writes a configuration register, the lowest byte to the lowest entry, and answers whether that changed it. The
+    /// hart is the unit's own.
+    #[inline(always)]
+    fn write_configurations_on(&mut self, hart: Hart, register: u8, value: u64) -> bool
+        requires { hart ≡ hart_in self.old }
         ensures written { restored_file self.new ≡ written (restored_file self.old) (Csr.Cfg register) value }
         ensures same { result ≡ false → self.new ≡ self.old }
         ensures changed { result ≡ true → restored_file self.new ≢ restored_file self.old }
@@ -237,29 +180,29 @@ impl SavedRegisters {
         if register % 2 == 1 {
             return false;
         }
-        if first >= self.count() {
+        let count = usize::from(hart.entries());
+        if first >= count {
             return false;
         }
         let bytes = value.to_le_bytes();
         let mut is_changed = false;
-        for place in 0..ENTRIES_PER_CFG.min(self.count() - first) {
-            let is_new = self.write_configuration(first + place, bytes[place]);
+        for place in 0..ENTRIES_PER_CFG.min(count - first) {
+            let is_new = self.write_configuration(hart, first + place, bytes[place]);
             is_changed |= is_new;
         }
         is_changed
     }
 
-    /// Whether some entry is locked, be it off or not.
-    #[tactic(auto, using(crate::proofs::InPlace::few_in))]
-    fn is_any_locked(&self) -> bool
-        ensures { result ≡ is_any_locked (restored_file self.now).entries }
+    /// Writes a configuration register, and answers whether that changed it.
+    fn write_configurations(&mut self, register: u8, value: u64) -> bool
+        ensures written { restored_file self.new ≡ written (restored_file self.old) (Csr.Cfg register) value }
+        ensures same { result ≡ false → self.new ≡ self.old }
+        ensures changed { result ≡ true → restored_file self.new ≢ restored_file self.old }
     {
-        for place in 0..self.count() {
-            if self.configuration(place).locked {
-                return true;
-            }
+        match Hart::unspelled(self.entries) {
+            Some(hart) => self.write_configurations_on(hart, register, value),
+            None => self.write_configurations_on(self.hart(), register, value),
         }
-        false
     }
 
     /// Sets `mseccfg`, and MML with it, which says what a byte stands for: all are converted. That is once from a reset
@@ -280,11 +223,12 @@ impl SavedRegisters {
         ensures same { result ≡ false → self.new ≡ self.old }
         ensures changed { result ≡ true → restored_file self.new ≢ restored_file self.old }
     {
-        if !self.hart().has_smepmp() {
+        let plain = PlainRegisters::of(self);
+        if !plain.hart.has_smepmp() {
             return false;
         }
-        let old = self.fields();
-        let new = old.written(value, self.is_any_locked());
+        let old = plain.fields();
+        let new = old.written(value, plain.is_any_locked());
         if new.value() == old.value() {
             return false;
         }

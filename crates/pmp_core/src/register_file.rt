@@ -27,6 +27,7 @@ use crate::hart::Hart;
 use crate::lock::Lock;
 use crate::mseccfg::MseccfgFields;
 use crate::perms::Perms;
+use crate::plain_registers::PlainRegisters;
 use crate::range::ByteRange;
 use crate::rights::{default_rights_by, rule_rights};
 use crate::saved_registers::SavedRegisters;
@@ -136,14 +137,14 @@ impl RegFile {
     pub fn restore(saved: &SavedRegisters) -> RegFile
         ensures { result ≡ restored_file saved.now }
     {
-        let hart = saved.hart();
+        let plain = PlainRegisters::of(saved);
         let mut entries = [Entry::RESET; MAX_ENTRIES];
         let mut ranges = [ByteRange::EMPTY; MAX_ENTRIES];
-        storage::restore(saved, hart, &mut entries, &mut ranges);
+        storage::restore(&plain, &mut entries, &mut ranges);
         RegFile {
-            hart,
+            hart: plain.hart,
             entries,
-            mseccfg: saved.fields(),
+            mseccfg: plain.fields(),
             ranges,
         }
     }

@@ -3,17 +3,18 @@
 ghost use Rattle.std.specs.Prelude.{◌≡◌, take};
 ghost use Rattle.pmp_core.specs.RegisterFile.{file_of, reset_file};
 ghost use Rattle.pmp_core.specs.RegisterWrite.{written};
-ghost use Rattle.pmp_core.specs.SavedRegisters.{hart_in, fields_in, restored_entries};
+ghost use Rattle.pmp_core.specs.SavedRegisters.{fields_in, restored_entries};
 ghost use Rattle.pmp_core.specs.Storage.{IsStored};
 
 use crate::csr::Csr;
 use crate::entry::Entry;
 use crate::hart::Hart;
 use crate::mseccfg::MseccfgFields;
+use crate::plain_registers::PlainRegisters;
 use crate::range::ByteRange;
 use crate::ranges::{changed_by, decode_ranges};
 use crate::register_write;
-use crate::saved_registers::{SavedRegisters, restore_entries};
+use crate::saved_registers::restore_entries;
 use crate::size::MAX_ENTRIES;
 
 /// Writes a register, and decodes the ranges that this can change.
@@ -39,20 +40,19 @@ pub fn write(
 
 /// Restores the entries of the hart, and decodes their ranges, in arrays that are as after reset.
 pub fn restore(
-    saved: &SavedRegisters,
-    hart: Hart,
+    plain: &PlainRegisters,
     entries: &mut [Entry; MAX_ENTRIES],
     ranges: &mut [ByteRange; MAX_ENTRIES],
 )
-    requires hart { hart ≡ hart_in saved.now }
-    requires reset { IsStored (reset_file hart) entries.old ranges.old }
-    ensures restored { take hart.entries entries.new ≡ restored_entries saved.now hart.entries }
-    ensures stored { IsStored (file_of hart (fields_in saved.now) (take hart.entries entries.new)) entries.new
-        ranges.new }
+    requires { IsStored (reset_file plain.now.hart) entries.old ranges.old }
+    ensures restored { let hart = plain.now.hart in
+        take hart.entries entries.new ≡ restored_entries plain.now.saved.now hart.entries }
+    ensures stored { let hart = plain.now.hart in
+        IsStored (file_of hart (fields_in plain.now.saved.now) (take hart.entries entries.new)) entries.new ranges.new }
 {
-    let in_use = usize::from(hart.entries());
+    let in_use = plain.count();
     let entries = &mut entries[..in_use];
     let ranges = &mut ranges[..in_use];
-    restore_entries(saved, entries);
-    decode_ranges(hart, entries, ranges, 0..in_use);
+    restore_entries(plain, entries);
+    decode_ranges(plain.hart, entries, ranges, 0..in_use);
 }

@@ -1,6 +1,6 @@
 //! Why a register doesn't read what was written to it.
 
-ghost use Rattle.std.specs.Prelude.{◌≡◌, ℕ, ◌+◌, ◌*◌, ◌<◌, ◌≤◌, ◌==◌, nat_lt, not, ◌&&◌, Some, None, length};
+ghost use Rattle.std.specs.Prelude.{◌≡◌, ℕ, ◌+◌, ◌*◌, ◌<◌, ◌≤◌, ◌==◌, nat_lt, false, not, ◌&&◌, Some, None, length};
 ghost use Rattle.pmp_core.specs.declared.register_write.TheConstants.{ENTRIES_PER_CFG};
 ghost use Rattle.std.specs.Prelude.{if◌then◌else◌};
 ghost use Rattle.std.specs.List.{list_any};
@@ -9,7 +9,7 @@ ghost use Rattle.pmp_core.specs.Grain.{is_na4};
 ghost use Rattle.pmp_core.specs.RegisterFile.{file_of};
 ghost use Rattle.pmp_core.specs.RegisterWrite.{holds_byte_of};
 ghost use Rattle.pmp_core.specs.Rights.{is_barred};
-ghost use Rattle.pmp_core.specs.WriteReasons.{byte_for, is_changed};
+ghost use Rattle.pmp_core.specs.WriteReasons.{byte_for, is_register_of, is_changed};
 ghost use Rattle.pmp_core.specs.WriteReasons.{is_entry_reason, has_reason, is_some_entry_reason, is_reason};
 ghost use Rattle.pmp_core.specs.WriteReasons.{is_absent, has_absent_byte, has_bit_6_or_5, has_other_bits};
 ghost use Rattle.pmp_core.specs.WriteReasons.{clears_sticky, sets_bypass};
@@ -21,6 +21,7 @@ use crate::hart::Hart;
 use crate::mseccfg::MseccfgFields;
 use crate::register_write::{ENTRIES_PER_CFG, is_address_frozen, is_any_locked};
 use crate::rights::is_barred;
+use std::ops::Range;
 
 /// Why a register doesn't read what was written to it. A write may have several reasons.
 #[derive(Clone, Copy, Debug, PartialEq, Eq)]
@@ -161,6 +162,25 @@ fn is_entry_reason(
     }
 }
 
+/// The entries that the register is of, among as many as there are.
+fn entries_of(csr: Csr, count: usize) -> Range<usize>
+    ensures within { result.end ≤ count }
+    ensures others { (i : ℕ) → i < count → (result.start ≤ i → result.end ≤ i) → is_register_of csr i ≡ false }
+{
+    match csr {
+        Csr::Cfg(register) if register % 2 == 1 => 0..0,
+        Csr::Cfg(register) => {
+            let first = 4 * usize::from(register);
+            first..count.min(first + ENTRIES_PER_CFG)
+        }
+        Csr::Addr(register) => {
+            let index = usize::from(register);
+            index..count.min(index + 1)
+        }
+        Csr::Mseccfg => 0..0,
+    }
+}
+
 /// Whether this reason holds for some entry of the unit.
 fn is_some_entry_reason(
     reason: WriteReason,
@@ -172,7 +192,7 @@ fn is_some_entry_reason(
 ) -> bool
     ensures { result ≡ is_some_entry_reason reason (file_of hart mseccfg.now entries.now) csr value }
 {
-    (0..entries.len()).any(|index| is_entry_reason(
+    entries_of(csr, entries.len()).any(|index| is_entry_reason(
         reason, hart, entries, mseccfg, csr, value, index,
     ))
 }

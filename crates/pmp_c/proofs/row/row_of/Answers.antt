@@ -45,7 +45,7 @@ alike file owner rights is = is ∙ rights_kept file owner S
 
 pub returns : goal.returns
 returns c =
-    let file = restored_file c.args.registers.now in
+    let file = restored_file c.args.plain.now.saved.now in
     let user = c.owned_rights-others.ensures in
     let supervisor = alike file c.args.owner c.owned_rights-others.result user in
     record {

@@ -7,8 +7,8 @@ use Rattle.pmp_c.proofs.unit.Unit.around_by_registers.Goals as goal
 pub row_of-requires : goal.row_of-requires
 row_of-requires c =
     let run = c.run_around-run in
-    owner_in c.args.self.now.registers c.args.byte run.result.owner
-    (rw c.decode.ensures at run.ensures.owned c.args.byte run.ensures.here.0 (omega (arith, run.ensures.here.1)))
+    rw c.of-plain.ensures (owner_in c.args.self.now.registers c.args.byte run.result.owner
+    (rw c.decode.ensures at run.ensures.owned c.args.byte run.ensures.here.0 (omega (arith, run.ensures.here.1))))
 
 pub returns : goal.returns
 returns c = λ named mode_is.
@@ -17,4 +17,4 @@ returns c = λ named mode_is.
     around_answer saved named c.args.byte run.result.first run.result.last run.result.owner c.row_answer.result
     run.ensures.here.0 run.ensures.here.1 run.ensures.inside (rw c.decode.ensures at run.ensures.owned)
     (rw c.decode.ensures at run.ensures.before) (rw c.decode.ensures at run.ensures.after)
-    (c.row_answer.ensures (restored_file saved) run.result.owner named c.row_of.ensures mode_is)
+    (c.row_answer.ensures (restored_file saved) run.result.owner named (rw c.of-plain.ensures at c.row_of.ensures) mode_is)

@@ -5,4 +5,4 @@ use Rattle.pmp_core.proofs.saved_registers.SavedRegisters.read.Goals as goal
 
 pub returns-in-Mseccfg : goal.returns-in-Mseccfg
 returns-in-Mseccfg c = rw c.in-Mseccfg.is (c.value.ensures
-    ∙ ap mseccfg_value (c.fields.ensures ∙ sym (mseccfg_in c.args.self.now)))
+    ∙ ap mseccfg_value ((rw c.of.ensures at c.fields.ensures) ∙ sym (mseccfg_in c.args.self.now)))

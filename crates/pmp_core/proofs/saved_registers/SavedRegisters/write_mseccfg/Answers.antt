@@ -1,5 +1,6 @@
 use Rattle.std.proofs.Common.{◌≡◌, ◌≢◌, Bool, true, false, refl, sym, ap, ◌∙◌}
 use Rattle.pmp_core.specs.declared.mseccfg.MseccfgFields.{MseccfgFields}
+use Rattle.pmp_core.specs.declared.saved_registers.SavedRegisters.{SavedRegisters}
 use Rattle.pmp_core.specs.Hart.{Profile}
 use Rattle.pmp_core.specs.Mseccfg.{mseccfg_value, mseccfg_written}
 use Rattle.pmp_core.specs.RegisterFile.{RegisterFile}
@@ -16,6 +17,14 @@ use Rattle.pmp_core.proofs.saved_registers.SavedRegisters.write_mseccfg.Goals.{
   else-new-via-else-new,
 }
 
+-- what the plain registers have is what these have
+module _ (saved plain : SavedRegisters) (same : plain ≡ saved) where
+  smepmp_same : (hart : Profile) → hart ≡ hart_in plain → hart.has_smepmp ≡ (hart_in saved).has_smepmp
+  smepmp_same hart own = ap (λ (p : Profile). p.has_smepmp) (own ∙ ap (λ (s : SavedRegisters). hart_in s) same)
+
+  fields_same : fields_in plain ≡ fields_in saved
+  fields_same = ap (λ (s : SavedRegisters). fields_in s) same
+
 module _ (c : After-written-new) where
   abbrev file : RegisterFile
   file = restored_file c.args.self.now
@@ -24,11 +33,14 @@ module _ (c : After-written-new) where
   wanted = mseccfg_written file.mseccfg (is_any_locked file.entries) c.args.value
 
   old_is : c.fields-old.result ≡ file.mseccfg
-  old_is = c.fields-old.ensures ∙ sym (mseccfg_in c.args.self.now)
+  old_is = c.fields-old.ensures
+      ∙ fields_same c.args.self.now c.of-plain.result.saved.now c.of-plain.ensures
+      ∙ sym (mseccfg_in c.args.self.now)
 
   -- the hart has mseccfg
   has : (hart_in c.args.self.now).has_smepmp ≡ true
-  has = ap (λ (p : Profile). p.has_smepmp) (sym c.hart.ensures) ∙ sym c.has_smepmp.ensures ∙ c.if-not-has_smepmp.false
+  has = sym (smepmp_same c.args.self.now c.of-plain.result.saved.now c.of-plain.ensures c.of-plain.result.hart c.of-plain.result.own)
+      ∙ sym c.has_smepmp.ensures ∙ c.if-not-has_smepmp.false
 
   left : security_written file c.args.value ≡ wanted
   left = rw (profile_in c.args.self.now, has) refl
@@ -36,13 +48,15 @@ module _ (c : After-written-new) where
   new_is : c.written-new.result ≡ wanted
   new_is = c.written-new.ensures
       ∙ ap (λ (m : MseccfgFields). mseccfg_written m c.is_any_locked.result c.args.value) old_is
-      ∙ ap (λ (b : Bool). mseccfg_written file.mseccfg b c.args.value) c.is_any_locked.ensures
+      ∙ ap (λ (b : Bool). mseccfg_written file.mseccfg b c.args.value)
+      (rw c.of-plain.ensures at c.is_any_locked.ensures)
 
 -- a hart without it
 pub returns-then-not-has_smepmp-clause-written : goal.returns-then-not-has_smepmp-clause-written
 returns-then-not-has_smepmp-clause-written c =
     let none : (hart_in c.args.self.now).has_smepmp ≡ false =
-    ap (λ (p : Profile). p.has_smepmp) (sym c.hart.ensures) ∙ sym c.has_smepmp.ensures ∙ c.if-not-has_smepmp.true in
+    sym (smepmp_same c.args.self.now c.of-plain.result.saved.now c.of-plain.ensures c.of-plain.result.hart c.of-plain.result.own)
+    ∙ sym c.has_smepmp.ensures ∙ c.if-not-has_smepmp.true in
     rw (profile_in c.args.self.now, none) refl
 
 pub returns-then-value-clause-written : goal.returns-then-value-clause-written
@@ -57,7 +71,7 @@ differs : (c : Else-value) (new : RegisterFile) → new.mseccfg ≡ c.written-ne
     → new ≢ restored_file c.args.self.now
 differs c new is same = c.if-value.false (c.value.ensures
     ∙ ap mseccfg_value (sym is ∙ ap (λ (f : RegisterFile). f.mseccfg) same ∙ mseccfg_in c.args.self.now
-    ∙ sym c.fields-old.ensures)
+    ∙ sym (rw c.of-plain.ensures at c.fields-old.ensures))
     ∙ sym c.value-2.ensures)
 
 pub returns-then-not-old-clause-changed : goal.returns-then-not-old-clause-changed
@@ -73,11 +87,11 @@ returns-else-new-clause-written c =
     let kept : c.written-new.result.mml ≡ (fields_in c.args.self.now).mml = elim c.else-new.branch [
       | else-new-via-then-new+else-not-old w ↦
           w.if-new.true ∙ sym (not-false _ w.if-not-old.false)
-          ∙ ap (λ (m : MseccfgFields). m.mml) c.fields-old.ensures
+          ∙ ap (λ (m : MseccfgFields). m.mml) (rw c.of-plain.ensures at c.fields-old.ensures)
       | else-new-via-else-new w ↦
           w.if-new.false ∙ sym (either_false c.fields-old.result.mml _
           (ap (λ (m : MseccfgFields). m.mml) (sym c.written-new.ensures) ∙ w.if-new.false)).0
-          ∙ ap (λ (m : MseccfgFields). m.mml) c.fields-old.ensures
+          ∙ ap (λ (m : MseccfgFields). m.mml) (rw c.of-plain.ensures at c.fields-old.ensures)
     ] in
     mseccfg_written_is c.args.self.now c.written-new.result c.value-self.result c.value-self.ensures (has w) kept
     ∙ ap (λ (m : MseccfgFields). record (file w) { mseccfg = m }) (new_is w ∙ sym (left w))

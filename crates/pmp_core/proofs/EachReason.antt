@@ -1,0 +1,149 @@
+-- The reasons for a write, one by one.
+use Rattle.std.proofs.Common.{◌≡◌, ℕ, zero, suc, ◌+◌, ◌-◌, ◌<◌, ◌≤◌, Bool, true, false, cond, List, [], ◌∷◌, length}
+use Rattle.std.proofs.Common.{get_or, refl, sym, ◌∙◌, inl, inr, arith}
+use Rattle.std.specs.List.{range_with_len, list_any, filter}
+use Rattle.std.proofs.lemmas.Bool.{false≢true, false_from_ne_true, or_from, cases_Bool, cases_lt, and_right}
+use Rattle.std.proofs.lemmas.List.Folds.{list_any_at}
+use Rattle.std.proofs.lemmas.List.FromFn.{length-range_with_len, get_or-range_with_len}
+use Rattle.pmp_core.specs.declared.csr.Csr.{Csr}
+use Rattle.pmp_core.specs.declared.csr.Csr.TheVariants.{Cfg, Addr, Mseccfg}
+use Rattle.pmp_core.specs.declared.write_reasons.WriteReason.{WriteReason}
+use Rattle.pmp_core.specs.declared.write_reasons.WriteReason.TheVariants.{Absent, Bits, Frozen, Tor, Reserved, Lockdown}
+use Rattle.pmp_core.specs.declared.write_reasons.WriteReason.TheVariants.{Sticky, Bypass, Grain}
+use Rattle.pmp_core.specs.RegisterFile.{RegisterFile}
+use Rattle.pmp_core.specs.WriteReasons.{is_register_of, is_reason, is_entry_reason, is_some_entry_reason, all_reasons}
+use Rattle.pmp_core.specs.WriteReasons.{write_reasons}
+
+-- ---- lists
+
+filter_none : {X : Type 0} (p : X → Bool) (xs : List X) (i : ℕ) (d : X) → filter p xs ≡ [] → i < length xs
+    → p (get_or xs i d) ≡ false
+filter_none p [] i d none near = absurd (omega arith)
+filter_none p (x ∷ xs) zero d none near =
+    elim (p x) as (λ b. cond b (x ∷ filter p xs) (filter p xs) ≡ [] → b ≡ false) [
+      | true ↦ λ e. absurd cc
+      | false ↦ λ e. refl
+    ] none
+filter_none p (x ∷ xs) (suc i) d none near =
+    elim (p x) as (λ b. cond b (x ∷ filter p xs) (filter p xs) ≡ [] → p (get_or xs i d) ≡ false) [
+      | true ↦ λ e. absurd cc
+      | false ↦ λ e. filter_none p xs i d e (omega arith)
+    ] none
+
+pub none_between : (p : ℕ → Bool) (a n : ℕ) → ((i : ℕ) → a ≤ i → i < a + n → p i ≡ false)
+    → list_any p (range_with_len a n) ≡ false
+none_between p a zero h = refl
+none_between p a (suc n) h =
+    or_from (p a) _ (h a (omega arith) (omega arith))
+    (none_between p (a + 1) n (λ i low high. h i (omega arith) (omega arith)))
+
+pub none_at : (p : ℕ → Bool) (a n i : ℕ) → list_any p (range_with_len a n) ≡ false → a ≤ i → i < a + n → p i ≡ false
+none_at p a n i none low high =
+    let place : get_or (range_with_len a n) (i - a) 0 ≡ i =
+    get_or-range_with_len a n (i - a) 0 (omega arith) ∙ omega arith in
+    false_from_ne_true (p i) (λ t. false≢true (sym none
+    ∙ list_any_at p (range_with_len a n) (i - a) 0 (omega (arith, length-range_with_len a n)) (rw place t)))
+
+pub none_in : (p : ℕ → Bool) (xs : List ℕ) → ((i : ℕ) → i < length xs → p (get_or xs i 0) ≡ false)
+    → list_any p xs ≡ false
+none_in p [] h = refl
+none_in p (x ∷ xs) h = or_from (p x) _ (h 0 (omega arith)) (none_in p xs (λ i near. h (suc i) (omega arith)))
+
+pub none_of : (p : ℕ → Bool) (xs : List ℕ) (i : ℕ) → list_any p xs ≡ false → i < length xs → p (get_or xs i 0) ≡ false
+none_of p xs i none near =
+    false_from_ne_true (p (get_or xs i 0)) (λ t. false≢true (sym none ∙ list_any_at p xs i 0 near t))
+
+-- who passes beside a span of the numbers doesn't, so the span says whether any does
+pub any_between : (p : ℕ → Bool) (a b n : ℕ) → b ≤ n
+    → ((i : ℕ) → i < n → (a ≤ i → b ≤ i) → p i ≡ false)
+    → list_any p (range_with_len a (b - a)) ≡ list_any p (range_with_len 0 n)
+any_between p a b n within others = elim (cases_Bool (list_any p (range_with_len 0 n))) [
+  | inl some ↦ elim (cases_Bool (list_any p (range_with_len a (b - a)))) [
+    | inl here ↦ here ∙ sym some
+    | inr none ↦ absurd (false≢true (sym (none_between p 0 n (λ i _ near. elim (cases_lt i a) [
+      | inl below ↦ others i (omega arith) (λ low. absurd (omega arith))
+      | inr low ↦ elim (cases_lt i b) [
+        | inl high ↦ none_at p a (b - a) i none low (omega arith)
+        | inr past ↦ others i (omega arith) (λ _. past)
+      ]
+    ])) ∙ some))
+  ]
+  | inr none ↦ none_between p a (b - a) (λ i low high. none_at p 0 n i none (omega arith) (omega arith)) ∙ sym none
+]
+
+-- ---- a reason for some entry
+
+-- no reason holds for an entry that the register isn't of
+pub not_own : (reason : WriteReason) (file : RegisterFile) (csr : Csr) (value i : ℕ) → is_register_of csr i ≡ false
+    → is_entry_reason reason file csr value i ≡ false
+not_own Absent file csr value i other = refl
+not_own Bits file csr value i other = refl
+not_own Frozen file (Cfg q) value i other = rw other (and_right _ false refl)
+not_own Frozen file (Addr k) value i other = rw other (and_right _ false refl)
+not_own Frozen file Mseccfg value i other = and_right _ false refl
+not_own Tor file (Cfg q) value i other = refl
+not_own Tor file (Addr k) value i other = rw other (and_right _ false refl)
+not_own Tor file Mseccfg value i other = refl
+not_own Reserved file (Cfg q) value i other = rw other refl
+not_own Reserved file (Addr k) value i other = refl
+not_own Reserved file Mseccfg value i other = refl
+not_own Lockdown file (Cfg q) value i other = rw other refl
+not_own Lockdown file (Addr k) value i other = refl
+not_own Lockdown file Mseccfg value i other = refl
+not_own Sticky file csr value i other = refl
+not_own Bypass file csr value i other = refl
+not_own Grain file (Cfg q) value i other = rw other refl
+not_own Grain file (Addr k) value i other = rw other refl
+not_own Grain file Mseccfg value i other = refl
+
+module _ (reason : WriteReason) (file : RegisterFile) (csr : Csr) (value : ℕ) where
+  pub none_at_entry : is_some_entry_reason reason file csr value ≡ false → (i : ℕ) → i < length file.entries
+      → is_entry_reason reason file csr value i ≡ false
+  none_at_entry none i inside =
+      none_at (is_entry_reason reason file csr value) 0 (length file.entries) i none (omega arith) (omega arith)
+
+  pub none_at_entries : ((i : ℕ) → i < length file.entries → is_entry_reason reason file csr value i ≡ false)
+      → is_some_entry_reason reason file csr value ≡ false
+  none_at_entries each = none_between (is_entry_reason reason file csr value) 0 (length file.entries)
+      (λ i _ inside. each i (omega arith))
+
+-- ---- the reasons one by one
+
+pub record HasNone (file : RegisterFile) (csr : Csr) (value : ℕ) : Type 0 where
+  pub absent : is_reason Absent file csr value ≡ false
+  pub bits : is_reason Bits file csr value ≡ false
+  pub frozen : is_reason Frozen file csr value ≡ false
+  pub tor : is_reason Tor file csr value ≡ false
+  pub reserved : is_reason Reserved file csr value ≡ false
+  pub lockdown : is_reason Lockdown file csr value ≡ false
+  pub sticky : is_reason Sticky file csr value ≡ false
+  pub bypass : is_reason Bypass file csr value ≡ false
+  pub grain : is_reason Grain file csr value ≡ false
+
+none_all : (p : WriteReason → Bool) → p Absent ≡ false → p Bits ≡ false → p Frozen ≡ false → p Tor ≡ false
+    → p Reserved ≡ false → p Lockdown ≡ false → p Sticky ≡ false → p Bypass ≡ false → p Grain ≡ false
+    → filter p all_reasons ≡ []
+none_all p a b c d e f g h i = rw (a, b, c, d, e, f, g, h, i) refl
+
+pub has_none : (file : RegisterFile) (csr : Csr) (value : ℕ) → write_reasons file csr value ≡ []
+    → HasNone file csr value
+has_none file csr value none =
+    let each : (i : ℕ) → i < 9 → is_reason (get_or all_reasons i Absent) file csr value ≡ false =
+    λ i near. filter_none (λ reason. is_reason reason file csr value) all_reasons i Absent none near in
+    record {
+      absent = each 0 (omega arith);
+      bits = each 1 (omega arith);
+      frozen = each 2 (omega arith);
+      tor = each 3 (omega arith);
+      reserved = each 4 (omega arith);
+      lockdown = each 5 (omega arith);
+      sticky = each 6 (omega arith);
+      bypass = each 7 (omega arith);
+      grain = each 8 (omega arith);
+    }
+
+pub no_reasons : (file : RegisterFile) (csr : Csr) (value : ℕ) → HasNone file csr value
+    → write_reasons file csr value ≡ []
+no_reasons file csr value h =
+    none_all (λ reason. is_reason reason file csr value) h.absent h.bits h.frozen h.tor h.reserved h.lockdown h.sticky
+    h.bypass h.grain
