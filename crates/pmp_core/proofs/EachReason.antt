@@ -1,8 +1,9 @@
 -- The reasons for a write, one by one.
-use Rattle.std.proofs.Common.{◌≡◌, ℕ, zero, suc, ◌+◌, ◌-◌, ◌<◌, ◌≤◌, Bool, true, false, cond, List, [], ◌∷◌, length}
+use Rattle.std.proofs.Common.{◌==◌, ◌≡◌, ℕ, zero, suc, ◌+◌, ◌-◌, ◌<◌, ◌≤◌, Bool, true, false, cond, List, [], ◌∷◌, length}
 use Rattle.std.proofs.Common.{get_or, refl, sym, ◌∙◌, inl, inr, arith}
 use Rattle.std.specs.List.{range_with_len, list_any, filter}
 use Rattle.std.proofs.lemmas.Bool.{false≢true, false_from_ne_true, or_from, cases_Bool, cases_lt, and_right}
+use Rattle.std.proofs.lemmas.Bool.{eq-eqb, ne_eqb}
 use Rattle.std.proofs.lemmas.List.Folds.{list_any_at}
 use Rattle.std.proofs.lemmas.List.FromFn.{length-range_with_len, get_or-range_with_len}
 use Rattle.pmp_core.specs.declared.csr.Csr.{Csr}
@@ -11,7 +12,8 @@ use Rattle.pmp_core.specs.declared.write_reasons.WriteReason.{WriteReason}
 use Rattle.pmp_core.specs.declared.write_reasons.WriteReason.TheVariants.{Absent, Bits, Frozen, Tor, Reserved, Lockdown}
 use Rattle.pmp_core.specs.declared.write_reasons.WriteReason.TheVariants.{Sticky, Bypass, Grain}
 use Rattle.pmp_core.specs.RegisterFile.{RegisterFile}
-use Rattle.pmp_core.specs.WriteReasons.{is_register_of, is_reason, is_entry_reason, is_some_entry_reason, all_reasons}
+use Rattle.pmp_core.specs.RegisterWrite.{holds}
+use Rattle.pmp_core.specs.WriteReasons.{is_reason, is_entry_reason, is_some_entry_reason, all_reasons}
 use Rattle.pmp_core.specs.WriteReasons.{write_reasons}
 
 -- ---- lists
@@ -73,16 +75,19 @@ any_between p a b n within others = elim (cases_Bool (list_any p (range_with_len
 
 -- ---- a reason for some entry
 
--- no reason holds for an entry that the register isn't of
-pub not_own : (reason : WriteReason) (file : RegisterFile) (csr : Csr) (value i : ℕ) → is_register_of csr i ≡ false
+turned : (i k : ℕ) → (i == k) ≡ false → (k == i) ≡ false
+turned i k other = ne_eqb k i (λ same. false≢true (sym other ∙ eq-eqb i k (sym same)))
+
+-- no reason holds for an entry of which the register holds nothing
+pub not_own : (reason : WriteReason) (file : RegisterFile) (csr : Csr) (value i : ℕ) → holds csr i ≡ false
     → is_entry_reason reason file csr value i ≡ false
 not_own Absent file csr value i other = refl
 not_own Bits file csr value i other = refl
 not_own Frozen file (Cfg q) value i other = rw other (and_right _ false refl)
-not_own Frozen file (Addr k) value i other = rw other (and_right _ false refl)
+not_own Frozen file (Addr k) value i other = rw (turned i k other) (and_right _ false refl)
 not_own Frozen file Mseccfg value i other = and_right _ false refl
 not_own Tor file (Cfg q) value i other = refl
-not_own Tor file (Addr k) value i other = rw other (and_right _ false refl)
+not_own Tor file (Addr k) value i other = rw (turned i k other) (and_right _ false refl)
 not_own Tor file Mseccfg value i other = refl
 not_own Reserved file (Cfg q) value i other = rw other refl
 not_own Reserved file (Addr k) value i other = refl
@@ -93,7 +98,7 @@ not_own Lockdown file Mseccfg value i other = refl
 not_own Sticky file csr value i other = refl
 not_own Bypass file csr value i other = refl
 not_own Grain file (Cfg q) value i other = rw other refl
-not_own Grain file (Addr k) value i other = rw other refl
+not_own Grain file (Addr k) value i other = rw (turned i k other) refl
 not_own Grain file Mseccfg value i other = refl
 
 module _ (reason : WriteReason) (file : RegisterFile) (csr : Csr) (value : ℕ) where

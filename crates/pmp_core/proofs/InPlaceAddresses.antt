@@ -144,7 +144,7 @@ any_past p n i others past = none_between p 0 n (λ k _ near. others k (λ here.
 -- a reason that an address register can have by one of its entries it has by its own alone
 own_alone : (reason : WriteReason) (file : RegisterFile) (i value k : ℕ) → k ≢ i
     → is_entry_reason reason file (Addr i) value k ≡ false
-own_alone reason file i value k other = not_own reason file (Addr i) value k (ne_eqb i k (λ e. other (sym e)))
+own_alone reason file i value k other = not_own reason file (Addr i) value k (ne_eqb k i other)
 
 module _ (saved : SavedRegisters) (i value : ℕ) (reason : WriteReason) where
   pub own_turned : i < count_in saved → is_some_entry_reason reason (restored_file saved) (Addr i) value

@@ -10,10 +10,10 @@ use Rattle.pmp_core.specs.declared.decision.Cause.{Cause}
 use Rattle.pmp_core.specs.declared.decision.Cause.TheVariants.{Rule, Split, NoMatch}
 use Rattle.pmp_core.specs.declared.entry.Entry.{Entry}
 use Rattle.pmp_core.specs.RegisterFile.{RegisterFile, entry_at, reset_entry}
-use Rattle.pmp_core.specs.RegisterWrite.{holds_byte_of, is_tor, written}
+use Rattle.pmp_core.specs.RegisterWrite.{holds_byte_of, holds, is_tor, written}
 use Rattle.pmp_core.specs.Matching.{Matches, low_address}
 use Rattle.pmp_core.specs.Decision.{IsDecider, IsDecisionBy, Touches}
-use Rattle.pmp_core.specs.OthersLaw.{OthersLaw, holds, may_move}
+use Rattle.pmp_core.specs.OthersLaw.{OthersLaw, may_move}
 use Rattle.pmp_core.proofs.Legal.{configured_place, length-written, profile-written}
 use Rattle.pmp_core.proofs.Locks.{configured_address, low_kept, other_address, same_bytes}
 use Rattle.pmp_core.proofs.Sizes.{least_alike}

@@ -5,17 +5,11 @@ use Rattle.pmp_core.specs.declared.csr.Csr.{Csr}
 use Rattle.pmp_core.specs.declared.csr.Csr.TheVariants.{Cfg, Addr, Mseccfg}
 use Rattle.pmp_core.specs.declared.decision.Decision.{Decision}
 use Rattle.pmp_core.specs.RegisterFile.{RegisterFile, entry_at}
-use Rattle.pmp_core.specs.RegisterWrite.{holds_byte_of, is_tor, written}
+use Rattle.pmp_core.specs.RegisterWrite.{holds_byte_of, holds, is_tor, written}
 use Rattle.pmp_core.specs.Matching.{Matches}
 use Rattle.pmp_core.specs.Decision.{IsDecision, Touches}
 
--- the register holds the configuration or the address of entry i (3.7.1)
-abbrev pub holds : Csr → ℕ → Bool
-holds (Cfg q) i = holds_byte_of q i
-holds (Addr j) i = i == j
-holds Mseccfg i = false
-
--- a write to it may move entry i, at the top of a range also by the address before it (3.7.1.1)
+-- a write to the register may move entry i, at the top of a range also by the address before it (3.7.1.1)
 abbrev pub may_move : RegisterFile → Csr → ℕ → Bool
 may_move file (Cfg q) i = holds_byte_of q i
 may_move file (Addr j) i = i == j || (i == suc j && is_tor (entry_at file.entries i).configuration.matching)

@@ -44,6 +44,12 @@ stored file i =
 abbrev pub holds_byte_of : (q i : ℕ) → Bool
 holds_byte_of q i = q % 2 == 0 && nat_le (4 * q) i && nat_lt i (4 * q + ENTRIES_PER_CFG)
 
+-- the register holds the configuration or the address of entry i (3.7.1)
+abbrev pub holds : Csr → (i : ℕ) → Bool
+holds (Cfg q) i = holds_byte_of q i
+holds (Addr k) i = i == k
+holds Mseccfg i = false
+
 -- entry i after pmpcfg q is written, the lowest byte for the lowest entry
 abbrev pub configured : RegisterFile → (q value i : ℕ) → Entry
 configured file q value i =

@@ -28,12 +28,6 @@ all_reasons = Absent ∷ Bits ∷ Frozen ∷ Tor ∷ Reserved ∷ Lockdown ∷ S
 abbrev pub byte_for : (q value i : ℕ) → ℕ
 byte_for q value i = slice_index (to_le_bytes w64 value) (i - 4 * q)
 
--- the register has entry i's byte or address (3.7.1)
-abbrev pub is_register_of : Csr → (i : ℕ) → Bool
-is_register_of (Cfg q) i = holds_byte_of q i
-is_register_of (Addr k) i = k == i
-is_register_of Mseccfg i = false
-
 -- the register has entry i's byte or address, and reads another than the value has
 abbrev pub is_changed : RegisterFile → Csr → (value i : ℕ) → Bool
 is_changed file (Cfg q) value i =

@@ -7,9 +7,9 @@ ghost use Rattle.std.specs.List.{list_any};
 ghost use Rattle.pmp_core.specs.Configuration.{configuration_of, is_reserved};
 ghost use Rattle.pmp_core.specs.Grain.{is_na4};
 ghost use Rattle.pmp_core.specs.RegisterFile.{file_of};
-ghost use Rattle.pmp_core.specs.RegisterWrite.{holds_byte_of};
+ghost use Rattle.pmp_core.specs.RegisterWrite.{holds_byte_of, holds};
 ghost use Rattle.pmp_core.specs.Rights.{is_barred};
-ghost use Rattle.pmp_core.specs.WriteReasons.{byte_for, is_register_of, is_changed};
+ghost use Rattle.pmp_core.specs.WriteReasons.{byte_for, is_changed};
 ghost use Rattle.pmp_core.specs.WriteReasons.{is_entry_reason, has_reason, is_some_entry_reason, is_reason};
 ghost use Rattle.pmp_core.specs.WriteReasons.{is_absent, has_absent_byte, has_bit_6_or_5, has_other_bits};
 ghost use Rattle.pmp_core.specs.WriteReasons.{clears_sticky, sets_bypass};
@@ -162,10 +162,10 @@ fn is_entry_reason(
     }
 }
 
-/// The entries that the register is of, among as many as there are.
+/// The entries of which the register holds the configuration or the address, among as many as there are.
 fn entries_of(csr: Csr, count: usize) -> Range<usize>
     ensures within { result.end ≤ count }
-    ensures others { (i : ℕ) → i < count → (result.start ≤ i → result.end ≤ i) → is_register_of csr i ≡ false }
+    ensures others { (i : ℕ) → i < count → (result.start ≤ i → result.end ≤ i) → holds csr i ≡ false }
 {
     match csr {
         Csr::Cfg(register) if register % 2 == 1 => 0..0,

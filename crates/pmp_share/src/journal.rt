@@ -132,11 +132,8 @@ impl Journal {
         ensures { take (index + 1) self.now ≡ take index self.now ++ result.now ∷ [] }
     {
         let ends = self.ends.as_slice();
-        part_of(
-            self.events.as_slice(),
-            end_of(ends, index),
-            own_end(ends, index),
-        )
+        let events = self.events.as_slice();
+        part_of(events, end_of(ends, index), own_end(ends, index))
     }
 
     /// Keeps the first batches, so many of them, or all if there are fewer.

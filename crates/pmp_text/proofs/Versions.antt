@@ -322,8 +322,8 @@ of_unit size (Ok all) script e =
     }
 of_unit size (Err fault) script e = absurd cc
 
-pub no_head : NoHeadLaw
-no_head text size script is means =
+pub no_head_law : NoHeadLaw
+no_head_law text size script is means =
     of_unit size (published_behind is.first is.more (Sized size)) script
     (sym (by_lines text (short_script text script means) ∙ ap lines_meaning is.lines_are
     ∙ ap (meaning_behind is.first is.more) is.says) ∙ means)

@@ -41,7 +41,7 @@ part_of-requires c =
     let bounds = batch_bounds c.self.inside.ends.items c.self.inside.events.items c.self.invariant c.args.index
     c.end_of.result c.own_end.result (below _ _ _ c.args.index c.self.invariant c.self.view_is c.requires)
     (start_is (goal.at.part_of-requires c).After-own_end) (end_is_at (goal.at.part_of-requires c).After-own_end) in
-    (bounds.0, rw c.as_slice.ensures.value bounds.1)
+    (bounds.0, rw c.as_slice-events.ensures.value bounds.1)
 
 pub returns : goal.returns
 returns c =
@@ -49,7 +49,7 @@ returns c =
     let events = c.self.inside.events.items in
     let part = c.part_of.ensures
     ∙ ap (λ (es : List Event). take (c.own_end.result - c.end_of.result) (drop c.end_of.result es))
-    c.as_slice.ensures.value in
+    c.as_slice-events.ensures.value in
     let main = batch_is ends events c.self.invariant c.args.index c.end_of.result c.own_end.result
     (below _ _ _ c.args.index c.self.invariant c.self.view_is c.requires)
     (start_is (goal.at.returns c).After-own_end) (end_is_at (goal.at.returns c).After-own_end) in
