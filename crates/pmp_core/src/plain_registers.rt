@@ -25,11 +25,13 @@ use crate::size::MAX_ENTRIES;
 #[derive(Clone, Copy)]
 pub struct PlainRegisters<'a> {
     pub saved: &'a SavedRegisters,
+    /// The one that `saved.entries` stands for.
     pub hart: Hart,
     ghost own: { hart ≡ hart_in saved.now },
 }
 
 impl<'a> PlainRegisters<'a> {
+    /// These registers, with their hart.
     #[inline(always)]
     pub fn of(saved: &'a SavedRegisters) -> PlainRegisters<'a>
         ensures { result.saved.now ≡ saved.now }
@@ -41,7 +43,7 @@ impl<'a> PlainRegisters<'a> {
     /// The same, where the hart isn't spelled by its number: what is inlined into a branch that has it is compiled for
     /// such harts.
     #[inline(always)]
-    pub fn of_unspelled(saved: &'a SavedRegisters) -> Option<PlainRegisters<'a>>
+    pub(crate) fn of_unspelled(saved: &'a SavedRegisters) -> Option<PlainRegisters<'a>>
         ensures { IfSome result (λ plain. plain.saved.now ≡ saved.now) }
     {
         let hart = Hart::unspelled(saved.entries)?;
