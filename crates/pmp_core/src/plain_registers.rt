@@ -1,7 +1,7 @@
 //! Registers that stay plain numbers, with their hart: reads that look at the entries that they need, and convert no
 //! others.
 
-ghost use Rattle.std.specs.Prelude.{◌≡◌, ◌*◌, ◌<◌, ◌≤◌, IfSome, length};
+ghost use Rattle.std.specs.Prelude.{◌≡◌, ◌*◌, ◌/◌, ◌^◌, ◌<◌, ◌≤◌, MatchOption, length};
 ghost use Rattle.pmp_core.specs.declared.csr.Csr.{Csr};
 ghost use Rattle.pmp_core.specs.Configuration.{byte_of};
 ghost use Rattle.pmp_core.specs.Grain.{read_address};
@@ -44,7 +44,7 @@ impl<'a> PlainRegisters<'a> {
     /// such harts.
     #[inline(always)]
     pub(crate) fn of_unspelled(saved: &'a SavedRegisters) -> Option<PlainRegisters<'a>>
-        ensures { IfSome result (λ plain. plain.saved.now ≡ saved.now) }
+        ensures { MatchOption result (saved.now.entries / 2 ^ 32 ≡ 1) (λ plain. plain.saved.now ≡ saved.now) }
     {
         let hart = Hart::unspelled(saved.entries)?;
         Some(PlainRegisters { saved, hart })
