@@ -25,11 +25,13 @@ impl ByteRange {
         self.start <= byte && byte < self.end
     }
 
-    /// Whether it has a byte of the access.
+    /// Whether it has a byte of the access, which has one.
     pub fn is_touched(&self, access: &Access) -> bool
         ensures { result ≡ is_touched access.now self.now }
     {
-        self.start.max(access.start) < self.end.min(access.start + access.length)
+        self.start < access.start + access.length
+            && access.start < self.end
+            && self.start < self.end
     }
 
     /// Whether it has every byte of the access.
