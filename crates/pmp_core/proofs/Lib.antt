@@ -17,15 +17,13 @@ pub mod Protection
 pub mod Sizes
 pub mod Others
 pub mod Changes
-pub mod Stored
 pub mod Spans
 pub mod StoredBytes
 pub mod HartNumbers
 pub mod Saved
-pub mod InPlace
-mod InPlaceAddresses
-mod InPlaceConfigurations
-mod InPlaceSecurity
+pub mod Restored
+pub mod StoredRanges
+mod Written
 pub mod Today
 pub mod EachReason
 pub mod WordBytes

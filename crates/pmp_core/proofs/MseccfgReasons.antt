@@ -80,18 +80,18 @@ module _ (file : RegisterFile) (legal : IsLegal file) (value : ℕ) where
   left_plain : file.profile.has_smepmp ≡ false → (written file Mseccfg value).mseccfg ≡ reset_mseccfg
   left_plain has = rw has (legal.plain has)
 
-  stored_there : HasNone file Mseccfg value → mseccfg_value new ≡ value
-  stored_there none =
+  stored_there : file.profile.has_smepmp ≡ true → HasNone file Mseccfg value → mseccfg_value new ≡ value
+  stored_there has none =
       let sticky = or_parts _ _ none.sticky in
       rw (
         stays file.mseccfg.mml (value % 2 == 1) sticky.0,
         stays file.mseccfg.mmwp (value / 2 % 2 == 1) sticky.1,
-        rises file.mseccfg.rlb (is_any_locked file.entries) (value / 4 % 2 == 1) none.bypass,
-      ) (three_bits value (eqb-true _ 0 (not-false _ none.bits)))
+        rises file.mseccfg.rlb (is_any_locked file.entries) (value / 4 % 2 == 1) (rw has at none.bypass),
+      ) (three_bits value (eqb-true _ 0 (not-false _ (rw has at none.bits))))
 
   pub mseccfg_stored : HasNone file Mseccfg value → register_value (written file Mseccfg value) Mseccfg ≡ value
   mseccfg_stored none = elim (cases_Bool file.profile.has_smepmp) [
-    | inl has ↦ ap mseccfg_value (left has) ∙ stored_there none
+    | inl has ↦ ap mseccfg_value (left has) ∙ stored_there has none
     | inr has ↦ ap mseccfg_value (left_plain has)
         ∙ sym (eqb-true value 0 (not-false _ (and_true _ (rw has at none.absent))))
   ]
@@ -102,32 +102,32 @@ module _ (file : RegisterFile) (legal : IsLegal file) (value : ℕ) where
       ((value / 4 % 2 == 1) && (file.mseccfg.rlb || not (is_any_locked file.entries))) value same in
       record {
         absent = rw has (and_right _ false refl);
-        bits = not_same (value / 8) 0 each.3;
+        bits = rw has (not_same (value / 8) 0 each.3);
         frozen = none_at_entries Frozen file Mseccfg value (λ k inside. and_right (is_frozen file k) false refl);
         tor = none_at_entries Tor file Mseccfg value (λ k inside. refl);
         reserved = none_at_entries Reserved file Mseccfg value (λ k inside. refl);
         lockdown = none_at_entries Lockdown file Mseccfg value (λ k inside. refl);
         sticky = or_from _ _ (was_kept _ _ each.0) (was_kept _ _ each.1);
-        bypass = has_risen _ _ _ each.2;
+        bypass = rw has (has_risen _ _ _ each.2);
         grain = none_at_entries Grain file Mseccfg value (λ k inside. refl);
       }
 
   -- without Smepmp nothing but zero is stored, and zero has no reason
-  reasonless_zero : file.mseccfg ≡ reset_mseccfg → value ≡ 0 → HasNone file Mseccfg value
-  reasonless_zero plain zero_value = rw zero_value (record {
+  reasonless_zero : file.profile.has_smepmp ≡ false → value ≡ 0 → HasNone file Mseccfg value
+  reasonless_zero none zero_value = rw zero_value (record {
     absent = refl;
-    bits = refl;
+    bits = rw none refl;
     frozen = none_at_entries Frozen file Mseccfg 0 (λ k inside. and_right (is_frozen file k) false refl);
     tor = none_at_entries Tor file Mseccfg 0 (λ k inside. refl);
     reserved = none_at_entries Reserved file Mseccfg 0 (λ k inside. refl);
     lockdown = none_at_entries Lockdown file Mseccfg 0 (λ k inside. refl);
-    sticky = rw plain refl;
-    bypass = refl;
+    sticky = rw (legal.plain none) refl;
+    bypass = rw none refl;
     grain = none_at_entries Grain file Mseccfg 0 (λ k inside. refl);
   })
 
   pub mseccfg_reasonless : register_value (written file Mseccfg value) Mseccfg ≡ value → HasNone file Mseccfg value
   mseccfg_reasonless same = elim (cases_Bool file.profile.has_smepmp) [
     | inl has ↦ reasonless_there has (ap mseccfg_value (sym (left has)) ∙ same)
-    | inr has ↦ reasonless_zero (legal.plain has) (sym same ∙ ap mseccfg_value (left_plain has))
+    | inr has ↦ reasonless_zero has (sym same ∙ ap mseccfg_value (left_plain has))
   ]

@@ -1,6 +1,8 @@
 -- Lists of entries and of ranges, place by place.
-use Rattle.std.proofs.Common.{◌≡◌, ℕ, zero, suc, ◌<◌, List, length, map, slice_index_or, refl, arith}
-use Rattle.std.specs.List.{range_with_len}
+use Rattle.std.proofs.Common.{◌≡◌, ℕ, zero, suc, ◌<◌, Bool, false, List, [], ◌∷◌, length, map, get_or, slice_index_or}
+use Rattle.std.proofs.Common.{refl, arith}
+use Rattle.std.specs.List.{range_with_len, list_any}
+use Rattle.std.proofs.lemmas.Bool.{or_from}
 use Rattle.std.proofs.lemmas.List.FromFn.{fill_by_all, length-map-range_with_len, get_or-map-range_with_len}
 use Rattle.pmp_core.specs.declared.entry.Entry.{Entry}
 use Rattle.pmp_core.specs.declared.range.ByteRange.{ByteRange}
@@ -39,3 +41,9 @@ pub range_at : (profile : Profile) (entries : List Entry) (i : ℕ) → i < leng
     → slice_index_or (ranges_on profile entries) i no_range ≡ range_on profile entries i
 range_at profile entries i inside =
     get_or-map-range_with_len (range_on profile entries) 0 (length entries) i i no_range inside (omega arith)
+
+pub none_any : {X : Type 0} (p : X → Bool) (xs : List X) (d : X) → ((i : ℕ) → i < length xs → p (get_or xs i d) ≡ false)
+    → list_any p xs ≡ false
+none_any p [] d none = refl
+none_any p (x ∷ xs) d none =
+    or_from (p x) _ (none 0 (omega arith)) (none_any p xs d (λ i near. none (suc i) (omega arith)))

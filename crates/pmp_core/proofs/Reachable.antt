@@ -25,11 +25,10 @@ use Rattle.pmp_core.specs.RegisterWrite.{security_written, step, written}
 use Rattle.pmp_core.specs.Histories.{replay}
 use Rattle.pmp_core.specs.ReachableLaw.{ReachableLaw}
 use Rattle.pmp_core.proofs.Configuring.{configured_at}
-use Rattle.pmp_core.proofs.InPlaceSecurity.{none_any}
 use Rattle.pmp_core.proofs.Legal.{reset_at, configured_place, length-written}
 use Rattle.pmp_core.proofs.Locks.{other_address}
 use Rattle.pmp_core.proofs.Others.{entry_kept}
-use Rattle.pmp_core.proofs.Places.{entries_by}
+use Rattle.pmp_core.proofs.Places.{entries_by, none_any}
 use Rattle.pmp_core.proofs.Saved.{stored_as_is}
 use Rattle.pmp_core.proofs.Sizes.{own_address_written}
 use Rattle.pmp_core.proofs.StoredBytes.{byte_plain, configuration_back}

@@ -1,33 +1,29 @@
 -- Registers saved and restored.
 use Rattle.std.proofs.Common.{◌≡◌, ℕ, ◌%◌, ◌<◌, ◌≤◌, Bool, true, false, List, length, map}
-use Rattle.std.proofs.Common.{cond, take}
+use Rattle.std.proofs.Common.{cond, replicate}
 use Rattle.std.proofs.Math.Nat.{mod-lt, mod-eq_of_lt}
-use Rattle.std.proofs.Common.{slice_index, ◌++◌, drop, refl, sym, ap, ◌∙◌, inl, inr, arith}
+use Rattle.std.proofs.Common.{slice_index, refl, sym, ap, ◌∙◌, inl, inr, arith}
 use Rattle.std.specs.List.{range_with_len}
 use Rattle.std.proofs.lemmas.Bool.{cases_lt}
-use Rattle.std.proofs.lemmas.List.{get_or_past, take_at}
+use Rattle.std.proofs.lemmas.List.{get_or_past, get_or-replicate}
 use Rattle.std.proofs.lemmas.List.FromFn.{fill_by_all, length-map-range_with_len, get_or-map-range_with_len}
 use Rattle.pmp_core.specs.declared.configuration.Configuration.{Configuration}
 use Rattle.pmp_core.specs.declared.entry.Entry.{Entry}
 use Rattle.pmp_core.specs.declared.saved_registers.SavedRegisters.{SavedRegisters}
-use Rattle.pmp_core.specs.declared.range.ByteRange.{ByteRange}
 use Rattle.pmp_core.specs.Configuration.{byte_of, is_reserved}
 use Rattle.pmp_core.specs.Mseccfg.{mseccfg_value, mseccfg_fields}
 use Rattle.pmp_core.specs.RegisterFile.{RegisterFile, file_of, reset_entry, reset_mseccfg, reset_file, entry_at}
 use Rattle.pmp_core.specs.RegisterFile.{HasAddresses, IsLegal}
 use Rattle.pmp_core.specs.Grain.{selectable}
 use Rattle.pmp_core.specs.RegisterWrite.{admitted}
-use Rattle.pmp_core.specs.Ranges.{ranges_on}
-use Rattle.pmp_core.specs.Hart.{profile_with, word_addresses}
-use Rattle.pmp_core.specs.SavedRegisters.{saved_registers, saved_hart, hart_in, fields_in, restored_entry, restored_entries}
+use Rattle.pmp_core.specs.Hart.{Profile, profile_with, word_addresses}
+use Rattle.pmp_core.specs.SavedRegisters.{hart_number, saved_registers, saved_hart, hart_in, fields_in, restored_entry, restored_entries}
 use Rattle.pmp_core.specs.SavedRegisters.{restored_file, zero_registers}
 use Rattle.pmp_core.specs.SavedLaw.{SavedLaw}
-use Rattle.pmp_core.specs.Storage.{IsStored}
 use Rattle.pmp_core.proofs.HartNumbers.{is_hart, number_back}
 use Rattle.pmp_core.proofs.Grains.{selectable_other}
-use Rattle.pmp_core.proofs.Legal.{stored_chosen, stored_unreserved, zero_fits, legal_addresses}
+use Rattle.pmp_core.proofs.Legal.{reset_at, stored_chosen, stored_unreserved, zero_fits, legal_addresses}
 use Rattle.pmp_core.proofs.Places.{entries_by}
-use Rattle.pmp_core.proofs.Stored.{stored_again}
 use Rattle.pmp_core.proofs.StoredBytes.{configuration_back}
 
 -- ---- a table that is filled place by place
@@ -178,20 +174,31 @@ module _ (file : RegisterFile) (legal : IsLegal file) where
 pub saved_law : SavedLaw
 saved_law = restored_saved
 
--- ---- in arrays of sixty-four
+-- ---- reset
 
-pub restored_stored : (saved : SavedRegisters) (entries : List Entry) (ranges : List ByteRange)
-    → IsStored (reset_file (hart_in saved)) entries ranges
-    → (let n = (hart_in saved).entries in
-    let new = restored_entries saved n in
-    IsStored (file_of (hart_in saved) (fields_in saved) (take n (new ++ drop n entries))) (new ++ drop n entries)
-    (ranges_on (hart_in saved) new ++ drop n ranges))
-unfolding restored_file
-restored_stored saved entries ranges stored =
-    let n = (hart_in saved).entries in
-    stored_again (reset_file (hart_in saved)) entries ranges stored (fields_in saved) (restored_entries saved n)
-    (length-restored saved n) (restored_legal saved)
+zeros : (f : ℕ → ℕ) → ((k : ℕ) → f k ≡ 0) → replicate 64 0 ≡ map f (range_with_len 0 64)
+zeros f none = fill_by_all f (replicate 64 0) 64 0 refl (λ k inside. get_or-replicate 64 k 0 0 inside ∙ sym (none k))
 
-pub used_restored : (saved : SavedRegisters) (n : ℕ) (rest : List Entry)
-    → take n (restored_entries saved n ++ rest) ≡ restored_entries saved n
-used_restored saved n rest = take_at (restored_entries saved n) rest n (length-restored saved n)
+pub saved_reset : (profile : Profile) (number : ℕ) → number ≡ hart_number profile
+    → (let numbers : SavedRegisters = record {
+      addresses = replicate 64 0;
+      configurations = replicate 64 0;
+      mseccfg = 0;
+      entries = number;
+    } in numbers ≡ saved_registers (reset_file profile))
+unfolding saved_registers
+saved_reset profile number is =
+    let entries = (reset_file profile).entries in
+    let address : ℕ → ℕ = λ i. (entry_at entries i).address in
+    let byte : ℕ → ℕ = λ i. byte_of (entry_at entries i).configuration in
+    let numbers : List ℕ → List ℕ → ℕ → SavedRegisters = λ addresses configurations n. record {
+      addresses = addresses;
+      configurations = configurations;
+      mseccfg = 0;
+      entries = n;
+    } in
+    ap (λ (xs : List ℕ). numbers xs (replicate 64 0) number)
+    (zeros address (λ k. ap (λ (e : Entry). e.address) (reset_at profile.entries k)))
+    ∙ ap (λ (xs : List ℕ). numbers (map address (range_with_len 0 64)) xs number)
+    (zeros byte (λ k. ap (λ (e : Entry). byte_of e.configuration) (reset_at profile.entries k)))
+    ∙ ap (numbers (map address (range_with_len 0 64)) (map byte (range_with_len 0 64))) is

@@ -92,9 +92,6 @@ zero_registers = record {
   entries = 0;
 }
 
--- the numbers say this of entry i, and of all else what they said before
-pub record IsSetAt (old new : SavedRegisters) (i : ℕ) (entry : Entry) : Type 0 where
-  pub here : restored_entry new i ≡ entry
-  pub others : (k : ℕ) → k ≢ i → restored_entry new k ≡ restored_entry old k
-  pub mseccfg : new.mseccfg ≡ old.mseccfg
-  pub count : new.entries ≡ old.entries
+-- the numbers are those that their file is saved as
+abbrev pub IsCanonical : SavedRegisters → Type 0
+IsCanonical saved = saved_registers (restored_file saved) ≡ saved

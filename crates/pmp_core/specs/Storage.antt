@@ -1,20 +1,17 @@
--- How the entries of any hart stand in arrays of sixty-four.
-use Rattle.std.specs.Prelude.{◌≡◌, ◌-◌, List, length, ◌++◌, replicate}
-use Rattle.pmp_core.specs.declared.entry.Entry.{Entry}
+-- How a register file keeps its registers: as they are saved, with the range of each entry.
+use Rattle.std.specs.Prelude.{◌≡◌, List, map}
+use Rattle.std.specs.List.{range_with_len}
 use Rattle.pmp_core.specs.declared.range.ByteRange.{ByteRange}
+use Rattle.pmp_core.specs.declared.saved_registers.SavedRegisters.{SavedRegisters}
 use Rattle.pmp_core.specs.declared.size.TheConstants.{MAX_ENTRIES}
-use Rattle.pmp_core.specs.RegisterFile.{RegisterFile, reset_entry, IsLegal}
-use Rattle.pmp_core.specs.Ranges.{ranges_of}
+use Rattle.pmp_core.specs.Ranges.{range_of}
+use Rattle.pmp_core.specs.RegisterFile.{RegisterFile}
+use Rattle.pmp_core.specs.SavedRegisters.{IsCanonical, restored_file}
 
--- the items in use, and after them as many others as sixty-four places have room for
-unfoldable pub padded : {X : Type 0} → X → List X → List X
-padded rest xs = xs ++ replicate (MAX_ENTRIES - length xs) rest
+-- a range for each of sixty-four entries; one that the hart lacks matches nothing
+unfoldable pub stored_ranges : RegisterFile → List ByteRange
+stored_ranges file = map (range_of file) (range_with_len 0 MAX_ENTRIES)
 
-abbrev pub empty_range : ByteRange
-empty_range = record { start = 0; end = 0 }
-
--- the file in arrays of sixty-four, with its ranges
-pub record IsStored (file : RegisterFile) (entries : List Entry) (ranges : List ByteRange) : Type 0 where
-  pub legal : IsLegal file
-  pub entries_are : entries ≡ padded reset_entry file.entries
-  pub ranges_are : ranges ≡ padded empty_range (ranges_of file)
+pub record IsStored (saved : SavedRegisters) (ranges : List ByteRange) : Type 0 where
+  pub canonical : IsCanonical saved
+  pub ranges_are : ranges ≡ stored_ranges (restored_file saved)

@@ -1,17 +1,17 @@
 -- Why a register doesn't read what was written to it (Volume II, 3.7.1, 3.7.1.2 and Smepmp).
-use Rattle.std.specs.Prelude.{ℕ, ◌-◌, ◌*◌, ◌/◌, ◌%◌, ◌==◌, nat_lt, Bool, false, not, ◌&&◌, ◌||◌}
-use Rattle.std.specs.Prelude.{List, [], ◌∷◌, length, slice_index}
+use Rattle.std.specs.Prelude.{ℕ, ◌+◌, ◌-◌, ◌*◌, ◌/◌, ◌%◌, ◌==◌, nat_lt, Bool, false, not, ◌&&◌, ◌||◌}
+use Rattle.std.specs.Prelude.{List, [], ◌∷◌, length, map, slice_index}
 use Rattle.std.specs.List.{range_with_len, list_any, filter}
 use Rattle.std.specs.Int.{w64, to_le_bytes}
 use Rattle.pmp_core.specs.declared.csr.Csr.{Csr}
 use Rattle.pmp_core.specs.declared.csr.Csr.TheVariants.{Cfg, Addr, Mseccfg}
 use Rattle.pmp_core.specs.declared.mseccfg.MseccfgFields.{MseccfgFields}
-use Rattle.pmp_core.specs.declared.reasons.Reasons.{Reasons}
+use Rattle.pmp_core.specs.declared.write_reasons.Reasons.{Reasons}
 use Rattle.pmp_core.specs.declared.write_reasons.WriteReason.{WriteReason}
 use Rattle.pmp_core.specs.declared.write_reasons.WriteReason.TheVariants.{Absent, Bits, Frozen, Tor, Reserved, Lockdown}
 use Rattle.pmp_core.specs.declared.write_reasons.WriteReason.TheVariants.{Sticky, Bypass, Grain}
 use Rattle.pmp_core.specs.declared.register_write.TheConstants.{ENTRIES_PER_CFG}
-use Rattle.pmp_core.specs.Configuration.{configuration_of, byte_of, is_reserved}
+use Rattle.pmp_core.specs.Configuration.{bit_of, configuration_of, byte_of, is_reserved}
 use Rattle.pmp_core.specs.Grain.{is_na4, read_address}
 use Rattle.pmp_core.specs.Hart.{Profile, word_addresses}
 use Rattle.pmp_core.specs.Mseccfg.{mseccfg_fields}
@@ -114,11 +114,11 @@ is_absent file Mseccfg value = not (value == 0) && not file.profile.has_smepmp
 abbrev pub has_bit_6_or_5 : (byte : ℕ) → Bool
 has_bit_6_or_5 byte = not (byte / 32 % 4 == 0)
 
--- bits 6 and 5 of a byte, those of an address above its hart's, 63 to 3 of mseccfg (3.7.1 and Smepmp)
+-- bits 6 and 5 of a byte, those of an address above its hart's, 63 to 3 of mseccfg, if it is there (3.7.1 and Smepmp)
 abbrev pub has_other_bits : Profile → Csr → (value : ℕ) → Bool
 has_other_bits profile (Cfg q) value = list_any has_bit_6_or_5 (to_le_bytes w64 value)
 has_other_bits profile (Addr i) value = not (value / word_addresses profile == 0)
-has_other_bits profile Mseccfg value = not (value / 8 == 0)
+has_other_bits profile Mseccfg value = profile.has_smepmp && not (value / 8 == 0)
 
 -- MML or MMWP is to be cleared (Smepmp)
 abbrev pub clears_sticky : MseccfgFields → Csr → (value : ℕ) → Bool
@@ -128,12 +128,12 @@ clears_sticky mseccfg Mseccfg value =
     let new = mseccfg_fields value in
     (mseccfg.mml && not new.mml) || (mseccfg.mmwp && not new.mmwp)
 
--- RLB is to be set, and some entry is locked (Smepmp)
+-- RLB is to be set, and some entry is locked, if mseccfg is there (Smepmp)
 abbrev pub sets_bypass : RegisterFile → Csr → (value : ℕ) → Bool
 sets_bypass file (Cfg q) value = false
 sets_bypass file (Addr i) value = false
 sets_bypass file Mseccfg value =
-    (mseccfg_fields value).rlb && not file.mseccfg.rlb && is_any_locked file.entries
+    file.profile.has_smepmp && (mseccfg_fields value).rlb && not file.mseccfg.rlb && is_any_locked file.entries
 
 -- a reason for some entry of the unit
 abbrev pub is_some_entry_reason : WriteReason → RegisterFile → Csr → (value : ℕ) → Bool
@@ -156,16 +156,11 @@ is_reason Grain file csr value = is_some_entry_reason Grain file csr value
 abbrev pub write_reasons : RegisterFile → Csr → (value : ℕ) → List WriteReason
 write_reasons file csr value = filter (λ reason. is_reason reason file csr value) all_reasons
 
--- of each reason, whether it is one why the register doesn't read the value
+-- a bit for each test that holds, the lowest for the first
+unfoldable pub bits_of : List Bool → ℕ
+bits_of [] = 0
+bits_of (b ∷ bs) = bit_of b + 2 * bits_of bs
+
+-- the set of these reasons: a bit for each, in their order
 abbrev pub reasons_of : RegisterFile → Csr → (value : ℕ) → Reasons
-reasons_of file csr value = record {
-  absent = is_reason Absent file csr value;
-  bits = is_reason Bits file csr value;
-  frozen = is_reason Frozen file csr value;
-  tor = is_reason Tor file csr value;
-  reserved = is_reason Reserved file csr value;
-  lockdown = is_reason Lockdown file csr value;
-  sticky = is_reason Sticky file csr value;
-  bypass = is_reason Bypass file csr value;
-  grain = is_reason Grain file csr value;
-}
+reasons_of file csr value = record { 0 = bits_of (map (λ reason. is_reason reason file csr value) all_reasons) }

@@ -1,9 +1,12 @@
 //! What the unit answers.
 
-ghost use Rattle.std.specs.Prelude.{◌≡◌, ◌≤◌};
+ghost use Rattle.std.specs.Prelude.{◌≡◌, ◌<◌, ◌≤◌, length};
 ghost use Rattle.pmp_core.specs.FaultCode.{access_fault_code, fault_of};
+ghost use Rattle.pmp_core.specs.Ranges.{decision_in, decision_of};
 
 use crate::access::{Access, Kind};
+use crate::range::ByteRange;
+use crate::registers::Registers;
 
 /// Why an access was allowed or refused.
 #[derive(Clone, Copy, Debug, PartialEq, Eq, Default)]
@@ -46,5 +49,45 @@ pub fn fault_code(access: &Access, decision: &Decision) -> Option<u8>
         None
     } else {
         Some(access.kind.access_fault_code())
+    }
+}
+
+impl<'a> Registers<'a> {
+    /// The decision of the entry whose range is the first that the access touches.
+    #[inline(always)]
+    fn decide_in(&self, entry: u8, range: &ByteRange, access: &Access) -> Decision
+        requires { entry < length self.now.entries }
+        ensures { result ≡ decision_in self.now access.now entry range.now }
+    {
+        if range.is_covered(access) {
+            Decision {
+                allowed: self
+                    .rights(usize::from(entry), access.mode)
+                    .allows(access.kind),
+                cause: Cause::Rule(entry),
+            }
+        } else {
+            Decision {
+                allowed: false,
+                cause: Cause::Split(entry),
+            }
+        }
+    }
+
+    /// Decides an access, in one pass over the entries, as far as the first that has a byte of it.
+    #[inline(always)]
+    pub fn decide(&self, access: &Access) -> Decision
+        ensures { result ≡ decision_of self.now access.now }
+    {
+        for index in 0..self.count() {
+            let range = self.range(index);
+            if range.is_touched(access) {
+                return self.decide_in(index as u8, &range, access);
+            }
+        }
+        Decision {
+            allowed: self.default_rights(access.mode).allows(access.kind),
+            cause: Cause::NoMatch,
+        }
     }
 }

@@ -6,7 +6,6 @@ ghost use Rattle.pmp_core.specs.declared.register_write.TheConstants.{WORD_ADDRE
 
 use crate::access::Access;
 use crate::configuration::AddressMatching;
-use crate::entry::Entry;
 use crate::hart::Hart;
 
 /// The byte addresses from `start` up to `end`, without `end`: none where `end` isn't above `start`.
@@ -55,14 +54,13 @@ fn napot_range(address: u64) -> ByteRange
     }
 }
 
-/// The range of an entry after one with the address register `low`.
-pub fn range_by(hart: Hart, low: u64, entry: &Entry) -> ByteRange
+/// The range of an entry in this mode with this address, after one with the address `low`.
+pub fn range_by(hart: Hart, matching: AddressMatching, low: u64, address: u64) -> ByteRange
     requires low { low < WORD_ADDRESSES }
-    requires address { entry.now.address < WORD_ADDRESSES }
-    ensures { result ≡ range_by hart.grain entry.now.configuration.matching low entry.now.address }
+    requires address { address < WORD_ADDRESSES }
+    ensures { result ≡ range_by hart.grain matching low address }
 {
-    let address = entry.address;
-    match entry.configuration.matching {
+    match matching {
         AddressMatching::Off => ByteRange::EMPTY,
         AddressMatching::Tor => ByteRange {
             start: 4 * hart.tor_address(low),

@@ -1,28 +1,15 @@
 //! The ranges of all entries.
 
 ghost use Rattle.std.specs.Prelude.{◌≡◌, ◌<◌, ◌≤◌, ℕ, length};
-ghost use Rattle.pmp_core.specs.RegisterFile.{RegisterFile, AreWords};
-ghost use Rattle.pmp_core.specs.Matching.{low_address};
-ghost use Rattle.pmp_core.specs.Ranges.{range_in, range_of, range_on, ranges_on};
+ghost use Rattle.pmp_core.specs.RegisterFile.{RegisterFile};
+ghost use Rattle.pmp_core.specs.Ranges.{range_in, range_of, range_on, ranges_of};
 ghost use Rattle.pmp_core.specs.RegisterWrite.{written};
 
 use crate::csr::Csr;
-use crate::entry::Entry;
-use crate::hart::Hart;
 use crate::range::{ByteRange, range_by};
 use crate::register_write::ENTRIES_PER_CFG;
+use crate::registers::Registers;
 use std::ops::Range;
-
-/// The address register before the entry's own, and 0 for the first entry.
-fn low_address(entries: &[Entry], index: usize) -> u64
-    requires { index ≤ length entries.now }
-    ensures { result ≡ low_address entries.now index }
-{
-    match index.checked_sub(1) {
-        Some(before) => entries[before].address,
-        None => 0,
-    }
-}
 
 /// The entries whose ranges a write to the register can change, as far as there are any. An address is also the low end
 /// of the next entry's range.
@@ -43,16 +30,32 @@ pub fn changed_by(csr: Csr) -> Range<usize>
     }
 }
 
-/// Writes the ranges of these entries, as far as there are any, where all others stand.
-pub fn decode_ranges(hart: Hart, entries: &[Entry], ranges: &mut [ByteRange], changed: Range<usize>)
-    requires addresses { AreWords entries.now }
-    requires places { length ranges.old ≡ length entries.now }
-    requires others { (k : ℕ) → k < length entries.now → (changed.start ≤ k → changed.end ≤ k)
-        → range_in ranges.old k ≡ range_on hart entries.now k }
-    ensures { ranges.new ≡ ranges_on hart entries.now }
-{
-    let end = changed.end.min(ranges.len());
-    for index in changed.start..end {
-        ranges[index] = range_by(hart, low_address(entries, index), &entries[index]);
+impl<'a> Registers<'a> {
+    /// Where the entry matches.
+    #[inline(always)]
+    pub(crate) fn range(&self, index: usize) -> ByteRange
+        requires { index < length self.now.entries }
+        ensures { result ≡ range_of self.now index }
+    {
+        let low = match index.checked_sub(1) {
+            Some(before) => self.address(before),
+            None => 0,
+        };
+        let matching = self.configuration(index).matching;
+        range_by(self.hart(), matching, low, self.address(index))
+    }
+
+    /// Writes where each of these entries matches, as far as there are any, where all others stand.
+    #[inline(always)]
+    pub fn decode(&self, ranges: &mut [ByteRange], changed: Range<usize>)
+        requires places { length ranges.old ≡ length self.now.entries }
+        requires others { (k : ℕ) → k < length self.now.entries → (changed.start ≤ k → changed.end ≤ k)
+            → range_in ranges.old k ≡ range_of self.now k }
+        ensures { ranges.new ≡ ranges_of self.now }
+    {
+        let end = changed.end.min(ranges.len());
+        for index in changed.start..end {
+            ranges[index] = self.range(index);
+        }
     }
 }

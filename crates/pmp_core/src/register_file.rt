@@ -1,18 +1,18 @@
 //! The register file.
 
-ghost use Rattle.std.specs.Prelude.{◌≡◌, ◌<◌, ◌≤◌, ◌↔◌, IsTrue, length, fold};
-ghost use Rattle.std.specs.List.{list_all};
+ghost use Rattle.std.specs.Prelude.{◌≡◌, ◌<◌, ◌≤◌, ◌↔◌, ℕ, IsTrue, length, fold};
 ghost use Rattle.pmp_core.specs.RegisterFile.{HasAddresses, IsLegal, reset_file, entry_at, is_frozen, is_held};
 ghost use Rattle.pmp_core.specs.Lock.{lock_of};
 ghost use Rattle.pmp_core.specs.Matching.{Matches};
 ghost use Rattle.pmp_core.specs.Span.{IsSpan, span_of};
 ghost use Rattle.pmp_core.specs.Decision.{IsDecision};
 ghost use Rattle.pmp_core.specs.Rights.{perms_of, rights, default_rights};
-ghost use Rattle.pmp_core.specs.RegisterWrite.{step, is_address_frozen};
+ghost use Rattle.pmp_core.specs.RegisterWrite.{step, is_address_frozen, written};
 ghost use Rattle.pmp_core.specs.RegisterValue.{register_value};
 ghost use Rattle.pmp_core.specs.WriteReasons.{is_reason, has_reason};
-ghost use Rattle.pmp_core.specs.Ranges.{AreRanges, ranges_of, decision_of};
+ghost use Rattle.pmp_core.specs.Ranges.{AreRanges, range_in, range_of, ranges_of, decision_of};
 ghost use Rattle.pmp_core.specs.SavedRegisters.{saved_registers, restored_file};
+ghost use Rattle.pmp_core.specs.Storage.{IsStored, stored_ranges};
 ghost use Rattle.pmp_core.specs.Hart.{profile_of};
 ghost use Rattle.pmp_core.specs.declared.size.Size.TheVariants.{Sixteen};
 ghost use Rattle.pmp_core.specs.declared.access.TheConstants.{ADDRESS_LIMIT};
@@ -21,76 +21,57 @@ use crate::access::{Access, Mode};
 use crate::configuration::AddressMatching;
 use crate::csr::Csr;
 use crate::decision::Decision;
-use crate::entry::Entry;
 use crate::event::Event;
 use crate::hart::Hart;
 use crate::lock::Lock;
-use crate::mseccfg::MseccfgFields;
 use crate::perms::Perms;
-use crate::plain_registers::PlainRegisters;
 use crate::range::ByteRange;
-use crate::rights::{default_rights_by, rule_rights};
+use crate::ranges::changed_by;
+use crate::registers::Registers;
 use crate::saved_registers::SavedRegisters;
 use crate::size::{MAX_ENTRIES, Size};
 use crate::span::{Span, span_in};
 use crate::write_reasons::WriteReason;
-use crate::{
-    decision_by_ranges, register_value, register_write, saved_registers, storage, write_reasons,
-};
 use std::marker::Model;
+use std::ops::Range;
 
 /// How many entries a unit of `Size::Sixteen` has.
 pub const ENTRIES: usize = 16;
 
-fn are_locked(entries: &[Entry]) -> bool
-    ensures { result ≡ list_all (λ entry. entry.configuration.locked) entries.now }
-{
-    entries.iter().all(|entry| entry.configuration.locked)
-}
-
 /// The registers of one unit. A contract sees them as a `RegisterFile` of `specs/`.
 #[derive(Clone, Copy, Debug, PartialEq, Eq)]
 pub struct RegFile {
-    hart: Hart,
-    /// As many as the hart has are in use; the others are as after reset.
-    entries: [Entry; MAX_ENTRIES],
-    mseccfg: MseccfgFields,
+    /// As they are saved.
+    numbers: SavedRegisters,
     /// Where each entry matches, decoded when a register is written.
     ranges: [ByteRange; MAX_ENTRIES],
 }
 
 impl Model for RegFile {
-    ghost use Rattle.std.specs.Prelude.{◌≡◌, take};
+    ghost use Rattle.std.specs.Prelude.{◌≡◌};
     ghost use Rattle.std.proofs.Common.{sym, ap, ◌∙◌};
-    ghost use Rattle.pmp_core.specs.RegisterFile.{RegisterFile, file_of, reset_entry};
-    ghost use Rattle.pmp_core.specs.Ranges.{ranges_of, ranges_on};
-    ghost use Rattle.pmp_core.specs.Storage.{padded, empty_range, IsStored};
+    ghost use Rattle.pmp_core.specs.RegisterFile.{RegisterFile};
+    ghost use Rattle.pmp_core.specs.SavedRegisters.{restored_file, saved_registers};
+    ghost use Rattle.pmp_core.specs.Storage.{stored_ranges, IsStored};
 
     ghost Value = { RegisterFile };
 
-    ghost view = { λ f. file_of f.hart f.mseccfg (take f.hart.entries f.entries) };
+    ghost view = { λ f. restored_file f.numbers };
 
-    ghost invariant = { λ f. IsStored (file_of f.hart f.mseccfg (take f.hart.entries f.entries)) f.entries f.ranges };
+    ghost invariant = { λ f. IsStored f.numbers f.ranges };
 
     ghost inverse = { λ file. record {
-      hart = file.profile;
-      entries = padded reset_entry file.entries;
-      mseccfg = file.mseccfg;
-      ranges = padded empty_range (ranges_of file);
+      numbers = saved_registers file;
+      ranges = stored_ranges file;
     } };
 
     ghost inverse_ok = { λ f h.
-        let in_use = take f.hart.entries f.entries in
-        ap (λ entries. record {
-          hart = f.hart;
-          entries = entries;
-          mseccfg = f.mseccfg;
-          ranges = padded empty_range (ranges_on f.hart in_use);
-        }) (sym h.entries_are)
+        ap (λ numbers. record {
+          numbers = numbers;
+          ranges = stored_ranges (restored_file f.numbers);
+        }) h.canonical
         ∙ ap (λ ranges. record {
-          hart = f.hart;
-          entries = f.entries;
-          mseccfg = f.mseccfg;
+          numbers = f.numbers;
           ranges = ranges;
         }) (sym h.ranges_are) };
 }
@@ -116,9 +97,7 @@ impl RegFile {
         ensures { result ≡ reset_file hart }
     {
         RegFile {
-            hart,
-            entries: [Entry::RESET; MAX_ENTRIES],
-            mseccfg: MseccfgFields::RESET,
+            numbers: SavedRegisters::reset_on(hart),
             ranges: [ByteRange::EMPTY; MAX_ENTRIES],
         }
     }
@@ -128,7 +107,7 @@ impl RegFile {
         ensures saved { result ≡ saved_registers self.now }
         ensures restored { restored_file result ≡ self.now }
     {
-        saved_registers::save(self.hart, self.in_use(), &self.mseccfg)
+        self.numbers
     }
 
     /// The unit that the numbers stand for, whatever they are. Bits that a register doesn't have are left out, and so
@@ -137,23 +116,25 @@ impl RegFile {
     pub fn restore(saved: &SavedRegisters) -> RegFile
         ensures { result ≡ restored_file saved.now }
     {
-        let plain = PlainRegisters::of(saved);
-        let mut entries = [Entry::RESET; MAX_ENTRIES];
+        let numbers = saved.canonical();
         let mut ranges = [ByteRange::EMPTY; MAX_ENTRIES];
-        storage::restore(&plain, &mut entries, &mut ranges);
-        RegFile {
-            hart: plain.hart,
-            entries,
-            mseccfg: plain.fields(),
-            ranges,
-        }
+        decode_stored(&numbers, &mut ranges, 0..MAX_ENTRIES);
+        RegFile { numbers, ranges }
+    }
+
+    /// The registers, as they are read.
+    fn registers(&self) -> Registers<'_>
+        ensures same { result ≡ self.now }
+        ensures legal { IsLegal self.now }
+    {
+        Registers::of(&self.numbers)
     }
 
     /// The hart that has these registers.
     pub fn hart(&self) -> Hart
         ensures { result ≡ self.now.profile }
     {
-        self.hart
+        self.registers().hart()
     }
 
     /// How many entries the hart has.
@@ -161,13 +142,7 @@ impl RegFile {
         ensures count { result ≡ length self.now.entries }
         ensures most { result ≤ MAX_ENTRIES }
     {
-        self.hart.entries()
-    }
-
-    fn in_use(&self) -> &[Entry]
-        ensures { result.now ≡ self.now.entries }
-    {
-        &self.entries[..usize::from(self.hart.entries())]
+        self.registers().count() as u8
     }
 
     /// The ranges of the entries in use.
@@ -176,7 +151,8 @@ impl RegFile {
         ensures most { length result.now ≤ MAX_ENTRIES }
         ensures legal { IsLegal self.now }
     {
-        &self.ranges[..usize::from(self.hart.entries())]
+        let count = Registers::of(&self.numbers).count();
+        &self.ranges[..count]
     }
 
     /// Resets the unit, which is rare.
@@ -187,7 +163,8 @@ impl RegFile {
         ensures legal { IsLegal self.new }
         ensures entries { length self.new.entries ≡ length self.old.entries }
     {
-        *self = RegFile::reset_on(self.hart);
+        let hart = self.registers().hart();
+        *self = RegFile::reset_on(hart);
     }
 
     /// Takes one event. A reset keeps the hart.
@@ -197,18 +174,10 @@ impl RegFile {
         ensures entries { length self.new.entries ≡ length self.old.entries }
     {
         match event {
-            Event::Write(csr, value) => storage::write(
-                self.hart,
-                &mut self.entries,
-                &mut self.mseccfg,
-                &mut self.ranges,
-                csr,
-                value,
-            ),
+            Event::Write(csr, value) => write_stored(&mut self.numbers, &mut self.ranges, csr, value),
             Event::Reset => self.reset_again(),
         }
     }
-
     /// Takes events in order.
     pub fn run_events(&mut self, events: &[Event])
         ensures steps { self.new ≡ fold step self.old events.now }
@@ -223,14 +192,14 @@ impl RegFile {
     pub fn read(&self, csr: Csr) -> u64
         ensures { result ≡ register_value self.now csr }
     {
-        register_value::read(self.hart, self.in_use(), &self.mseccfg, csr)
+        self.registers().read(csr)
     }
 
     /// Whether this is a reason why the register wouldn't read the value, if it were written now.
     pub fn is_reason(&self, reason: WriteReason, csr: Csr, value: u64) -> bool
         ensures { result ≡ is_reason reason self.now csr value }
     {
-        write_reasons::is_reason(reason, self.hart, self.in_use(), &self.mseccfg, csr, value)
+        self.registers().is_reason(reason, csr, value)
     }
 
     /// Whether `Frozen`, `Tor`, `Reserved`, `Lockdown` or `Grain` would hold for the entry, if the value were written
@@ -239,39 +208,15 @@ impl RegFile {
         requires { entry < length self.now.entries }
         ensures { result ≡ has_reason self.now csr value entry }
     {
-        let index = usize::from(entry);
-        write_reasons::has_reason(self.hart, self.in_use(), &self.mseccfg, csr, value, index)
+        self.registers().has_reason(csr, value, usize::from(entry))
     }
 
-    /// Decides an access, in one pass over the entries. For sixteen of them, and for sixty-four, there is a pass of its
-    /// own, over as many as are known when it is compiled.
+    /// Decides an access, in one pass over the entries.
     pub fn decide(&self, access: &Access) -> Decision
         ensures by_bytes { IsDecision self.now access.now result }
         ensures computed { result ≡ decision_of self.now access.now }
     {
-        match usize::from(self.hart.entries()) {
-            ENTRIES => decision_by_ranges::decide(
-                self.hart,
-                &self.entries[..ENTRIES],
-                &self.mseccfg,
-                &self.ranges[..ENTRIES],
-                access,
-            ),
-            MAX_ENTRIES => decision_by_ranges::decide(
-                self.hart,
-                &self.entries[..MAX_ENTRIES],
-                &self.mseccfg,
-                &self.ranges[..MAX_ENTRIES],
-                access,
-            ),
-            count => decision_by_ranges::decide(
-                self.hart,
-                &self.entries[..count],
-                &self.mseccfg,
-                &self.ranges[..count],
-                access,
-            ),
-        }
+        self.registers().decide(access)
     }
 
     /// Whether the entry is frozen: its lock bit is set and rule-locking bypass is off, so that writes leave it as it
@@ -280,7 +225,7 @@ impl RegFile {
         requires { entry < length self.now.entries }
         ensures { result ≡ is_frozen self.now entry }
     {
-        self.in_use()[usize::from(entry)].configuration.locked && !self.mseccfg.rlb
+        self.registers().is_frozen(usize::from(entry))
     }
 
     /// Whether the entry is held: it is frozen, and so are all entries before it. Then no write changes what they
@@ -290,7 +235,7 @@ impl RegFile {
         requires { entry < length self.now.entries }
         ensures { result ≡ is_held self.now entry }
     {
-        !self.mseccfg.rlb && are_locked(&self.in_use()[..=usize::from(entry)])
+        self.registers().is_held(usize::from(entry))
     }
 
     /// How the entry is locked.
@@ -298,13 +243,7 @@ impl RegFile {
         requires { entry < length self.now.entries }
         ensures { result ≡ lock_of self.now entry }
     {
-        if self.is_locked(entry) {
-            Lock::Frozen
-        } else if self.in_use()[usize::from(entry)].configuration.locked {
-            Lock::Bypassed
-        } else {
-            Lock::Open
-        }
+        self.registers().lock(usize::from(entry))
     }
 
     /// Whether writes leave the entry's address register as it is: the entry is frozen, or the next one is and its
@@ -313,8 +252,7 @@ impl RegFile {
         requires { entry < length self.now.entries }
         ensures { result ≡ is_address_frozen self.now entry }
     {
-        let index = usize::from(entry);
-        register_write::is_address_frozen(self.hart, self.in_use(), &self.mseccfg, index)
+        self.registers().is_address_frozen(usize::from(entry))
     }
 
     /// All that the entry's address register keeps: a word address. What it reads has zeros or ones below the grain, by
@@ -323,7 +261,7 @@ impl RegFile {
         requires { entry < length self.now.entries }
         ensures { result ≡ (entry_at self.now.entries entry).address }
     {
-        self.in_use()[usize::from(entry)].address
+        self.registers().address(usize::from(entry))
     }
 
     /// How the entry's address register is read.
@@ -331,7 +269,7 @@ impl RegFile {
         requires { entry < length self.now.entries }
         ensures { result ≡ (entry_at self.now.entries entry).configuration.matching }
     {
-        self.in_use()[usize::from(entry)].configuration.matching
+        self.registers().configuration(usize::from(entry)).matching
     }
 
     /// What the entry's rule allows the mode, where the entry matches every byte of an access.
@@ -340,11 +278,7 @@ impl RegFile {
         ensures rights { result ≡ perms_of (rights self.now entry mode) }
         ensures legal { IsLegal self.now }
     {
-        rule_rights(
-            &self.in_use()[usize::from(entry)].configuration,
-            mode,
-            &self.mseccfg,
-        )
+        self.registers().rights(usize::from(entry), mode)
     }
 
     /// What the mode may do where no entry matches any byte of an access.
@@ -352,7 +286,7 @@ impl RegFile {
         ensures rights { result ≡ perms_of (default_rights self.now mode) }
         ensures legal { IsLegal self.now }
     {
-        default_rights_by(self.hart.entries() != 0, mode, &self.mseccfg)
+        self.registers().default_rights(mode)
     }
 
     /// Whether the entry matches the byte at this byte address.
@@ -381,5 +315,37 @@ impl RegFile {
         ensures addresses { HasAddresses self.now }
     {
         self.decoded()
+    }
+}
+
+/// Writes where each of these entries matches, as far as the hart has them, in an array that has this of all others.
+fn decode_stored(
+    numbers: &SavedRegisters,
+    ranges: &mut [ByteRange; MAX_ENTRIES],
+    changed: Range<usize>,
+)
+    requires { let file = restored_file numbers.now in
+        (k : ℕ) → k < MAX_ENTRIES → (k < length file.entries → changed.start ≤ k → changed.end ≤ k)
+        → range_in ranges.old k ≡ range_of file k }
+    ensures { ranges.new ≡ stored_ranges (restored_file numbers.now) }
+{
+    let registers = Registers::of(numbers);
+    let count = registers.count();
+    registers.decode(&mut ranges[..count], changed);
+}
+
+/// Writes a register, and decodes the ranges that this can change.
+fn write_stored(
+    numbers: &mut SavedRegisters,
+    ranges: &mut [ByteRange; MAX_ENTRIES],
+    csr: Csr,
+    value: u64,
+)
+    requires { IsStored numbers.old ranges.old }
+    ensures written { restored_file numbers.new ≡ written (restored_file numbers.old) csr value }
+    ensures stored { IsStored numbers.new ranges.new }
+{
+    if numbers.write(csr, value) {
+        decode_stored(numbers, ranges, changed_by(csr));
     }
 }

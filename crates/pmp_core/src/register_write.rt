@@ -1,17 +1,19 @@
 //! What a write to a register leaves.
 
-ghost use Rattle.std.specs.Prelude.{◌≡◌, ◌<◌, length};
-ghost use Rattle.pmp_core.specs.RegisterFile.{file_of};
-ghost use Rattle.pmp_core.specs.RegisterWrite.{admitted, without_reserved, stored_over, configurations_written};
-ghost use Rattle.pmp_core.specs.RegisterWrite.{is_address_frozen};
-ghost use Rattle.pmp_core.specs.RegisterWrite.{address_written, is_any_locked, security_written, written};
+ghost use Rattle.std.specs.Prelude.{◌≡◌, ◌≢◌, ◌<◌, ◌≤◌, true, false, length};
+ghost use Rattle.pmp_core.specs.declared.csr.Csr.{Csr};
+ghost use Rattle.pmp_core.specs.Configuration.{byte_of};
+ghost use Rattle.pmp_core.specs.RegisterValue.{register_value};
+ghost use Rattle.pmp_core.specs.RegisterWrite.{admitted, without_reserved, stored, stored_over, security_written, written};
+ghost use Rattle.pmp_core.specs.SavedRegisters.{IsCanonical, restored_file};
 
-use crate::configuration::{AddressMatching, Configuration};
+use crate::configuration::Configuration;
 use crate::csr::Csr;
-use crate::entry::Entry;
 use crate::hart::Hart;
 use crate::mseccfg::MseccfgFields;
+use crate::registers::Registers;
 use crate::rights::is_barred;
+use crate::saved_registers::SavedRegisters;
 
 /// How many word addresses there are at most: an address register has no more than 54 bits.
 pub const WORD_ADDRESSES: u64 = 1 << 54;
@@ -49,7 +51,7 @@ fn admitted(old: Configuration, new: Configuration, mseccfg: &MseccfgFields) -> 
 }
 
 /// What a byte leaves that is written over a configuration.
-pub fn stored_over(
+fn stored_over(
     hart: Hart,
     old: Configuration,
     byte: u8,
@@ -63,97 +65,158 @@ pub fn stored_over(
     hart.selectable(admitted(old, Configuration::from_byte(byte), mseccfg))
 }
 
-/// Writes the configuration register with this number, the lowest byte to the lowest entry.
-fn write_configurations(
-    hart: Hart,
-    entries: &mut [Entry],
-    mseccfg: &MseccfgFields,
-    register: u8,
-    value: u64,
-)
-    ensures { entries.new ≡ configurations_written (file_of hart mseccfg.now entries.old) register value }
-{
-    let first = 4 * usize::from(register);
-    if register % 2 == 1 || first >= entries.len() {
-        return;
-    }
-    let bytes = value.to_le_bytes();
-    for place in 0..ENTRIES_PER_CFG.min(entries.len() - first) {
-        let entry = &mut entries[first + place];
-        entry.configuration = stored_over(hart, entry.configuration, bytes[place], mseccfg);
-    }
-}
-
-/// Whether entry `index` keeps its address: it is frozen, or the next entry is frozen and TOR.
-pub fn is_address_frozen(
-    hart: Hart,
-    entries: &[Entry],
-    mseccfg: &MseccfgFields,
-    index: usize,
-) -> bool
-    requires { index < length entries.now }
-    ensures { result ≡ is_address_frozen (file_of hart mseccfg.now entries.now) index }
-{
-    if mseccfg.rlb {
-        return false;
-    }
-    if entries[index].configuration.locked {
-        return true;
-    }
-    match entries.get(index + 1) {
-        Some(next) => {
-            next.configuration.locked && next.configuration.matching == AddressMatching::Tor
+impl<'a> Registers<'a> {
+    /// The entry's configuration byte once this byte is written over it, and zero where there is no entry.
+    #[inline(always)]
+    fn byte_after(&self, index: usize, byte: u8) -> u8
+        ensures there { index < length self.now.entries → result ≡ byte_of (stored self.now index byte) }
+        ensures absent { length self.now.entries ≤ index → result ≡ 0 }
+    {
+        if index < self.count() {
+            stored_over(
+                self.hart(),
+                self.configuration(index),
+                byte,
+                &self.fields(),
+            )
+            .byte()
+        } else {
+            0
         }
-        None => false,
+    }
+
+    /// What the configuration register reads once the value is written to it, the lowest byte for the lowest entry.
+    #[inline(always)]
+    fn configurations_after(&self, register: u8, value: u64) -> u64
+        ensures { let csr = Csr.Cfg register in result ≡ register_value (written self.now csr value) csr }
+    {
+        if register % 2 == 1 {
+            return 0;
+        }
+        let first = 4 * usize::from(register);
+        let mut bytes = value.to_le_bytes();
+        for place in 0..ENTRIES_PER_CFG {
+            bytes[place] = self.byte_after(first + place, bytes[place]);
+        }
+        u64::from_le_bytes(bytes)
+    }
+
+    /// What the address register reads once the value is written to it.
+    #[inline(always)]
+    fn address_after(&self, register: u8, value: u64) -> u64
+        ensures { let csr = Csr.Addr register in result ≡ register_value (written self.now csr value) csr }
+    {
+        let index = usize::from(register);
+        if index >= self.count() {
+            return 0;
+        }
+        if self.is_address_frozen(index) {
+            return self.reads(index, self.address(index));
+        }
+        self.reads(index, value % self.hart().word_addresses())
+    }
+
+    /// What `mseccfg` says once the value is written to it, if the hart has it.
+    fn fields_after(&self, value: u64) -> MseccfgFields
+        ensures { result ≡ security_written self.now value }
+    {
+        if self.hart().has_smepmp() {
+            self.fields().written(value, self.is_any_locked())
+        } else {
+            self.fields()
+        }
+    }
+
+    /// What the register reads once the value is written to it.
+    #[inline(always)]
+    pub fn value_after(&self, csr: Csr, value: u64) -> u64
+        ensures { result ≡ register_value (written self.now csr value) csr }
+    {
+        match csr {
+            Csr::Cfg(register) => self.configurations_after(register, value),
+            Csr::Addr(register) => self.address_after(register, value),
+            Csr::Mseccfg => self.fields_after(value).value(),
+        }
     }
 }
 
-/// Writes the address register with this number.
-fn write_address(
-    hart: Hart,
-    entries: &mut [Entry],
-    mseccfg: &MseccfgFields,
-    register: u8,
-    value: u64,
-)
-    ensures { entries.new ≡ address_written (file_of hart mseccfg.now entries.old) register value }
-{
-    let index = usize::from(register);
-    if index < entries.len() && !is_address_frozen(hart, entries, mseccfg, index) {
-        entries[index].address = value % hart.word_addresses();
+impl SavedRegisters {
+    /// Writes a configuration register, and returns whether that changed it.
+    fn write_configurations(&mut self, register: u8, value: u64) -> bool
+        ensures written { restored_file self.new ≡ written (restored_file self.old) (Csr.Cfg register) value }
+        ensures canonical { IsCanonical self.old → IsCanonical self.new }
+        ensures same { result ≡ false → self.new ≡ self.old }
+        ensures changed { result ≡ true → restored_file self.new ≢ restored_file self.old }
+    {
+        let registers = Registers::of(self);
+        let csr = Csr::Cfg(register);
+        let word = registers.value_after(csr, value);
+        if word == registers.read(csr) {
+            return false;
+        }
+        let first = 4 * usize::from(register);
+        let end = registers.count().min(first + ENTRIES_PER_CFG);
+        let bytes = word.to_le_bytes();
+        for index in first..end {
+            self.configurations[index] = bytes[index - first];
+        }
+        true
     }
-}
 
-/// Whether some entry is locked, be it off or not.
-pub fn is_any_locked(entries: &[Entry]) -> bool
-    ensures { result ≡ is_any_locked entries.now }
-{
-    entries.iter().any(|entry| entry.configuration.locked)
-}
-
-/// What a write of `mseccfg` leaves, if the hart has it.
-fn write_security(
-    hart: Hart,
-    entries: &[Entry],
-    mseccfg: &MseccfgFields,
-    value: u64,
-) -> MseccfgFields
-    ensures { result ≡ security_written (file_of hart mseccfg.now entries.now) value }
-{
-    if hart.has_smepmp() {
-        mseccfg.written(value, is_any_locked(entries))
-    } else {
-        *mseccfg
+    /// Writes an address register, and returns whether that changed it.
+    #[inline]
+    fn write_address(&mut self, register: u8, value: u64) -> bool
+        ensures written { restored_file self.new ≡ written (restored_file self.old) (Csr.Addr register) value }
+        ensures canonical { IsCanonical self.old → IsCanonical self.new }
+        ensures same { result ≡ false → self.new ≡ self.old }
+        ensures changed { result ≡ true → restored_file self.new ≢ restored_file self.old }
+    {
+        let registers = Registers::of(self);
+        let index = usize::from(register);
+        if index >= registers.count() || registers.is_address_frozen(index) {
+            return false;
+        }
+        let address = value % registers.hart().word_addresses();
+        if registers.address(index) == address {
+            return false;
+        }
+        self.addresses[index] = address;
+        true
     }
-}
 
-/// Writes a register.
-pub fn write(hart: Hart, entries: &mut [Entry], mseccfg: &mut MseccfgFields, csr: Csr, value: u64)
-    ensures { file_of hart mseccfg.new entries.new ≡ written (file_of hart mseccfg.old entries.old) csr value }
-{
-    match csr {
-        Csr::Cfg(register) => write_configurations(hart, entries, mseccfg, register, value),
-        Csr::Addr(register) => write_address(hart, entries, mseccfg, register, value),
-        Csr::Mseccfg => *mseccfg = write_security(hart, entries, mseccfg, value),
+    /// Writes `mseccfg`, and returns whether that changed it. Once MML is set a byte may stand for other rights, so
+    /// each becomes the one that is stored.
+    fn write_mseccfg(&mut self, value: u64) -> bool
+        ensures written { restored_file self.new ≡ written (restored_file self.old) Csr.Mseccfg value }
+        ensures canonical { IsCanonical self.old → IsCanonical self.new }
+        ensures same { result ≡ false → self.new ≡ self.old }
+        ensures changed { result ≡ true → restored_file self.new ≢ restored_file self.old }
+    {
+        let registers = Registers::of(self);
+        let old = registers.fields();
+        let new = registers.fields_after(value);
+        if new.value() == old.value() {
+            return false;
+        }
+        if new.mml && !old.mml {
+            *self = self.canonical();
+        }
+        self.mseccfg = new.value();
+        true
+    }
+
+    /// Writes a register, and returns whether that changed any.
+    #[inline]
+    pub fn write(&mut self, csr: Csr, value: u64) -> bool
+        ensures written { restored_file self.new ≡ written (restored_file self.old) csr value }
+        ensures canonical { IsCanonical self.old → IsCanonical self.new }
+        ensures same { result ≡ false → self.new ≡ self.old }
+        ensures changed { result ≡ true → restored_file self.new ≢ restored_file self.old }
+    {
+        match csr {
+            Csr::Cfg(register) => self.write_configurations(register, value),
+            Csr::Addr(register) => self.write_address(register, value),
+            Csr::Mseccfg => self.write_mseccfg(value),
+        }
     }
 }

@@ -1,13 +1,14 @@
 //! What a rule allows.
 
-ghost use Rattle.std.specs.Prelude.{◌≡◌};
-ghost use Rattle.pmp_core.specs.Rights.{bits_of, perms_of, is_barred, lockdown_rights, rule_rights};
-ghost use Rattle.pmp_core.specs.Rights.{default_rights_by};
+ghost use Rattle.std.specs.Prelude.{◌≡◌, ◌<◌, length};
+ghost use Rattle.pmp_core.specs.Rights.{bits_of, perms_of, is_barred, lockdown_rights, rights, rule_rights};
+ghost use Rattle.pmp_core.specs.Rights.{default_rights, default_rights_by};
 
 use crate::access::{Access, Mode};
 use crate::configuration::Configuration;
 use crate::mseccfg::MseccfgFields;
 use crate::perms::Perms;
+use crate::registers::Registers;
 use bitflags::Flags;
 
 /// The bits R, W and X themselves.
@@ -49,7 +50,7 @@ fn lockdown_rights(configuration: &Configuration, mode: Mode) -> Perms
 }
 
 /// What the rule allows the mode.
-pub fn rule_rights(configuration: &Configuration, mode: Mode, mseccfg: &MseccfgFields) -> Perms
+fn rule_rights(configuration: &Configuration, mode: Mode, mseccfg: &MseccfgFields) -> Perms
     ensures { result ≡ perms_of (rule_rights mseccfg.now.mml configuration.now mode) }
 {
     if mseccfg.mml {
@@ -62,7 +63,7 @@ pub fn rule_rights(configuration: &Configuration, mode: Mode, mseccfg: &MseccfgF
 }
 
 /// What the mode may do where no entry matches any byte, and the hart has entries or not.
-pub fn default_rights_by(has_entries: bool, mode: Mode, mseccfg: &MseccfgFields) -> Perms
+fn default_rights_by(has_entries: bool, mode: Mode, mseccfg: &MseccfgFields) -> Perms
     ensures { result ≡ perms_of (default_rights_by has_entries mseccfg.now.mml mseccfg.now.mmwp mode) }
 {
     match mode {
@@ -79,4 +80,23 @@ pub fn is_barred(configuration: &Configuration) -> bool
         configuration.now.execute }
 {
     configuration.locked && lockdown_rights(configuration, Mode::M).contains(Perms::X)
+}
+
+impl<'a> Registers<'a> {
+    /// What the entry's rule allows the mode, where the entry matches every byte of an access.
+    #[inline]
+    pub fn rights(&self, index: usize, mode: Mode) -> Perms
+        requires { index < length self.now.entries }
+        ensures { result ≡ perms_of (rights self.now index mode) }
+    {
+        rule_rights(&self.configuration(index), mode, &self.fields())
+    }
+
+    /// What the mode may do where no entry matches any byte of an access.
+    #[inline]
+    pub fn default_rights(&self, mode: Mode) -> Perms
+        ensures { result ≡ perms_of (default_rights self.now mode) }
+    {
+        default_rights_by(self.count() != 0, mode, &self.fields())
+    }
 }

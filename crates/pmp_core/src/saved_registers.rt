@@ -1,17 +1,15 @@
 //! The registers of a unit as plain numbers.
 
-ghost use Rattle.std.specs.Prelude.{◌≡◌, ◌<◌, ◌≤◌, length};
-ghost use Rattle.pmp_core.specs.RegisterFile.{file_of};
-ghost use Rattle.pmp_core.specs.SavedRegisters.{saved_registers, hart_in, restored_entries};
+ghost use Rattle.std.specs.Prelude.{◌≡◌};
+ghost use Rattle.pmp_core.specs.RegisterFile.{reset_file};
+ghost use Rattle.pmp_core.specs.SavedRegisters.{restored_file, saved_registers};
 
-use crate::entry::Entry;
 use crate::hart::Hart;
-use crate::mseccfg::MseccfgFields;
-use crate::plain_registers::PlainRegisters;
+use crate::registers::Registers;
 use crate::size::MAX_ENTRIES;
 
-/// The registers of a unit, for a snapshot or for memory that isn't Rattle's. `RegFile::restore` takes every choice of
-/// numbers.
+/// The registers of a unit, for a snapshot or for memory that isn't Rattle's. `RegFile::restore` and `Registers::of`
+/// take every choice of numbers.
 #[repr(C)]
 #[derive(Clone, Copy, Debug, PartialEq, Eq)]
 pub struct SavedRegisters {
@@ -27,40 +25,34 @@ pub struct SavedRegisters {
 }
 
 impl SavedRegisters {
-    /// The hart.
-    #[inline(always)]
-    pub fn hart(&self) -> Hart
-        ensures { result ≡ hart_in self.now }
+    /// The registers that reset leaves on this hart.
+    pub(crate) fn reset_on(hart: Hart) -> SavedRegisters
+        ensures { result ≡ saved_registers (reset_file hart) }
     {
-        Hart::from_number(self.entries)
+        SavedRegisters {
+            addresses: [0; MAX_ENTRIES],
+            configurations: [0; MAX_ENTRIES],
+            mseccfg: 0,
+            entries: hart.number(),
+        }
     }
-}
 
-/// The registers of a unit that has these entries.
-pub fn save(hart: Hart, entries: &[Entry], mseccfg: &MseccfgFields) -> SavedRegisters
-    requires { length entries.now ≤ MAX_ENTRIES }
-    ensures { result ≡ saved_registers (file_of hart mseccfg.now entries.now) }
-{
-    let mut addresses = [0; MAX_ENTRIES];
-    let mut configurations = [0; MAX_ENTRIES];
-    for (place, entry) in entries.iter().enumerate() {
-        addresses[place] = entry.address;
-        configurations[place] = entry.configuration.byte();
-    }
-    SavedRegisters {
-        addresses,
-        configurations,
-        mseccfg: mseccfg.value(),
-        entries: hart.number(),
-    }
-}
-
-/// Restores as many entries as there are.
-pub fn restore_entries(plain: &PlainRegisters, entries: &mut [Entry])
-    requires { length entries.old ≤ MAX_ENTRIES }
-    ensures { entries.new ≡ restored_entries plain.now.saved.now (length entries.old) }
-{
-    for place in 0..entries.len() {
-        entries[place] = plain.entry(place);
+    /// The numbers that the same registers are saved as: each as it is stored, and zeros past the last entry.
+    pub fn canonical(&self) -> SavedRegisters
+        ensures { result ≡ saved_registers (restored_file self.now) }
+    {
+        let registers = Registers::of(self);
+        let mut addresses = [0; MAX_ENTRIES];
+        let mut configurations = [0; MAX_ENTRIES];
+        for place in 0..registers.count() {
+            addresses[place] = registers.address(place);
+            configurations[place] = registers.configuration(place).byte();
+        }
+        SavedRegisters {
+            addresses,
+            configurations,
+            mseccfg: registers.fields().value(),
+            entries: registers.hart().number(),
+        }
     }
 }

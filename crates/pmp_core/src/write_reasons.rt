@@ -1,25 +1,23 @@
 //! Why a register doesn't read what was written to it.
 
-ghost use Rattle.std.specs.Prelude.{◌≡◌, ℕ, ◌+◌, ◌*◌, ◌<◌, ◌≤◌, ◌==◌, nat_lt, false, not, ◌&&◌, Some, None, length};
-ghost use Rattle.pmp_core.specs.declared.register_write.TheConstants.{ENTRIES_PER_CFG};
+ghost use Rattle.std.specs.Prelude.{⊤, ◌≡◌, ℕ, ◌+◌, ◌*◌, ◌<◌, ◌≤◌, ◌==◌, nat_lt, false, not, ◌&&◌, Some, None, length};
 ghost use Rattle.std.specs.Prelude.{if◌then◌else◌};
 ghost use Rattle.std.specs.List.{list_any};
+ghost use Rattle.pmp_core.specs.declared.register_write.TheConstants.{ENTRIES_PER_CFG};
 ghost use Rattle.pmp_core.specs.Configuration.{configuration_of, is_reserved};
 ghost use Rattle.pmp_core.specs.Grain.{is_na4};
-ghost use Rattle.pmp_core.specs.RegisterFile.{file_of};
 ghost use Rattle.pmp_core.specs.RegisterWrite.{holds_byte_of, holds};
 ghost use Rattle.pmp_core.specs.Rights.{is_barred};
-ghost use Rattle.pmp_core.specs.WriteReasons.{byte_for, is_changed};
+ghost use Rattle.pmp_core.specs.WriteReasons.{byte_for, is_changed, reasons_of};
 ghost use Rattle.pmp_core.specs.WriteReasons.{is_entry_reason, has_reason, is_some_entry_reason, is_reason};
 ghost use Rattle.pmp_core.specs.WriteReasons.{is_absent, has_absent_byte, has_bit_6_or_5, has_other_bits};
 ghost use Rattle.pmp_core.specs.WriteReasons.{clears_sticky, sets_bypass};
 
 use crate::configuration::{AddressMatching, Configuration};
 use crate::csr::Csr;
-use crate::entry::Entry;
-use crate::hart::Hart;
 use crate::mseccfg::MseccfgFields;
-use crate::register_write::{ENTRIES_PER_CFG, is_address_frozen, is_any_locked};
+use crate::register_write::ENTRIES_PER_CFG;
+use crate::registers::Registers;
 use crate::rights::is_barred;
 use std::ops::Range;
 
@@ -62,6 +60,19 @@ impl WriteReason {
     ];
 }
 
+/// A set of reasons.
+#[derive(Clone, Copy, Debug, PartialEq, Eq)]
+pub struct Reasons(u16);
+
+impl Reasons {
+    /// A bit for each reason, the lowest for the first of `WriteReason::ALL`.
+    pub fn bits(self) -> u16
+        ensures { result ≡ self.0 }
+    {
+        self.0
+    }
+}
+
 /// The byte for an entry in a value of a configuration register, where the register has one.
 fn byte_for(register: u8, value: u64, index: usize) -> Option<u8>
     ensures { result ≡ (if holds_byte_of register index then Some (byte_for register value index) else None) }
@@ -70,95 +81,6 @@ fn byte_for(register: u8, value: u64, index: usize) -> Option<u8>
         Some(value.to_le_bytes()[index % ENTRIES_PER_CFG])
     } else {
         None
-    }
-}
-
-/// Whether the register has the entry's byte or address, and reads another than the value has.
-fn is_changed(
-    hart: Hart,
-    entries: &[Entry],
-    mseccfg: &MseccfgFields,
-    csr: Csr,
-    value: u64,
-    index: usize,
-) -> bool
-    requires { index < length entries.now }
-    ensures { result ≡ is_changed (file_of hart mseccfg.now entries.now) csr value index }
-{
-    let entry = &entries[index];
-    match csr {
-        Csr::Cfg(register) => match byte_for(register, value, index) {
-            Some(byte) => byte != entry.configuration.byte(),
-            None => false,
-        },
-        Csr::Addr(register) => {
-            let reads = hart.read_address(entry.configuration.matching, entry.address);
-            usize::from(register) == index && value != reads
-        }
-        Csr::Mseccfg => false,
-    }
-}
-
-/// Whether a byte chooses NA4, which a coarse grain doesn't have.
-fn adds_na4(hart: Hart, byte: u8) -> bool
-    ensures { result ≡ (nat_lt 0 hart.grain && is_na4 (configuration_of byte).matching) }
-{
-    hart.grain() > 0 && Configuration::from_byte(byte).matching == AddressMatching::Na4
-}
-
-/// Whether a byte that isn't kept out by a lock would add W without R.
-fn adds_reserved(mseccfg: &MseccfgFields, byte: u8) -> bool
-    ensures { result ≡ (not mseccfg.now.mml && is_reserved (configuration_of byte)) }
-{
-    !mseccfg.mml && Configuration::from_byte(byte).is_reserved()
-}
-
-/// Whether a byte that isn't kept out by a lock would add a barred rule.
-fn adds_barred(mseccfg: &MseccfgFields, byte: u8) -> bool
-    ensures { let new = configuration_of byte in
-        result ≡ (mseccfg.now.mml && not mseccfg.now.rlb && is_barred new.locked new.read new.write new.execute) }
-{
-    mseccfg.mml && !mseccfg.rlb && is_barred(&Configuration::from_byte(byte))
-}
-
-/// Whether this reason holds for the entry.
-fn is_entry_reason(
-    reason: WriteReason,
-    hart: Hart,
-    entries: &[Entry],
-    mseccfg: &MseccfgFields,
-    csr: Csr,
-    value: u64,
-    index: usize,
-) -> bool
-    requires { index < length entries.now }
-    ensures { result ≡ is_entry_reason reason (file_of hart mseccfg.now entries.now) csr value index }
-{
-    let frozen = entries[index].configuration.locked && !mseccfg.rlb;
-    match (reason, csr) {
-        (WriteReason::Frozen, _) => frozen && is_changed(hart, entries, mseccfg, csr, value, index),
-        (WriteReason::Tor, Csr::Addr(_)) => {
-            !frozen
-                && is_address_frozen(hart, entries, mseccfg, index)
-                && is_changed(hart, entries, mseccfg, csr, value, index)
-        }
-        (WriteReason::Reserved, Csr::Cfg(register)) => match byte_for(register, value, index) {
-            Some(byte) => !frozen && adds_reserved(mseccfg, byte),
-            None => false,
-        },
-        (WriteReason::Lockdown, Csr::Cfg(register)) => match byte_for(register, value, index) {
-            Some(byte) => !frozen && adds_barred(mseccfg, byte),
-            None => false,
-        },
-        (WriteReason::Grain, Csr::Cfg(register)) => match byte_for(register, value, index) {
-            Some(byte) => !frozen && adds_na4(hart, byte),
-            None => false,
-        },
-        (WriteReason::Grain, Csr::Addr(register)) => {
-            let matching = entries[index].configuration.matching;
-            usize::from(register) == index && hart.read_address(matching, value) != value
-        }
-        _ => false,
     }
 }
 
@@ -179,39 +101,6 @@ fn entries_of(csr: Csr, count: usize) -> Range<usize>
         }
         Csr::Mseccfg => 0..0,
     }
-}
-
-/// Whether this reason holds for some entry of the unit.
-fn is_some_entry_reason(
-    reason: WriteReason,
-    hart: Hart,
-    entries: &[Entry],
-    mseccfg: &MseccfgFields,
-    csr: Csr,
-    value: u64,
-) -> bool
-    ensures { result ≡ is_some_entry_reason reason (file_of hart mseccfg.now entries.now) csr value }
-{
-    entries_of(csr, entries.len()).any(|index| is_entry_reason(
-        reason, hart, entries, mseccfg, csr, value, index,
-    ))
-}
-
-/// Whether some reason holds for the entry.
-pub fn has_reason(
-    hart: Hart,
-    entries: &[Entry],
-    mseccfg: &MseccfgFields,
-    csr: Csr,
-    value: u64,
-    index: usize,
-) -> bool
-    requires { index < length entries.now }
-    ensures { result ≡ has_reason (file_of hart mseccfg.now entries.now) csr value index }
-{
-    WriteReason::ALL.iter().any(|reason| is_entry_reason(
-        *reason, hart, entries, mseccfg, csr, value, index,
-    ))
 }
 
 /// How many bytes of the configuration register are those of entries, of which there are so many. They are its lowest
@@ -244,17 +133,6 @@ fn has_absent_byte(count: usize, register: u8, value: u64) -> bool
     has_some(&bytes[bytes_there(count, register)..])
 }
 
-/// Whether the value isn't zero for a register, or an entry, that the hart doesn't have.
-fn is_absent(hart: Hart, entries: &[Entry], mseccfg: &MseccfgFields, csr: Csr, value: u64) -> bool
-    ensures { result ≡ is_absent (file_of hart mseccfg.now entries.now) csr value }
-{
-    match csr {
-        Csr::Cfg(register) => has_absent_byte(entries.len(), register, value),
-        Csr::Addr(register) => value != 0 && usize::from(register) >= entries.len(),
-        Csr::Mseccfg => value != 0 && !hart.has_smepmp(),
-    }
-}
-
 /// Whether one of the bytes has bit 6 or 5, which no configuration has.
 fn has_bit_6_or_5(bytes: &[u8]) -> bool
     ensures { result ≡ list_any has_bit_6_or_5 bytes.now }
@@ -262,46 +140,165 @@ fn has_bit_6_or_5(bytes: &[u8]) -> bool
     bytes.iter().any(|byte| byte / 32 % 4 != 0)
 }
 
-fn has_other_bits(hart: Hart, csr: Csr, value: u64) -> bool
-    ensures { result ≡ has_other_bits hart csr value }
-{
-    match csr {
-        Csr::Cfg(_) => has_bit_6_or_5(&value.to_le_bytes()),
-        Csr::Addr(_) => value / hart.word_addresses() != 0,
-        Csr::Mseccfg => value / 8 != 0,
+impl<'a> Registers<'a> {
+    /// Whether the register has the entry's byte or address, and reads another than the value has.
+    fn is_changed(&self, csr: Csr, value: u64, index: usize) -> bool
+        requires { index < length self.now.entries }
+        ensures { result ≡ is_changed self.now csr value index }
+    {
+        match csr {
+            Csr::Cfg(register) => match byte_for(register, value, index) {
+                Some(byte) => byte != self.configuration(index).byte(),
+                None => false,
+            },
+            Csr::Addr(register) => {
+                let reads = self.reads(index, self.address(index));
+                usize::from(register) == index && value != reads
+            }
+            Csr::Mseccfg => false,
+        }
     }
-}
 
-fn clears_sticky(mseccfg: &MseccfgFields, value: u64) -> bool
-    ensures { result ≡ clears_sticky mseccfg.now Csr.Mseccfg value }
-{
-    let new = MseccfgFields::from_value(value);
-    mseccfg.mml && !new.mml || mseccfg.mmwp && !new.mmwp
-}
+    /// Whether a byte that no lock keeps out would add W without R.
+    fn adds_reserved(&self, byte: u8) -> bool
+        ensures { result ≡ (not self.now.mseccfg.mml && is_reserved (configuration_of byte)) }
+    {
+        !self.fields().mml && Configuration::from_byte(byte).is_reserved()
+    }
 
-fn sets_bypass(hart: Hart, entries: &[Entry], mseccfg: &MseccfgFields, value: u64) -> bool
-    ensures { result ≡ sets_bypass (file_of hart mseccfg.now entries.now) Csr.Mseccfg value }
-{
-    MseccfgFields::from_value(value).rlb && !mseccfg.rlb && is_any_locked(entries)
-}
+    /// Whether a byte that no lock keeps out would add a barred rule.
+    fn adds_barred(&self, byte: u8) -> bool
+        ensures { let new = configuration_of byte in result ≡ (self.now.mseccfg.mml && not self.now.mseccfg.rlb
+            && is_barred new.locked new.read new.write new.execute) }
+    {
+        let fields = self.fields();
+        fields.mml && !fields.rlb && is_barred(&Configuration::from_byte(byte))
+    }
 
-/// Whether this is a reason why the register doesn't read the value after it is written.
-pub fn is_reason(
-    reason: WriteReason,
-    hart: Hart,
-    entries: &[Entry],
-    mseccfg: &MseccfgFields,
-    csr: Csr,
-    value: u64,
-) -> bool
-    ensures { result ≡ is_reason reason (file_of hart mseccfg.now entries.now) csr value }
-{
-    match (reason, csr) {
-        (WriteReason::Absent, _) => is_absent(hart, entries, mseccfg, csr, value),
-        (WriteReason::Bits, _) => has_other_bits(hart, csr, value),
-        (WriteReason::Sticky, Csr::Mseccfg) => clears_sticky(mseccfg, value),
-        (WriteReason::Bypass, Csr::Mseccfg) => sets_bypass(hart, entries, mseccfg, value),
-        (WriteReason::Sticky | WriteReason::Bypass, _) => false,
-        _ => is_some_entry_reason(reason, hart, entries, mseccfg, csr, value),
+    /// Whether a byte chooses NA4, which a coarse grain doesn't have.
+    fn adds_na4(&self, byte: u8) -> bool
+        ensures { result ≡ (nat_lt 0 self.now.profile.grain && is_na4 (configuration_of byte).matching) }
+    {
+        self.hart().grain() > 0 && Configuration::from_byte(byte).matching == AddressMatching::Na4
+    }
+
+    /// Whether this reason holds for the entry.
+    fn is_entry_reason(&self, reason: WriteReason, csr: Csr, value: u64, index: usize) -> bool
+        requires { index < length self.now.entries }
+        ensures { result ≡ is_entry_reason reason self.now csr value index }
+    {
+        let frozen = self.is_frozen(index);
+        match (reason, csr) {
+            (WriteReason::Frozen, _) => frozen && self.is_changed(csr, value, index),
+            (WriteReason::Tor, Csr::Addr(_)) => {
+                !frozen && self.is_address_frozen(index) && self.is_changed(csr, value, index)
+            }
+            (WriteReason::Reserved, Csr::Cfg(register)) => {
+                match byte_for(register, value, index) {
+                    Some(byte) => !frozen && self.adds_reserved(byte),
+                    None => false,
+                }
+            }
+            (WriteReason::Lockdown, Csr::Cfg(register)) => {
+                match byte_for(register, value, index) {
+                    Some(byte) => !frozen && self.adds_barred(byte),
+                    None => false,
+                }
+            }
+            (WriteReason::Grain, Csr::Cfg(register)) => match byte_for(register, value, index) {
+                Some(byte) => !frozen && self.adds_na4(byte),
+                None => false,
+            },
+            (WriteReason::Grain, Csr::Addr(register)) => {
+                usize::from(register) == index && self.reads(index, value) != value
+            }
+            _ => false,
+        }
+    }
+
+    /// Whether this reason holds for some entry.
+    fn is_some_entry_reason(&self, reason: WriteReason, csr: Csr, value: u64) -> bool
+        ensures { result ≡ is_some_entry_reason reason self.now csr value }
+    {
+        entries_of(csr, self.count())
+            .any(|index| self.is_entry_reason(reason, csr, value, index))
+    }
+
+    /// Whether some reason holds for the entry.
+    pub fn has_reason(&self, csr: Csr, value: u64, index: usize) -> bool
+        requires { index < length self.now.entries }
+        ensures { result ≡ has_reason self.now csr value index }
+    {
+        WriteReason::ALL
+            .iter()
+            .any(|reason| self.is_entry_reason(*reason, csr, value, index))
+    }
+
+    /// Whether the value isn't zero for a register, or an entry, that the hart doesn't have.
+    fn is_absent(&self, csr: Csr, value: u64) -> bool
+        ensures { result ≡ is_absent self.now csr value }
+    {
+        match csr {
+            Csr::Cfg(register) => has_absent_byte(self.count(), register, value),
+            Csr::Addr(register) => value != 0 && usize::from(register) >= self.count(),
+            Csr::Mseccfg => value != 0 && !self.hart().has_smepmp(),
+        }
+    }
+
+    /// Whether the value has bits that the register doesn't have, if the hart has the register.
+    fn has_other_bits(&self, csr: Csr, value: u64) -> bool
+        ensures { result ≡ has_other_bits self.now.profile csr value }
+    {
+        match csr {
+            Csr::Cfg(_) => has_bit_6_or_5(&value.to_le_bytes()),
+            Csr::Addr(_) => value / self.hart().word_addresses() != 0,
+            Csr::Mseccfg => self.hart().has_smepmp() && value / 8 != 0,
+        }
+    }
+
+    /// Whether the value would clear MML or MMWP.
+    fn clears_sticky(&self, value: u64) -> bool
+        ensures { result ≡ clears_sticky self.now.mseccfg Csr.Mseccfg value }
+    {
+        let fields = self.fields();
+        let new = MseccfgFields::from_value(value);
+        fields.mml && !new.mml || fields.mmwp && !new.mmwp
+    }
+
+    /// Whether the value would set RLB, and some entry is locked.
+    fn sets_bypass(&self, value: u64) -> bool
+        ensures { result ≡ sets_bypass self.now Csr.Mseccfg value }
+    {
+        let sets = MseccfgFields::from_value(value).rlb && !self.fields().rlb;
+        self.hart().has_smepmp() && sets && self.is_any_locked()
+    }
+
+    /// Whether this is a reason why the register wouldn't read the value, if it were written now.
+    pub fn is_reason(&self, reason: WriteReason, csr: Csr, value: u64) -> bool
+        ensures { result ≡ is_reason reason self.now csr value }
+    {
+        match (reason, csr) {
+            (WriteReason::Absent, _) => self.is_absent(csr, value),
+            (WriteReason::Bits, _) => self.has_other_bits(csr, value),
+            (WriteReason::Sticky, Csr::Mseccfg) => self.clears_sticky(value),
+            (WriteReason::Bypass, Csr::Mseccfg) => self.sets_bypass(value),
+            (WriteReason::Sticky | WriteReason::Bypass, _) => false,
+            _ => self.is_some_entry_reason(reason, csr, value),
+        }
+    }
+
+    /// Why the register wouldn't read the value, if it were written now.
+    #[cold]
+    #[inline(never)]
+    pub fn reasons(&self, csr: Csr, value: u64) -> Reasons
+        ensures reasons { result ≡ reasons_of self.now csr value }
+        ensures most { result.0 < 512 }
+    {
+        let mut bits = 0;
+        for place in 0..WriteReason::ALL.len() {
+            let reason = WriteReason::ALL[8 - place];
+            bits = 2 * bits + u16::from(self.is_reason(reason, csr, value));
+        }
+        Reasons(bits)
     }
 }

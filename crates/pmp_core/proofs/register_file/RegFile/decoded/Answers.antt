@@ -1,12 +1,17 @@
-use Rattle.pmp_core.proofs.Stored.{used_ranges, few_used}
+use Rattle.std.proofs.Common.{◌≡◌, length, length-take, ap, ◌∙◌, arith}
+use Rattle.pmp_core.specs.RegisterFile.{RegisterFile}
+use Rattle.pmp_core.specs.SavedRegisters.{restored_file}
+use Rattle.pmp_core.proofs.Saved.{restored_legal}
+use Rattle.pmp_core.proofs.StoredRanges.{used_ranges}
 use Rattle.pmp_core.proofs.register_file.RegFile.decoded.Goals as goal
 
 pub returns-clause-ranges : goal.returns-clause-ranges
 returns-clause-ranges c =
-    rw (← c.self.view_is, c.from.ensures, c.entries.ensures.count) (used_ranges _ _ _ c.self.invariant)
-
-pub returns-clause-most : goal.returns-clause-most
-returns-clause-most c = rw (c.from.ensures, c.entries.ensures.count) (few_used _ _ _ c.self.invariant)
+    let file = restored_file c.self.inside.numbers in
+    let count : c.count-count.result ≡ length file.entries =
+    c.count-count.ensures.count ∙ ap (λ (f : RegisterFile). length f.entries) c.of.ensures in
+    rw (← c.self.view_is, c.self.invariant.ranges_are, count)
+    (used_ranges file (omega (arith, count, c.count-count.ensures.most)))
 
 pub returns-clause-legal : goal.returns-clause-legal
-returns-clause-legal c = rw (← c.self.view_is) c.self.invariant.legal
+returns-clause-legal c = rw (← c.self.view_is) (restored_legal c.self.inside.numbers)

@@ -1,13 +1,20 @@
-use Rattle.std.proofs.Common.{length, ap, sym, ◌∙◌}
+use Rattle.std.proofs.Common.{◌≡◌, length, sym, ap, ◌∙◌}
 use Rattle.std.proofs.lemmas.List.{length-replicate}
-use Rattle.pmp_core.specs.RegisterFile.{RegisterFile, reset_entry}
+use Rattle.pmp_core.specs.Hart.{Profile}
+use Rattle.pmp_core.specs.RegisterFile.{RegisterFile, reset_entry, reset_file}
+use Rattle.pmp_core.proofs.Legal.{reset_legal}
 use Rattle.pmp_core.proofs.register_file.RegFile.reset_again.Goals as goal
+use Rattle.pmp_core.proofs.register_file.RegFile.reset_again.Goals.{After-reset_on}
+
+is : (c : After-reset_on) → c.reset_on.result ≡ reset_file c.args.self.now.profile
+is c = c.reset_on.ensures ∙ ap reset_file (c.hart-hart.ensures
+    ∙ ap (λ (f : RegisterFile). f.profile) c.registers.ensures.same)
 
 pub returns-clause-legal : goal.returns-clause-legal
-returns-clause-legal c = c.self-2.invariant.legal
+returns-clause-legal c = rw (is (goal.at.returns-clause-legal c).After-reset_on)
+    (reset_legal c.args.self.now.profile c.registers.ensures.legal.profile)
 
 pub returns-clause-entries : goal.returns-clause-entries
 returns-clause-entries c =
-    ap (λ (file : RegisterFile). length file.entries) (c.self-2.view_is ∙ c.reset_on.ensures)
-    ∙ length-replicate c.self.inside.hart.entries reset_entry ∙ sym c.self.invariant.legal.count
-    ∙ ap (λ (file : RegisterFile). length file.entries) c.self.view_is
+    ap (λ (f : RegisterFile). length f.entries) (is (goal.at.returns-clause-entries c).After-reset_on)
+    ∙ length-replicate c.args.self.now.profile.entries reset_entry ∙ sym c.registers.ensures.legal.count

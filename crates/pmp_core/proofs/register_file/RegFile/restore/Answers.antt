@@ -1,27 +1,31 @@
-use Rattle.std.proofs.Common.{◌≡◌, ap, ◌∙◌}
-use Rattle.pmp_core.specs.RegisterFile.{file_of}
-use Rattle.pmp_core.specs.SavedRegisters.{hart_in, fields_in, restored_file}
-use Rattle.pmp_core.specs.declared.saved_registers.SavedRegisters.{SavedRegisters}
-use Rattle.pmp_core.proofs.HartNumbers.{is_hart}
-use Rattle.pmp_core.proofs.Stored.{reset_stored}
+use Rattle.std.proofs.Common.{◌≡◌, length, sym, ap, ◌∙◌, inl, inr, arith}
+use Rattle.std.proofs.lemmas.Bool.{cases_lt}
+use Rattle.std.proofs.lemmas.List.{get_or-replicate}
+use Rattle.pmp_core.specs.SavedRegisters.{restored_file, saved_registers}
+use Rattle.pmp_core.proofs.Places.{no_range}
+use Rattle.pmp_core.proofs.Saved.{restored_legal, restored_saved}
+use Rattle.pmp_core.proofs.StoredRanges.{range_past}
 use Rattle.pmp_core.proofs.register_file.RegFile.restore.Goals as goal
-use Rattle.pmp_core.proofs.register_file.RegFile.restore.Goals.{After-of-plain}
+use Rattle.pmp_core.proofs.register_file.RegFile.restore.Goals.{After-canonical-numbers}
 
-hart_is : (c : After-of-plain) → c.of-plain.result.hart ≡ hart_in c.args.saved.now
-hart_is c = c.of-plain.result.own ∙ ap (λ (s : SavedRegisters). hart_in s) c.of-plain.ensures
+pub decode_stored-requires : goal.decode_stored-requires
+decode_stored-requires c = λ k inside outside.
+    let file = restored_file c.canonical-numbers.result in
+    elim (cases_lt k (length file.entries)) [
+      | inl near ↦ absurd (omega (arith, outside near (omega arith)))
+      | inr past ↦ get_or-replicate 64 k no_range no_range inside ∙ sym (range_past file k past)
+    ]
 
-pub restore-requires : goal.restore-requires
-restore-requires c =
-    rw (hart_is (goal.at.restore-requires c).After-of-plain)
-    (reset_stored (hart_in c.args.saved.now) (is_hart c.args.saved.now.entries))
+back : (c : After-canonical-numbers) → restored_file c.canonical-numbers.result ≡ restored_file c.args.saved.now
+back c = ap restored_file c.canonical-numbers.ensures
+    ∙ restored_saved (restored_file c.args.saved.now) (restored_legal c.args.saved.now)
 
 pub invariant_of-result : goal.invariant_of-result
-invariant_of-result c = rw c.fields.ensures c.restore.ensures.stored
+invariant_of-result c = record {
+  canonical = ap saved_registers (back (goal.at.invariant_of-result c).After-canonical-numbers)
+      ∙ sym c.canonical-numbers.ensures;
+  ranges_are = c.decode_stored.ensures;
+}
 
 pub returns : goal.returns
-unfolding restored_file
-returns c =
-    let is = hart_is (goal.at.returns c).After-of-plain in
-    rw (c.fields.ensures, is, c.of-plain.ensures)
-    (ap (file_of (hart_in c.args.saved.now) (fields_in c.args.saved.now))
-    (rw (is, c.of-plain.ensures) at c.restore.ensures.restored))
+returns c = back (goal.at.returns c).After-canonical-numbers

@@ -1,39 +1,51 @@
-use Rattle.std.proofs.Common.{◌≡◌, ℕ, sym, ap, ◌∙◌, arith}
-use Rattle.pmp_core.specs.declared.saved_registers.SavedRegisters.{SavedRegisters}
+use Rattle.std.proofs.Common.{◌≡◌, ℕ, ◌<◌, ◌%◌, false, length, sym, ap, ◌∙◌, arith}
 use Rattle.pmp_core.specs.Hart.{Profile, word_addresses}
-use Rattle.pmp_core.specs.SavedRegisters.{hart_in}
-use Rattle.pmp_core.proofs.InPlaceAddresses.{address_same, address_written_is, address_changed}
+use Rattle.pmp_core.specs.RegisterFile.{RegisterFile, entry_at}
+use Rattle.pmp_core.specs.RegisterWrite.{is_address_frozen}
+use Rattle.pmp_core.specs.SavedRegisters.{hart_in, restored_file}
+use Rattle.pmp_core.proofs.Restored.{profile_in}
+use Rattle.pmp_core.proofs.Written.{address_canonical, address_changed, address_restored}
 use Rattle.pmp_core.proofs.saved_registers.SavedRegisters.write_address.Goals as goal
+use Rattle.pmp_core.proofs.saved_registers.SavedRegisters.write_address.Goals.{After-address}
 
--- the hart of the plain registers has as many word addresses as that of these
-words_are : (saved plain : SavedRegisters) → plain ≡ saved → (hart : Profile) → hart ≡ hart_in plain → (words : ℕ)
-    → words ≡ word_addresses hart → words ≡ word_addresses (hart_in saved)
-words_are saved plain same hart own words is =
-    is ∙ ap word_addresses (own ∙ ap (λ (s : SavedRegisters). hart_in s) same)
+abbrev file : After-address → RegisterFile
+file c = restored_file c.args.self.now
 
-pub returns-then-address-clause-written : goal.returns-then-address-clause-written
-returns-then-address-clause-written c =
-    let same = c.of-plain.ensures in
-    let words = words_are c.args.self.now _ same _ c.of-plain.result.own _ c.word_addresses.ensures in
-    address_same c.args.self.now c.args.register c.args.value
-    (omega (arith, c.if-index-count.false, rw same at c.count.ensures.count, c.from-index.ensures))
-    (rw (c.from-index.ensures, same) at (sym c.is_address_frozen.ensures ∙ c.if-is_address_frozen.false))
-    (rw (c.from-index.ensures, same, words) at (sym c.address.ensures ∙ c.if-address.true))
+inside : (c : After-address) → c.args.register < length (file c).entries
+inside c = omega (
+  arith,
+  c.if-index-count.false,
+  c.count.ensures.count,
+  c.from-index.ensures,
+  ap (λ (f : RegisterFile). length f.entries) c.of-registers.ensures,
+)
+
+free : (c : After-address) → is_address_frozen (file c) c.args.register ≡ false
+free c = sym (c.if-is_address_frozen.ensures
+    ∙ ap (λ (f : RegisterFile). is_address_frozen f c.from-index.result) c.of-registers.ensures
+    ∙ ap (is_address_frozen (file c)) c.from-index.ensures)
+
+kept : (c : After-address) → c.args.value % c.word_addresses.result
+    ≡ c.args.value % word_addresses (hart_in c.args.self.now)
+kept c = ap (λ (n : ℕ). c.args.value % n) (c.word_addresses.ensures ∙ ap word_addresses (c.hart.ensures
+    ∙ ap (λ (f : RegisterFile). f.profile) c.of-registers.ensures ∙ profile_in c.args.self.now))
 
 pub returns-clause-written : goal.returns-clause-written
 returns-clause-written c =
-    let same = c.of-plain.ensures in
-    let words = words_are c.args.self.now _ same _ c.of-plain.result.own _ c.word_addresses.ensures in
-    rw (c.from-index.ensures, words) (address_written_is c.args.self.now c.args.register c.args.value
-    (omega (arith, c.if-index-count.false, rw same at c.count.ensures.count, c.from-index.ensures))
-    (let told = c.told-self in told.0)
-    (rw (c.from-index.ensures, same) at (sym c.is_address_frozen.ensures ∙ c.if-is_address_frozen.false)))
+    let a = (goal.at.returns-clause-written c).After-address in
+    rw c.from-index.ensures (address_restored c.args.self.now c.args.register c.args.value _ (inside a) (free a) (kept a)
+    (omega arith))
+
+pub returns-clause-canonical : goal.returns-clause-canonical
+returns-clause-canonical c =
+    let a = (goal.at.returns-clause-canonical c).After-address in
+    rw c.from-index.ensures (address_canonical c.args.self.now c.args.register c.args.value _ (inside a) (free a) (kept a)
+    (omega arith) (omega arith))
 
 pub returns-clause-changed : goal.returns-clause-changed
-returns-clause-changed c = λ yes.
-    let same = c.of-plain.ensures in
-    let words = words_are c.args.self.now _ same _ c.of-plain.result.own _ c.word_addresses.ensures in
-    rw (c.from-index.ensures, words) (address_changed c.args.self.now c.args.register c.args.value
-    (omega (arith, c.if-index-count.false, rw same at c.count.ensures.count, c.from-index.ensures))
-    (let told = c.told-self in told.0)
-    (λ equal. c.if-address.false (rw words (rw (c.from-index.ensures, same) at c.address.ensures ∙ equal))))
+returns-clause-changed c = λ _.
+    let a = (goal.at.returns-clause-changed c).After-address in
+    rw c.from-index.ensures (address_changed c.args.self.now c.args.register c.args.value _ (inside a) (free a) (kept a)
+    (omega arith) (λ same. c.if-address.false (c.address.ensures.kept
+    ∙ ap (λ (f : RegisterFile). (entry_at f.entries c.from-index.result).address) c.of-registers.ensures
+    ∙ ap (λ (i : ℕ). (entry_at (file a).entries i).address) c.from-index.ensures ∙ same)))

@@ -1,0 +1,80 @@
+-- The file that plain numbers stand for, part by part.
+use Rattle.std.proofs.Common.{◌≡◌, ℕ, ◌-◌, ◌^◌, ◌<◌, ◌≤◌, List, length, slice_index, refl}
+use Rattle.std.proofs.Common.{sym, ap, ◌∙◌, arith}
+use Rattle.std.proofs.Math.Nat.{mod-lt}
+use Rattle.std.proofs.Math.Pow.{pow_mono}
+use Rattle.std.proofs.lemmas.List.{get_or_past}
+use Rattle.pmp_core.specs.declared.entry.Entry.{Entry}
+use Rattle.pmp_core.specs.declared.mseccfg.MseccfgFields.{MseccfgFields}
+use Rattle.pmp_core.specs.declared.register_write.TheConstants.{WORD_ADDRESSES}
+use Rattle.pmp_core.specs.declared.saved_registers.SavedRegisters.{SavedRegisters}
+use Rattle.pmp_core.specs.Hart.{Profile, word_addresses}
+use Rattle.pmp_core.specs.RegisterFile.{RegisterFile, file_of, reset_entry, entry_at}
+use Rattle.pmp_core.specs.RegisterWrite.{stored_over}
+use Rattle.pmp_core.specs.SavedRegisters.{hart_in, fields_in, restored_entry, restored_entries, restored_file}
+use Rattle.pmp_core.proofs.HartNumbers.{is_hart}
+use Rattle.pmp_core.proofs.Legal.{zero_fits}
+use Rattle.pmp_core.proofs.Places.{entries_by}
+use Rattle.pmp_core.proofs.Saved.{restored_at, length-restored}
+
+abbrev pub count_in : SavedRegisters → ℕ
+count_in saved = (hart_in saved).entries
+
+module _ (saved : SavedRegisters) where
+  pub few_in : count_in saved ≤ 64
+  few_in = (is_hart saved.entries).few
+
+  pub profile_in : (restored_file saved).profile ≡ hart_in saved
+  unfolding restored_file
+  profile_in = refl
+
+  entries_in : (restored_file saved).entries ≡ restored_entries saved (count_in saved)
+  unfolding restored_file
+  entries_in = refl
+
+  pub mseccfg_in : (restored_file saved).mseccfg ≡ fields_in saved
+  unfolding restored_file
+  mseccfg_in = refl
+
+  pub length_in : length (restored_file saved).entries ≡ count_in saved
+  length_in = ap (λ (entries : List Entry). length entries) entries_in ∙ length-restored saved (count_in saved)
+
+  pub entry_in : (i : ℕ) → i < length (restored_file saved).entries
+      → entry_at (restored_file saved).entries i ≡ restored_entry saved i
+  entry_in i inside = ap (λ (entries : List Entry). entry_at entries i) entries_in
+      ∙ restored_at saved (count_in saved) i (omega (arith, length_in))
+
+  -- an address has no more than 54 bits
+  pub few_bits : (i : ℕ) → (restored_entry saved i).address < WORD_ADDRESSES
+  few_bits i =
+      let most : 2 ^ ((hart_in saved).address_bits - 2) ≤ 2 ^ 54 =
+      pow_mono {i = (hart_in saved).address_bits - 2} {j = 54} (omega (arith, (is_hart saved.entries).narrow)) in
+      omega (arith, mod-lt (slice_index saved.addresses i) (zero_fits (hart_in saved)))
+
+-- entry i of a file; where there is none, one that matches nothing
+pub entry_past : (file : RegisterFile) (i : ℕ) → length file.entries ≤ i → entry_at file.entries i ≡ reset_entry
+entry_past file i past = get_or_past file.entries i reset_entry past
+
+-- the numbers stand for a file where they do part by part
+pub file_is : (saved : SavedRegisters) (file : RegisterFile) → hart_in saved ≡ file.profile
+    → fields_in saved ≡ file.mseccfg → length file.entries ≡ file.profile.entries
+    → ((i : ℕ) → i < length file.entries → entry_at file.entries i ≡ restored_entry saved i)
+    → restored_file saved ≡ file
+unfolding restored_file
+file_is saved file hart fields count each =
+    ap (λ (p : Profile). file_of p (fields_in saved) (restored_entries saved p.entries)) hart
+    ∙ ap (λ (m : MseccfgFields). file_of file.profile m (restored_entries saved file.profile.entries)) fields
+    ∙ ap (file_of file.profile file.mseccfg)
+    (ap (restored_entries saved) (sym count) ∙ sym (entries_by file.entries (restored_entry saved) each))
+
+-- the file as a view has it
+module _ (saved : SavedRegisters) (file : RegisterFile) (is : restored_file saved ≡ file) (i : ℕ)
+    (inside : i < length file.entries) where
+  pub near : i < 64
+  near = omega (arith, few_in saved, length_in saved, ap (λ (f : RegisterFile). length f.entries) is)
+
+  pub entry_seen : restored_entry saved i ≡ entry_at file.entries i
+  entry_seen =
+      let within : i < length (restored_file saved).entries =
+      omega (arith, ap (λ (f : RegisterFile). length f.entries) is) in
+      sym (entry_in saved i within) ∙ ap (λ (f : RegisterFile). entry_at f.entries i) is

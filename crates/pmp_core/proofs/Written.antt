@@ -1,0 +1,422 @@
+-- Numbers that a write leaves.
+use Rattle.std.proofs.Common.{◌≡◌, ◌≢◌, ℕ, ◌+◌, ◌-◌, ◌*◌, ◌%◌, ◌<◌, ◌≤◌, Bool, true, false, List, length, slice_index}
+use Rattle.std.proofs.Common.{min, subst, get_or-set_other, get_or-set_same, length-set, refl, sym, ap, ◌∙◌, arith, inl, inr}
+use Rattle.std.proofs.Math.ListN.{set}
+use Rattle.std.proofs.Math.Nat.{mod-lt, mod-eq_of_lt}
+use Rattle.std.specs.Int.{w64, to_le_bytes}
+use Rattle.std.proofs.lemmas.Bool.{cases_lt, cases_eq, ne_eqb}
+use Rattle.std.proofs.lemmas.List.FromFn.{fill_by_all, get_or-map-range_with_len}
+use Rattle.pmp_core.specs.declared.csr.Csr.TheVariants.{Cfg, Addr, Mseccfg}
+use Rattle.pmp_core.specs.declared.configuration.Configuration.{Configuration}
+use Rattle.pmp_core.specs.declared.entry.Entry.{Entry}
+use Rattle.pmp_core.specs.declared.event.Event.TheVariants.{Write}
+use Rattle.pmp_core.specs.declared.mseccfg.MseccfgFields.{MseccfgFields}
+use Rattle.pmp_core.specs.declared.saved_registers.SavedRegisters.{SavedRegisters}
+use Rattle.pmp_core.specs.Configuration.{byte_of, configuration_of}
+use Rattle.pmp_core.specs.Grain.{selectable}
+use Rattle.pmp_core.specs.Hart.{Profile, word_addresses}
+use Rattle.pmp_core.specs.Mseccfg.{mseccfg_fields, mseccfg_value}
+use Rattle.pmp_core.specs.RegisterFile.{RegisterFile, IsLegal, entry_at, reset_entry}
+use Rattle.pmp_core.specs.RegisterValue.{configuration_word, register_value}
+use Rattle.pmp_core.specs.RegisterWrite.{admitted, configured, configurations_written, is_address_frozen, stored}
+use Rattle.pmp_core.specs.RegisterWrite.{written}
+use Rattle.pmp_core.specs.SavedRegisters.{fields_in, hart_in, hart_number, restored_entry, restored_file, saved_hart}
+use Rattle.pmp_core.specs.SavedRegisters.{saved_registers}
+use Rattle.pmp_core.proofs.Configuring.{configured_at, kept_above, kept_below, kept_odd}
+use Rattle.pmp_core.proofs.Legal.{configured_place, length-written, step_legal, zero_fits}
+use Rattle.pmp_core.proofs.Locks.{configured_address, other_address}
+use Rattle.pmp_core.proofs.Places.{entries_by}
+use Rattle.pmp_core.proofs.Restored.{entry_in, entry_past, file_is, few_in, length_in, mseccfg_in, profile_in}
+use Rattle.pmp_core.proofs.Saved.{fields_back, restored_legal, stored_as_is}
+use Rattle.pmp_core.proofs.StoredBytes.{byte_plain, configuration_back}
+use Rattle.pmp_core.proofs.WordBytes.{byte, word_gives}
+
+-- ---- numbers that a file is saved as
+
+-- number by number
+pub record IsKept (saved : SavedRegisters) (file : RegisterFile) : Type 0 where
+  pub addresses : (k : ℕ) → k < 64 → slice_index saved.addresses k ≡ (entry_at file.entries k).address
+  pub configurations : (k : ℕ) → k < 64
+      → slice_index saved.configurations k ≡ byte_of (entry_at file.entries k).configuration
+  pub mseccfg : saved.mseccfg ≡ mseccfg_value file.mseccfg
+  pub number : saved.entries ≡ hart_number file.profile
+
+pub saved_by : (saved : SavedRegisters) (file : RegisterFile) → length saved.addresses ≡ 64
+    → length saved.configurations ≡ 64 → IsKept saved file → saved_registers file ≡ saved
+unfolding saved_registers
+saved_by saved file addresses configurations kept =
+    let numbers : List ℕ → List ℕ → ℕ → ℕ → SavedRegisters = λ a c m n. record {
+      addresses = a;
+      configurations = c;
+      mseccfg = m;
+      entries = n;
+    } in
+    let address : ℕ → ℕ = λ k. (entry_at file.entries k).address in
+    let byte : ℕ → ℕ = λ k. byte_of (entry_at file.entries k).configuration in
+    sym (ap (λ (a : List ℕ). numbers a saved.configurations saved.mseccfg saved.entries)
+    (fill_by_all address saved.addresses 64 0 addresses kept.addresses)
+    ∙ ap (λ (c : List ℕ). numbers (saved_registers file).addresses c saved.mseccfg saved.entries)
+    (fill_by_all byte saved.configurations 64 0 configurations kept.configurations)
+    ∙ ap (λ (m : ℕ). numbers (saved_registers file).addresses (saved_registers file).configurations m saved.entries)
+    kept.mseccfg
+    ∙ ap (numbers (saved_registers file).addresses (saved_registers file).configurations (mseccfg_value file.mseccfg))
+    kept.number)
+
+pub kept_in : (saved : SavedRegisters) (file : RegisterFile) → saved_registers file ≡ saved → IsKept saved file
+unfolding saved_registers
+kept_in saved file is = record {
+  addresses = λ k inside. ap (λ (s : SavedRegisters). slice_index s.addresses k) (sym is)
+      ∙ get_or-map-range_with_len (λ i. (entry_at file.entries i).address) 0 64 k k 0 inside (omega arith);
+  configurations = λ k inside. ap (λ (s : SavedRegisters). slice_index s.configurations k) (sym is)
+      ∙ get_or-map-range_with_len (λ i. byte_of (entry_at file.entries i).configuration) 0 64 k k 0 inside
+      (omega arith);
+  mseccfg = ap (λ (s : SavedRegisters). s.mseccfg) (sym is);
+  number = ap (λ (s : SavedRegisters). s.entries) (sym is);
+}
+
+-- ---- entry by entry
+
+-- numbers that a file's entry is saved as stand for it
+module _ (new : SavedRegisters) (file : RegisterFile) (legal : IsLegal file) (hart : hart_in new ≡ file.profile)
+    (fields : fields_in new ≡ file.mseccfg) where
+  pub entry_by : (k : ℕ) → slice_index new.configurations k ≡ byte_of (entry_at file.entries k).configuration
+      → slice_index new.addresses k % word_addresses (hart_in new) ≡ (entry_at file.entries k).address
+      → restored_entry new k ≡ entry_at file.entries k
+  entry_by k byte address =
+      let c = (entry_at file.entries k).configuration in
+      let kept = slice_index new.addresses k % word_addresses (hart_in new) in
+      let with : Configuration → ℕ → Entry = λ d a. record { configuration = d; address = a } in
+      let by : Profile → MseccfgFields → Configuration → Entry = λ p m d.
+      with (selectable p.grain (admitted m.mml true reset_entry.configuration d)) kept in
+      ap (by (hart_in new) (fields_in new)) (ap configuration_of byte ∙ configuration_back c)
+      ∙ ap (λ (p : Profile). by p (fields_in new) c) hart
+      ∙ ap (λ (m : MseccfgFields). by file.profile m c) fields
+      ∙ ap (λ (d : Configuration). with (selectable file.profile.grain d) kept)
+      (stored_as_is file.mseccfg.mml reset_entry.configuration c (λ off. legal.unreserved off k))
+      ∙ ap (λ (d : Configuration). with d kept) (legal.chosen k)
+      ∙ ap (with c) address
+
+-- the same numbers stand for the same entry
+pub same_entry : (old new : SavedRegisters) → new.entries ≡ old.entries → new.mseccfg ≡ old.mseccfg → (k : ℕ)
+    → slice_index new.configurations k ≡ slice_index old.configurations k
+    → slice_index new.addresses k ≡ slice_index old.addresses k → restored_entry new k ≡ restored_entry old k
+same_entry old new number mseccfg k configuration address = rw (number, mseccfg, configuration, address) refl
+
+pub same_fields : (old new : SavedRegisters) → new.entries ≡ old.entries → new.mseccfg ≡ old.mseccfg
+    → fields_in new ≡ fields_in old
+same_fields old new number mseccfg = rw (number, mseccfg) refl
+
+-- ---- a configuration register
+
+pub byte_once : (one other : Configuration) → byte_of one ≡ byte_of other → one ≡ other
+byte_once one other same =
+    sym (configuration_back one) ∙ ap configuration_of same ∙ configuration_back other
+
+pub word_bytes : (entries : List Entry) (first word : ℕ) → configuration_word entries first ≡ word → (j : ℕ) → j < 8
+    → byte word j ≡ byte_of (entry_at entries (first + j)).configuration
+unfolding configuration_word
+word_bytes entries first word same j near =
+    word_gives (λ i. byte_of (entry_at entries (first + i)).configuration) word
+    (λ i _. (byte_plain (entry_at entries (first + i)).configuration).1) same j near
+
+module _ (file : RegisterFile) (q value : ℕ) (even : q % 2 ≡ 0) where
+  -- the byte of entry 4q + place after the write, and zero where there is no entry
+  pub byte_written : (place : ℕ) → place < 8 → (result : ℕ)
+      → (4 * q + place < length file.entries
+      → result ≡ byte_of (stored file (4 * q + place) (slice_index (to_le_bytes w64 value) place)))
+      → (length file.entries ≤ 4 * q + place → result ≡ 0)
+      → result ≡ byte_of (entry_at (configurations_written file q value) (4 * q + place)).configuration
+  byte_written place near result there absent = elim (cases_lt (4 * q + place) (length file.entries)) [
+    | inl inside ↦ there inside ∙ ap (λ (e : Entry). byte_of e.configuration)
+        (sym (configured_place file q value (4 * q + place) inside ∙ configured_at file q value place even near))
+    | inr past ↦ absent past ∙ ap (λ (e : Entry). byte_of e.configuration)
+        (sym (entry_past (written file (Cfg q) value) (4 * q + place)
+        (omega (arith, length-written file (Cfg q) value))))
+  ]
+
+  same_at : (j : ℕ) → j < 8 → 4 * q + j < length file.entries
+      → byte_of (entry_at (configurations_written file q value) (4 * q + j)).configuration
+      ≡ byte_of (entry_at file.entries (4 * q + j)).configuration
+      → entry_at file.entries (4 * q + j) ≡ configured file q value (4 * q + j)
+  same_at j near inside same =
+      let entry = entry_at file.entries (4 * q + j) in
+      let is = configured_at file q value j even near in
+      let written_at = configured_place file q value (4 * q + j) inside in
+      let stays = byte_once _ _ (sym same ∙ ap (λ (e : Entry). byte_of e.configuration) (written_at ∙ is)) in
+      ap (λ (c : Configuration). let e : Entry = record entry { configuration = c } in e) stays ∙ sym is
+
+  -- a write after which the register reads what it read before changes no entry
+  pub unchanged : configuration_word (configurations_written file q value) (4 * q)
+      ≡ configuration_word file.entries (4 * q) → file.entries ≡ configurations_written file q value
+  unchanged same = entries_by file.entries (configured file q value) (λ k inside. elim (cases_lt k (4 * q)) [
+    | inl below ↦ sym (kept_below file q value k below)
+    | inr low ↦ elim (cases_lt k (4 * q + 8)) [
+      | inl high ↦
+          let place : 4 * q + (k - 4 * q) ≡ k = omega arith in
+          let near : k - 4 * q < 8 = omega arith in
+          let bytes = sym (word_bytes (configurations_written file q value) (4 * q) _ same (k - 4 * q) near)
+          ∙ word_bytes file.entries (4 * q) _ refl (k - 4 * q) near in
+          subst (λ (i : ℕ). entry_at file.entries i ≡ configured file q value i) place
+          (same_at (k - 4 * q) near (omega arith) bytes)
+      | inr past ↦ sym (kept_above file q value k past)
+    ]
+  ])
+
+pub even_value : (file : RegisterFile) (q : ℕ) → q % 2 ≡ 0
+    → register_value file (Cfg q) ≡ configuration_word file.entries (4 * q)
+even_value file q even = rw even refl
+
+module _ (file : RegisterFile) (q value : ℕ) where
+  -- an odd register holds nothing
+  pub even_where : register_value (written file (Cfg q) value) (Cfg q) ≢ register_value file (Cfg q) → q % 2 ≡ 0
+  even_where differs = elim (cases_eq (q % 2) 0) [
+    | inl even ↦ even
+    | inr odd ↦ absurd (differs (rw (ne_eqb (q % 2) 0 odd) refl))
+  ]
+
+  pub reads_same : register_value (written file (Cfg q) value) (Cfg q) ≡ register_value file (Cfg q)
+      → file ≡ written file (Cfg q) value
+  reads_same same = elim (cases_eq (q % 2) 0) [
+    | inl even ↦ ap (λ (entries : List Entry). record file { entries = entries })
+        (unchanged file q value even
+        (sym (even_value (written file (Cfg q) value) q even) ∙ same ∙ even_value file q even))
+    | inr odd ↦ ap (λ (entries : List Entry). record file { entries = entries })
+        (entries_by file.entries (configured file q value)
+        (λ k inside. sym (kept_odd file q value k (omega arith))))
+  ]
+
+-- the bytes are written as configurations from the first on, up to this one, and all else stands
+pub record AreWrittenTo (old new : SavedRegisters) (bytes : List ℕ) (first index : ℕ) : Type 0 where
+  pub addresses : new.addresses ≡ old.addresses
+  pub mseccfg : new.mseccfg ≡ old.mseccfg
+  pub number : new.entries ≡ old.entries
+  pub most : index ≤ first + 8
+  pub len : length new.configurations ≡ 64
+  pub done : (k : ℕ) → first ≤ k → k < index → slice_index new.configurations k ≡ slice_index bytes (k - first)
+  pub rest : (k : ℕ) → (first ≤ k → index ≤ k) → slice_index new.configurations k ≡ slice_index old.configurations k
+
+pub written_none : (old : SavedRegisters) (bytes : List ℕ) (first : ℕ) → length old.configurations ≡ 64
+    → AreWrittenTo old old bytes first first
+written_none old bytes first len = record {
+  addresses = refl;
+  mseccfg = refl;
+  number = refl;
+  most = omega arith;
+  len = len;
+  done = λ k low high. absurd (omega arith);
+  rest = λ k outside. refl;
+}
+
+pub written_more : (old new : SavedRegisters) (bytes : List ℕ) (first index : ℕ) → first ≤ index → index < first + 8
+    → index < 64 → AreWrittenTo old new bytes first index
+    → AreWrittenTo old (record new {
+      configurations = set new.configurations index (slice_index bytes (index - first));
+    }) bytes first (index + 1)
+written_more old new bytes first index from near inside so_far =
+    let within : index < length new.configurations = omega (arith, so_far.len) in
+    record {
+      addresses = so_far.addresses;
+      mseccfg = so_far.mseccfg;
+      number = so_far.number;
+      most = omega arith;
+      len = simp length-set so_far.len;
+      done = λ k low high. elim (cases_eq k index) [
+        | inl here ↦ rw (here, get_or-set_same) refl
+        | inr other ↦ rw get_or-set_other (so_far.done k low (omega arith))
+      ];
+      rest = λ k outside.
+          let other : k ≢ index = λ same. absurd (omega (arith, outside (omega arith))) in
+          rw get_or-set_other (so_far.rest k (λ low. omega (arith, outside low)));
+    }
+
+module _ (old new : SavedRegisters) (q value word end : ℕ) (even : q % 2 ≡ 0)
+    (is : configuration_word (configurations_written (restored_file old) q value) (4 * q) ≡ word)
+    (all : min (length (restored_file old).entries) (4 * q + 8) ≤ end)
+    (done : AreWrittenTo old new (to_le_bytes w64 word) (4 * q) end) where
+  abbrev before : RegisterFile
+  before = restored_file old
+
+  abbrev after : RegisterFile
+  after = written before (Cfg q) value
+
+  legal : IsLegal after
+  legal = step_legal before (restored_legal old) (Write (Cfg q) value)
+
+  hart : hart_in new ≡ after.profile
+  hart = ap saved_hart done.number ∙ sym (profile_in old)
+
+  fields : fields_in new ≡ after.mseccfg
+  fields = same_fields old new done.number done.mseccfg ∙ sym (mseccfg_in old)
+
+  -- an entry of which the register holds nothing
+  other : (k : ℕ) → (4 * q ≤ k → end ≤ k) → entry_at after.entries k ≡ entry_at before.entries k
+  other k outside = elim (cases_lt k (length before.entries)) [
+    | inl inside ↦ configured_place before q value k inside ∙ elim (cases_lt k (4 * q)) [
+      | inl below ↦ kept_below before q value k below
+      | inr low ↦ kept_above before q value k (omega (arith, outside low))
+    ]
+    | inr past ↦ entry_past after k (omega (arith, length-written before (Cfg q) value))
+        ∙ sym (entry_past before k past)
+  ]
+
+  own_byte : (k : ℕ) → 4 * q ≤ k → k < end
+      → slice_index new.configurations k ≡ byte_of (entry_at after.entries k).configuration
+  own_byte k low high =
+      let place : 4 * q + (k - 4 * q) ≡ k = omega arith in
+      done.done k low high ∙ word_bytes after.entries (4 * q) word is (k - 4 * q) (omega (arith, done.most))
+      ∙ ap (λ (i : ℕ). byte_of (entry_at after.entries i).configuration) place
+
+  address : (k : ℕ) → (entry_at after.entries k).address ≡ (entry_at before.entries k).address
+  address k = elim (cases_lt k (length before.entries)) [
+    | inl inside ↦ ap (λ (e : Entry). e.address) (configured_place before q value k inside)
+        ∙ configured_address before q value k
+    | inr past ↦ ap (λ (e : Entry). e.address) (entry_past after k (omega (arith, length-written before (Cfg q) value))
+        ∙ sym (entry_past before k past))
+  ]
+
+  own_address : (k : ℕ) → k < length before.entries
+      → slice_index new.addresses k % word_addresses (hart_in new) ≡ (entry_at after.entries k).address
+  own_address k inside =
+      ap (λ (xs : List ℕ). slice_index xs k % word_addresses (hart_in new)) done.addresses
+      ∙ ap (λ (p : Profile). slice_index old.addresses k % word_addresses p) (ap saved_hart done.number)
+      ∙ ap (λ (e : Entry). e.address) (sym (entry_in old k inside)) ∙ sym (address k)
+
+  each : (k : ℕ) → k < length after.entries → entry_at after.entries k ≡ restored_entry new k
+  each k there =
+      let inside : k < length before.entries = omega (arith, length-written before (Cfg q) value) in
+      let stays : (4 * q ≤ k → end ≤ k) → entry_at after.entries k ≡ restored_entry new k = λ outside.
+      other k outside ∙ entry_in old k inside ∙ sym (same_entry old new done.number done.mseccfg k (done.rest k outside)
+      (ap (λ (xs : List ℕ). slice_index xs k) done.addresses)) in
+      elim (cases_lt k (4 * q)) [
+        | inl below ↦ stays (λ low. absurd (omega arith))
+        | inr low ↦ elim (cases_lt k end) [
+          | inl high ↦ sym (entry_by new after legal hart fields k (own_byte k low high) (own_address k inside))
+          | inr past ↦ stays (λ _. past)
+        ]
+      ]
+
+  pub configurations_restored : restored_file new ≡ after
+  configurations_restored = file_is new after hart fields legal.count each
+
+  pub configurations_canonical : length old.addresses ≡ 64 → saved_registers before ≡ old
+      → saved_registers (restored_file new) ≡ new
+  configurations_canonical long canonical =
+      let kept = kept_in old before canonical in
+      ap saved_registers configurations_restored ∙ saved_by new after (ap length done.addresses ∙ long) done.len (record {
+        addresses = λ k inside. ap (λ (xs : List ℕ). slice_index xs k) done.addresses ∙ kept.addresses k inside
+            ∙ sym (address k);
+        configurations = λ k inside. elim (cases_lt k (4 * q)) [
+          | inl below ↦ done.rest k (λ low. absurd (omega arith)) ∙ kept.configurations k inside
+              ∙ ap (λ (e : Entry). byte_of e.configuration) (sym (other k (λ low. absurd (omega arith))))
+          | inr low ↦ elim (cases_lt k end) [
+            | inl high ↦ own_byte k low high
+            | inr past ↦ done.rest k (λ _. past) ∙ kept.configurations k inside
+                ∙ ap (λ (e : Entry). byte_of e.configuration) (sym (other k (λ _. past)))
+          ]
+        ];
+        mseccfg = done.mseccfg ∙ kept.mseccfg;
+        number = done.number ∙ kept.number;
+      })
+
+-- ---- an address register
+
+module _ (old : SavedRegisters) (i value kept : ℕ) (inside : i < length (restored_file old).entries)
+    (free : is_address_frozen (restored_file old) i ≡ false)
+    (is : kept ≡ value % word_addresses (hart_in old)) (long : length old.addresses ≡ 64) where
+  abbrev file : RegisterFile
+  file = restored_file old
+
+  abbrev file_after : RegisterFile
+  file_after = written file (Addr i) value
+
+  abbrev pub with_address : SavedRegisters
+  with_address = record old { addresses = set old.addresses i kept }
+
+  near : i < length old.addresses
+  near = omega (arith, length_in old, few_in old)
+
+  own_entry : entry_at file_after.entries i ≡ record (entry_at file.entries i) { address = kept }
+  own_entry = rw free (rw get_or-set_same (ap (λ (a : ℕ). record (entry_at file.entries i) { address = a })
+      (ap (λ (p : Profile). value % word_addresses p) (profile_in old) ∙ sym is)))
+
+  address_entry : (k : ℕ) → k < length file_after.entries → entry_at file_after.entries k ≡ restored_entry with_address k
+  address_entry k there =
+      let within : k < length file.entries = omega (arith, length-written file (Addr i) value) in
+      elim (cases_eq k i) [
+        | inl here ↦
+            let again : kept % word_addresses (hart_in old) ≡ kept =
+            mod-eq_of_lt (rw is (mod-lt value (zero_fits (hart_in old)))) in
+            let place = near in
+            rw here (own_entry ∙ ap (λ (e : Entry). record e { address = kept }) (entry_in old i inside)
+            ∙ rw (get_or-set_same, again) refl)
+        | inr apart ↦ other_address file i value k apart ∙ entry_in old k within ∙ rw get_or-set_other refl
+      ]
+
+  pub address_restored : restored_file with_address ≡ file_after
+  address_restored = file_is with_address file_after (sym (profile_in old)) (sym (mseccfg_in old))
+      (step_legal file (restored_legal old) (Write (Addr i) value)).count address_entry
+
+  pub address_changed : (entry_at file.entries i).address ≢ kept → restored_file with_address ≢ file
+  address_changed differs same = differs (ap (λ (f : RegisterFile). (entry_at f.entries i).address)
+      (sym same ∙ address_restored) ∙ ap (λ (e : Entry). e.address) own_entry)
+
+  pub address_canonical : length old.configurations ≡ 64 → saved_registers file ≡ old
+      → saved_registers (restored_file with_address) ≡ with_address
+  address_canonical len canonical =
+      let numbers = kept_in old file canonical in
+      ap saved_registers address_restored
+      ∙ saved_by with_address file_after (simp length-set long) len (record {
+        addresses = λ k below. elim (cases_eq k i) [
+          | inl here ↦
+              let place = near in
+              rw here (rw get_or-set_same (ap (λ (e : Entry). e.address) (sym own_entry)))
+          | inr apart ↦ rw get_or-set_other (numbers.addresses k below
+              ∙ ap (λ (e : Entry). e.address) (sym (other_address file i value k apart)))
+        ];
+        configurations = λ k below. numbers.configurations k below ∙ ap byte_of (elim (cases_eq k i) [
+          | inl here ↦ rw here (ap (λ (e : Entry). e.configuration) (sym own_entry))
+          | inr apart ↦ ap (λ (e : Entry). e.configuration) (sym (other_address file i value k apart))
+        ]);
+        mseccfg = numbers.mseccfg;
+        number = numbers.number;
+      })
+
+-- ---- mseccfg
+
+pub fields_once : (one other : MseccfgFields) → mseccfg_value one ≡ mseccfg_value other → one ≡ other
+fields_once one other same =
+    sym (fields_back one.mml one.mmwp one.rlb) ∙ ap mseccfg_fields same ∙ fields_back other.mml other.mmwp other.rlb
+
+module _ (old : SavedRegisters) (new : MseccfgFields) (value : ℕ) (is : value ≡ mseccfg_value new)
+    (has : (hart_in old).has_smepmp ≡ true) where
+  abbrev pub with_mseccfg : SavedRegisters
+  with_mseccfg = record old { mseccfg = value }
+
+  fields_read : fields_in with_mseccfg ≡ new
+  fields_read = rw has (ap mseccfg_fields is ∙ fields_back new.mml new.mmwp new.rlb)
+
+  -- as long as MML stays, a byte stands for the same
+  mseccfg_entry : new.mml ≡ (fields_in old).mml → (k : ℕ) → restored_entry with_mseccfg k ≡ restored_entry old k
+  mseccfg_entry same k =
+      let mml : (fields_in with_mseccfg).mml ≡ (fields_in old).mml =
+      ap (λ (m : MseccfgFields). m.mml) fields_read ∙ same in
+      ap (λ (b : Bool). let e : Entry = record {
+        configuration = selectable (hart_in old).grain (admitted b true reset_entry.configuration
+            (configuration_of (slice_index old.configurations k)));
+        address = slice_index old.addresses k % word_addresses (hart_in old);
+      } in e) mml
+
+  pub mseccfg_restored : new.mml ≡ (fields_in old).mml
+      → restored_file with_mseccfg ≡ record (restored_file old) { mseccfg = new }
+  mseccfg_restored same = file_is with_mseccfg (record (restored_file old) { mseccfg = new }) (sym (profile_in old))
+      fields_read (restored_legal old).count
+      (λ k inside. entry_in old k inside ∙ sym (mseccfg_entry same k))
+
+-- in the numbers that a file is saved as, a byte stands for the same also where MML rises
+pub mseccfg_saved : (file : RegisterFile) (new : MseccfgFields) (value : ℕ) → value ≡ mseccfg_value new
+    → (let numbers : SavedRegisters = record (saved_registers file) { mseccfg = value } in
+    numbers ≡ saved_registers (record file { mseccfg = new }))
+unfolding saved_registers
+mseccfg_saved file new value is = ap (λ (m : ℕ). let s : SavedRegisters = record (saved_registers file) {
+  mseccfg = m;
+} in s) is

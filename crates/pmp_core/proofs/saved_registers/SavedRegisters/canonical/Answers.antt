@@ -1,0 +1,47 @@
+use Rattle.std.proofs.Common.{◌≡◌, ℕ, ◌≤◌, length, refl, ap, ◌∙◌, arith}
+use Rattle.std.proofs.lemmas.List.{get_or-replicate}
+use Rattle.pmp_core.specs.declared.entry.Entry.{Entry}
+use Rattle.pmp_core.specs.Configuration.{byte_of}
+use Rattle.pmp_core.specs.Hart.{Profile}
+use Rattle.pmp_core.specs.Mseccfg.{mseccfg_value}
+use Rattle.pmp_core.specs.RegisterFile.{RegisterFile, reset_entry, entry_at}
+use Rattle.pmp_core.specs.SavedRegisters.{hart_number, restored_file, saved_registers}
+use Rattle.pmp_core.proofs.Restored.{entry_past}
+use Rattle.pmp_core.proofs.Saved.{filled}
+use Rattle.pmp_core.proofs.saved_registers.SavedRegisters.canonical.Goals as goal
+
+pub loop-place-init : goal.loop-place-init
+loop-place-init c = (
+  record {
+    len = refl;
+    done = λ k below. absurd (omega arith);
+    rest = λ k from below. get_or-replicate 64 k 0 0 below;
+  },
+  record {
+    len = refl;
+    done = λ k below. absurd (omega arith);
+    rest = λ k from below. get_or-replicate 64 k 0 0 below;
+  },
+)
+
+pub returns : goal.returns
+unfolding saved_registers
+returns c =
+    let loop = c.loop-place in
+    let file = restored_file c.args.self.now in
+    let is = c.of-registers.ensures in
+    let past : (k : ℕ) → loop.place ≤ k → entry_at file.entries k ≡ reset_entry =
+    λ k from. entry_past file k (omega (
+      arith,
+      c.loop-place-test.false,
+      c.count-place-end.ensures.count,
+      ap (λ (f : RegisterFile). length f.entries) is,
+    )) in
+    rw (
+      filled (λ k. (entry_at file.entries k).address) loop.addresses loop.place loop.invariant.0
+          (λ k from. ap (λ (e : Entry). e.address) (past k from)),
+      filled (λ k. byte_of (entry_at file.entries k).configuration) loop.configurations loop.place loop.invariant.1
+          (λ k from. ap (λ (e : Entry). byte_of e.configuration) (past k from)),
+      c.value.ensures ∙ ap mseccfg_value (c.fields.ensures ∙ ap (λ (f : RegisterFile). f.mseccfg) is),
+      c.number.ensures ∙ ap hart_number (c.hart.ensures ∙ ap (λ (f : RegisterFile). f.profile) is),
+    ) refl

@@ -1,0 +1,62 @@
+use Rattle.std.proofs.Common.{◌≡◌, ◌≢◌, ◌+◌, ◌*◌, ◌≤◌, length, min, sym, ap, ◌∙◌, arith}
+use Rattle.pmp_core.specs.declared.csr.Csr.TheVariants.{Cfg}
+use Rattle.pmp_core.specs.RegisterFile.{RegisterFile}
+use Rattle.pmp_core.specs.RegisterValue.{configuration_word, register_value}
+use Rattle.pmp_core.specs.RegisterWrite.{configurations_written, written}
+use Rattle.pmp_core.specs.SavedRegisters.{restored_file}
+use Rattle.pmp_core.proofs.Written.{configurations_canonical, configurations_restored, even_value, even_where}
+use Rattle.pmp_core.proofs.Written.{reads_same, written_more, written_none}
+use Rattle.pmp_core.proofs.saved_registers.SavedRegisters.write_configurations.Goals as goal
+use Rattle.pmp_core.proofs.saved_registers.SavedRegisters.write_configurations.Goals.{After-read}
+
+abbrev file : After-read → RegisterFile
+file c = restored_file c.args.self.now
+
+-- what the register reads after the write, and what it reads now
+word_is : (c : After-read) → c.value_after-word.result
+    ≡ register_value (written (file c) (Cfg c.args.register) c.args.value) (Cfg c.args.register)
+word_is c = c.value_after-word.ensures
+    ∙ ap (λ (f : RegisterFile). register_value (written f (Cfg c.args.register) c.args.value) (Cfg c.args.register))
+    c.of-registers.ensures
+
+reads_is : (c : After-read) → c.read.result ≡ register_value (file c) (Cfg c.args.register)
+reads_is c = c.read.ensures
+    ∙ ap (λ (f : RegisterFile). register_value f (Cfg c.args.register)) c.of-registers.ensures
+
+pub returns-then-word-read-clause-written : goal.returns-then-word-read-clause-written
+returns-then-word-read-clause-written c =
+    let r = (goal.at.returns-then-word-read-clause-written c).After-read in
+    reads_same (file r) c.args.register c.args.value (sym (word_is r) ∙ c.if-word-read.true ∙ reads_is r)
+
+pub loop-index-init : goal.loop-index-init
+loop-index-init c = written_none c.args.self.now _ _ (omega arith)
+
+pub loop-index-preserved : goal.loop-index-preserved
+loop-index-preserved c = written_more c.args.self.now c.loop-index.self _ _ c.loop-index.index
+    c.loop-index.auto.index (omega (arith, c.loop-index-test.true, c.min-end.ensures))
+    (omega (arith, c.loop-index-test.true, c.min-end.ensures, c.count.ensures.most)) c.loop-index.invariant
+
+pub returns : goal.returns
+returns c =
+    let r = (goal.at.returns c).After-read in
+    let q = c.args.register in
+    let loop = c.loop-index in
+    let differs : register_value (written (file r) (Cfg q) c.args.value) (Cfg q) ≢ register_value (file r) (Cfg q) =
+    λ same. c.if-word-read.false (word_is r ∙ same ∙ sym (reads_is r)) in
+    let even = even_where (file r) q c.args.value differs in
+    let word : configuration_word (configurations_written (file r) q c.args.value) (4 * q) ≡ c.value_after-word.result =
+    sym (even_value (written (file r) (Cfg q) c.args.value) q even) ∙ sym (word_is r) in
+    let count : c.count.result ≡ length (file r).entries =
+    c.count.ensures.count ∙ ap (λ (f : RegisterFile). length f.entries) c.of-registers.ensures in
+    let all : min (length (file r).entries) (4 * q + 8) ≤ loop.index =
+    omega (arith, count, c.min-end.ensures, c.from-first.ensures, c.loop-index-test.false) in
+    let done = rw (c.to_le_bytes-bytes.ensures, c.from-first.ensures) at loop.invariant in
+    let is = configurations_restored c.args.self.now loop.self q c.args.value c.value_after-word.result loop.index even
+    word all done in
+    record {
+      written = is;
+      canonical = configurations_canonical c.args.self.now loop.self q c.args.value c.value_after-word.result loop.index
+          even word all done (omega arith);
+      same = λ e. absurd cc;
+      changed = λ _ same. differs (ap (λ (f : RegisterFile). register_value f (Cfg q)) (sym is ∙ same));
+    }

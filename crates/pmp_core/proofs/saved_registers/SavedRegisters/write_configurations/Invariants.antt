@@ -1,0 +1,5 @@
+use Rattle.pmp_core.proofs.Written.{AreWrittenTo}
+use Rattle.pmp_core.proofs.saved_registers.SavedRegisters.write_configurations.Given as goal
+
+abbrev pub invariant-loop-index : goal.invariant-loop-index
+invariant-loop-index l = AreWrittenTo l.fn.self l.self l.bytes l.first l.index

@@ -1,0 +1,246 @@
+//! A unit's registers as they are read: a view of the plain numbers that keep them.
+
+ghost use Rattle.std.specs.Prelude.{◌≡◌, ◌*◌, ◌/◌, ◌^◌, ◌<◌, ◌≤◌, MatchOption, length};
+ghost use Rattle.pmp_core.specs.declared.csr.Csr.{Csr};
+ghost use Rattle.pmp_core.specs.declared.register_write.TheConstants.{WORD_ADDRESSES};
+ghost use Rattle.pmp_core.specs.Configuration.{byte_of};
+ghost use Rattle.pmp_core.specs.Grain.{read_address};
+ghost use Rattle.pmp_core.specs.Lock.{lock_of};
+ghost use Rattle.pmp_core.specs.RegisterFile.{entry_at, is_frozen, is_held};
+ghost use Rattle.pmp_core.specs.RegisterValue.{configuration_word, register_value};
+ghost use Rattle.pmp_core.specs.RegisterWrite.{is_address_frozen, is_any_locked};
+ghost use Rattle.pmp_core.specs.SavedRegisters.{restored_file};
+
+use crate::configuration::{AddressMatching, Configuration};
+use crate::csr::Csr;
+use crate::hart::Hart;
+use crate::lock::Lock;
+use crate::mseccfg::MseccfgFields;
+use crate::register_write::without_reserved;
+use crate::saved_registers::SavedRegisters;
+use crate::size::MAX_ENTRIES;
+use std::marker::Model;
+
+/// The registers of a unit, read from the numbers that keep them: each read decodes what it needs and no more. A
+/// contract sees them as the `RegisterFile` of `specs/` that the numbers stand for.
+#[derive(Drop)]
+pub struct Registers<'a> {
+    numbers: &'a SavedRegisters,
+    /// The one that `numbers.entries` stands for, which is decoded once.
+    hart: Hart,
+}
+
+impl<'a> Model for Registers<'a> {
+    ghost use Rattle.std.specs.Prelude.{◌≡◌};
+    ghost use Rattle.pmp_core.specs.RegisterFile.{RegisterFile};
+
+    ghost Value = { RegisterFile };
+
+    ghost use Rattle.pmp_core.specs.SavedRegisters.{hart_in, restored_file};
+
+    ghost view = { λ r. restored_file r.numbers.now };
+
+    ghost invariant = { λ r. r.hart ≡ hart_in r.numbers.now };
+}
+
+impl<'a> Registers<'a> {
+    /// The registers that these numbers keep, whatever they are.
+    #[inline(always)]
+    pub fn of(numbers: &'a SavedRegisters) -> Registers<'a>
+        ensures { result ≡ restored_file numbers.now }
+    {
+        let hart = Hart::from_number(numbers.entries);
+        Registers { numbers, hart }
+    }
+
+    /// The same on a standard hart, else none. What is inlined into a branch that has it is compiled for such harts.
+    #[inline(always)]
+    pub(crate) fn on_standard(numbers: &'a SavedRegisters) -> Option<Registers<'a>>
+        ensures { MatchOption result (numbers.now.entries / 2 ^ 32 ≡ 1) (λ registers. registers
+            ≡ restored_file numbers.now) }
+    {
+        let hart = Hart::unspelled(numbers.entries)?;
+        Some(Registers { numbers, hart })
+    }
+
+    /// The hart that has them.
+    #[inline(always)]
+    pub fn hart(&self) -> Hart
+        ensures { result ≡ self.now.profile }
+    {
+        self.hart
+    }
+
+    /// How many entries there are.
+    #[inline(always)]
+    pub fn count(&self) -> usize
+        ensures count { result ≡ length self.now.entries }
+        ensures most { result ≤ MAX_ENTRIES }
+    {
+        usize::from(self.hart.entries())
+    }
+
+    /// What `mseccfg` says, if the hart has it.
+    #[inline(always)]
+    pub(crate) fn fields(&self) -> MseccfgFields
+        ensures { result ≡ self.now.mseccfg }
+    {
+        if self.hart.has_smepmp() {
+            MseccfgFields::from_value(self.numbers.mseccfg)
+        } else {
+            MseccfgFields::RESET
+        }
+    }
+
+    /// The entry's configuration.
+    #[inline(always)]
+    pub(crate) fn configuration(&self, index: usize) -> Configuration
+        requires { index < length self.now.entries }
+        ensures { result ≡ (entry_at self.now.entries index).configuration }
+    {
+        let configuration = Configuration::from_byte(self.numbers.configurations[index]);
+        let admitted = if self.fields().mml {
+            configuration
+        } else {
+            without_reserved(configuration)
+        };
+        self.hart.selectable(admitted)
+    }
+
+    /// The word address that the entry's register keeps. What it reads has zeros or ones below the grain, by the
+    /// entry's mode.
+    #[inline(always)]
+    pub(crate) fn address(&self, index: usize) -> u64
+        requires { index < length self.now.entries }
+        ensures kept { result ≡ (entry_at self.now.entries index).address }
+        ensures most { result < WORD_ADDRESSES }
+    {
+        let words = self.hart.word_addresses();
+        self.numbers.addresses[index] % words
+    }
+
+    /// The entry's configuration byte, and zero where there is no entry.
+    #[inline(always)]
+    fn byte(&self, index: usize) -> u8
+        ensures { result ≡ byte_of (entry_at self.now.entries index).configuration }
+    {
+        if index < self.count() {
+            self.configuration(index).byte()
+        } else {
+            0
+        }
+    }
+
+    /// The bytes of the eight entries that the configuration register holds, if there are any.
+    #[inline(always)]
+    fn configuration_word(&self, register: u8) -> u64
+        ensures { result ≡ configuration_word self.now.entries (4 * register) }
+    {
+        let first = 4 * usize::from(register);
+        let mut bytes = [0; 8];
+        for place in 0..bytes.len() {
+            bytes[place] = self.byte(first + place);
+        }
+        u64::from_le_bytes(bytes)
+    }
+
+    /// What the entry's address register reads where it keeps this address.
+    #[inline(always)]
+    pub(crate) fn reads(&self, index: usize, address: u64) -> u64
+        requires { index < length self.now.entries }
+        ensures { let matching = (entry_at self.now.entries index).configuration.matching in
+            result ≡ read_address self.now.profile.grain matching address }
+    {
+        if self.hart().grain() == 0 {
+            address
+        } else {
+            self.hart()
+                .read_address(self.configuration(index).matching, address)
+        }
+    }
+
+    /// The value of a register.
+    #[inline(always)]
+    pub fn read(&self, csr: Csr) -> u64
+        ensures { result ≡ register_value self.now csr }
+    {
+        match csr {
+            Csr::Cfg(register) if register % 2 == 1 => 0,
+            Csr::Cfg(register) => self.configuration_word(register),
+            Csr::Addr(register) => self.read_address(usize::from(register)),
+            Csr::Mseccfg => self.fields().value(),
+        }
+    }
+
+    /// What the entry's address register reads, and zero where there is no entry.
+    #[inline(always)]
+    fn read_address(&self, index: usize) -> u64
+        ensures { result ≡ register_value self.now (Csr.Addr index) }
+    {
+        if index < self.count() {
+            self.reads(index, self.address(index))
+        } else {
+            0
+        }
+    }
+
+    /// Whether the entry is frozen: its lock bit is set and rule-locking bypass is off.
+    #[inline(always)]
+    pub(crate) fn is_frozen(&self, index: usize) -> bool
+        requires { index < length self.now.entries }
+        ensures { result ≡ is_frozen self.now index }
+    {
+        self.configuration(index).locked && !self.fields().rlb
+    }
+
+    /// Whether the entry and all before it are frozen.
+    pub(crate) fn is_held(&self, index: usize) -> bool
+        requires { index < length self.now.entries }
+        ensures { result ≡ is_held self.now index }
+    {
+        let _count = self.count();
+        (0..index + 1).all(|entry| self.is_frozen(entry))
+    }
+
+    /// How the entry is locked.
+    pub(crate) fn lock(&self, index: usize) -> Lock
+        requires { index < length self.now.entries }
+        ensures { result ≡ lock_of self.now index }
+    {
+        if self.is_frozen(index) {
+            Lock::Frozen
+        } else if self.configuration(index).locked {
+            Lock::Bypassed
+        } else {
+            Lock::Open
+        }
+    }
+
+    /// Whether writes leave the entry's address register as it is: the entry is frozen, or the next one is and is TOR.
+    #[inline(always)]
+    pub(crate) fn is_address_frozen(&self, index: usize) -> bool
+        requires { index < length self.now.entries }
+        ensures { result ≡ is_address_frozen self.now index }
+    {
+        let count = self.count();
+        if self.is_frozen(index) {
+            return true;
+        }
+        let next = index + 1;
+        next < count
+            && self.is_frozen(next)
+            && self.configuration(next).matching == AddressMatching::Tor
+    }
+
+    /// Whether some entry is locked, be it off or not.
+    pub(crate) fn is_any_locked(&self) -> bool
+        ensures { result ≡ is_any_locked self.now.entries }
+    {
+        for index in 0..self.count() {
+            if self.configuration(index).locked {
+                return true;
+            }
+        }
+        false
+    }
+}
