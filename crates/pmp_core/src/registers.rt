@@ -6,7 +6,7 @@ ghost use Rattle.pmp_core.specs.declared.register_write.TheConstants.{WORD_ADDRE
 ghost use Rattle.pmp_core.specs.Configuration.{byte_of};
 ghost use Rattle.pmp_core.specs.Grain.{read_address};
 ghost use Rattle.pmp_core.specs.Lock.{lock_of};
-ghost use Rattle.pmp_core.specs.RegisterFile.{entry_at, is_frozen, is_held};
+ghost use Rattle.pmp_core.specs.RegisterFile.{IsLegal, entry_at, is_frozen, is_held};
 ghost use Rattle.pmp_core.specs.RegisterValue.{configuration_word, register_value};
 ghost use Rattle.pmp_core.specs.RegisterWrite.{is_address_frozen, is_any_locked};
 ghost use Rattle.pmp_core.specs.SavedRegisters.{restored_file};
@@ -76,6 +76,7 @@ impl<'a> Registers<'a> {
     pub fn count(&self) -> usize
         ensures count { result ≡ length self.now.entries }
         ensures most { result ≤ MAX_ENTRIES }
+        ensures legal { IsLegal self.now }
     {
         usize::from(self.hart.entries())
     }

@@ -26,8 +26,9 @@ pub struct SavedRegisters {
 
 impl SavedRegisters {
     /// The registers that reset leaves on this hart.
-    pub(crate) fn reset_on(hart: Hart) -> SavedRegisters
-        ensures { result ≡ saved_registers (reset_file hart) }
+    pub fn reset_on(hart: Hart) -> SavedRegisters
+        ensures saved { result ≡ saved_registers (reset_file hart) }
+        ensures restored { restored_file result ≡ reset_file hart }
     {
         SavedRegisters {
             addresses: [0; MAX_ENTRIES],
@@ -39,7 +40,8 @@ impl SavedRegisters {
 
     /// The numbers that the same registers are saved as: each as it is stored, and zeros past the last entry.
     pub fn canonical(&self) -> SavedRegisters
-        ensures { result ≡ saved_registers (restored_file self.now) }
+        ensures saved { result ≡ saved_registers (restored_file self.now) }
+        ensures restored { restored_file result ≡ restored_file self.now }
     {
         let registers = Registers::of(self);
         let mut addresses = [0; MAX_ENTRIES];

@@ -1,14 +1,16 @@
 use Rattle.std.proofs.Common.{◌≡◌, ℕ, ◌≤◌, length, refl, ap, ◌∙◌, arith}
 use Rattle.std.proofs.lemmas.List.{get_or-replicate}
 use Rattle.pmp_core.specs.declared.entry.Entry.{Entry}
+use Rattle.pmp_core.specs.declared.saved_registers.SavedRegisters.{SavedRegisters}
 use Rattle.pmp_core.specs.Configuration.{byte_of}
 use Rattle.pmp_core.specs.Hart.{Profile}
 use Rattle.pmp_core.specs.Mseccfg.{mseccfg_value}
 use Rattle.pmp_core.specs.RegisterFile.{RegisterFile, reset_entry, entry_at}
 use Rattle.pmp_core.specs.SavedRegisters.{hart_number, restored_file, saved_registers}
 use Rattle.pmp_core.proofs.Restored.{entry_past}
-use Rattle.pmp_core.proofs.Saved.{filled}
+use Rattle.pmp_core.proofs.Saved.{filled, restored_legal, restored_saved}
 use Rattle.pmp_core.proofs.saved_registers.SavedRegisters.canonical.Goals as goal
+use Rattle.pmp_core.proofs.saved_registers.SavedRegisters.canonical.Goals.{After-number}
 
 pub loop-place-init : goal.loop-place-init
 loop-place-init c = (
@@ -24,9 +26,14 @@ loop-place-init c = (
   },
 )
 
-pub returns : goal.returns
+saved : (c : After-number) → (let numbers : SavedRegisters = record {
+  addresses = c.loop-place.addresses;
+  configurations = c.loop-place.configurations;
+  mseccfg = c.value.result;
+  entries = c.number.result;
+} in numbers ≡ saved_registers (restored_file c.args.self.now))
 unfolding saved_registers
-returns c =
+saved c =
     let loop = c.loop-place in
     let file = restored_file c.args.self.now in
     let is = c.of-registers.ensures in
@@ -45,3 +52,10 @@ returns c =
       c.value.ensures ∙ ap mseccfg_value (c.fields.ensures ∙ ap (λ (f : RegisterFile). f.mseccfg) is),
       c.number.ensures ∙ ap hart_number (c.hart.ensures ∙ ap (λ (f : RegisterFile). f.profile) is),
     ) refl
+
+pub returns-clause-saved : goal.returns-clause-saved
+returns-clause-saved c = saved (goal.at.returns-clause-saved c).After-number
+
+pub returns-clause-restored : goal.returns-clause-restored
+returns-clause-restored c = ap restored_file (saved (goal.at.returns-clause-restored c).After-number)
+    ∙ restored_saved (restored_file c.args.self.now) (restored_legal c.args.self.now)

@@ -66,7 +66,7 @@ returns c =
     let saved : (s : SavedRegisters) → s ≡ saved_registers (file e) → with s ≡ saved_registers after =
     λ s same. ap with same ∙ mseccfg_saved (file e) (wanted e) c.value-self.result value in
     let restored : restored_file (with c.if-new.self) ≡ after = elim c.if-new.branch [
-      | then-new+then-not-old w ↦ ap restored_file (saved c.if-new.self (w.self-is ∙ w.canonical.ensures))
+      | then-new+then-not-old w ↦ ap restored_file (saved c.if-new.self (w.self-is ∙ w.canonical.ensures.saved))
           ∙ restored_saved after (step_legal (file e) (restored_legal before) (Write Mseccfg c.args.value))
       | else-new w ↦ ap (λ (s : SavedRegisters). restored_file (with s)) w.self-is
           ∙ mseccfg_restored before (wanted e) c.value-self.result value
@@ -81,7 +81,7 @@ returns c =
     ] in
     let as_saved : saved_registers (file e) ≡ before → c.if-new.self ≡ saved_registers (file e) = λ canonical.
     elim c.if-new.branch [
-      | then-new+then-not-old w ↦ w.self-is ∙ w.canonical.ensures
+      | then-new+then-not-old w ↦ w.self-is ∙ w.canonical.ensures.saved
       | else-new w ↦ w.self-is ∙ sym canonical
     ] in
     record {
