@@ -5,14 +5,11 @@ use Rattle.std.specs.Prelude.{IfSome}
 use Rattle.std.proofs.Math.ListN.{set}
 use Rattle.std.proofs.lemmas.Bool.{cases_lt}
 use Rattle.pmp_core.specs.declared.access.TheConstants.{ADDRESS_LIMIT}
-use Rattle.pmp_core.specs.declared.saved_registers.SavedRegisters.{SavedRegisters}
-use Rattle.pmp_core.specs.RegisterFile.{RegisterFile}
+use Rattle.pmp_core.specs.RegisterFile.{IsLegal, RegisterFile}
 use Rattle.pmp_core.specs.Ranges.{ranges_of}
-use Rattle.pmp_core.specs.SavedRegisters.{restored_file}
 use Rattle.pmp_core.proofs.Matches.{are_ranges}
 use Rattle.pmp_core.proofs.Places.{length-ranges_of}
-use Rattle.pmp_core.proofs.InPlace.{count_in, few_in, length_in}
-use Rattle.pmp_core.proofs.Saved.{restored_addresses}
+use Rattle.pmp_core.proofs.Legal.{legal_addresses}
 use Rattle.pmp_map.specs.declared.run.Run.{Run}
 use Rattle.pmp_map.specs.declared.run.TheConstants.{RUNS}
 use Rattle.pmp_map.specs.declared.search.TheConstants.{PLACES}
@@ -46,17 +43,14 @@ none_swept file starts rows long wide = record {
   wide = wide;
 }
 
-module _ (saved : SavedRegisters) where
-  abbrev file : RegisterFile
-  file = restored_file saved
-
+module _ (file : RegisterFile) (legal : IsLegal file) where
   few_ranges : length (ranges_of file) ≤ 64
-  few_ranges = omega (arith, length-ranges_of file.profile file.entries, length_in saved, few_in saved)
+  few_ranges = omega (arith, length-ranges_of file.profile file.entries, legal.count, legal.profile.few)
 
   pub owner_in : (first : ℕ) (owner : Option ℕ) → IsOwnerIn (ranges_of file) first owner
-      → IfSome owner (λ i. i < count_in saved)
+      → IfSome owner (λ i. i < length file.entries)
   owner_in first owner owned =
-      rw (length-ranges_of file.profile file.entries ∙ length_in saved) at (owner_below (ranges_of file) first owner owned)
+      rw (length-ranges_of file.profile file.entries) at (owner_below (ranges_of file) first owner owned)
 
   module _ (starts : List ℕ) (rows : List (List ℕ)) (first place : ℕ)
       (swept : IsSweptTo file starts rows first place) where
@@ -156,7 +150,7 @@ module _ (saved : SavedRegisters) where
       → IsSweptTo file tables.starts tables.rows ADDRESS_LIMIT place
       → ((k : ℕ) → place ≤ k → k < PLACES → slice_index tables.starts k ≡ ADDRESS_LIMIT) → AreTables file tables
   swept_tables tables place runs swept padded =
-      let addresses = (restored_addresses saved) in
+      let addresses = legal_addresses file legal in
       record {
         list = swept.list;
         addresses = addresses;

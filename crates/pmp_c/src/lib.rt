@@ -27,7 +27,6 @@ ghost use Rattle.pmp_c.specs.Unit.{file_of_unit, IsUnit};
 
 mod answer;
 pub mod laws;
-mod reasons;
 mod request;
 mod rights;
 mod row;
@@ -39,7 +38,7 @@ use crate::answer::{NO_CAUSE, no_access};
 use crate::request::Request;
 use crate::rights::NO_RANGE;
 use crate::status::{CHANGED, REASONS, TAKEN, csr_of, refusal_status};
-use pmp_core::{ADDRESS_LIMIT, RegFile, SavedRegisters};
+use pmp_core::{ADDRESS_LIMIT, Hart, SavedRegisters};
 pub use tables::Tables;
 pub use unit::Unit;
 
@@ -52,9 +51,7 @@ pub extern "C" fn tilvenka_pmp_reset(unit: &mut Unit, entries: u64)
     ensures unbuilt { unit.new.map.runs ≡ 0 }
     ensures unit { IsUnit unit.new }
 {
-    unit.registers.entries = entries;
-    let hart = unit.registers.hart();
-    unit.set_file(&RegFile::reset_on(hart));
+    unit.set_registers(SavedRegisters::reset_on(Hart::from_number(entries)));
 }
 
 /// Writes a register (Volume II, 3.7.1 and Smepmp), by its CSR number. Answers 1 for an odd `pmpcfg` and 2 for what is
@@ -198,7 +195,7 @@ pub extern "C" fn tilvenka_pmp_save(unit: &Unit, registers: &mut SavedRegisters)
     ensures saved { registers.new ≡ saved_registers (file_of_unit unit.now) }
     ensures restored { restored_file registers.new ≡ file_of_unit unit.now }
 {
-    *registers = unit.file().save();
+    *registers = unit.registers.canonical();
 }
 
 /// Sets the registers: every choice of numbers stands for a unit. The map is then to be built again.
@@ -209,5 +206,5 @@ pub extern "C" fn tilvenka_pmp_restore(unit: &mut Unit, registers: &SavedRegiste
     ensures unbuilt { unit.new.map.runs ≡ 0 }
     ensures unit { IsUnit unit.new }
 {
-    unit.set_file(&RegFile::restore(registers));
+    unit.set_registers(registers.canonical());
 }

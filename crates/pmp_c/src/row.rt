@@ -1,28 +1,27 @@
 //! What accesses are answered whose bytes have one owner.
 
-ghost use Rattle.std.specs.Prelude.{◌≡◌, ◌<◌, IfSome};
+ghost use Rattle.std.specs.Prelude.{◌≡◌, ◌<◌, IfSome, length};
 ghost use Rattle.pmp_core.specs.declared.access.Mode.{Mode};
 ghost use Rattle.pmp_core.specs.RegisterFile.{RegisterFile};
 ghost use Rattle.pmp_core.specs.Rights.{perms_of};
-ghost use Rattle.pmp_core.specs.SavedRegisters.{hart_in, restored_file};
 ghost use Rattle.pmp_map.specs.Answers.{owned_rights};
 ghost use Rattle.pmp_c.specs.Rows.{IsRow, owned_answer};
 
 use crate::answer::{NO_CAUSE, number_by};
-use pmp_core::{Kind, Mode, Perms, PlainRegisters};
+use pmp_core::{Kind, Mode, Perms, Registers};
 use pmp_map::whole_cause;
 
 /// An answer for each mode and kind: at 4 times the mode's level, and the kind's number. There is no level 2.
 pub type Row = [u16; 16];
 
 /// What the owner's rule allows the mode, or the default where there is no owner.
-pub fn owned_rights(plain: &PlainRegisters, owner: Option<u8>, mode: Mode) -> Perms
-    requires { IfSome owner (λ entry. entry < (hart_in plain.now.saved.now).entries) }
-    ensures { result ≡ perms_of (owned_rights (restored_file plain.now.saved.now) owner mode) }
+pub fn owned_rights(registers: &Registers, owner: Option<u8>, mode: Mode) -> Perms
+    requires { IfSome owner (λ entry. entry < length registers.now.entries) }
+    ensures { result ≡ perms_of (owned_rights registers.now owner mode) }
 {
     match owner {
-        Some(entry) => plain.rights(entry, mode),
-        None => plain.default_rights(mode),
+        Some(entry) => registers.rights(usize::from(entry), mode),
+        None => registers.default_rights(mode),
     }
 }
 
@@ -36,12 +35,12 @@ fn owned_answer(owner: Option<u8>, rights: Perms, kind: Kind) -> u16
 }
 
 /// The answers where all bytes have this owner. Supervisor and user mode have the same.
-pub fn row_of(plain: &PlainRegisters, owner: Option<u8>) -> Row
-    requires { IfSome owner (λ entry. entry < (hart_in plain.now.saved.now).entries) }
-    ensures { IsRow (restored_file plain.now.saved.now) owner result }
+pub fn row_of(registers: &Registers, owner: Option<u8>) -> Row
+    requires { IfSome owner (λ entry. entry < length registers.now.entries) }
+    ensures { IsRow registers.now owner result }
 {
-    let others = owned_rights(plain, owner, Mode::U);
-    let machine = owned_rights(plain, owner, Mode::M);
+    let others = owned_rights(registers, owner, Mode::U);
+    let machine = owned_rights(registers, owner, Mode::M);
     let fetch = owned_answer(owner, others, Kind::Fetch);
     let load = owned_answer(owner, others, Kind::Load);
     let store = owned_answer(owner, others, Kind::Store);
@@ -67,13 +66,13 @@ pub fn row_of(plain: &PlainRegisters, owner: Option<u8>) -> Row
 
 /// The same, of which that without owner is known.
 #[inline]
-pub fn row_by(plain: &PlainRegisters, unowned: &Row, owner: Option<u8>) -> Row
-    requires owner { IfSome owner (λ entry. entry < (hart_in plain.now.saved.now).entries) }
-    requires unowned { IsRow (restored_file plain.now.saved.now) None unowned.now }
-    ensures { IsRow (restored_file plain.now.saved.now) owner result }
+pub fn row_by(registers: &Registers, unowned: &Row, owner: Option<u8>) -> Row
+    requires owner { IfSome owner (λ entry. entry < length registers.now.entries) }
+    requires unowned { IsRow registers.now None unowned.now }
+    ensures { IsRow registers.now owner result }
 {
     match owner {
-        Some(entry) => row_of(plain, Some(entry)),
+        Some(entry) => row_of(registers, Some(entry)),
         None => *unowned,
     }
 }

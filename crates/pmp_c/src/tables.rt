@@ -3,9 +3,9 @@
 ghost use Rattle.std.specs.Prelude.{◌≡◌, ◌+◌, ◌<◌, ◌≤◌, length, slice_index};
 ghost use Rattle.pmp_core.specs.declared.access.Access.{Access};
 ghost use Rattle.pmp_core.specs.declared.access.Mode.{Mode};
-ghost use Rattle.pmp_core.specs.RegisterFile.{RegisterFile};
-ghost use Rattle.pmp_core.specs.Ranges.{decision_of, ranges_of};
-ghost use Rattle.pmp_core.specs.SavedRegisters.{hart_in, restored_file};
+ghost use Rattle.pmp_core.specs.RegisterFile.{IsLegal, RegisterFile};
+ghost use Rattle.pmp_core.specs.Ranges.{decision_of};
+ghost use Rattle.pmp_core.specs.SavedRegisters.{restored_file};
 ghost use Rattle.pmp_map.specs.declared.run.TheConstants.{RUNS};
 ghost use Rattle.pmp_map.specs.declared.search.TheConstants.{PLACES};
 ghost use Rattle.pmp_c.specs.Answer.{answer_number};
@@ -21,7 +21,7 @@ use crate::request::{Request, kind_of};
 use crate::rights::{MIXED, row_answer, row_rights};
 use crate::row::{Row, row_by, row_of};
 use crate::unit::Around;
-use pmp_core::{ADDRESS_LIMIT, ByteRange, ENTRIES, MAX_ENTRIES, PlainRegisters, SavedRegisters};
+use pmp_core::{ADDRESS_LIMIT, ByteRange, ENTRIES, MAX_ENTRIES, Registers, SavedRegisters};
 use pmp_map::{PLACES, place_among_six, place_of, stretch_from};
 
 /// Tables with no more runs than this are searched by one count.
@@ -56,19 +56,20 @@ impl Tables {
     /// Writes the runs of the registers into the first places, from one change of owner to the next, and answers how
     /// many there are.
     #[inline(always)]
-    fn sweep(&mut self, plain: &PlainRegisters, ranges: &[ByteRange]) -> usize
-        requires { ranges.now ≡ ranges_of (restored_file plain.now.saved.now) }
-        ensures swept { let file = restored_file plain.now.saved.now in
-            IsSweptTo file self.new.starts self.new.rows ADDRESS_LIMIT result }
+    fn sweep(&mut self, registers: &Registers, ranges: &mut [ByteRange]) -> usize
+        requires { length ranges.old ≡ length registers.now.entries }
+        ensures swept { IsSweptTo registers.now self.new.starts self.new.rows ADDRESS_LIMIT result }
         ensures few { result ≤ RUNS }
+        ensures legal { IsLegal registers.now }
     {
-        let unowned = row_of(plain, None);
+        registers.decode(ranges, 0..registers.count());
+        let unowned = row_of(registers, None);
         let mut place = 0;
         let mut first = 0;
         while first < ADDRESS_LIMIT {
             let stretch = stretch_from(ranges, first);
             self.starts[place] = first;
-            self.rows[place] = row_by(plain, &unowned, stretch.owner);
+            self.rows[place] = row_by(registers, &unowned, stretch.owner);
             place += 1;
             first = stretch.end;
         }
@@ -77,12 +78,11 @@ impl Tables {
 
     /// Makes them the tables of the registers, in whose ranges' room there are as many as the hart has entries.
     #[inline(always)]
-    fn fill_by(&mut self, plain: &PlainRegisters, ranges: &mut [ByteRange])
-        requires { length ranges.old ≡ (hart_in plain.now.saved.now).entries }
-        ensures { AreTables (restored_file plain.now.saved.now) self.new }
+    fn fill_by(&mut self, registers: &Registers, ranges: &mut [ByteRange])
+        requires { length ranges.old ≡ length registers.now.entries }
+        ensures { AreTables registers.now self.new }
     {
-        plain.saved.decode(ranges);
-        let runs = self.sweep(plain, ranges);
+        let runs = self.sweep(registers, ranges);
         self.runs = runs as u64;
         for place in runs..PLACES {
             self.starts[place] = ADDRESS_LIMIT;
@@ -91,15 +91,15 @@ impl Tables {
 
     /// Makes them the tables of the registers. Sixteen entries have a pass of their own, and so have sixty-four, over
     /// as many as are known when it is compiled.
-    pub fn fill(&mut self, registers: &SavedRegisters)
-        ensures { AreTables (restored_file registers.now) self.new }
+    pub fn fill(&mut self, numbers: &SavedRegisters)
+        ensures { AreTables (restored_file numbers.now) self.new }
     {
-        let plain = PlainRegisters::of(registers);
+        let registers = Registers::of(numbers);
         let mut decoded = [ByteRange::EMPTY; MAX_ENTRIES];
-        match plain.count() {
-            ENTRIES => self.fill_by(&plain, &mut decoded[..ENTRIES]),
-            MAX_ENTRIES => self.fill_by(&plain, &mut decoded[..MAX_ENTRIES]),
-            count => self.fill_by(&plain, &mut decoded[..count]),
+        match registers.count() {
+            ENTRIES => self.fill_by(&registers, &mut decoded[..ENTRIES]),
+            MAX_ENTRIES => self.fill_by(&registers, &mut decoded[..MAX_ENTRIES]),
+            count => self.fill_by(&registers, &mut decoded[..count]),
         }
     }
 

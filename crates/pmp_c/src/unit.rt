@@ -4,9 +4,10 @@ ghost use Rattle.std.specs.Prelude.{◌≡◌, ◌+◌, ◌<◌, ◌≤◌, true
 ghost use Rattle.pmp_core.specs.declared.access.Access.{Access};
 ghost use Rattle.pmp_core.specs.declared.access.Mode.{Mode};
 ghost use Rattle.pmp_core.specs.Ranges.{decision_of};
-ghost use Rattle.pmp_core.specs.SavedRegisters.{saved_registers};
+ghost use Rattle.pmp_core.specs.SavedRegisters.{IsCanonical};
 ghost use Rattle.pmp_c.specs.Answer.{answer_number, no_access};
 ghost use Rattle.pmp_c.specs.RangeRights.{IsRangeOf, AreRangeRights};
+ghost use Rattle.pmp_core.specs.RegisterValue.{register_value};
 ghost use Rattle.pmp_core.specs.RegisterWrite.{written};
 ghost use Rattle.pmp_c.specs.Reasons.{reasons_number};
 ghost use Rattle.pmp_c.specs.Request.{IsNamed, mode_number};
@@ -15,12 +16,11 @@ ghost use Rattle.pmp_c.specs.Unit.{file_of_unit, IsUnit, IsChanged};
 ghost use Rattle.pmp_core.specs.declared.access.TheConstants.{ADDRESS_LIMIT};
 
 use crate::answer::{answer_number, no_access};
-use crate::reasons::{address_reasons, reasons_between};
 use crate::request::{Request, access_of};
 use crate::rights::{MIXED, row_answer, row_rights};
 use crate::row::row_of;
 use crate::tables::Tables;
-use pmp_core::{ByteRange, Csr, MAX_ENTRIES, PlainRegisters, RegFile, SavedRegisters};
+use pmp_core::{ByteRange, Csr, MAX_ENTRIES, Registers, SavedRegisters};
 use pmp_map::{run_around, stretch_from};
 
 /// A unit. All zero it is one of sixteen entries after reset, whose map isn't built.
@@ -52,60 +52,48 @@ pub struct Around {
 }
 
 impl Unit {
-    /// The unit's register file.
-    pub fn file(&self) -> RegFile
-        ensures { result ≡ file_of_unit self.now }
-    {
-        RegFile::restore(&self.registers)
-    }
-
-    /// Sets the registers to those of the file, and empties the map.
-    pub fn set_file(&mut self, file: &RegFile)
-        ensures file { file_of_unit self.new ≡ file.now }
-        ensures registers { self.new.registers ≡ saved_registers file.now }
+    /// Sets the registers, and empties the map.
+    pub fn set_registers(&mut self, registers: SavedRegisters)
+        ensures registers { self.new.registers ≡ registers }
         ensures unbuilt { self.new.map.runs ≡ 0 }
         ensures unit { IsUnit self.new }
     {
-        self.registers = file.save();
+        self.registers = registers;
         self.map.runs = 0;
     }
 
-    /// Sets a register as a write does, and answers whether that changed any. If so the map is empty then.
-    #[inline]
-    fn set(&mut self, csr: Csr, value: u64) -> bool
-        ensures written { file_of_unit self.new ≡ written (file_of_unit self.old) csr value }
-        ensures unit { IsUnit self.old → IsUnit self.new }
-        ensures same { result ≡ false → self.new ≡ self.old }
-        ensures changed { result ≡ true → IsChanged self.old self.new }
+    /// Why the register wouldn't read the value, if it were written now, and read this then: a bit for each reason.
+    #[inline(always)]
+    fn reasons(&self, csr: Csr, value: u64, reads: u64) -> u32
+        requires { reads ≡ register_value (written (file_of_unit self.now) csr value) csr }
+        ensures reasons { result ≡ reasons_number (file_of_unit self.now) csr value }
+        ensures most { result ≤ 511 }
     {
-        let is_changed = self.registers.write(csr, value);
-        if is_changed {
-            self.map.runs = 0;
+        if reads == value {
+            0
+        } else {
+            let reasons = Registers::of(&self.registers).reasons(csr, value);
+            u32::from(reasons.bits())
         }
-        is_changed
     }
 
-    /// Writes a register.
+    /// Writes a register. Where that changes any, the map is empty then.
     #[inline]
     pub fn write(&mut self, csr: Csr, value: u64) -> Written
         ensures written { file_of_unit self.new ≡ written (file_of_unit self.old) csr value }
         ensures unit { IsUnit self.old → IsUnit self.new }
+        ensures canonical { IsCanonical self.old.registers → IsCanonical self.new.registers }
         ensures same { result.is_changed ≡ false → self.new ≡ self.old }
         ensures changed { result.is_changed ≡ true → IsChanged self.old self.new }
         ensures reasons { result.reasons ≡ reasons_number (file_of_unit self.old) csr value }
         ensures most { result.reasons ≤ 511 }
     {
-        if let Csr::Addr(register) = csr {
-            let reasons = address_reasons(&self.registers, register, value);
-            let is_changed = self.set(csr, value);
-            return Written {
-                is_changed,
-                reasons,
-            };
+        let reads = self.registers.value_after(csr, value);
+        let reasons = self.reasons(csr, value, reads);
+        let is_changed = self.registers.write(csr, value, reads);
+        if is_changed {
+            self.map.runs = 0;
         }
-        let before = self.registers;
-        let is_changed = self.set(csr, value);
-        let reasons = reasons_between(&before, &self.registers, csr, value);
         Written {
             is_changed,
             reasons,
@@ -171,13 +159,14 @@ impl Unit {
         ensures { (named : Mode) → IsRangeOf named mode start length
             → AreRangeRights (file_of_unit self.now) named start length result }
     {
+        let registers = Registers::of(&self.registers);
         let mut decoded = [ByteRange::EMPTY; MAX_ENTRIES];
-        let ranges = &mut decoded[..self.registers.count()];
-        self.registers.decode(ranges);
+        let count = registers.count();
+        let ranges = &mut decoded[..count];
+        registers.decode(ranges, 0..count);
         let stretch = stretch_from(ranges, start);
         if start + length <= stretch.end {
-            let plain = PlainRegisters::of(&self.registers);
-            row_rights(&row_of(&plain, stretch.owner), mode)
+            row_rights(&row_of(&registers, stretch.owner), mode)
         } else {
             MIXED
         }
@@ -208,15 +197,16 @@ impl Unit {
         ensures { (named : Mode) → mode_number named ≡ mode
             → IsRunAnswer (file_of_unit self.now) named byte result.first result.last result.answer }
     {
+        let registers = Registers::of(&self.registers);
         let mut decoded = [ByteRange::EMPTY; MAX_ENTRIES];
-        let ranges = &mut decoded[..self.registers.count()];
-        self.registers.decode(ranges);
+        let count = registers.count();
+        let ranges = &mut decoded[..count];
+        registers.decode(ranges, 0..count);
         let run = run_around(ranges, byte);
-        let plain = PlainRegisters::of(&self.registers);
         Around {
             first: run.first,
             last: run.last,
-            answer: row_answer(&row_of(&plain, run.owner), mode),
+            answer: row_answer(&row_of(&registers, run.owner), mode),
         }
     }
 

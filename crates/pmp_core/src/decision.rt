@@ -3,10 +3,12 @@
 ghost use Rattle.std.specs.Prelude.{◌≡◌, ◌<◌, ◌≤◌, length};
 ghost use Rattle.pmp_core.specs.FaultCode.{access_fault_code, fault_of};
 ghost use Rattle.pmp_core.specs.Ranges.{decision_in, decision_of};
+ghost use Rattle.pmp_core.specs.SavedRegisters.{restored_file};
 
 use crate::access::{Access, Kind};
 use crate::range::ByteRange;
 use crate::registers::Registers;
+use crate::saved_registers::SavedRegisters;
 
 /// Why an access was allowed or refused.
 #[derive(Clone, Copy, Debug, PartialEq, Eq, Default)]
@@ -89,5 +91,27 @@ impl<'a> Registers<'a> {
             allowed: self.default_rights(access.mode).allows(access.kind),
             cause: Cause::NoMatch,
         }
+    }
+}
+
+impl SavedRegisters {
+    /// Decides an access, in one pass over the entries.
+    #[inline]
+    pub fn decide(&self, access: &Access) -> Decision
+        ensures { result ≡ decision_of (restored_file self.now) access.now }
+    {
+        match Registers::on_standard(self) {
+            Some(registers) => registers.decide(access),
+            None => self.decide_on_any(access),
+        }
+    }
+
+    /// The same on any hart, out of the way of the other pass.
+    #[cold]
+    #[inline(never)]
+    fn decide_on_any(&self, access: &Access) -> Decision
+        ensures { result ≡ decision_of (restored_file self.now) access.now }
+    {
+        Registers::of(self).decide(access)
     }
 }

@@ -345,7 +345,8 @@ fn write_stored(
     ensures written { restored_file numbers.new ≡ written (restored_file numbers.old) csr value }
     ensures stored { IsStored numbers.new ranges.new }
 {
-    if numbers.write(csr, value) {
+    let reads = numbers.value_after(csr, value);
+    if numbers.write(csr, value, reads) {
         decode_stored(numbers, ranges, changed_by(csr));
     }
 }

@@ -141,21 +141,30 @@ impl<'a> Registers<'a> {
 }
 
 impl SavedRegisters {
-    /// Writes a configuration register, and returns whether that changed it.
-    fn write_configurations(&mut self, register: u8, value: u64) -> bool
+    /// What the register reads once the value is written to it.
+    #[inline(always)]
+    pub fn value_after(&self, csr: Csr, value: u64) -> u64
+        ensures { result ≡ register_value (written (restored_file self.now) csr value) csr }
+    {
+        match Registers::on_standard(self) {
+            Some(registers) => registers.value_after(csr, value),
+            None => Registers::of(self).value_after(csr, value),
+        }
+    }
+
+    /// Writes a configuration register, which then reads this word, and returns whether that changed it.
+    fn write_configurations(&mut self, register: u8, value: u64, word: u64) -> bool
+        requires { let csr = Csr.Cfg register in word ≡ register_value (written (restored_file self.old) csr value) csr }
         ensures written { restored_file self.new ≡ written (restored_file self.old) (Csr.Cfg register) value }
         ensures canonical { IsCanonical self.old → IsCanonical self.new }
         ensures same { result ≡ false → self.new ≡ self.old }
         ensures changed { result ≡ true → restored_file self.new ≢ restored_file self.old }
     {
-        let registers = Registers::of(self);
-        let csr = Csr::Cfg(register);
-        let word = registers.value_after(csr, value);
-        if word == registers.read(csr) {
+        if word == self.read(Csr::Cfg(register)) {
             return false;
         }
         let first = 4 * usize::from(register);
-        let end = registers.count().min(first + ENTRIES_PER_CFG);
+        let end = Registers::of(self).count().min(first + ENTRIES_PER_CFG);
         let bytes = word.to_le_bytes();
         for index in first..end {
             self.configurations[index] = bytes[index - first];
@@ -184,39 +193,39 @@ impl SavedRegisters {
         true
     }
 
-    /// Writes `mseccfg`, and returns whether that changed it. Once MML is set a byte may stand for other rights, so
-    /// each becomes the one that is stored.
-    fn write_mseccfg(&mut self, value: u64) -> bool
+    /// Writes `mseccfg`, which then reads this, and returns whether that changed it. Once MML is set a byte may stand
+    /// for other rights, so each becomes the one that is stored.
+    fn write_mseccfg(&mut self, value: u64, reads: u64) -> bool
+        requires { reads ≡ register_value (written (restored_file self.old) Csr.Mseccfg value) Csr.Mseccfg }
         ensures written { restored_file self.new ≡ written (restored_file self.old) Csr.Mseccfg value }
         ensures canonical { IsCanonical self.old → IsCanonical self.new }
         ensures same { result ≡ false → self.new ≡ self.old }
         ensures changed { result ≡ true → restored_file self.new ≢ restored_file self.old }
     {
-        let registers = Registers::of(self);
-        let old = registers.fields();
-        let new = registers.fields_after(value);
-        if new.value() == old.value() {
+        let old = Registers::of(self).fields();
+        if reads == old.value() {
             return false;
         }
-        if new.mml && !old.mml {
+        if MseccfgFields::from_value(reads).mml && !old.mml {
             *self = self.canonical();
         }
-        self.mseccfg = new.value();
+        self.mseccfg = reads;
         true
     }
 
-    /// Writes a register, and returns whether that changed any.
+    /// Writes a register, which then reads what `value_after` says, and returns whether that changed any.
     #[inline]
-    pub fn write(&mut self, csr: Csr, value: u64) -> bool
+    pub fn write(&mut self, csr: Csr, value: u64, reads: u64) -> bool
+        requires { reads ≡ register_value (written (restored_file self.old) csr value) csr }
         ensures written { restored_file self.new ≡ written (restored_file self.old) csr value }
         ensures canonical { IsCanonical self.old → IsCanonical self.new }
         ensures same { result ≡ false → self.new ≡ self.old }
         ensures changed { result ≡ true → restored_file self.new ≢ restored_file self.old }
     {
         match csr {
-            Csr::Cfg(register) => self.write_configurations(register, value),
+            Csr::Cfg(register) => self.write_configurations(register, value, reads),
             Csr::Addr(register) => self.write_address(register, value),
-            Csr::Mseccfg => self.write_mseccfg(value),
+            Csr::Mseccfg => self.write_mseccfg(value, reads),
         }
     }
 }

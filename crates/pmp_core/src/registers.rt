@@ -245,3 +245,16 @@ impl<'a> Registers<'a> {
         false
     }
 }
+
+impl SavedRegisters {
+    /// The value of a register.
+    #[inline(always)]
+    pub fn read(&self, csr: Csr) -> u64
+        ensures { result ≡ register_value (restored_file self.now) csr }
+    {
+        match Registers::on_standard(self) {
+            Some(registers) => registers.read(csr),
+            None => Registers::of(self).read(csr),
+        }
+    }
+}

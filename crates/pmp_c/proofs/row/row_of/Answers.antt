@@ -6,7 +6,6 @@ use Rattle.pmp_core.specs.declared.access.Kind.TheVariants.{Fetch, Load, Store}
 use Rattle.pmp_core.specs.RegisterFile.{RegisterFile}
 use Rattle.pmp_core.specs.declared.perms.Perms.{Perms}
 use Rattle.pmp_core.specs.Rights.{perms_of}
-use Rattle.pmp_core.specs.SavedRegisters.{restored_file}
 use Rattle.pmp_map.specs.Answers.{owned_rights}
 use Rattle.pmp_map.proofs.KeptRights.{rights_kept}
 use Rattle.pmp_c.specs.Columns.{column_of}
@@ -45,7 +44,7 @@ alike file owner rights is = is ∙ rights_kept file owner S
 
 pub returns : goal.returns
 returns c =
-    let file = restored_file c.args.plain.now.saved.now in
+    let file = c.args.registers.now in
     let user = c.owned_rights-others.ensures in
     let supervisor = alike file c.args.owner c.owned_rights-others.result user in
     record {

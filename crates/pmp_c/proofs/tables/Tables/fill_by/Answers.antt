@@ -2,12 +2,8 @@ use Rattle.std.proofs.Common.{◌≡◌, ◌≢◌, ◌<◌, length, refl, sym, 
 use Rattle.std.proofs.Common.{get_or-set_other, get_or-set_same}
 use Rattle.std.proofs.lemmas.Bool.{cases_lt}
 use Rattle.pmp_core.specs.declared.access.TheConstants.{ADDRESS_LIMIT}
-use Rattle.pmp_core.proofs.InPlace.{length_in}
 use Rattle.pmp_c.proofs.Filling.{padded_swept, swept_tables}
 use Rattle.pmp_c.proofs.tables.Tables.fill_by.Goals as goal
-
-pub decode-requires : goal.decode-requires
-decode-requires c = c.requires ∙ sym (length_in c.args.plain.now.saved.now)
 
 pub loop-place-init : goal.loop-place-init
 loop-place-init c = (c.sweep-runs.ensures.swept, refl, λ k from to. absurd (omega arith))
@@ -16,7 +12,7 @@ pub loop-place-preserved : goal.loop-place-preserved
 loop-place-preserved c =
     let loop = c.loop-place in
     let past = loop.auto.place in (
-      padded_swept c.args.plain.now.saved.now loop.self.starts loop.self.rows ADDRESS_LIMIT c.sweep-runs.result
+      padded_swept c.args.registers.now c.sweep-runs.ensures.legal loop.self.starts loop.self.rows ADDRESS_LIMIT c.sweep-runs.result
           loop.invariant.0 loop.place ADDRESS_LIMIT past,
       loop.invariant.1,
       λ k from to. elim (cases_lt k loop.place) [
@@ -32,5 +28,5 @@ loop-place-preserved c =
 pub returns : goal.returns
 returns c =
     let loop = c.loop-place in
-    swept_tables c.args.plain.now.saved.now loop.self c.sweep-runs.result loop.invariant.1 loop.invariant.0
+    swept_tables c.args.registers.now c.sweep-runs.ensures.legal loop.self c.sweep-runs.result loop.invariant.1 loop.invariant.0
     (λ k from to. loop.invariant.2 k from (omega arith))

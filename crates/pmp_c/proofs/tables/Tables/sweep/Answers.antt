@@ -1,9 +1,7 @@
 use Rattle.std.proofs.Common.{◌≡◌, ◌≢◌, ℕ, ◌<◌, Option, length, ap, arith}
 use Rattle.pmp_core.specs.declared.access.TheConstants.{ADDRESS_LIMIT}
 use Rattle.pmp_core.specs.Ranges.{ranges_of}
-use Rattle.pmp_core.specs.SavedRegisters.{restored_file}
 use Rattle.pmp_core.proofs.Places.{length-ranges_of}
-use Rattle.pmp_core.proofs.InPlace.{few_in, length_in}
 use Rattle.pmp_map.specs.declared.run.TheConstants.{RUNS}
 use Rattle.pmp_map.specs.Owners.{IsOwnerIn, OwnsBytes}
 use Rattle.pmp_c.specs.Tables.{IsSweptTo}
@@ -16,21 +14,26 @@ loop-first-init c = let told = c.told-self in none_swept _ _ _ told.0 told.1
 
 pub stretch_from-stretch-requires-clause-few : goal.stretch_from-stretch-requires-clause-few
 stretch_from-stretch-requires-clause-few c =
-    let saved = c.args.plain.now.saved.now in
-    omega (arith, ap length c.requires, length-ranges_of (restored_file saved).profile (restored_file saved).entries, length_in saved, few_in saved)
+    omega (
+      arith,
+      ap length c.decode.ensures,
+      length-ranges_of c.args.registers.now.profile c.args.registers.now.entries,
+      c.count.ensures.count,
+      c.count.ensures.most,
+    )
 
 module _ (c : After-stretch_from-stretch) where
-  owned : OwnsBytes (ranges_of (restored_file c.args.plain.now.saved.now)) c.loop-first.first
+  owned : OwnsBytes (ranges_of c.args.registers.now) c.loop-first.first
       c.stretch_from-stretch.result.end c.stretch_from-stretch.result.owner
-  owned = rw c.requires at c.stretch_from-stretch.ensures.owned
+  owned = rw c.decode.ensures at c.stretch_from-stretch.ensures.owned
 
   apart : c.stretch_from-stretch.result.end < ADDRESS_LIMIT → (other : Option ℕ)
-      → IsOwnerIn (ranges_of (restored_file c.args.plain.now.saved.now)) c.stretch_from-stretch.result.end other
+      → IsOwnerIn (ranges_of c.args.registers.now) c.stretch_from-stretch.result.end other
       → c.stretch_from-stretch.result.owner ≢ other
-  apart = rw c.requires at c.stretch_from-stretch.ensures.apart
+  apart = rw c.decode.ensures at c.stretch_from-stretch.ensures.apart
 
   few : c.loop-first.place < RUNS
-  few = room c.args.plain.now.saved.now c.loop-first.self.starts c.loop-first.self.rows c.loop-first.first c.loop-first.place
+  few = room c.args.registers.now c.count.ensures.legal c.loop-first.self.starts c.loop-first.self.rows c.loop-first.first c.loop-first.place
       c.loop-first.invariant c.stretch_from-stretch.result.end c.stretch_from-stretch.result.owner
       c.stretch_from-stretch.ensures.above c.loop-first-test.true c.stretch_from-stretch.ensures.bounded owned apart
 
@@ -54,13 +57,13 @@ overflow_add-place c = omega (arith, few (goal.at.overflow_add-place c).After-st
 pub row_by-requires-clause-owner : goal.row_by-requires-clause-owner
 row_by-requires-clause-owner c =
     let at = (goal.at.row_by-requires-clause-owner c).After-stretch_from-stretch in
-    owner_in c.args.plain.now.saved.now c.loop-first.first c.stretch_from-stretch.result.owner
+    owner_in c.args.registers.now c.count.ensures.legal c.loop-first.first c.stretch_from-stretch.result.owner
     (owned at c.loop-first.first (omega arith) c.stretch_from-stretch.ensures.above)
 
 pub loop-first-preserved : goal.loop-first-preserved
 loop-first-preserved c =
     let at = (goal.at.loop-first-preserved c).After-stretch_from-stretch in
-    one_more c.args.plain.now.saved.now c.loop-first.self.starts c.loop-first.self.rows c.loop-first.first c.loop-first.place
+    one_more c.args.registers.now c.count.ensures.legal c.loop-first.self.starts c.loop-first.self.rows c.loop-first.first c.loop-first.place
     c.loop-first.invariant c.stretch_from-stretch.result.end c.stretch_from-stretch.result.owner
     c.stretch_from-stretch.ensures.above c.loop-first-test.true c.stretch_from-stretch.ensures.bounded (owned at)
     (apart at) c.row_by.result c.row_by.ensures
@@ -69,7 +72,7 @@ pub returns : goal.returns
 returns c =
     let loop = c.loop-first in
     let whole : loop.first ≡ ADDRESS_LIMIT = omega (arith, loop.invariant.bounded, c.loop-first-test.false) in
-    let swept : IsSweptTo (restored_file c.args.plain.now.saved.now) loop.self.starts loop.self.rows ADDRESS_LIMIT
+    let swept : IsSweptTo c.args.registers.now loop.self.starts loop.self.rows ADDRESS_LIMIT
     loop.place =
     rw whole at loop.invariant in
-    record { swept = swept; few = few_swept c.args.plain.now.saved.now loop.self.starts loop.self.rows loop.place swept }
+    record { legal = c.count.ensures.legal; swept = swept; few = few_swept c.args.registers.now c.count.ensures.legal loop.self.starts loop.self.rows loop.place swept }

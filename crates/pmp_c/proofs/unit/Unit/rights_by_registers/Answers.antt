@@ -8,13 +8,13 @@ returns-then-start-length c = λ named range.
     let stretch = c.stretch_from-stretch in
     let saved = c.args.self.now.registers in
     stretch_rights saved named c.args.start c.args.length stretch.result.end stretch.result.owner range.full
-    stretch.ensures.above (rw c.decode.ensures at stretch.ensures.owned) c.if-start-length.true c.row_rights.result
-    (c.row_rights.ensures.rights (restored_file saved) stretch.result.owner named (rw c.of-plain.ensures at c.row_of.ensures) range.mode_is)
+    stretch.ensures.above (rw (c.decode.ensures, c.of-registers.ensures) at stretch.ensures.owned) c.if-start-length.true c.row_rights.result
+    (c.row_rights.ensures.rights (restored_file saved) stretch.result.owner named (rw c.of-registers.ensures at c.row_of.ensures) range.mode_is)
 
 pub returns-else-start-length : goal.returns-else-start-length
 returns-else-start-length c = λ named range.
     let stretch = c.stretch_from-stretch in
     let ends = range.inside in
     stretch_mixed c.args.self.now.registers named c.args.start c.args.length stretch.result.end stretch.result.owner
-    range.full stretch.ensures.above (rw c.decode.ensures at stretch.ensures.owned) c.if-start-length.false
-    (rw c.decode.ensures at (stretch.ensures.apart (omega (arith, c.if-start-length.false, ends))))
+    range.full stretch.ensures.above (rw (c.decode.ensures, c.of-registers.ensures) at stretch.ensures.owned) c.if-start-length.false
+    (rw (c.decode.ensures, c.of-registers.ensures) at (stretch.ensures.apart (omega (arith, c.if-start-length.false, ends))))

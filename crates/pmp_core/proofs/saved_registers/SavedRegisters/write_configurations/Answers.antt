@@ -12,21 +12,10 @@ use Rattle.pmp_core.proofs.saved_registers.SavedRegisters.write_configurations.G
 abbrev file : After-read → RegisterFile
 file c = restored_file c.args.self.now
 
--- what the register reads after the write, and what it reads now
-word_is : (c : After-read) → c.value_after-word.result
-    ≡ register_value (written (file c) (Cfg c.args.register) c.args.value) (Cfg c.args.register)
-word_is c = c.value_after-word.ensures
-    ∙ ap (λ (f : RegisterFile). register_value (written f (Cfg c.args.register) c.args.value) (Cfg c.args.register))
-    c.of-registers.ensures
-
-reads_is : (c : After-read) → c.read.result ≡ register_value (file c) (Cfg c.args.register)
-reads_is c = c.read.ensures
-    ∙ ap (λ (f : RegisterFile). register_value f (Cfg c.args.register)) c.of-registers.ensures
-
 pub returns-then-word-read-clause-written : goal.returns-then-word-read-clause-written
 returns-then-word-read-clause-written c =
     let r = (goal.at.returns-then-word-read-clause-written c).After-read in
-    reads_same (file r) c.args.register c.args.value (sym (word_is r) ∙ c.if-word-read.true ∙ reads_is r)
+    reads_same (file r) c.args.register c.args.value (sym c.requires ∙ c.if-word-read.true ∙ c.read.ensures)
 
 pub loop-index-init : goal.loop-index-init
 loop-index-init c = written_none c.args.self.now _ _ (omega arith)
@@ -42,20 +31,20 @@ returns c =
     let q = c.args.register in
     let loop = c.loop-index in
     let differs : register_value (written (file r) (Cfg q) c.args.value) (Cfg q) ≢ register_value (file r) (Cfg q) =
-    λ same. c.if-word-read.false (word_is r ∙ same ∙ sym (reads_is r)) in
+    λ same. c.if-word-read.false (c.requires ∙ same ∙ sym c.read.ensures) in
     let even = even_where (file r) q c.args.value differs in
-    let word : configuration_word (configurations_written (file r) q c.args.value) (4 * q) ≡ c.value_after-word.result =
-    sym (even_value (written (file r) (Cfg q) c.args.value) q even) ∙ sym (word_is r) in
+    let word : configuration_word (configurations_written (file r) q c.args.value) (4 * q) ≡ c.args.word =
+    sym (even_value (written (file r) (Cfg q) c.args.value) q even) ∙ sym c.requires in
     let count : c.count.result ≡ length (file r).entries =
-    c.count.ensures.count ∙ ap (λ (f : RegisterFile). length f.entries) c.of-registers.ensures in
+    c.count.ensures.count ∙ ap (λ (f : RegisterFile). length f.entries) c.of.ensures in
     let all : min (length (file r).entries) (4 * q + 8) ≤ loop.index =
     omega (arith, count, c.min-end.ensures, c.from-first.ensures, c.loop-index-test.false) in
     let done = rw (c.to_le_bytes-bytes.ensures, c.from-first.ensures) at loop.invariant in
-    let is = configurations_restored c.args.self.now loop.self q c.args.value c.value_after-word.result loop.index even
+    let is = configurations_restored c.args.self.now loop.self q c.args.value c.args.word loop.index even
     word all done in
     record {
       written = is;
-      canonical = configurations_canonical c.args.self.now loop.self q c.args.value c.value_after-word.result loop.index
+      canonical = configurations_canonical c.args.self.now loop.self q c.args.value c.args.word loop.index
           even word all done (omega arith);
       same = λ e. absurd cc;
       changed = λ _ same. differs (ap (λ (f : RegisterFile). register_value f (Cfg q)) (sym is ∙ same));
