@@ -174,7 +174,12 @@ impl RegFile {
         ensures entries { length self.new.entries ≡ length self.old.entries }
     {
         match event {
-            Event::Write(csr, value) => write_stored(&mut self.numbers, &mut self.ranges, csr, value),
+            Event::Write(csr, value) => write_stored(
+                &mut self.numbers,
+                &mut self.ranges,
+                csr,
+                value,
+            ),
             Event::Reset => self.reset_again(),
         }
     }

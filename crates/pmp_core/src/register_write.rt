@@ -51,12 +51,7 @@ fn admitted(old: Configuration, new: Configuration, mseccfg: &MseccfgFields) -> 
 }
 
 /// What a byte leaves that is written over a configuration.
-fn stored_over(
-    hart: Hart,
-    old: Configuration,
-    byte: u8,
-    mseccfg: &MseccfgFields,
-) -> Configuration
+fn stored_over(hart: Hart, old: Configuration, byte: u8, mseccfg: &MseccfgFields) -> Configuration
     ensures { result ≡ stored_over hart.grain mseccfg.now.mml mseccfg.now.rlb old byte }
 {
     if old.locked && !mseccfg.rlb {
@@ -73,13 +68,7 @@ impl<'a> Registers<'a> {
         ensures absent { length self.now.entries ≤ index → result ≡ 0 }
     {
         if index < self.count() {
-            stored_over(
-                self.hart(),
-                self.configuration(index),
-                byte,
-                &self.fields(),
-            )
-            .byte()
+            stored_over(self.hart(), self.configuration(index), byte, &self.fields()).byte()
         } else {
             0
         }

@@ -247,14 +247,32 @@ impl<'a> Registers<'a> {
 }
 
 impl SavedRegisters {
-    /// The value of a register.
+    /// The value of a register. That of an address register is read in place, which takes little room.
     #[inline(always)]
     pub fn read(&self, csr: Csr) -> u64
+        ensures { result ≡ register_value (restored_file self.now) csr }
+    {
+        match csr {
+            Csr::Addr(_) => self.read_here(csr),
+            _ => self.read_apart(csr),
+        }
+    }
+
+    /// The same, compiled for a standard hart and for any.
+    #[inline(always)]
+    fn read_here(&self, csr: Csr) -> u64
         ensures { result ≡ register_value (restored_file self.now) csr }
     {
         match Registers::on_standard(self) {
             Some(registers) => registers.read(csr),
             None => Registers::of(self).read(csr),
         }
+    }
+
+    #[inline(never)]
+    fn read_apart(&self, csr: Csr) -> u64
+        ensures { result ≡ register_value (restored_file self.now) csr }
+    {
+        self.read_here(csr)
     }
 }

@@ -220,8 +220,7 @@ impl<'a> Registers<'a> {
     fn is_some_entry_reason(&self, reason: WriteReason, csr: Csr, value: u64) -> bool
         ensures { result ≡ is_some_entry_reason reason self.now csr value }
     {
-        entries_of(csr, self.count())
-            .any(|index| self.is_entry_reason(reason, csr, value, index))
+        entries_of(csr, self.count()).any(|index| self.is_entry_reason(reason, csr, value, index))
     }
 
     /// Whether some reason holds for the entry.

@@ -28,7 +28,7 @@ loop-place-preserved c =
         | inr other ↦ rw get_or-set_other (loop.invariant.1 k (omega arith))
       ],
       λ k past. let other : k ≢ loop.place = omega arith in
-      rw get_or-set_other (loop.invariant.2 k (omega arith)),
+          rw get_or-set_other (loop.invariant.2 k (omega arith)),
     )
 
 pub returns : goal.returns
