@@ -26,7 +26,7 @@ pub mod InPlace
 mod InPlaceAddresses
 mod InPlaceConfigurations
 mod InPlaceSecurity
-pub mod Today
+pub mod Blocks
 pub mod EachReason
 pub mod WordBytes
 pub mod AbsentBytes
