@@ -26,7 +26,8 @@ enough_ones grain address k y spelled = elim (cases_lt (k + 1) grain) [
       let whole : ones ≡ 2 ^ more * unit = sym (ap (λ (m : ℕ). 2 ^ m) parts) ∙ pow-add 2 more (k + 1) in
       let q = address / ones + 1 in
       let product : q * ones ≡ q * 2 ^ more * unit = omega (arith, ap (λ (p : ℕ). q * p) whole) in
-      let same : q * 2 ^ more * unit ≡ y * unit + 2 ^ k = omega (arith, spelled, product, pow_pos (grain - 1), pow_pos k) in
+      let same : q * 2 ^ more * unit ≡ y * unit + 2 ^ k =
+      omega (arith, spelled, product, pow_pos (grain - 1), pow_pos k) in
       let short : 2 ^ k < unit = omega (arith, pow-add 2 k 1, pow_pos k) in
       let none : 0 ≡ 2 ^ k =
       sym (mul-mod_left (q * 2 ^ more) unit) ∙ ap (λ (n : ℕ). n % unit) same ∙ mod-mul-add y unit (2 ^ k) short in

@@ -35,24 +35,25 @@ use Rattle.pmp_core.proofs.Legal.{reset_at, configured_place, length-written, le
 use Rattle.pmp_core.proofs.Legal.{legal_addresses}
 use Rattle.pmp_core.proofs.Locks.{other_address, low_kept}
 
--- the same mseccfg, and the same entry at every place, which is a reset one from n on; on harts that are the same but for
--- the number of entries
+-- the same but for the number of entries
+record SameHart (one other : Profile) : Type 0 where
+  pub grain : one.grain ≡ other.grain
+  pub bits : one.address_bits ≡ other.address_bits
+  pub smepmp : one.has_smepmp ≡ other.has_smepmp
+
+-- the same mseccfg, and the same entry at every place, which is a reset one from n on
 record Alike (n : ℕ) (one other : RegisterFile) : Type 0 where
   pub mseccfg : one.mseccfg ≡ other.mseccfg
   pub entries : (i : ℕ) → entry_at one.entries i ≡ entry_at other.entries i
   pub rest : (i : ℕ) → n ≤ i → entry_at one.entries i ≡ reset_entry
-  pub grain : one.profile.grain ≡ other.profile.grain
-  pub bits : one.profile.address_bits ≡ other.profile.address_bits
-  pub smepmp : one.profile.has_smepmp ≡ other.profile.has_smepmp
+  pub hart : SameHart one.profile other.profile
 
 turned : (n : ℕ) (one other : RegisterFile) → Alike n one other → Alike n other one
 turned n one other alike = record {
   mseccfg = sym alike.mseccfg;
   entries = λ i. sym (alike.entries i);
   rest = λ i past. sym (alike.entries i) ∙ alike.rest i past;
-  grain = sym alike.grain;
-  bits = sym alike.bits;
-  smepmp = sym alike.smepmp;
+  hart = record { grain = sym alike.hart.grain; bits = sym alike.hart.bits; smepmp = sym alike.hart.smepmp };
 }
 
 -- n entries or more, as many as the hart has
@@ -91,11 +92,10 @@ module _ (n q value : ℕ) (named : writes_first n (Write (Cfg q) value) ≡ tru
   zero_byte i past holds =
       let near : i - 4 * q < 8 = grind (arith, nat_tests) in
       let low : 4 * q ≤ i = grind (arith, nat_tests) in
-      let first : length (range_with_len (4 * q) 8) ≡ 8 = length-range_with_len (4 * q) 8 in
-      let at : get_or (range_with_len (4 * q) 8) (i - 4 * q) 0 ≡ i =
-      omega (arith, get_or-range_with_len (4 * q) 8 (i - 4 * q) 0 near) in
-      let here = AllPass-from_list_all (λ (k : ℕ). nat_lt k n || byte_for q value k == 0) (range_with_len (4 * q) 8) named
-      (i - 4 * q) 0 (omega arith) in
+      let places = range_with_len (4 * q) 8 in
+      let at : get_or places (i - 4 * q) 0 ≡ i = omega (arith, get_or-range_with_len (4 * q) 8 (i - 4 * q) 0 near) in
+      let here = AllPass-from_list_all (λ (k : ℕ). nat_lt k n || byte_for q value k == 0) places named (i - 4 * q) 0
+      (omega (arith, length-range_with_len (4 * q) 8)) in
       eqb-true (byte_for q value i) 0 (rw (at, le-ltb i n past) at here)
 
   rest_configured : (file : RegisterFile) (i : ℕ) → n ≤ i → entry_at file.entries i ≡ reset_entry
@@ -155,14 +155,14 @@ module _ (n : ℕ) (one other : RegisterFile) (alike : Alike n one other) where
       (λ k below. ap (λ (entry : Entry). entry.address) (alike.entries k))
 
   matches_alike : (i byte : ℕ) → Matches one i byte → Matches other i byte
-  matches_alike i byte matched = rw (alike.entries i, low_alike i, alike.grain) at matched
+  matches_alike i byte matched = rw (alike.entries i, low_alike i, alike.hart.grain) at matched
 
   locked_alike : is_any_locked one.entries ≡ is_any_locked other.entries
   locked_alike =
       any_alike (λ (entry : Entry). entry.configuration.locked) reset_entry refl one.entries other.entries alike.entries
 
   configured_alike : (q value i : ℕ) → configured one q value i ≡ configured other q value i
-  configured_alike q value i = rw (alike.mseccfg, alike.entries i, alike.grain) refl
+  configured_alike q value i = rw (alike.mseccfg, alike.entries i, alike.hart.grain) refl
 
   frozen_alike : (j : ℕ) → is_address_frozen one j ≡ is_address_frozen other j
   frozen_alike j = rw (alike.mseccfg, alike.entries j, alike.entries (suc j)) refl
@@ -179,9 +179,7 @@ module _ (n : ℕ) (one other : RegisterFile) (first : HasRoom n one) (second : 
         entries = λ i. here i first.room alike.rest ∙ configured_alike n one other alike q value i
             ∙ sym (there i second.room (turned n one other alike).rest);
         rest = λ i past. here i first.room alike.rest ∙ rest_configured n q value named one i past (alike.rest i past);
-        grain = alike.grain;
-        bits = alike.bits;
-        smepmp = alike.smepmp;
+        hart = alike.hart;
       }
   write_alike (Addr j) value named =
       let low : j < n = ltb-true _ _ named in
@@ -189,35 +187,27 @@ module _ (n : ℕ) (one other : RegisterFile) (first : HasRoom n one) (second : 
         mseccfg = alike.mseccfg;
         entries = λ i. elim (cases_eq i j) [
           | inl same ↦ rw same (own_address_written one j value (omega (arith, first.room))
-              ∙ rw (frozen_alike n one other alike j, alike.entries j, alike.bits) refl
+              ∙ rw (frozen_alike n one other alike j, alike.entries j, alike.hart.bits) refl
               ∙ sym (own_address_written other j value (omega (arith, second.room))))
           | inr apart ↦ other_address one j value i apart ∙ alike.entries i
               ∙ sym (other_address other j value i apart)
         ];
         rest = λ i past. let apart : i ≢ j = omega arith in other_address one j value i apart ∙ alike.rest i past;
-        grain = alike.grain;
-        bits = alike.bits;
-        smepmp = alike.smepmp;
+        hart = alike.hart;
       }
   write_alike Mseccfg value named = record {
-    mseccfg = rw (alike.mseccfg, alike.smepmp, locked_alike n one other alike) refl;
+    mseccfg = rw (alike.mseccfg, alike.hart.smepmp, locked_alike n one other alike) refl;
     entries = alike.entries;
     rest = alike.rest;
-    grain = alike.grain;
-    bits = alike.bits;
-    smepmp = alike.smepmp;
+    hart = alike.hart;
   }
 
--- on harts that are the same but for the number of entries
-reset_alike : (n : ℕ) (one other : Profile) → one.grain ≡ other.grain → one.address_bits ≡ other.address_bits
-    → one.has_smepmp ≡ other.has_smepmp → Alike n (reset_file one) (reset_file other)
-reset_alike n one other grain bits smepmp = record {
+reset_alike : (n : ℕ) (one other : Profile) → SameHart one other → Alike n (reset_file one) (reset_file other)
+reset_alike n one other hart = record {
   mseccfg = refl;
   entries = λ i. reset_at one.entries i ∙ sym (reset_at other.entries i);
   rest = λ i past. reset_at one.entries i;
-  grain = grain;
-  bits = bits;
-  smepmp = smepmp;
+  hart = hart;
 }
 
 -- ---- any events
@@ -227,7 +217,7 @@ step_alike : (n : ℕ) (one other : RegisterFile) → HasRoom n one → HasRoom 
 step_alike n one other first second alike (Write csr value) named =
     write_alike n one other first second alike csr value named
 step_alike n one other first second alike Reset named =
-    reset_alike n one.profile other.profile alike.grain alike.bits alike.smepmp
+    reset_alike n one.profile other.profile alike.hart
 
 replays_alike : (n : ℕ) (events : List Event) (one other : RegisterFile) → HasRoom n one → HasRoom n other
     → Alike n one other → list_all (writes_first n) events ≡ true
@@ -292,7 +282,7 @@ size_law hart n m events access some more is named =
     let second = reset_room n large more in
     let alike : Alike n one other =
     replays_alike n events (reset_file small) (reset_file large) first second
-    (reset_alike n small large refl refl refl) named in
+    (reset_alike n small large (record { grain = refl; bits = refl; smepmp = refl })) named in
     let few = replays_room n events (reset_file small) first in
     let many = replays_room n events (reset_file large) second in
     let of_small : IsProfile small = record {
