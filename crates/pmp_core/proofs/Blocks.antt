@@ -8,7 +8,6 @@ use Rattle.std.proofs.lemmas.Nat.{mod-mul-add, pow-add}
 use Rattle.pmp_core.specs.declared.configuration.AddressMatching.{AddressMatching}
 use Rattle.pmp_core.specs.declared.configuration.AddressMatching.TheVariants.{Off, Tor, Na4, Napot}
 use Rattle.pmp_core.specs.declared.configuration.Configuration.{Configuration}
-use Rattle.pmp_core.specs.declared.entry.Entry.{Entry}
 use Rattle.pmp_core.specs.Grain.{napot_address, selectable, tor_address}
 use Rattle.pmp_core.specs.GrainLaw.{GrainLaw}
 use Rattle.pmp_core.specs.Matching.{InNapot, MatchesBy, low_address}

@@ -15,7 +15,7 @@ use Rattle.pmp_core.specs.Ranges.{decision_of}
 use Rattle.pmp_core.specs.WriteReasons.{byte_for}
 
 -- a write for the first n entries: pmpcfg q with zeros for the others, pmpaddr i with i below n, mseccfg; or a reset.
--- With n = 16 these are all writes to pmpcfg0, pmpcfg2 and pmpaddr0 to pmpaddr15
+-- With n = 16 every write to pmpcfg0, pmpcfg2 and pmpaddr0 to pmpaddr15 is one
 abbrev pub writes_first : (n : ℕ) → Event → Bool
 writes_first n (Write (Cfg q) value) =
     list_all (λ i. nat_lt i n || byte_for q value i == 0) (range_with_len (4 * q) ENTRIES_PER_CFG)
