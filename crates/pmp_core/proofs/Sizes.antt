@@ -1,6 +1,6 @@
 -- Writes to the first n entries leave files of n entries and of more that are alike, event by event.
-use Rattle.std.proofs.Common.{◌≡◌, ◌≢◌, ℕ, suc, ◌-◌, ◌*◌, ◌%◌, ◌<◌, ◌≤◌, ◌==◌, nat_lt, Bool, true, false, cond, ◌||◌}
-use Rattle.std.proofs.Common.{List, [], ◌∷◌, fold, length, Option, Some, None, get_or, refl, sym, ap, ◌∙◌, inl, inr}
+use Rattle.std.proofs.Common.{◌≡◌, ◌≢◌, ◌↔◌, ℕ, suc, ◌-◌, ◌*◌, ◌%◌, ◌<◌, ◌≤◌, ◌==◌, nat_lt, Bool, true, false, cond, ◌||◌}
+use Rattle.std.proofs.Common.{List, [], ◌∷◌, fold, length, get_or, refl, sym, ap, ◌∙◌, inl, inr}
 use Rattle.std.proofs.Common.{arith, get_or-set_same}
 use Rattle.std.specs.List.{list_all, list_any, range_with_len}
 use Rattle.std.proofs.Math.ListN.{set}
@@ -12,8 +12,6 @@ use Rattle.std.proofs.lemmas.List.Sums.{AllPass-from_list_all}
 use Rattle.pmp_core.specs.declared.access.Access.{Access}
 use Rattle.pmp_core.specs.declared.csr.Csr.{Csr}
 use Rattle.pmp_core.specs.declared.csr.Csr.TheVariants.{Cfg, Addr, Mseccfg}
-use Rattle.pmp_core.specs.declared.decision.Cause.{Cause}
-use Rattle.pmp_core.specs.declared.decision.Cause.TheVariants.{Rule, Split, NoMatch}
 use Rattle.pmp_core.specs.declared.decision.Decision.{Decision}
 use Rattle.pmp_core.specs.declared.entry.Entry.{Entry}
 use Rattle.pmp_core.specs.declared.event.Event.{Event}
@@ -22,7 +20,7 @@ use Rattle.pmp_core.specs.Hart.{Profile, IsProfile, word_addresses}
 use Rattle.pmp_core.specs.Rights.{has_entries}
 use Rattle.pmp_core.specs.RegisterFile.{RegisterFile, reset_entry, reset_file, entry_at}
 use Rattle.pmp_core.specs.Matching.{low_address, Matches}
-use Rattle.pmp_core.specs.Decision.{IsLeast, Touches, Covers, IsDecider, IsDecision, IsDecisionBy}
+use Rattle.pmp_core.specs.Decision.{IsDecision}
 use Rattle.pmp_core.specs.RegisterWrite.{stored_over, holds_byte_of, configured, is_address_frozen, address_written}
 use Rattle.pmp_core.specs.RegisterWrite.{is_any_locked, written, step}
 use Rattle.pmp_core.specs.WriteReasons.{byte_for}
@@ -34,6 +32,7 @@ use Rattle.pmp_core.proofs.Grains.{selectable_other}
 use Rattle.pmp_core.proofs.Legal.{reset_at, configured_place, length-written, length-step, profile-step, legal_law}
 use Rattle.pmp_core.proofs.Legal.{legal_addresses}
 use Rattle.pmp_core.proofs.Locks.{other_address, low_kept}
+use Rattle.pmp_core.proofs.Others.{decided_by}
 
 -- the same but for the number of entries
 record SameHart (one other : Profile) : Type 0 where
@@ -154,8 +153,8 @@ module _ (n : ℕ) (one other : RegisterFile) (alike : Alike n one other) where
   low_alike i = low_kept other.entries one.entries i
       (λ k below. ap (λ (entry : Entry). entry.address) (alike.entries k))
 
-  matches_alike : (i byte : ℕ) → Matches one i byte → Matches other i byte
-  matches_alike i byte matched = rw (alike.entries i, low_alike i, alike.hart.grain) at matched
+  matches_alike : (i byte : ℕ) → Matches other i byte ↔ Matches one i byte
+  matches_alike i byte = rw (alike.entries i, low_alike i, alike.hart.grain) (λ h. h, λ h. h)
 
   locked_alike : is_any_locked one.entries ≡ is_any_locked other.entries
   locked_alike =
@@ -234,43 +233,12 @@ replays_room n (event ∷ events) file h = replays_room n events (step file even
 
 -- ---- decisions
 
-pub least_alike : (P Q : ℕ → Type 0) → ((i : ℕ) → P i → Q i) → ((i : ℕ) → Q i → P i) → (least : Option ℕ)
-    → IsLeast P least → IsLeast Q least
-least_alike P Q to from None none = λ i h. none i (from i h)
-least_alike P Q to from (Some i) found = (to i found.0, λ j below h. found.1 j below (from j h))
-
-module _ (n : ℕ) (one other : RegisterFile) (alike : Alike n one other) (access : Access) where
-  touches_alike : (i : ℕ) → Touches one access i → Touches other access i
-  touches_alike i (byte, inside, matched) = (byte, inside, matches_alike n one other alike i byte matched)
-
-  covers_alike : (i : ℕ) → Covers one access i → Covers other access i
-  covers_alike i covers byte inside = matches_alike n one other alike i byte (covers byte inside)
-
-module _ (n : ℕ) (some : 0 < n) (one other : RegisterFile) (first : HasRoom n one) (second : HasRoom n other)
-    (alike : Alike n one other) (access : Access) where
-  decider_alike : (decider : Option ℕ) → IsDecider one access decider → IsDecider other access decider
-  decider_alike = least_alike (Touches one access) (Touches other access)
-      (touches_alike n one other alike access) (touches_alike n other one (turned n one other alike) access)
-
-  decision_alike_by : (allowed : Bool) (cause : Cause) → IsDecisionBy one access allowed cause
-      → IsDecisionBy other access allowed cause
-  decision_alike_by allowed NoMatch h = (
-    decider_alike None h.0,
-    h.1 ∙ rw (alike.mseccfg, some_entries n one some first, some_entries n other some second) refl,
-  )
-  decision_alike_by allowed (Split i) h = (
-    decider_alike (Some i) h.0,
-    (λ covers. h.1 (covers_alike n other one (turned n one other alike) access i covers)),
-    h.2,
-  )
-  decision_alike_by allowed (Rule i) h = (
-    decider_alike (Some i) h.0,
-    covers_alike n one other alike access i h.1,
-    rw (alike.mseccfg, alike.entries i) at h.2,
-  )
-
-  decision_alike : (decision : Decision) → IsDecision one access decision → IsDecision other access decision
-  decision_alike decision h = decision_alike_by decision.allowed decision.cause h
+decision_alike : (n : ℕ) (one other : RegisterFile) → 0 < n → HasRoom n one → HasRoom n other → Alike n one other
+    → (access : Access) (decision : Decision) → IsDecision one access decision → IsDecision other access decision
+decision_alike n one other some first second alike access decision =
+    let present = some_entries n other some second ∙ sym (some_entries n one some first) in
+    decided_by one other (sym alike.mseccfg) present access
+    (λ i. inr (sym (alike.entries i), λ byte. matches_alike n one other alike i byte)) decision.allowed decision.cause
 
 pub size_law : SizeLaw
 size_law hart n m events access some more is named =
@@ -295,11 +263,11 @@ size_law hart n m events access some more is named =
     let long = legal_addresses other (legal_law large events is) in
     record {
       by_bytes = λ decision. (
-        decision_alike n some one other few many alike access decision,
-        decision_alike n some other one many few (turned n one other alike) access decision,
+        decision_alike n one other some few many alike access decision,
+        decision_alike n other one some many few (turned n one other alike) access decision,
       );
       computed = one_decision other access (decision_of one access) (decision_of other access)
-          (decision_alike n some one other few many alike access (decision_of one access)
+          (decision_alike n one other some few many alike access (decision_of one access)
           (decided_by_ranges one access short))
           (decided_by_ranges other access long);
     }

@@ -16,7 +16,7 @@ use Rattle.pmp_core.specs.Mseccfg.{mseccfg_written}
 use Rattle.pmp_core.specs.RegisterFile.{RegisterFile, entry_at, is_frozen}
 use Rattle.pmp_core.specs.RegisterValue.{register_value}
 use Rattle.pmp_core.specs.RegisterWrite.{is_any_locked, is_tor, step, written}
-use Rattle.pmp_core.specs.Rights.{allows, default_rights_by, has_entries}
+use Rattle.pmp_core.specs.Rights.{allows, default_rights_by, for_mode, has_entries, nothing}
 use Rattle.pmp_core.specs.Histories.{is_write}
 use Rattle.pmp_core.specs.StickyLaw.{StickyLaw, FrozenAddressLaw}
 use Rattle.pmp_core.proofs.Grains.{read_finest}
@@ -51,25 +51,19 @@ mmwp_stays : (file : RegisterFile) (events : List Event) → list_all is_write e
     → file.mseccfg.mmwp ≡ true → (fold step file events).mseccfg.mmwp ≡ true
 mmwp_stays = bit_stays (λ m. m.mmwp) (λ before is_any value. or_left before.mmwp _)
 
+no_right : (kind : Kind) → allows nothing kind ≡ false
+no_right Fetch = refl
+no_right Load = refl
+no_right Store = refl
+
+nothing_open : (mode : Mode) (kind : Kind) → allows (for_mode nothing nothing mode) kind ≡ false
+nothing_open M = no_right
+nothing_open S = no_right
+nothing_open U = no_right
+
 none_open : (mml : Bool) (mode : Mode) (kind : Kind) → allows (default_rights_by true mml true mode) kind ≡ false
-none_open true M Fetch = refl
-none_open true M Load = refl
-none_open true M Store = refl
-none_open true S Fetch = refl
-none_open true S Load = refl
-none_open true S Store = refl
-none_open true U Fetch = refl
-none_open true U Load = refl
-none_open true U Store = refl
-none_open false M Fetch = refl
-none_open false M Load = refl
-none_open false M Store = refl
-none_open false S Fetch = refl
-none_open false S Load = refl
-none_open false S Store = refl
-none_open false U Fetch = refl
-none_open false U Load = refl
-none_open false U Store = refl
+none_open true = nothing_open
+none_open false = nothing_open
 
 -- writes leave as many entries
 pub length-writes : (file : RegisterFile) (events : List Event) → list_all is_write events ≡ true
