@@ -82,8 +82,7 @@ pub fn law_grain()
 {}
 
 /// The size law: after writes to the first entries of a hart, and resets, it decides every access in the same way as
-/// one that has more entries and is else the same. An implementation with sixteen entries and one with sixty-four are
-/// one case.
+/// one that has more entries and is else the same. Sixteen entries and sixty-four are one case.
 pub fn law_sizes()
     ensures { SizeLaw }
 {}
