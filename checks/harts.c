@@ -110,10 +110,87 @@ static void try_statuses(void) {
     }
 }
 
+// A number is of as many entries as have address registers, also one that no hart has: then of 16.
+static void try_counts(void) {
+    static const struct {
+        uint64_t hart;
+        unsigned entries;
+    } counts[] = {
+        {0, 16},
+        {8, 16},
+        {16, 16},
+        {63, 16},
+        {64, 64},
+        {65, 16},
+        {TILVENKA_PMP_HART(0, 0, 56, 1), 0},
+        {TILVENKA_PMP_HART(8, 10, 34, 0), 8},
+        {TILVENKA_PMP_HART(64, 10, 56, 1), 64},
+        {TILVENKA_PMP_HART(65, 0, 56, 1), 16},
+        {TILVENKA_PMP_HART(64, 11, 56, 1), 16},
+        {TILVENKA_PMP_HART(64, 0, 33, 1), 16},
+        {TILVENKA_PMP_HART(64, 0, 57, 1), 16},
+        // Numbers that don't fit into a byte.
+        {TILVENKA_PMP_HART(256, 0, 56, 1), 16},
+        {TILVENKA_PMP_HART(264, 0, 56, 1), 16},
+        {TILVENKA_PMP_HART(-1, 0, 56, 1), 16},
+        {TILVENKA_PMP_HART(8, 256, 56, 1), 16},
+        {TILVENKA_PMP_HART(8, 0, 256 + 56, 1), 16},
+        // Any truth is Smepmp.
+        {TILVENKA_PMP_HART(8, 0, 56, 2), 8},
+        // Bits 63 to 32 are 1 of a hart that isn't 16 or 64, and bits 23 to 17 don't matter.
+        {TILVENKA_PMP_HART(8, 0, 56, 1) + (UINT64_C(2) << 32), 16},
+        {TILVENKA_PMP_HART(8, 0, 56, 1) + (UINT64_C(1) << 63), 16},
+        {TILVENKA_PMP_HART(8, 0, 56, 1) + (UINT64_C(127) << 17), 8},
+    };
+    for (unsigned i = 0; i < sizeof counts / sizeof *counts; i++) {
+        tilvenka_pmp_unit unit;
+        tilvenka_pmp_reset(&unit, counts[i].hart);
+        expect(tilvenka_pmp_count(&unit.registers) == counts[i].entries, "entries of a number", i);
+        unit.registers.entries = counts[i].hart;
+        expect(tilvenka_pmp_count(&unit.registers) == counts[i].entries, "entries of a number as it is", i);
+        unsigned there = 0;
+        for (unsigned entry = 0; entry < 64; entry++) {
+            tilvenka_pmp_write(&unit, PMPADDR0 + entry, 5 << 10);
+            there += read_csr(&unit, PMPADDR0 + entry) == 5 << 10;
+        }
+        expect(there == counts[i].entries, "address registers of a number", i);
+    }
+    expect(TILVENKA_PMP_HART(8, 0, 56, 2) == TILVENKA_PMP_HART(8, 0, 56, 1), "any truth is Smepmp", 0);
+}
+
+// Entries that the hart has, and that aren't off as it stores them.
+static void try_entries_on(void) {
+    static const struct {
+        uint64_t hart;
+        unsigned on;
+    } counts[] = {
+        {16, 3},
+        {64, 4},
+        {TILVENKA_PMP_HART(64, 0, 56, 1), 4},
+        {TILVENKA_PMP_HART(64, 1, 56, 1), 3},
+        {TILVENKA_PMP_HART(2, 0, 56, 1), 2},
+        {TILVENKA_PMP_HART(2, 10, 56, 1), 1},
+        {TILVENKA_PMP_HART(0, 0, 56, 1), 0},
+        {TILVENKA_PMP_HART(64, 11, 56, 1), 3},
+        {TILVENKA_PMP_HART(256, 0, 56, 1), 3},
+    };
+    for (unsigned i = 0; i < sizeof counts / sizeof *counts; i++) {
+        tilvenka_pmp_unit unit = {.registers = {.configurations = {0x10, 0x18, 0x60, 0x08, 0x87}}};
+        unit.registers.configurations[63] = 0x1f;
+        unit.registers.entries = counts[i].hart;
+        expect(tilvenka_pmp_entries_on(&unit) == counts[i].on, "entries on in a number", i);
+        const tilvenka_pmp_registers numbers = unit.registers;
+        tilvenka_pmp_restore(&unit, &numbers);
+        expect(tilvenka_pmp_entries_on(&unit) == counts[i].on, "entries on as they are stored", i);
+    }
+}
+
 int main(void) {
     try_reads();
     try_decisions();
     try_statuses();
+    try_counts();
+    try_entries_on();
     printf("%u passed, %u failed\n", passed, failed);
     return failed != 0;
 }

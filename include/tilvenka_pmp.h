@@ -129,10 +129,11 @@ enum {
 
 /* A hart other than those of 16 and of 64 entries with a grain of 4 bytes, addresses of 56 bits and Smepmp: so many
  * entries, 0 to 64, the manual's G, 0 to 10, where the grain is 2^(G+2) bytes, addresses of so many bits, 34 to 56, and
- * whether it has mseccfg. With other numbers it is that of 16 entries. */
+ * whether it has mseccfg. With other numbers, however large, it is that of 16 entries. */
 #define TILVENKA_PMP_HART(entries, grain, address_bits, smepmp) \
-    ((uint64_t)(entries) % 256 + (uint64_t)(address_bits) % 256 * 256 + ((smepmp) ? UINT64_C(65536) : 0) \
-        + (uint64_t)(grain) % 256 * 16777216 + (UINT64_C(1) << 32))
+    (TILVENKA_PMP_BYTE(entries) | TILVENKA_PMP_BYTE(address_bits) << 8 | ((smepmp) ? UINT64_C(1) : 0) << 16 \
+        | TILVENKA_PMP_BYTE(grain) << 24 | UINT64_C(1) << 32)
+#define TILVENKA_PMP_BYTE(number) ((uint64_t)(number) < 255 ? (uint64_t)(number) : UINT64_C(255))
 
 /* All registers. What a register lacks is ignored: bits 63 to 54 of an address, or more on a hart with fewer, bits 6
  * and 5 of a configuration byte, all of mseccfg but MML, MMWP and RLB. An address is all that was written, also below
@@ -219,18 +220,28 @@ static inline bool tilvenka_pmp_is_stored(uint32_t status) {
     return tilvenka_pmp_is_done(status) && status < TILVENKA_PMP_ABSENT;
 }
 
-/* How many entries the hart has that `entries` says. */
-static inline unsigned tilvenka_pmp_count(const tilvenka_pmp_registers *registers) {
-    const uint64_t hart = registers->entries, bits = hart / 256 % 256;
-    const bool is_named = hart >> 32 == 1 && hart % 256 <= TILVENKA_PMP_MAX_ENTRIES && bits >= 34 && bits <= 56;
-    return is_named ? (unsigned)(hart % 256) : hart == 64 ? 64 : 16;
+/* Whether the number is that of a hart as TILVENKA_PMP_HART gives it for numbers in their ranges. */
+static inline bool tilvenka_pmp_is_hart(uint64_t hart) {
+    const uint64_t bits = hart >> 8 & 0xff, grain = hart >> 24 & 0xff;
+    return hart >> 32 == 1 && (hart & 0xff) <= TILVENKA_PMP_MAX_ENTRIES && bits >= 34 && bits <= 56 && grain <= 10;
 }
 
-/* How many entries aren't off. Where none is on, no entry matches any access. */
+/* How many entries the hart has that `entries` says. */
+static inline unsigned tilvenka_pmp_count(const tilvenka_pmp_registers *registers) {
+    const uint64_t hart = registers->entries;
+    return tilvenka_pmp_is_hart(hart) ? (unsigned)(hart & 0xff) : hart == 64 ? 64 : 16;
+}
+
+/* How many entries aren't off; NA4 is off where the grain is above 4 bytes. Where none is on, no entry matches any
+ * access. */
 static inline unsigned tilvenka_pmp_entries_on(const tilvenka_pmp_unit *unit) {
+    const uint64_t hart = unit->registers.entries;
+    const bool is_coarse = tilvenka_pmp_is_hart(hart) && (hart >> 24 & 0xff) > 0;
     unsigned count = 0;
-    for (unsigned entry = 0; entry < tilvenka_pmp_count(&unit->registers); entry++)
-        count += (unit->registers.configurations[entry] & 0x18) != 0;
+    for (unsigned entry = 0; entry < tilvenka_pmp_count(&unit->registers); entry++) {
+        const unsigned matching = unit->registers.configurations[entry] & 0x18;
+        count += matching != 0 && !(is_coarse && matching == 0x10);
+    }
     return count;
 }
 

@@ -21,10 +21,10 @@ pub mod Spans
 pub mod StoredBytes
 pub mod HartNumbers
 pub mod Saved
+pub mod Blocks
 pub mod Restored
 pub mod StoredRanges
 mod Written
-pub mod Today
 pub mod EachReason
 pub mod WordBytes
 pub mod AbsentBytes

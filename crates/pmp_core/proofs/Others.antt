@@ -12,11 +12,11 @@ use Rattle.pmp_core.specs.declared.entry.Entry.{Entry}
 use Rattle.pmp_core.specs.RegisterFile.{RegisterFile, entry_at, reset_entry}
 use Rattle.pmp_core.specs.RegisterWrite.{holds_byte_of, holds, is_tor, written}
 use Rattle.pmp_core.specs.Matching.{Matches, low_address}
-use Rattle.pmp_core.specs.Decision.{IsDecider, IsDecisionBy, Touches}
+use Rattle.pmp_core.specs.Decision.{IsDecider, IsDecisionBy, IsLeast, Touches}
+use Rattle.pmp_core.specs.Rights.{has_entries}
 use Rattle.pmp_core.specs.OthersLaw.{OthersLaw, may_move}
 use Rattle.pmp_core.proofs.Legal.{configured_place, length-written, profile-written}
 use Rattle.pmp_core.proofs.Locks.{configured_address, low_kept, other_address, same_bytes}
-use Rattle.pmp_core.proofs.Sizes.{least_alike}
 
 -- ---- entries
 
@@ -78,14 +78,19 @@ module _ (file : RegisterFile) (value : ℕ) where
 
 -- ---- decisions
 
+least_alike : (P Q : ℕ → Type 0) → ((i : ℕ) → P i → Q i) → ((i : ℕ) → Q i → P i) → (least : Option ℕ)
+    → IsLeast P least → IsLeast Q least
+least_alike P Q to from None none = λ i h. none i (from i h)
+least_alike P Q to from (Some i) found = (to i found.0, λ j below h. found.1 j below (from j h))
+
 -- entry i matches no byte of the access in either file, or is the same in both
-abbrev IsSame : (one other : RegisterFile) → Access → ℕ → Type 0
+abbrev pub IsSame : (one other : RegisterFile) → Access → ℕ → Type 0
 IsSame one other access i = (¬ (Touches one access i) × ¬ (Touches other access i))
     ⊎ ((entry_at other.entries i ≡ entry_at one.entries i)
     × ((byte : ℕ) → Matches other i byte ↔ Matches one i byte))
 
 module _ (one other : RegisterFile) (mseccfg : other.mseccfg ≡ one.mseccfg)
-    (count : length other.entries ≡ length one.entries) (access : Access)
+    (some : has_entries other ≡ has_entries one) (access : Access)
     (same : (i : ℕ) → IsSame one other access i) where
   touches : (i : ℕ) → Touches one access i → Touches other access i
   touches i touched = elim (same i) [
@@ -108,9 +113,9 @@ module _ (one other : RegisterFile) (mseccfg : other.mseccfg ≡ one.mseccfg)
       × ((byte : ℕ) → Matches other i byte ↔ Matches one i byte)
   alike i found = elim (same i) [ inl clear ↦ absurd (clear.0 found.0) | inr is ↦ is ]
 
-  decided_by : (allowed : Bool) (cause : Cause) → IsDecisionBy one access allowed cause
+  pub decided_by : (allowed : Bool) (cause : Cause) → IsDecisionBy one access allowed cause
       → IsDecisionBy other access allowed cause
-  decided_by allowed NoMatch h = (decider None h.0, rw (mseccfg, count) h.1)
+  decided_by allowed NoMatch h = (decider None h.0, rw (mseccfg, some) h.1)
   decided_by allowed (Split i) h = (
     decider (Some i) h.0,
     (λ covers. h.1 (λ byte inside. ((alike i h.0).1 byte).0 (covers byte inside))),
@@ -141,5 +146,6 @@ others_law file csr value = record {
           λ byte. bytes_kept file value csr i byte stays,
         )
       ] in
-      decided_by file after (mseccfg_kept file csr value other) (length-written file csr value) access same decision.allowed decision.cause decided;
+      let some : has_entries after ≡ has_entries file = rw (length-written file csr value) refl in
+      decided_by file after (mseccfg_kept file csr value other) some access same decision.allowed decision.cause decided;
 }

@@ -1,91 +1,128 @@
--- Writes that name sixteen entries leave files of sixteen and of sixty-four that are alike, event by event.
-use Rattle.std.proofs.Common.{◌≡◌, ℕ, suc, ◌%◌, ◌<◌, ◌≤◌, Bool, true, false, cond, ◌||◌, List, [], ◌∷◌, fold, length}
-use Rattle.std.proofs.Common.{Option, Some, None, get_or, refl, sym, ap, ◌∙◌, inl, inr, arith, get_or-set_same}
-use Rattle.std.specs.List.{list_all, list_any}
+-- Writes to the first n entries leave files of n entries and of more that are alike, event by event.
+use Rattle.std.proofs.Common.{◌≡◌, ◌≢◌, ◌↔◌, ℕ, suc, ◌-◌, ◌*◌, ◌%◌, ◌<◌, ◌≤◌, ◌==◌, nat_lt, Bool, true, false, cond, ◌||◌}
+use Rattle.std.proofs.Common.{List, [], ◌∷◌, fold, length, get_or, refl, sym, ap, ◌∙◌, inl, inr}
+use Rattle.std.proofs.Common.{arith, get_or-set_same}
+use Rattle.std.specs.List.{list_all, list_any, range_with_len}
 use Rattle.std.proofs.Math.ListN.{set}
-use Rattle.std.proofs.lemmas.Bool.{and_parts, cases_lt, cases_eq, lt-ltb, ltb-true}
+use Rattle.std.proofs.lemmas.Bool.{and_parts, cases_Bool, cases_lt, cases_eq, eqb-true, lt-ltb, le-ltb, ltb-true}
 use Rattle.std.proofs.lemmas.Bool.Decides.{nat_tests}
 use Rattle.std.proofs.lemmas.List.{get_or_past, length-replicate}
+use Rattle.std.proofs.lemmas.List.FromFn.{get_or-range_with_len, length-range_with_len}
+use Rattle.std.proofs.lemmas.List.Sums.{AllPass-from_list_all}
 use Rattle.pmp_core.specs.declared.access.Access.{Access}
 use Rattle.pmp_core.specs.declared.csr.Csr.{Csr}
 use Rattle.pmp_core.specs.declared.csr.Csr.TheVariants.{Cfg, Addr, Mseccfg}
-use Rattle.pmp_core.specs.declared.decision.Cause.{Cause}
-use Rattle.pmp_core.specs.declared.decision.Cause.TheVariants.{Rule, Split, NoMatch}
 use Rattle.pmp_core.specs.declared.decision.Decision.{Decision}
 use Rattle.pmp_core.specs.declared.entry.Entry.{Entry}
 use Rattle.pmp_core.specs.declared.event.Event.{Event}
 use Rattle.pmp_core.specs.declared.event.Event.TheVariants.{Write, Reset}
-use Rattle.pmp_core.specs.Hart.{Profile, profile_with, word_addresses}
+use Rattle.pmp_core.specs.Hart.{Profile, IsProfile, word_addresses}
 use Rattle.pmp_core.specs.Rights.{has_entries}
 use Rattle.pmp_core.specs.RegisterFile.{RegisterFile, reset_entry, reset_file, entry_at}
 use Rattle.pmp_core.specs.Matching.{low_address, Matches}
-use Rattle.pmp_core.specs.Decision.{IsLeast, Touches, Covers, IsDecider, IsDecision, IsDecisionBy}
-use Rattle.pmp_core.specs.RegisterWrite.{configured, is_address_frozen, address_written, is_any_locked, written, step}
+use Rattle.pmp_core.specs.Decision.{IsDecision}
+use Rattle.pmp_core.specs.RegisterWrite.{stored_over, holds_byte_of, configured, is_address_frozen, address_written}
+use Rattle.pmp_core.specs.RegisterWrite.{is_any_locked, written, step}
+use Rattle.pmp_core.specs.WriteReasons.{byte_for}
 use Rattle.pmp_core.specs.Histories.{replay}
-use Rattle.pmp_core.specs.SizeLaw.{is_of_sixteen, writes_sixteen, SizeLaw}
+use Rattle.pmp_core.specs.SizeLaw.{writes_first, SizeLaw}
 use Rattle.pmp_core.specs.Ranges.{decision_of}
-use Rattle.pmp_core.proofs.Configuring.{kept_above}
 use Rattle.pmp_core.proofs.Decisions.{decided_by_ranges, one_decision}
+use Rattle.pmp_core.proofs.Grains.{selectable_other}
 use Rattle.pmp_core.proofs.Legal.{reset_at, configured_place, length-written, length-step, profile-step, legal_law}
-use Rattle.pmp_core.proofs.HartNumbers.{usual}
 use Rattle.pmp_core.proofs.Legal.{legal_addresses}
 use Rattle.pmp_core.proofs.Locks.{other_address, low_kept}
+use Rattle.pmp_core.proofs.Others.{decided_by}
 
--- the same mseccfg, and the same entry at every place, of which past the end there are reset ones; on harts that are the
--- same but for the number of entries
-record Alike (one other : RegisterFile) : Type 0 where
+-- the same but for the number of entries
+record SameHart (one other : Profile) : Type 0 where
+  pub grain : one.grain ≡ other.grain
+  pub bits : one.address_bits ≡ other.address_bits
+  pub smepmp : one.has_smepmp ≡ other.has_smepmp
+
+-- the same mseccfg, and the same entry at every place, which is a reset one from n on
+record Alike (n : ℕ) (one other : RegisterFile) : Type 0 where
   pub mseccfg : one.mseccfg ≡ other.mseccfg
   pub entries : (i : ℕ) → entry_at one.entries i ≡ entry_at other.entries i
-  pub grain : one.profile.grain ≡ other.profile.grain
-  pub bits : one.profile.address_bits ≡ other.profile.address_bits
-  pub smepmp : one.profile.has_smepmp ≡ other.profile.has_smepmp
+  pub rest : (i : ℕ) → n ≤ i → entry_at one.entries i ≡ reset_entry
+  pub hart : SameHart one.profile other.profile
 
-turned : (one other : RegisterFile) → Alike one other → Alike other one
-turned one other alike = record {
+turned : (n : ℕ) (one other : RegisterFile) → Alike n one other → Alike n other one
+turned n one other alike = record {
   mseccfg = sym alike.mseccfg;
   entries = λ i. sym (alike.entries i);
-  grain = sym alike.grain;
-  bits = sym alike.bits;
-  smepmp = sym alike.smepmp;
+  rest = λ i past. sym (alike.entries i) ∙ alike.rest i past;
+  hart = record { grain = sym alike.hart.grain; bits = sym alike.hart.bits; smepmp = sym alike.hart.smepmp };
 }
 
--- sixteen entries or more, as many as the hart has
-record HasRoom (file : RegisterFile) : Type 0 where
+-- n entries or more, as many as the hart has
+record HasRoom (n : ℕ) (file : RegisterFile) : Type 0 where
   pub count : length file.entries ≡ file.profile.entries
-  pub room : 16 ≤ length file.entries
+  pub room : n ≤ length file.entries
 
-some_entries : (file : RegisterFile) → HasRoom file → has_entries file ≡ true
-some_entries file h = lt-ltb 0 (length file.entries) (omega (arith, h.room))
+some_entries : (n : ℕ) (file : RegisterFile) → 0 < n → HasRoom n file → has_entries file ≡ true
+some_entries n file some h = lt-ltb 0 (length file.entries) (omega (arith, h.room))
 
-step_room : (file : RegisterFile) → HasRoom file → (event : Event) → HasRoom (step file event)
-step_room file h event =
+step_room : (n : ℕ) (file : RegisterFile) → HasRoom n file → (event : Event) → HasRoom n (step file event)
+step_room n file h event =
     let kept = length-step file h.count event in
     record {
       count = kept ∙ h.count ∙ ap (λ (p : Profile). p.entries) (sym (profile-step file event));
       room = rw kept h.room;
     }
 
-reset_room : (n : ℕ) → 16 ≤ n → HasRoom (reset_file (profile_with n))
-reset_room n many = record {
-  count = length-replicate n reset_entry;
-  room = rw (length-replicate n reset_entry) many;
+reset_room : (n : ℕ) (hart : Profile) → n ≤ hart.entries → HasRoom n (reset_file hart)
+reset_room n hart many = record {
+  count = length-replicate hart.entries reset_entry;
+  room = rw (length-replicate hart.entries reset_entry) many;
 }
 
 -- ---- one write
 
--- also past the end, where pmpcfg0 to pmpcfg2 hold no byte
-configured_anywhere : (file : RegisterFile) (q value i : ℕ) → 16 ≤ length file.entries → q ≤ 2
-    → entry_at (written file (Cfg q) value).entries i ≡ configured file q value i
-configured_anywhere file q value i room low = elim (cases_lt i (length file.entries)) [
-  | inl inside ↦ configured_place file q value i inside
-  | inr past ↦
-      get_or_past (written file (Cfg q) value).entries i reset_entry (omega (
-        arith,
-        length-written file (Cfg q) value,
-      ))
-      ∙ sym (get_or_past file.entries i reset_entry past)
-      ∙ sym (kept_above file q value i (omega arith))
-]
+-- a zero byte leaves a reset entry as it is
+zero_over_reset : (grain : ℕ) (mml rlb : Bool)
+    → stored_over grain mml rlb reset_entry.configuration 0 ≡ reset_entry.configuration
+zero_over_reset grain false rlb = selectable_other grain reset_entry.configuration refl
+zero_over_reset grain true false = selectable_other grain reset_entry.configuration refl
+zero_over_reset grain true true = selectable_other grain reset_entry.configuration refl
+
+module _ (n q value : ℕ) (named : writes_first n (Write (Cfg q) value) ≡ true) where
+  zero_byte : (i : ℕ) → n ≤ i → holds_byte_of q i ≡ true → byte_for q value i ≡ 0
+  zero_byte i past holds =
+      let near : i - 4 * q < 8 = grind (arith, nat_tests) in
+      let low : 4 * q ≤ i = grind (arith, nat_tests) in
+      let places = range_with_len (4 * q) 8 in
+      let at : get_or places (i - 4 * q) 0 ≡ i = omega (arith, get_or-range_with_len (4 * q) 8 (i - 4 * q) 0 near) in
+      let here = AllPass-from_list_all (λ (k : ℕ). nat_lt k n || byte_for q value k == 0) places named (i - 4 * q) 0
+      (omega (arith, length-range_with_len (4 * q) 8)) in
+      eqb-true (byte_for q value i) 0 (rw (at, le-ltb i n past) at here)
+
+  rest_configured : (file : RegisterFile) (i : ℕ) → n ≤ i → entry_at file.entries i ≡ reset_entry
+      → configured file q value i ≡ reset_entry
+  rest_configured file i past reset = elim (cases_Bool (holds_byte_of q i)) [
+    | inr other ↦ rw (other, reset) refl
+    | inl holds ↦ rw (
+      holds,
+      reset,
+      zero_byte i past holds,
+      zero_over_reset file.profile.grain file.mseccfg.mml file.mseccfg.rlb,
+    ) refl
+  ]
+
+  -- also past the end of a file of n entries or more
+  configured_anywhere : (file : RegisterFile) (i : ℕ) → n ≤ length file.entries
+      → ((k : ℕ) → n ≤ k → entry_at file.entries k ≡ reset_entry)
+      → entry_at (written file (Cfg q) value).entries i ≡ configured file q value i
+  configured_anywhere file i room rest = elim (cases_lt i (length file.entries)) [
+    | inl inside ↦ configured_place file q value i inside
+    | inr over ↦
+        let past : n ≤ i = omega arith in
+        get_or_past (written file (Cfg q) value).entries i reset_entry (omega (
+          arith,
+          length-written file (Cfg q) value,
+        ))
+        ∙ sym (rest_configured file i past (rest i past))
+  ]
 
 pub own_address_written : (file : RegisterFile) (j value : ℕ) → j < length file.entries
     → entry_at (address_written file j value) j
@@ -111,152 +148,126 @@ any_alike p d none (x ∷ xs) [] same =
 any_alike p d none (x ∷ xs) (y ∷ ys) same =
     rw (same 0) (ap (λ (rest : Bool). p y || rest) (any_alike p d none xs ys (λ i. same (suc i))))
 
-module _ (one other : RegisterFile) (alike : Alike one other) where
+module _ (n : ℕ) (one other : RegisterFile) (alike : Alike n one other) where
   low_alike : (i : ℕ) → low_address one.entries i ≡ low_address other.entries i
   low_alike i = low_kept other.entries one.entries i
       (λ k below. ap (λ (entry : Entry). entry.address) (alike.entries k))
 
-  matches_alike : (i byte : ℕ) → Matches one i byte → Matches other i byte
-  matches_alike i byte matched = rw (alike.entries i, low_alike i, alike.grain) at matched
+  matches_alike : (i byte : ℕ) → Matches other i byte ↔ Matches one i byte
+  matches_alike i byte = rw (alike.entries i, low_alike i, alike.hart.grain) (λ h. h, λ h. h)
 
   locked_alike : is_any_locked one.entries ≡ is_any_locked other.entries
   locked_alike =
       any_alike (λ (entry : Entry). entry.configuration.locked) reset_entry refl one.entries other.entries alike.entries
 
   configured_alike : (q value i : ℕ) → configured one q value i ≡ configured other q value i
-  configured_alike q value i = rw (alike.mseccfg, alike.entries i, alike.grain) refl
+  configured_alike q value i = rw (alike.mseccfg, alike.entries i, alike.hart.grain) refl
 
   frozen_alike : (j : ℕ) → is_address_frozen one j ≡ is_address_frozen other j
   frozen_alike j = rw (alike.mseccfg, alike.entries j, alike.entries (suc j)) refl
 
-module _ (one other : RegisterFile) (first : HasRoom one) (second : HasRoom other) (alike : Alike one other) where
-  write_alike : (csr : Csr) (value : ℕ) → is_of_sixteen csr ≡ true
-      → Alike (written one csr value) (written other csr value)
+module _ (n : ℕ) (one other : RegisterFile) (first : HasRoom n one) (second : HasRoom n other)
+    (alike : Alike n one other) where
+  write_alike : (csr : Csr) (value : ℕ) → writes_first n (Write csr value) ≡ true
+      → Alike n (written one csr value) (written other csr value)
   write_alike (Cfg q) value named =
-      let low : q ≤ 2 = grind (arith, nat_tests) in
+      let here = configured_anywhere n q value named one in
+      let there = configured_anywhere n q value named other in
       record {
         mseccfg = alike.mseccfg;
-        entries = λ i. configured_anywhere one q value i first.room low ∙ configured_alike one other alike q value i
-            ∙ sym (configured_anywhere other q value i second.room low);
-        grain = alike.grain;
-        bits = alike.bits;
-        smepmp = alike.smepmp;
+        entries = λ i. here i first.room alike.rest ∙ configured_alike n one other alike q value i
+            ∙ sym (there i second.room (turned n one other alike).rest);
+        rest = λ i past. here i first.room alike.rest ∙ rest_configured n q value named one i past (alike.rest i past);
+        hart = alike.hart;
       }
   write_alike (Addr j) value named =
-      let low : j < 16 = ltb-true _ _ named in
+      let low : j < n = ltb-true _ _ named in
       record {
         mseccfg = alike.mseccfg;
         entries = λ i. elim (cases_eq i j) [
           | inl same ↦ rw same (own_address_written one j value (omega (arith, first.room))
-              ∙ rw (frozen_alike one other alike j, alike.entries j, alike.bits) refl
+              ∙ rw (frozen_alike n one other alike j, alike.entries j, alike.hart.bits) refl
               ∙ sym (own_address_written other j value (omega (arith, second.room))))
           | inr apart ↦ other_address one j value i apart ∙ alike.entries i
               ∙ sym (other_address other j value i apart)
         ];
-        grain = alike.grain;
-        bits = alike.bits;
-        smepmp = alike.smepmp;
+        rest = λ i past. let apart : i ≢ j = omega arith in other_address one j value i apart ∙ alike.rest i past;
+        hart = alike.hart;
       }
   write_alike Mseccfg value named = record {
-    mseccfg = rw (alike.mseccfg, alike.smepmp, locked_alike one other alike) refl;
+    mseccfg = rw (alike.mseccfg, alike.hart.smepmp, locked_alike n one other alike) refl;
     entries = alike.entries;
-    grain = alike.grain;
-    bits = alike.bits;
-    smepmp = alike.smepmp;
+    rest = alike.rest;
+    hart = alike.hart;
   }
 
-  step_alike : (event : Event) → writes_sixteen event ≡ true → Alike (step one event) (step other event)
-  step_alike (Write csr value) named = write_alike csr value named
-  step_alike Reset named = record {
-    mseccfg = refl;
-    entries = λ i. reset_at one.profile.entries i ∙ sym (reset_at other.profile.entries i);
-    grain = alike.grain;
-    bits = alike.bits;
-    smepmp = alike.smepmp;
-  }
+reset_alike : (n : ℕ) (one other : Profile) → SameHart one other → Alike n (reset_file one) (reset_file other)
+reset_alike n one other hart = record {
+  mseccfg = refl;
+  entries = λ i. reset_at one.entries i ∙ sym (reset_at other.entries i);
+  rest = λ i past. reset_at one.entries i;
+  hart = hart;
+}
 
 -- ---- any events
 
-replays_alike : (events : List Event) (one other : RegisterFile) → HasRoom one → HasRoom other → Alike one other
-    → list_all writes_sixteen events ≡ true
-    → Alike (fold step one events) (fold step other events)
-replays_alike [] one other room more alike named = alike
-replays_alike (event ∷ events) one other room more alike named =
-    let each = and_parts _ _ named in
-    replays_alike events (step one event) (step other event) (step_room one room event) (step_room other more event)
-    (step_alike one other room more alike event each.0) each.1
+step_alike : (n : ℕ) (one other : RegisterFile) → HasRoom n one → HasRoom n other → Alike n one other
+    → (event : Event) → writes_first n event ≡ true → Alike n (step one event) (step other event)
+step_alike n one other first second alike (Write csr value) named =
+    write_alike n one other first second alike csr value named
+step_alike n one other first second alike Reset named =
+    reset_alike n one.profile other.profile alike.hart
 
-replays_room : (events : List Event) (file : RegisterFile) → HasRoom file → HasRoom (fold step file events)
-replays_room [] file h = h
-replays_room (event ∷ events) file h = replays_room events (step file event) (step_room file h event)
+replays_alike : (n : ℕ) (events : List Event) (one other : RegisterFile) → HasRoom n one → HasRoom n other
+    → Alike n one other → list_all (writes_first n) events ≡ true
+    → Alike n (fold step one events) (fold step other events)
+replays_alike n [] one other room more alike named = alike
+replays_alike n (event ∷ events) one other room more alike named =
+    let each = and_parts _ _ named in
+    replays_alike n events (step one event) (step other event) (step_room n one room event)
+    (step_room n other more event) (step_alike n one other room more alike event each.0) each.1
+
+replays_room : (n : ℕ) (events : List Event) (file : RegisterFile) → HasRoom n file → HasRoom n (fold step file events)
+replays_room n [] file h = h
+replays_room n (event ∷ events) file h = replays_room n events (step file event) (step_room n file h event)
 
 -- ---- decisions
 
-pub least_alike : (P Q : ℕ → Type 0) → ((i : ℕ) → P i → Q i) → ((i : ℕ) → Q i → P i) → (least : Option ℕ)
-    → IsLeast P least → IsLeast Q least
-least_alike P Q to from None none = λ i h. none i (from i h)
-least_alike P Q to from (Some i) found = (to i found.0, λ j below h. found.1 j below (from j h))
-
-module _ (one other : RegisterFile) (alike : Alike one other) (access : Access) where
-  touches_alike : (i : ℕ) → Touches one access i → Touches other access i
-  touches_alike i (byte, inside, matched) = (byte, inside, matches_alike one other alike i byte matched)
-
-  covers_alike : (i : ℕ) → Covers one access i → Covers other access i
-  covers_alike i covers byte inside = matches_alike one other alike i byte (covers byte inside)
-
-module _ (one other : RegisterFile) (first : HasRoom one) (second : HasRoom other) (alike : Alike one other)
-    (access : Access) where
-  decider_alike : (decider : Option ℕ) → IsDecider one access decider → IsDecider other access decider
-  decider_alike = least_alike (Touches one access) (Touches other access)
-      (touches_alike one other alike access) (touches_alike other one (turned one other alike) access)
-
-  decision_alike_by : (allowed : Bool) (cause : Cause) → IsDecisionBy one access allowed cause
-      → IsDecisionBy other access allowed cause
-  decision_alike_by allowed NoMatch h = (
-    decider_alike None h.0,
-    h.1 ∙ rw (alike.mseccfg, some_entries one first, some_entries other second) refl,
-  )
-  decision_alike_by allowed (Split i) h = (
-    decider_alike (Some i) h.0,
-    (λ covers. h.1 (covers_alike other one (turned one other alike) access i covers)),
-    h.2,
-  )
-  decision_alike_by allowed (Rule i) h = (
-    decider_alike (Some i) h.0,
-    covers_alike one other alike access i h.1,
-    rw (alike.mseccfg, alike.entries i) at h.2,
-  )
-
-  decision_alike : (decision : Decision) → IsDecision one access decision → IsDecision other access decision
-  decision_alike decision h = decision_alike_by decision.allowed decision.cause h
+decision_alike : (n : ℕ) (one other : RegisterFile) → 0 < n → HasRoom n one → HasRoom n other → Alike n one other
+    → (access : Access) (decision : Decision) → IsDecision one access decision → IsDecision other access decision
+decision_alike n one other some first second alike access decision =
+    let present = some_entries n other some second ∙ sym (some_entries n one some first) in
+    decided_by one other (sym alike.mseccfg) present access
+    (λ i. inr (sym (alike.entries i), λ byte. matches_alike n one other alike i byte)) decision.allowed decision.cause
 
 pub size_law : SizeLaw
-size_law events access named =
-    let small = profile_with 16 in
-    let large = profile_with 64 in
+size_law hart n m events access some more is named =
+    let small : Profile = record hart { entries = n } in
+    let large : Profile = record hart { entries = m } in
     let one = replay small events in
     let other = replay large events in
-    let first = reset_room 16 (omega arith) in
-    let second = reset_room 64 (omega arith) in
-    let start : Alike (reset_file small) (reset_file large) = record {
-      mseccfg = refl;
-      entries = λ i. reset_at 16 i ∙ sym (reset_at 64 i);
-      grain = refl;
-      bits = refl;
-      smepmp = refl;
+    let first = reset_room n small (omega arith) in
+    let second = reset_room n large more in
+    let alike : Alike n one other =
+    replays_alike n events (reset_file small) (reset_file large) first second
+    (reset_alike n small large (record { grain = refl; bits = refl; smepmp = refl })) named in
+    let few = replays_room n events (reset_file small) first in
+    let many = replays_room n events (reset_file large) second in
+    let of_small : IsProfile small = record {
+      few = omega (arith, is.few);
+      fine = is.fine;
+      wide = is.wide;
+      narrow = is.narrow;
     } in
-    let alike : Alike one other =
-    replays_alike events (reset_file small) (reset_file large) first second start named in
-    let few = replays_room events (reset_file small) first in
-    let many = replays_room events (reset_file large) second in
-    let short = legal_addresses one (legal_law small events (usual 16 (omega arith))) in
-    let long = legal_addresses other (legal_law large events (usual 64 (omega arith))) in
+    let short = legal_addresses one (legal_law small events of_small) in
+    let long = legal_addresses other (legal_law large events is) in
     record {
       by_bytes = λ decision. (
-        decision_alike one other few many alike access decision,
-        decision_alike other one many few (turned one other alike) access decision,
+        decision_alike n one other some few many alike access decision,
+        decision_alike n other one some many few (turned n one other alike) access decision,
       );
       computed = one_decision other access (decision_of one access) (decision_of other access)
-          (decision_alike one other few many alike access (decision_of one access) (decided_by_ranges one access short))
+          (decision_alike n one other some few many alike access (decision_of one access)
+          (decided_by_ranges one access short))
           (decided_by_ranges other access long);
     }

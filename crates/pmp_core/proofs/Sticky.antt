@@ -1,5 +1,6 @@
 -- What writes alone can't take back.
-use Rattle.std.proofs.Common.{◌≡◌, ℕ, suc, Bool, true, false, cond, List, [], ◌∷◌, length, fold, refl, ap, ◌∙◌, inl, inr}
+use Rattle.std.proofs.Common.{◌≡◌, ℕ, suc, Bool, true, false, cond, List, [], ◌∷◌, length, fold, refl, ap, sym, ◌∙◌}
+use Rattle.std.proofs.Common.{inl, inr}
 use Rattle.std.specs.List.{list_all}
 use Rattle.std.proofs.lemmas.Bool.{and_parts, false≢true, or_cases, or_left, or_right}
 use Rattle.pmp_core.specs.declared.access.Kind.{Kind}
@@ -13,10 +14,12 @@ use Rattle.pmp_core.specs.declared.event.Event.TheVariants.{Write, Reset}
 use Rattle.pmp_core.specs.declared.mseccfg.MseccfgFields.{MseccfgFields}
 use Rattle.pmp_core.specs.Mseccfg.{mseccfg_written}
 use Rattle.pmp_core.specs.RegisterFile.{RegisterFile, entry_at, is_frozen}
+use Rattle.pmp_core.specs.RegisterValue.{register_value}
 use Rattle.pmp_core.specs.RegisterWrite.{is_any_locked, is_tor, step, written}
-use Rattle.pmp_core.specs.Rights.{allows, default_rights_by, has_entries}
+use Rattle.pmp_core.specs.Rights.{allows, default_rights_by, for_mode, has_entries, nothing}
 use Rattle.pmp_core.specs.Histories.{is_write}
 use Rattle.pmp_core.specs.StickyLaw.{StickyLaw, FrozenAddressLaw}
+use Rattle.pmp_core.proofs.Grains.{read_finest}
 use Rattle.pmp_core.proofs.Legal.{length-written}
 use Rattle.pmp_core.proofs.Locks.{still_frozen, held_on}
 
@@ -48,25 +51,19 @@ mmwp_stays : (file : RegisterFile) (events : List Event) → list_all is_write e
     → file.mseccfg.mmwp ≡ true → (fold step file events).mseccfg.mmwp ≡ true
 mmwp_stays = bit_stays (λ m. m.mmwp) (λ before is_any value. or_left before.mmwp _)
 
+no_right : (kind : Kind) → allows nothing kind ≡ false
+no_right Fetch = refl
+no_right Load = refl
+no_right Store = refl
+
+nothing_open : (mode : Mode) (kind : Kind) → allows (for_mode nothing nothing mode) kind ≡ false
+nothing_open M = no_right
+nothing_open S = no_right
+nothing_open U = no_right
+
 none_open : (mml : Bool) (mode : Mode) (kind : Kind) → allows (default_rights_by true mml true mode) kind ≡ false
-none_open true M Fetch = refl
-none_open true M Load = refl
-none_open true M Store = refl
-none_open true S Fetch = refl
-none_open true S Load = refl
-none_open true S Store = refl
-none_open true U Fetch = refl
-none_open true U Load = refl
-none_open true U Store = refl
-none_open false M Fetch = refl
-none_open false M Load = refl
-none_open false M Store = refl
-none_open false S Fetch = refl
-none_open false S Load = refl
-none_open false S Store = refl
-none_open false U Fetch = refl
-none_open false U Load = refl
-none_open false U Store = refl
+none_open true = nothing_open
+none_open false = nothing_open
 
 -- writes leave as many entries
 pub length-writes : (file : RegisterFile) (events : List Event) → list_all is_write events ≡ true
@@ -88,19 +85,43 @@ sticky_law file events writes = record {
 
 -- ---- addresses
 
+-- what an address register reads by the entry that has it
+read_alike : (before after : RegisterFile) (i : ℕ) → after.profile ≡ before.profile
+    → entry_at after.entries i ≡ entry_at before.entries i
+    → register_value after (Addr i) ≡ register_value before (Addr i)
+read_alike before after i hart entry = rw (hart, entry) refl
+
+-- with the finest grain it reads what is kept
+read_kept : (before after : RegisterFile) (i : ℕ) → after.profile ≡ before.profile → before.profile.grain ≡ 0
+    → (entry_at after.entries i).address ≡ (entry_at before.entries i).address
+    → register_value after (Addr i) ≡ register_value before (Addr i)
+read_kept before after i hart finest kept =
+    rw (hart, finest) (read_finest (entry_at after.entries i).configuration.matching (entry_at after.entries i).address
+    ∙ kept
+    ∙ sym (read_finest (entry_at before.entries i).configuration.matching (entry_at before.entries i).address))
+
 pub frozen_address_law : FrozenAddressLaw
 frozen_address_law file i events frozen writes =
     let after = fold step file events in
     elim (or_cases (is_frozen file i) _ frozen) [
       | inl own ↦
-          let held = held_on file i events own writes in (
-            ap (λ (e : Entry). e.address) held.entry,
-            or_left (is_frozen after i) _ (still_frozen file after i own held),
-          )
+          let held = held_on file i events own writes in
+          record {
+            kept = ap (λ (e : Entry). e.address) held.entry;
+            frozen = or_left (is_frozen after i) _ (still_frozen file after i own held);
+            read = λ either. read_alike file after i held.hart held.entry;
+          }
       | inr next ↦
           let above = and_parts (is_frozen file (suc i)) _ next in
           let held = held_on file (suc i) events above.0 writes in
           let still : is_frozen after (suc i) ≡ true = still_frozen file after (suc i) above.0 held in
           let tor : is_tor (entry_at after.entries (suc i)).configuration.matching ≡ true = rw held.entry above.1 in
-          (held.low above.1, or_right (is_frozen after i) _ (rw (still, tor) refl))
+          record {
+            kept = held.low above.1;
+            frozen = or_right (is_frozen after i) _ (rw (still, tor) refl);
+            read = λ either. elim either [
+              | inl own ↦ read_alike file after i held.hart (held_on file i events own writes).entry
+              | inr finest ↦ read_kept file after i held.hart finest (held.low above.1)
+            ];
+          }
     ]

@@ -30,7 +30,7 @@ pub mod StickyLaw
 pub mod PartsLaw
 pub mod OthersLaw
 pub mod WriteReasonsLaw
+pub mod GrainLaw
 pub mod SizeLaw
-pub mod TodayLaw
 pub mod SavedLaw
 pub mod ReachableLaw

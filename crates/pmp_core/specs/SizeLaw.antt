@@ -1,36 +1,36 @@
--- What sixteen entries decide, sixty-four decide.
-use Rattle.std.specs.Prelude.{◌≡◌, ◌↔◌, nat_lt, ◌==◌, ◌||◌, Bool, true, List}
-use Rattle.std.specs.List.{list_all}
+-- What a hart decides by its entries, one with more entries decides (Volume II, 3.7.1).
+use Rattle.std.specs.Prelude.{◌≡◌, ◌↔◌, ℕ, ◌*◌, ◌<◌, ◌≤◌, nat_lt, ◌==◌, ◌||◌, Bool, true, List}
+use Rattle.std.specs.List.{list_all, range_with_len}
 use Rattle.pmp_core.specs.declared.access.Access.{Access}
-use Rattle.pmp_core.specs.declared.csr.Csr.{Csr}
 use Rattle.pmp_core.specs.declared.csr.Csr.TheVariants.{Cfg, Addr, Mseccfg}
 use Rattle.pmp_core.specs.declared.decision.Decision.{Decision}
 use Rattle.pmp_core.specs.declared.event.Event.{Event}
 use Rattle.pmp_core.specs.declared.event.Event.TheVariants.{Write, Reset}
-use Rattle.pmp_core.specs.declared.register_file.TheConstants.{ENTRIES}
-use Rattle.pmp_core.specs.declared.size.TheConstants.{MAX_ENTRIES}
-use Rattle.pmp_core.specs.Hart.{profile_with}
+use Rattle.pmp_core.specs.declared.register_write.TheConstants.{ENTRIES_PER_CFG}
+use Rattle.pmp_core.specs.Hart.{Profile, IsProfile}
 use Rattle.pmp_core.specs.RegisterFile.{RegisterFile}
 use Rattle.pmp_core.specs.Decision.{IsDecision}
 use Rattle.pmp_core.specs.Histories.{replay}
 use Rattle.pmp_core.specs.Ranges.{decision_of}
+use Rattle.pmp_core.specs.WriteReasons.{byte_for}
 
--- pmpcfg0, pmpcfg2, pmpaddr0 to pmpaddr15, mseccfg: the registers of a unit of sixteen entries
-abbrev pub is_of_sixteen : Csr → Bool
-is_of_sixteen (Cfg q) = q == 0 || q == 2
-is_of_sixteen (Addr i) = nat_lt i ENTRIES
-is_of_sixteen Mseccfg = true
-
-abbrev pub writes_sixteen : Event → Bool
-writes_sixteen (Write csr value) = is_of_sixteen csr
-writes_sixteen Reset = true
+-- a write for the first n entries: pmpcfg q with zeros for the others, pmpaddr i with i below n, mseccfg; or a reset.
+-- With n = 16 every write to pmpcfg0, pmpcfg2 and pmpaddr0 to pmpaddr15 is one
+abbrev pub writes_first : (n : ℕ) → Event → Bool
+writes_first n (Write (Cfg q) value) =
+    list_all (λ i. nat_lt i n || byte_for q value i == 0) (range_with_len (4 * q) ENTRIES_PER_CFG)
+writes_first n (Write (Addr i) value) = nat_lt i n
+writes_first n (Write Mseccfg value) = true
+writes_first n Reset = true
 
 -- both files decide the access in the same way
 pub record DecideAlike (one other : RegisterFile) (access : Access) : Type 0 where
   pub by_bytes : (decision : Decision) → IsDecision one access decision ↔ IsDecision other access decision
   pub computed : decision_of one access ≡ decision_of other access
 
--- events that write no other registers give files of sixteen and of sixty-four entries that decide alike
+-- where the events write to a hart's first n entries alone, of which there is one at least, it has the same decisions
+-- with n entries and with m, if m isn't less: sixteen and sixty-four are one case
 abbrev pub SizeLaw : Type 0
-SizeLaw = (events : List Event) (access : Access) → list_all writes_sixteen events ≡ true
-    → DecideAlike (replay (profile_with ENTRIES) events) (replay (profile_with MAX_ENTRIES) events) access
+SizeLaw = (hart : Profile) (n m : ℕ) (events : List Event) (access : Access)
+    → 0 < n → n ≤ m → IsProfile (record hart { entries = m }) → list_all (writes_first n) events ≡ true
+    → DecideAlike (replay (record hart { entries = n }) events) (replay (record hart { entries = m }) events) access

@@ -1,10 +1,12 @@
 -- What writes alone can't take back (Volume II, 3.7.1.2 and Smepmp).
-use Rattle.std.specs.Prelude.{◌≡◌, ℕ, true, false, List, fold}
+use Rattle.std.specs.Prelude.{◌≡◌, ◌⊎◌, ℕ, true, false, List, fold}
 use Rattle.std.specs.List.{list_all}
 use Rattle.pmp_core.specs.declared.access.Kind.{Kind}
 use Rattle.pmp_core.specs.declared.access.Mode.{Mode}
+use Rattle.pmp_core.specs.declared.csr.Csr.TheVariants.{Addr}
 use Rattle.pmp_core.specs.declared.event.Event.{Event}
-use Rattle.pmp_core.specs.RegisterFile.{RegisterFile, entry_at}
+use Rattle.pmp_core.specs.RegisterFile.{RegisterFile, entry_at, is_frozen}
+use Rattle.pmp_core.specs.RegisterValue.{register_value}
 use Rattle.pmp_core.specs.RegisterWrite.{is_address_frozen, step}
 use Rattle.pmp_core.specs.Rights.{allows, has_entries, default_rights}
 use Rattle.pmp_core.specs.Histories.{is_write}
@@ -21,10 +23,15 @@ abbrev pub StickyLaw : Type 0
 StickyLaw = (file : RegisterFile) (events : List Event) → list_all is_write events ≡ true
     → StaysSet file (fold step file events)
 
--- an address register that is frozen, also one below the top of a frozen range, keeps its value and stays frozen
--- through every list of writes (3.7.1.2)
+-- pmpaddr i keeps its address and stays frozen. It reads the same too where entry i is frozen itself, or the grain is 4
+-- bytes: below the top of a frozen range, on a coarser grain, what it reads goes by the field A of entry i
+pub record KeepsAddress (before after : RegisterFile) (i : ℕ) : Type 0 where
+  pub kept : (entry_at after.entries i).address ≡ (entry_at before.entries i).address
+  pub frozen : is_address_frozen after i ≡ true
+  pub read : (is_frozen before i ≡ true) ⊎ (before.profile.grain ≡ 0)
+      → register_value after (Addr i) ≡ register_value before (Addr i)
+
+-- so does a frozen address register, also one below the top of a frozen range, through every list of writes (3.7.1.2)
 abbrev pub FrozenAddressLaw : Type 0
 FrozenAddressLaw = (file : RegisterFile) (i : ℕ) (events : List Event) → is_address_frozen file i ≡ true
-    → list_all is_write events ≡ true
-    → ((entry_at (fold step file events).entries i).address ≡ (entry_at file.entries i).address)
-    × (is_address_frozen (fold step file events) i ≡ true)
+    → list_all is_write events ≡ true → KeepsAddress file (fold step file events) i

@@ -15,8 +15,8 @@ ghost use Rattle.pmp_core.specs.ProtectionLaw.{FewerRightsLaw, MachineCodeLaw, P
 ghost use Rattle.pmp_core.specs.ReachableLaw.{LegalLaw, ReachableLaw};
 ghost use Rattle.pmp_core.specs.StickyLaw.{FrozenAddressLaw, StickyLaw};
 ghost use Rattle.pmp_core.specs.LockLaw.{LockLaw};
+ghost use Rattle.pmp_core.specs.GrainLaw.{GrainLaw};
 ghost use Rattle.pmp_core.specs.SizeLaw.{SizeLaw};
-ghost use Rattle.pmp_core.specs.TodayLaw.{TodayLaw};
 ghost use Rattle.pmp_core.specs.SavedRegisters.{restored_file, zero_registers};
 ghost use Rattle.pmp_core.specs.SavedLaw.{SavedLaw};
 ghost use Rattle.pmp_core.specs.SpanLaw.{OneSpanLaw};
@@ -76,16 +76,15 @@ pub fn law_store_load()
     ensures { StoreLaw }
 {}
 
-/// The size law: after writes to the registers of sixteen entries, and resets, a unit of sixty-four entries decides
-/// every access as a unit of sixteen does.
-pub fn law_sizes()
-    ensures { SizeLaw }
+/// The grain law: in a legal register file the bytes of one block of the grain are matched by the same entries.
+pub fn law_grain()
+    ensures { GrainLaw }
 {}
 
-/// The law of today's harts: with sixteen entries or sixty-four, the finest grain, the widest addresses and Smepmp, all
-/// rules are as if there were no other harts.
-pub fn law_today()
-    ensures { TodayLaw }
+/// The size law: after writes to the first entries of a hart, and resets, it decides every access in the same way as
+/// one that has more entries and is else the same. Sixteen entries and sixty-four are one case.
+pub fn law_sizes()
+    ensures { SizeLaw }
 {}
 
 /// A write to a legal register file has no reason not to be stored as written exactly where the register then reads
@@ -128,7 +127,8 @@ pub fn law_sticky()
     ensures { StickyLaw }
 {}
 
-/// A frozen address register keeps its value and stays frozen through every list of writes.
+/// A frozen address register keeps its address and stays frozen through every list of writes. It reads the same after
+/// them if its own entry is frozen, or with the finest grain.
 pub fn law_frozen_address()
     ensures { FrozenAddressLaw }
 {}

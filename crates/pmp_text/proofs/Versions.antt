@@ -11,14 +11,14 @@ use Rattle.pmp_core.specs.declared.event.Event.{Event}
 use Rattle.pmp_core.specs.declared.size.Size.{Size}
 use Rattle.pmp_core.specs.declared.size.Size.TheVariants.{Sixteen, SixtyFour}
 use Rattle.pmp_core.specs.Histories.{joined}
-use Rattle.pmp_core.specs.SizeLaw.{SizeLaw, writes_sixteen}
+use Rattle.pmp_core.specs.SizeLaw.{DecideAlike, SizeLaw, writes_first}
 use Rattle.pmp_text.specs.declared.script.ScriptFault.{ScriptFault}
 use Rattle.pmp_text.specs.declared.script.ScriptKind.TheVariants.{BadVersion, TooLong}
 use Rattle.pmp_text.specs.declared.trace.Row.{Row}
 use Rattle.pmp_text.specs.Contents.{Publications, ScriptContents}
 use Rattle.pmp_text.specs.declared.script.reader.TheConstants.{MAX_SCRIPT}
 use Rattle.pmp_text.specs.Lines.{words, lines}
-use Rattle.pmp_text.specs.Reports.{AreDecided, IsReport}
+use Rattle.pmp_text.specs.Reports.{AreDecided, IsReport, file_of_script}
 use Rattle.pmp_text.specs.Scripts.{Line, at_line, counts, numbered_from, significant_from, significant_lines}
 use Rattle.pmp_text.specs.Scripts.{published_behind, version_named, for_unit}
 use Rattle.pmp_text.specs.Scripts.{meaning_behind, lines_meaning, script_meaning}
@@ -27,11 +27,12 @@ use Rattle.pmp_text.specs.Steps.Progress.{Reading, Read, nothing_begun, after_st
 use Rattle.pmp_text.specs.declared.script.ScriptKind.{ScriptKind}
 use Rattle.pmp_text.specs.declared.script.statement.Statement.{Statement}
 use Rattle.pmp_text.specs.declared.script.version.Version.TheVariants.{Sized}
-use Rattle.pmp_core.specs.Hart.{profile_of}
+use Rattle.pmp_core.specs.Hart.{profile_of, profile_with}
 use Rattle.pmp_core.specs.RegisterFile.{reset_file}
 use Rattle.pmp_text.specs.Versions.{is_version_one, lines_meaning_in_one, meaning_in_one, in_sixteen}
 use Rattle.pmp_text.specs.Versions.{IsReportInOne, VersionOneLaw, IsSameInTwo, in_sixty_four, VersionTwoLaw}
 use Rattle.pmp_text.specs.Versions.{HasNoHead, NoHeadLaw}
+use Rattle.pmp_core.proofs.HartNumbers.{usual}
 use Rattle.pmp_text.proofs.Meanings.{by_lines, long_script, with_size}
 
 abbrev one_says : List (List ℕ)
@@ -235,22 +236,27 @@ module _ (one two : List ℕ) (script : ScriptContents) (same : IsSameInTwo one 
 
 -- ---- version 2: rows are decided alike
 
-fewer_events : (batches : List (List Event)) (done : ℕ) → list_all writes_sixteen (joined batches) ≡ true
-    → list_all writes_sixteen (joined (take done batches)) ≡ true
+fewer_events : (batches : List (List Event)) (done : ℕ) → list_all (writes_first 16) (joined batches) ≡ true
+    → list_all (writes_first 16) (joined (take done batches)) ≡ true
 fewer_events [] zero all = refl
 fewer_events [] (suc done) all = refl
 fewer_events (batch ∷ batches) zero all = refl
 fewer_events (batch ∷ batches) (suc done) all =
-    let both = and_parts _ _ (sym (list_all-append writes_sixteen batch (joined batches)) ∙ all) in
-    list_all-append writes_sixteen batch (joined (take done batches))
+    let both = and_parts _ _ (sym (list_all-append (writes_first 16) batch (joined batches)) ∙ all) in
+    list_all-append (writes_first 16) batch (joined (take done batches))
     ∙ and_from _ _ both.0 (fewer_events batches done both.1)
 
-module _ (law : SizeLaw) (read : Read) (all : list_all writes_sixteen (joined read.published.batches) ≡ true) where
+module _ (law : SizeLaw) (read : Read) (all : list_all (writes_first 16) (joined read.published.batches) ≡ true) where
   abbrev sized : Size → ScriptContents
   sized size = of_size size read
 
   abbrev batches : List (List Event)
   batches = read.published.batches
+
+  alike : (row : Row)
+      → DecideAlike (file_of_script (sized Sixteen) row.after) (file_of_script (sized SixtyFour) row.after) row.access
+  alike row = law (profile_with 16) 16 64 (joined (take row.after batches)) row.access (omega arith) (omega arith)
+      (usual 64 (omega arith)) (fewer_events batches row.after all)
 
   decided_in_two : (rows : List Row) (decisions : List Decision)
       → AreDecided (sized Sixteen) rows decisions → AreDecided (sized SixtyFour) rows decisions
@@ -258,8 +264,7 @@ module _ (law : SizeLaw) (read : Read) (all : list_all writes_sixteen (joined re
   decided_in_two [] (decision ∷ decisions) decided = absurd decided
   decided_in_two (row ∷ rows) [] decided = absurd decided
   decided_in_two (row ∷ rows) (decision ∷ decisions) decided =
-      let alike = law (joined (take row.after batches)) row.access (fewer_events batches row.after all) in
-      ((alike.by_bytes decision).0 decided.0, decided_in_two rows decisions decided.1)
+      (((alike row).by_bytes decision).0 decided.0, decided_in_two rows decisions decided.1)
 
   decided_in_one : (rows : List Row) (decisions : List Decision)
       → AreDecided (sized SixtyFour) rows decisions → AreDecided (sized Sixteen) rows decisions
@@ -267,8 +272,7 @@ module _ (law : SizeLaw) (read : Read) (all : list_all writes_sixteen (joined re
   decided_in_one [] (decision ∷ decisions) decided = absurd decided
   decided_in_one (row ∷ rows) [] decided = absurd decided
   decided_in_one (row ∷ rows) (decision ∷ decisions) decided =
-      let alike = law (joined (take row.after batches)) row.access (fewer_events batches row.after all) in
-      ((alike.by_bytes decision).1 decided.0, decided_in_one rows decisions decided.1)
+      (((alike row).by_bytes decision).1 decided.0, decided_in_one rows decisions decided.1)
 
   reports_alike : (trace text : List ℕ)
       → IsReport (sized Sixteen) trace text ↔ IsReport (sized SixtyFour) trace text
@@ -297,7 +301,7 @@ version_two law one two script same means all =
       reports = λ trace text.
           subst (λ (s : ScriptContents). IsReport s trace text ↔ IsReport (in_sixty_four s) trace text) it.is
           (reports_alike law it.all
-          (ap (λ (s : ScriptContents). list_all writes_sixteen (joined s.batches)) it.is ∙ all) trace text);
+          (ap (λ (s : ScriptContents). list_all (writes_first 16) (joined s.batches)) it.is ∙ all) trace text);
     }
 
 -- ---- versions without a head

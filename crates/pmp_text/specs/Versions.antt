@@ -10,7 +10,7 @@ use Rattle.pmp_core.specs.Decision.{IsDecision}
 use Rattle.pmp_core.specs.Hart.{profile_of}
 use Rattle.pmp_core.specs.Histories.{joined, file_after}
 use Rattle.pmp_core.specs.RegisterFile.{IsLegal, reset_file}
-use Rattle.pmp_core.specs.SizeLaw.{writes_sixteen}
+use Rattle.pmp_core.specs.SizeLaw.{writes_first}
 use Rattle.pmp_text.specs.declared.script.ScriptFault.{ScriptFault}
 use Rattle.pmp_text.specs.declared.script.ScriptKind.TheVariants.{BadVersion, TooLong}
 use Rattle.pmp_text.specs.declared.script.version.Version.TheVariants.{Sized}
@@ -109,10 +109,10 @@ pub record ReportsAlike (two : List ℕ) (script : ScriptContents) : Type 0 wher
   pub meaning : script_meaning two ≡ Ok (in_sixty_four script)
   pub reports : (trace text : List ℕ) → IsReport script trace text ↔ IsReport (in_sixty_four script) trace text
 
--- a script of version 1 without a fault that writes no register of further entries reports the same in version 2
+-- a script of version 1 without a fault that writes to the first sixteen entries alone reports the same in version 2
 abbrev pub VersionTwoLaw : Type 0
 VersionTwoLaw = (one two : List ℕ) (script : ScriptContents) → IsSameInTwo one two → script_meaning one ≡ Ok script
-    → list_all writes_sixteen (joined script.batches) ≡ true → ReportsAlike two script
+    → list_all (writes_first 16) (joined script.batches) ≡ true → ReportsAlike two script
 
 -- ---- versions without a head
 
