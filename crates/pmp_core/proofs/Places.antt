@@ -1,6 +1,6 @@
 -- Lists of entries and of ranges, place by place.
-use Rattle.std.proofs.Common.{◌≡◌, ℕ, zero, suc, ◌<◌, Bool, false, List, [], ◌∷◌, length, map, get_or, slice_index_or}
-use Rattle.std.proofs.Common.{refl, arith}
+use Rattle.std.proofs.Common.{◌≡◌, ℕ, zero, suc, ◌+◌, ◌<◌, Bool, false, List, [], ◌∷◌, length, map, get_or, slice_index_or}
+use Rattle.std.proofs.Common.{refl, ap, arith}
 use Rattle.std.specs.List.{range_with_len, list_any}
 use Rattle.std.proofs.lemmas.Bool.{or_from}
 use Rattle.std.proofs.lemmas.List.FromFn.{fill_by_all, length-map-range_with_len, get_or-map-range_with_len}
@@ -28,6 +28,16 @@ all_decoded profile entries ranges len done =
 pub low_address_below : (entries : List Entry) (i : ℕ) → AreWords entries → low_address entries i < WORD_ADDRESSES
 low_address_below entries zero h = omega arith
 low_address_below entries (suc i) h = h i
+
+pub low_after : (entries : List Entry) (i k : ℕ) → k + 1 ≡ i → low_address entries i ≡ (entry_at entries k).address
+low_after entries zero k next = absurd (omega arith)
+low_after entries (suc j) k next = let same : j ≡ k = omega arith in ap (λ (n : ℕ). (entry_at entries n).address) same
+
+pub low_first : (entries : List Entry) (i : ℕ) → i < 1 → low_address entries i ≡ 0
+low_first entries zero first = refl
+low_first entries (suc j) first = absurd (omega arith)
+
+pub ruleset low_rules = (low_after, low_first)
 
 pub length-ranges_of : (profile : Profile) (entries : List Entry) → length (ranges_on profile entries) ≡ length entries
 length-ranges_of profile entries = length-map-range_with_len (range_on profile entries) 0 (length entries)

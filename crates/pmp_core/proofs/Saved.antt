@@ -12,7 +12,7 @@ use Rattle.pmp_core.specs.declared.entry.Entry.{Entry}
 use Rattle.pmp_core.specs.declared.saved_registers.SavedRegisters.{SavedRegisters}
 use Rattle.pmp_core.specs.Configuration.{byte_of, is_reserved}
 use Rattle.pmp_core.specs.Mseccfg.{mseccfg_value, mseccfg_fields}
-use Rattle.pmp_core.specs.RegisterFile.{RegisterFile, file_of, reset_entry, reset_mseccfg, reset_file, entry_at}
+use Rattle.pmp_core.specs.RegisterFile.{RegisterFile, reset_entry, reset_mseccfg, reset_file, entry_at}
 use Rattle.pmp_core.specs.RegisterFile.{HasAddresses, IsLegal}
 use Rattle.pmp_core.specs.Grain.{selectable}
 use Rattle.pmp_core.specs.RegisterWrite.{admitted}

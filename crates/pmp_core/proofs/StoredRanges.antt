@@ -6,8 +6,8 @@ use Rattle.std.proofs.lemmas.List.{get_or_append_left, get_or-append_right, get_
 use Rattle.std.proofs.lemmas.List.FromFn.{fill_by_all, get_or-map-range_with_len, take-map-range_with_len}
 use Rattle.pmp_core.specs.declared.csr.Csr.{Csr}
 use Rattle.pmp_core.specs.declared.range.ByteRange.{ByteRange}
-use Rattle.pmp_core.specs.Hart.{Profile, IsProfile}
-use Rattle.pmp_core.specs.RegisterFile.{RegisterFile, entry_at, reset_file}
+use Rattle.pmp_core.specs.Hart.{Profile}
+use Rattle.pmp_core.specs.RegisterFile.{RegisterFile, reset_file}
 use Rattle.pmp_core.specs.RegisterWrite.{written}
 use Rattle.pmp_core.specs.Ranges.{range_in, range_on, range_of, ranges_of}
 use Rattle.pmp_core.specs.Storage.{stored_ranges}

@@ -1,5 +1,5 @@
 -- The registers of a unit as plain numbers, and the file that numbers stand for (Volume II, 3.7.1 and Smepmp).
-use Rattle.std.specs.Prelude.{◌≡◌, ◌≢◌, ℕ, ◌+◌, ◌*◌, ◌/◌, ◌%◌, ◌^◌, ◌==◌, Bool, true, ◌&&◌, ◌||◌, if◌then◌else◌}
+use Rattle.std.specs.Prelude.{◌≡◌, ℕ, ◌+◌, ◌*◌, ◌/◌, ◌%◌, ◌^◌, ◌==◌, Bool, true, ◌&&◌, ◌||◌, if◌then◌else◌}
 use Rattle.std.specs.Prelude.{List, map, replicate, slice_index}
 use Rattle.std.specs.Option.{is_none}
 use Rattle.std.specs.List.{range_with_len}

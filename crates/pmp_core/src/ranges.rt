@@ -1,6 +1,8 @@
 //! The ranges of all entries.
 
 ghost use Rattle.std.specs.Prelude.{◌≡◌, ◌<◌, ◌≤◌, ℕ, length};
+ghost use Rattle.pmp_core.specs.declared.register_write.TheConstants.{WORD_ADDRESSES};
+ghost use Rattle.pmp_core.specs.Matching.{low_address};
 ghost use Rattle.pmp_core.specs.RegisterFile.{RegisterFile};
 ghost use Rattle.pmp_core.specs.Ranges.{range_in, range_of, range_on, ranges_of};
 ghost use Rattle.pmp_core.specs.RegisterWrite.{written};
@@ -31,16 +33,27 @@ pub fn changed_by(csr: Csr) -> Range<usize>
 }
 
 impl<'a> Registers<'a> {
+    /// The address register before the entry's own, and 0 for the first entry.
+    #[inline(always)]
+    #[tactic(auto, using(crate::proofs::Places::low_rules))]
+    fn low_address(&self, index: usize) -> u64
+        requires { index < length self.now.entries }
+        ensures low { result ≡ low_address self.now.entries index }
+        ensures most { result < WORD_ADDRESSES }
+    {
+        match index.checked_sub(1) {
+            Some(before) => self.address(before),
+            None => 0,
+        }
+    }
+
     /// Where the entry matches.
     #[inline(always)]
     pub(crate) fn range(&self, index: usize) -> ByteRange
         requires { index < length self.now.entries }
         ensures { result ≡ range_of self.now index }
     {
-        let low = match index.checked_sub(1) {
-            Some(before) => self.address(before),
-            None => 0,
-        };
+        let low = self.low_address(index);
         let matching = self.configuration(index).matching;
         range_by(self.hart(), matching, low, self.address(index))
     }

@@ -1,5 +1,4 @@
-use Rattle.std.proofs.Common.{◌≡◌, length, sym, ap, ◌∙◌, arith}
-use Rattle.pmp_core.specs.declared.range.ByteRange.{ByteRange}
+use Rattle.std.proofs.Common.{length, sym, ap, ◌∙◌, arith}
 use Rattle.pmp_core.specs.RegisterFile.{RegisterFile}
 use Rattle.pmp_core.specs.Ranges.{range_in, range_of}
 use Rattle.pmp_core.specs.SavedRegisters.{restored_file}

@@ -1,6 +1,5 @@
 use Rattle.std.proofs.Common.{◌≡◌, length, sym, ap, ◌∙◌}
 use Rattle.std.proofs.lemmas.List.{length-replicate}
-use Rattle.pmp_core.specs.Hart.{Profile}
 use Rattle.pmp_core.specs.RegisterFile.{RegisterFile, reset_entry, reset_file}
 use Rattle.pmp_core.proofs.Legal.{reset_legal}
 use Rattle.pmp_core.proofs.register_file.RegFile.reset_again.Goals as goal

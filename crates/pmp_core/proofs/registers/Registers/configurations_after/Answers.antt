@@ -1,7 +1,7 @@
-use Rattle.std.proofs.Common.{◌≡◌, ℕ, ◌+◌, ◌*◌, ◌%◌, ◌<◌, ◌≤◌, ◌≢◌, List, length, map, get_or, length-set}
+use Rattle.std.proofs.Common.{◌≡◌, ℕ, ◌+◌, ◌*◌, ◌%◌, ◌<◌, ◌≢◌, List, length, map, length-set}
 use Rattle.std.proofs.Common.{get_or-set_other, get_or-set_same, ap, ◌∙◌, inl, inr, arith}
 use Rattle.std.specs.List.{range_with_len}
-use Rattle.std.specs.Int.{w64, from_le_bytes, to_le_bytes}
+use Rattle.std.specs.Int.{w64, from_le_bytes}
 use Rattle.std.proofs.lemmas.Bool.{cases_eq}
 use Rattle.std.proofs.lemmas.List.FromFn.{fill_by_all}
 use Rattle.pmp_core.specs.Configuration.{byte_of}

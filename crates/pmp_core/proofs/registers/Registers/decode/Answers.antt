@@ -1,4 +1,4 @@
-use Rattle.std.proofs.Common.{◌≡◌, ◌<◌, length, length-set, get_or-set_other, get_or-set_same, arith, inl, inr}
+use Rattle.std.proofs.Common.{◌<◌, length, length-set, get_or-set_other, get_or-set_same, arith, inl, inr}
 use Rattle.std.proofs.lemmas.Bool.{cases_eq}
 use Rattle.pmp_core.proofs.Places.{all_decoded}
 use Rattle.pmp_core.proofs.registers.Registers.decode.Goals as goal

@@ -1,4 +1,4 @@
-use Rattle.std.proofs.Common.{◌≡◌, ◌-◌, ◌^◌, ◌<◌, ◌≤◌, drop, map}
+use Rattle.std.proofs.Common.{◌≡◌, ◌-◌, ◌^◌, ◌<◌, drop, map}
 use Rattle.pmp_core.specs.WriteReasons.{all_reasons, bits_of, is_reason}
 use Rattle.pmp_core.proofs.registers.Registers.reasons.Given as goal
 

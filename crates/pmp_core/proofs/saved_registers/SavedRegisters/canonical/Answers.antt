@@ -3,7 +3,6 @@ use Rattle.std.proofs.lemmas.List.{get_or-replicate}
 use Rattle.pmp_core.specs.declared.entry.Entry.{Entry}
 use Rattle.pmp_core.specs.declared.saved_registers.SavedRegisters.{SavedRegisters}
 use Rattle.pmp_core.specs.Configuration.{byte_of}
-use Rattle.pmp_core.specs.Hart.{Profile}
 use Rattle.pmp_core.specs.Mseccfg.{mseccfg_value}
 use Rattle.pmp_core.specs.RegisterFile.{RegisterFile, reset_entry, entry_at}
 use Rattle.pmp_core.specs.SavedRegisters.{hart_number, restored_file, saved_registers}

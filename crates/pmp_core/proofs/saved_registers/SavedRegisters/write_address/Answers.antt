@@ -1,5 +1,5 @@
 use Rattle.std.proofs.Common.{◌≡◌, ℕ, ◌<◌, ◌%◌, false, length, sym, ap, ◌∙◌, arith}
-use Rattle.pmp_core.specs.Hart.{Profile, word_addresses}
+use Rattle.pmp_core.specs.Hart.{word_addresses}
 use Rattle.pmp_core.specs.RegisterFile.{RegisterFile, entry_at}
 use Rattle.pmp_core.specs.RegisterWrite.{is_address_frozen}
 use Rattle.pmp_core.specs.SavedRegisters.{hart_in, restored_file}
