@@ -1,5 +1,5 @@
-# make                      builds the program, where that isn't done
-# make library              builds the C library, where that isn't done
+# make                      proves and builds the program, where that isn't done
+# make library              proves and builds the C library, where that isn't done
 # make install PREFIX=..    puts what a release has below PREFIX, as release/files lists it; install-program and
 #                           install-library put a part
 # make uninstall PREFIX=..  takes it away
@@ -28,12 +28,11 @@ LANES = $(shell awk -v most="$$(nproc)" '/^MemAvailable/ { n = int($$2 / 3500000
 .PHONY: build library page page-test test conformance qemu install install-program install-library uninstall dist \
     dist-test soak stress bench bench-decide bench-threads bench-limits bench-audit bench-page
 
-# The launcher builds the program, and then the program says its version.
 build:
-	@./pmp --version
+	@release/build program
 
 library:
-	@release/library
+	@release/build library
 
 page:
 	@web/module
@@ -45,13 +44,12 @@ page-test:
 	checks/page $(PROGRAM)
 
 # rt ci proves and builds all from nothing. What comes after it goes over the libraries that it leaves, so no others may
-# stand in their places, and the launcher takes the program that it leaves, with the sums of the sources from before.
+# stand in their places, and the program that it leaves is noted as of the sources from before.
 test:
 	rm -rf crates/*/out/rlib
-	mkdir -p out && release/sums >out/proving
+	mkdir -p out && release/build --sources >out/proving
 	RT_JOBS=$(LANES) rt ci
-	rt version >out/kit && { cat out/proving && cksum <$(PROGRAM); } >out/built && rm out/proving
-	./pmp --version
+	release/build --note program 'rt ci' "$$(cat out/proving)" && rm out/proving
 	RT=$(CURDIR)/checks/over-proved $(MAKE) library
 	LANES=$(LANES) checks/wrong-bodies --proved
 	checks/library $(LIBRARY)
