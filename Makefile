@@ -1,4 +1,5 @@
-# make                      proves and builds the program, where that isn't done
+# make                      proves and builds the program, where that isn't done; JOBS=4 does so by four processes,
+#                           which takes less time and more work
 # make library              proves and builds the C library, where that isn't done
 # make install PREFIX=..    puts what a release has below PREFIX, as release/files lists it; install-program and
 #                           install-library put a part
@@ -55,6 +56,7 @@ test:
 	checks/library $(LIBRARY)
 	checks/release
 	checks/worked $(PROGRAM)
+	checks/worked --tried
 	checks/conformance $(PROGRAM)
 	checks/program $(PROGRAM)
 	checks/launcher
