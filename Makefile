@@ -46,7 +46,7 @@ page-test:
 
 # rt ci proves and builds all from nothing. What comes after it goes over the libraries that it leaves, so no others may
 # stand in their places, and the launcher takes the program that it leaves, with the sums of the sources from before.
-# checks/all runs these parts, and adds up what they tell. (By $(MAKE) `make -n` would run them.)
+# checks/all runs the parts and adds up what they tell. They say make, since by $(MAKE) make -n would run them too.
 test:
 	@rm -rf crates/*/out/rlib && mkdir -p out && release/sums >out/proving
 	@checks/all 'RT_JOBS=$(LANES) rt ci' \

@@ -29,6 +29,15 @@ passed_over() {
     echo "passed over: $1: install $2"
 }
 
+# samples PAGE: each command of pmp that the page shows with its first line, as two lines: in a row of a table, or behind
+# a dollar sign, where the line below is the first one.
+samples() {
+    awk -F '`' '/^\| `\.\/pmp / { print substr($2, 7); print $4 }
+        is_next { is_next = 0; print clean($0) }
+        /^\$ \.\/pmp / { is_next = 1; print substr(clean($0), 9) }
+        function clean(line) { sub(/ +#.*/, "", line); return line }' "$1"
+}
+
 # The last line. The status is 0 where something passed and nothing failed.
 tally() {
     echo "$passed passed, $failed failed"
