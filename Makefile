@@ -12,7 +12,7 @@
 # make conformance          tries QEMU's unit, or that of HART="simulator ELF", by cases of each rule
 # make qemu                 builds QEMU 7.2 as it is and over the library, boots OpenSBI and U-Boot on both, and compares
 # make test                 proves and tests everything, has the prover refuse the wrong bodies, then tries the program, the
-#                           libraries, the launcher and the documents
+#                           libraries, the launcher and the documents; its last line is the sum of all
 PREFIX ?= /usr/local
 SECONDS ?= 600
 HART ?= qemu-system-riscv64 -M virt -cpu rv64,x-epmp=true -m 16M -display none -monitor none -serial stdio -bios ELF
@@ -46,29 +46,30 @@ page-test:
 
 # rt ci proves and builds all from nothing. What comes after it goes over the libraries that it leaves, so no others may
 # stand in their places, and the program that it leaves is noted as of the sources from before.
+# checks/all runs the parts and adds up what they tell. They say make, since by $(MAKE) make -n would run them too.
 test:
-	rm -rf crates/*/out/rlib
-	mkdir -p out && release/build --sources >out/proving
-	RT_JOBS=$(LANES) rt ci
-	release/build --note program 'rt ci' "$$(cat out/proving)" && rm out/proving
-	RT=$(CURDIR)/checks/over-proved $(MAKE) library
-	LANES=$(LANES) checks/wrong-bodies --proved
-	checks/library $(LIBRARY)
-	checks/release
-	checks/worked $(PROGRAM)
-	checks/worked --tried
-	checks/conformance $(PROGRAM)
-	checks/program $(PROGRAM)
-	checks/launcher
-	checks/documents $(PROGRAM)
-	checks/converters $(PROGRAM)
-	checks/files
-	checks/limits
-	checks/hostile $(PROGRAM)
-	checks/machines $(PROGRAM)
-	checks/growths $(GROWTHS)
-	@if command -v chromium >/dev/null; then RT=$(CURDIR)/checks/over-proved $(MAKE) page; fi
-	checks/page $(PROGRAM)
+	@rm -rf crates/*/out/rlib && mkdir -p out && release/build --sources >out/proving
+	@checks/all 'RT_JOBS=$(LANES) rt ci' \
+	    '$(PROVED) && RT=$(CURDIR)/checks/over-proved make library && LANES=$(LANES) checks/wrong-bodies --proved' \
+	    'checks/library $(LIBRARY)' \
+	    checks/release \
+	    'checks/worked $(PROGRAM)' \
+	    'checks/worked --tried' \
+	    'checks/conformance $(PROGRAM)' \
+	    'checks/program $(PROGRAM)' \
+	    checks/launcher \
+	    'checks/documents $(PROGRAM)' \
+	    'checks/converters $(PROGRAM)' \
+	    checks/files \
+	    checks/limits \
+	    checks/summing \
+	    'checks/hostile $(PROGRAM)' \
+	    'checks/machines $(PROGRAM)' \
+	    'checks/growths $(GROWTHS)' \
+	    'if command -v chromium; then RT=$(CURDIR)/checks/over-proved make page; fi && checks/page $(PROGRAM)'
+
+# Notes that rt ci has proved the program.
+PROVED = release/build --note program "rt ci" "$$(cat out/proving)" && rm out/proving
 
 # Ends with status 1 where something differs.
 conformance:
