@@ -7,8 +7,4 @@ clean() {
     rm -rf "$work"
 }
 trap clean EXIT
-trap 'exit 129' HUP
-trap 'exit 130' INT
-trap 'exit 131' QUIT
-trap 'exit 141' PIPE
-trap 'exit 143' TERM
+for it in 129:HUP 130:INT 131:QUIT 141:PIPE 143:TERM; do trap "exit ${it%:*}" "${it#*:}"; done
