@@ -1,5 +1,6 @@
-# make                      builds the program, where that isn't done
-# make library              builds the C library, where that isn't done
+# make                      proves and builds the program, where that isn't done; JOBS=4 does so by four processes,
+#                           which takes less time and more work
+# make library              proves and builds the C library, where that isn't done
 # make install PREFIX=..    puts what a release has below PREFIX, as release/files lists it; install-program and
 #                           install-library put a part
 # make uninstall PREFIX=..  takes it away
@@ -11,7 +12,7 @@
 # make conformance          tries QEMU's unit, or that of HART="simulator ELF", by cases of each rule
 # make qemu                 builds QEMU 7.2 as it is and over the library, boots OpenSBI and U-Boot on both, and compares
 # make test                 proves and tests everything, has the prover refuse the wrong bodies, then tries the program, the
-#                           libraries, the launcher and the documents
+#                           libraries, the launcher and the documents; its last line is the sum of all
 PREFIX ?= /usr/local
 SECONDS ?= 600
 HART ?= qemu-system-riscv64 -M virt -cpu rv64,x-epmp=true -m 16M -display none -monitor none -serial stdio -bios ELF
@@ -28,12 +29,11 @@ LANES = $(shell awk -v most="$$(nproc)" '/^MemAvailable/ { n = int($$2 / 3500000
 .PHONY: build library page page-test test conformance qemu install install-program install-library uninstall dist \
     dist-test soak stress bench bench-decide bench-threads bench-limits bench-audit bench-page
 
-# The launcher builds the program, and then the program says its version.
 build:
-	@./pmp --version
+	@release/build program
 
 library:
-	@release/library
+	@release/build library
 
 page:
 	@web/module
@@ -45,30 +45,31 @@ page-test:
 	checks/page $(PROGRAM)
 
 # rt ci proves and builds all from nothing. What comes after it goes over the libraries that it leaves, so no others may
-# stand in their places, and the launcher takes the program that it leaves, with the sums of the sources from before.
+# stand in their places, and the program that it leaves is noted as of the sources from before.
+# checks/all runs the parts and adds up what they tell. They say make, since by $(MAKE) make -n would run them too.
 test:
-	rm -rf crates/*/out/rlib
-	mkdir -p out && release/sums >out/proving
-	RT_JOBS=$(LANES) rt ci
-	rt version >out/kit && { cat out/proving && cksum <$(PROGRAM); } >out/built && rm out/proving
-	./pmp --version
-	RT=$(CURDIR)/checks/over-proved $(MAKE) library
-	LANES=$(LANES) checks/wrong-bodies --proved
-	checks/library $(LIBRARY)
-	checks/release
-	checks/worked $(PROGRAM)
-	checks/conformance $(PROGRAM)
-	checks/program $(PROGRAM)
-	checks/launcher
-	checks/documents $(PROGRAM)
-	checks/converters $(PROGRAM)
-	checks/files
-	checks/limits
-	checks/hostile $(PROGRAM)
-	checks/machines $(PROGRAM)
-	checks/growths $(GROWTHS)
-	@if command -v chromium >/dev/null; then RT=$(CURDIR)/checks/over-proved $(MAKE) page; fi
-	checks/page $(PROGRAM)
+	@rm -rf crates/*/out/rlib && mkdir -p out && release/build --sources >out/proving
+	@checks/all 'RT_JOBS=$(LANES) rt ci' \
+	    '$(PROVED) && RT=$(CURDIR)/checks/over-proved make library && LANES=$(LANES) checks/wrong-bodies --proved' \
+	    'checks/library $(LIBRARY)' \
+	    checks/release \
+	    'checks/worked $(PROGRAM)' \
+	    'checks/worked --tried' \
+	    'checks/conformance $(PROGRAM)' \
+	    'checks/program $(PROGRAM)' \
+	    checks/launcher \
+	    'checks/documents $(PROGRAM)' \
+	    'checks/converters $(PROGRAM)' \
+	    checks/files \
+	    checks/limits \
+	    checks/summing \
+	    'checks/hostile $(PROGRAM)' \
+	    'checks/machines $(PROGRAM)' \
+	    'checks/growths $(GROWTHS)' \
+	    'if command -v chromium; then RT=$(CURDIR)/checks/over-proved make page; fi && checks/page $(PROGRAM)'
+
+# Notes that rt ci has proved the program.
+PROVED = release/build --note program "rt ci" "$$(cat out/proving)" && rm out/proving
 
 # Ends with status 1 where something differs.
 conformance:
