@@ -383,10 +383,6 @@ module _ (old : SavedRegisters) (i value kept : ℕ) (inside : i < length (resto
 
 -- ---- mseccfg
 
-pub fields_once : (one other : MseccfgFields) → mseccfg_value one ≡ mseccfg_value other → one ≡ other
-fields_once one other same =
-    sym (fields_back one.mml one.mmwp one.rlb) ∙ ap mseccfg_fields same ∙ fields_back other.mml other.mmwp other.rlb
-
 module _ (old : SavedRegisters) (new : MseccfgFields) (value : ℕ) (is : value ≡ mseccfg_value new)
     (has : (hart_in old).has_smepmp ≡ true) where
   abbrev pub with_mseccfg : SavedRegisters

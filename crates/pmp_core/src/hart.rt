@@ -135,10 +135,10 @@ impl Hart {
         }
     }
 
-    /// The hart of a number that can spell none: for 64 that of sixty-four entries which `of` gives, and else that of
-    /// sixteen. Nearly all units have one of these, and what is inlined into a branch that has it is compiled for them.
+    /// The standard hart of a number with bit 32 clear: 64 is that of sixty-four entries, and any other number that of
+    /// sixteen. What is inlined into a branch that has it is compiled for these two.
     #[inline(always)]
-    pub(crate) fn unspelled(number: u64) -> Option<Hart>
+    pub(crate) fn standard(number: u64) -> Option<Hart>
         ensures { MatchOption result (number / 2 ^ 32 ≡ 1) (λ hart. hart ≡ saved_hart number) }
     {
         if number >> 32 == 1 {
@@ -156,7 +156,7 @@ impl Hart {
     pub fn from_number(number: u64) -> Hart
         ensures { result ≡ saved_hart number }
     {
-        match Hart::unspelled(number) {
+        match Hart::standard(number) {
             Some(hart) => hart,
             None => Hart::spelled(number),
         }

@@ -59,7 +59,7 @@ impl<'a> Registers<'a> {
         ensures { MatchOption result (numbers.now.entries / 2 ^ 32 ≡ 1) (λ registers. registers
             ≡ restored_file numbers.now) }
     {
-        let hart = Hart::unspelled(numbers.entries)?;
+        let hart = Hart::standard(numbers.entries)?;
         Some(Registers { numbers, hart })
     }
 
