@@ -5,6 +5,7 @@ use Rattle.pmp_core.specs.declared.csr.CsrFault.{CsrFault}
 use Rattle.pmp_core.specs.declared.csr.CsrFault.TheVariants.{OddCfg, NotPmp}
 use Rattle.pmp_core.specs.RegisterValue.{register_value}
 use Rattle.pmp_core.specs.RegisterWrite.{written}
+use Rattle.pmp_core.specs.SavedRegisters.{IsCanonical}
 use Rattle.pmp_c.specs.declared.unit.Unit.{Unit}
 use Rattle.pmp_c.specs.Reasons.{reasons_number}
 use Rattle.pmp_c.specs.Unit.{file_of_unit, IsUnit, IsChanged}
@@ -20,6 +21,7 @@ status_number (Err NotPmp) = 2
 pub record IsWriteAnswer (old new : Unit) (csr : Csr) (value number : ℕ) : Type 0 where
   pub file : file_of_unit new ≡ written (file_of_unit old) csr value
   pub order : IsUnit old → IsUnit new
+  pub canonical : IsCanonical old.registers → IsCanonical new.registers
   pub low : number % 256 ≡ 4 * (number / 4 % 2)
   pub same : number / 4 % 2 ≡ 0 → new ≡ old
   pub changed : number / 4 % 2 ≡ 1 → IsChanged old new

@@ -37,6 +37,7 @@ returns-then-written c =
     rw (← c.in-Ok.ensures) (record {
       file = write.ensures.written;
       order = write.ensures.unit;
+      canonical = write.ensures.canonical;
       low = omega arith;
       same = λ e. absurd (omega arith);
       changed = λ e. write.ensures.changed c.if-written.true;
@@ -53,6 +54,7 @@ returns-else-written c =
     rw (← c.in-Ok.ensures) (record {
       file = write.ensures.written;
       order = write.ensures.unit;
+      canonical = write.ensures.canonical;
       low = omega arith;
       same = λ e. write.ensures.same c.if-written.false;
       changed = λ e. absurd (omega arith);
