@@ -87,7 +87,9 @@ fn append(
         Writing::Row => write_row(out, 1, page, &decision_after(2)),
         Writing::Runs => write_runs(out, &file, &map),
         Writing::Registers => write_registers(out, &file),
-        Writing::Entries => write_entries(out, &file, &[OPEN; MAX_ENTRIES]),
+        Writing::Entries => {
+            write_entries(out, &file, &[OPEN; MAX_ENTRIES][..usize::from(file.entries())])
+        }
         Writing::Verdict => write_verdict(out, 2, Some(BREACH)),
         Writing::Changes => append_changes(out),
     };
