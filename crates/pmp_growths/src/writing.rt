@@ -88,7 +88,11 @@ fn append(
         Writing::Runs => write_runs(out, &file, &map),
         Writing::Registers => write_registers(out, &file),
         Writing::Entries => {
-            write_entries(out, &file, &[OPEN; MAX_ENTRIES][..usize::from(file.entries())])
+            write_entries(
+                out,
+                &file,
+                &[OPEN; MAX_ENTRIES][..usize::from(file.entries())],
+            )
         }
         Writing::Verdict => write_verdict(out, 2, Some(BREACH)),
         Writing::Changes => append_changes(out),
