@@ -7,123 +7,152 @@ use Rattle.std.proofs.lemmas.Bool.Decides.{nat_tests}
 use Rattle.std.proofs.lemmas.List.{get_or_past}
 use Rattle.std.proofs.lemmas.List.FromFn.{get_or-map-range_with_len}
 use Rattle.pmp_core.specs.declared.access.Access.{Access}
+use Rattle.pmp_core.specs.declared.access.Kind.{Kind}
+use Rattle.pmp_core.specs.declared.access.Kind.TheVariants.{Fetch, Load, Store}
 use Rattle.pmp_core.specs.declared.decision.Cause.{Cause}
 use Rattle.pmp_core.specs.declared.decision.Cause.TheVariants.{Rule, Split, NoMatch}
 use Rattle.pmp_core.specs.declared.decision.Decision.{Decision}
 use Rattle.pmp_core.specs.declared.range.ByteRange.{ByteRange}
 use Rattle.pmp_core.specs.RegisterFile.{RegisterFile, reset_entry, HasAddresses}
 use Rattle.pmp_core.specs.Matching.{Matches}
-use Rattle.pmp_core.specs.Decision.{IsLeast, IsOwner, Touches, Covers, IsDecider, IsDecision, IsDecisionBy}
-use Rattle.pmp_core.specs.Rights.{allows, rights}
-use Rattle.pmp_core.specs.Ranges.{IsInRange, range_of, ranges_of, is_touched, is_covered, decision_in, decision_from}
-use Rattle.pmp_core.specs.Ranges.{decision_of}
+use Rattle.pmp_core.specs.Decision.{IsLeast, IsOwner, Touches, IsDecider, IsDecision, IsDecisionBy}
+use Rattle.pmp_core.specs.Rights.{allows, nothing, rights}
+use Rattle.pmp_core.specs.Ranges.{IsInRange, range_of, ranges_of, is_touched, is_covered, rights_by, cause_at}
+use Rattle.pmp_core.specs.Ranges.{cause_from, cause_of, decision_of}
 use Rattle.pmp_core.proofs.Matches.{matches_range}
 use Rattle.pmp_core.proofs.Places.{no_range, length-ranges_of}
 
 -- ---- ranges against bytes
 
-touched_byte : (access : Access) (range : ByteRange) (byte : ℕ) → access.start ≤ byte
-    → byte < access.start + access.length → IsInRange range byte → is_touched access range ≡ true
-touched_byte access range byte from to inside = grind (arith, nat_tests, inside.0, inside.1)
+touched_byte : (start end : ℕ) (range : ByteRange) (byte : ℕ) → start ≤ byte → byte < end → IsInRange range byte
+    → is_touched start end range ≡ true
+touched_byte start end range byte from to inside = grind (arith, nat_tests, inside.0, inside.1)
 
-touched_from : (access : Access) (range : ByteRange) → is_touched access range ≡ true
-    → IsInRange range (max range.start access.start) × (max range.start access.start < access.start + access.length)
-touched_from access range h = let below = ltb-true _ _ h in ((omega arith, omega arith), omega arith)
+touched_from : (start end : ℕ) (range : ByteRange) → is_touched start end range ≡ true
+    → IsInRange range (max range.start start) × (max range.start start < end)
+touched_from start end range h = let below = ltb-true _ _ h in ((omega arith, omega arith), omega arith)
 
-covered_ends : (access : Access) (range : ByteRange) → range.start ≤ access.start
-    → access.start + access.length ≤ range.end → is_covered access range ≡ true
-covered_ends access range from to = grind (arith, nat_tests)
+covered_ends : (start end : ℕ) (range : ByteRange) → range.start ≤ start → end ≤ range.end
+    → is_covered start end range ≡ true
+covered_ends start end range from to = grind (arith, nat_tests)
 
-ends_covered : (access : Access) (range : ByteRange) → is_covered access range ≡ true
-    → (range.start ≤ access.start) × (access.start + access.length ≤ range.end)
-ends_covered access range h = (grind (arith, nat_tests), grind (arith, nat_tests))
+ends_covered : (start end : ℕ) (range : ByteRange) → is_covered start end range ≡ true
+    → (range.start ≤ start) × (end ≤ range.end)
+ends_covered start end range h = (grind (arith, nat_tests), grind (arith, nat_tests))
 
-module _ (file : RegisterFile) (access : Access) (small : HasAddresses file) (i : ℕ) where
-  touches_range : Touches file access i → is_touched access (range_of file i) ≡ true
+-- entry i matches one of the bytes from `start` up to `end`, or all of them
+abbrev pub TouchesBytes : RegisterFile → (start end i : ℕ) → Type 0
+TouchesBytes file start end i = (byte : ℕ) × ((start ≤ byte) × (byte < end)) × Matches file i byte
+
+abbrev pub CoversBytes : RegisterFile → (start end i : ℕ) → Type 0
+CoversBytes file start end i = (byte : ℕ) → (start ≤ byte) × (byte < end) → Matches file i byte
+
+module _ (file : RegisterFile) (start end : ℕ) (small : HasAddresses file) (i : ℕ) where
+  touches_range : TouchesBytes file start end i → is_touched start end (range_of file i) ≡ true
   touches_range (byte, inside, matched) =
-      touched_byte access (range_of file i) byte inside.0 inside.1 ((matches_range file i byte small).0 matched)
+      touched_byte start end (range_of file i) byte inside.0 inside.1 ((matches_range file i byte small).0 matched)
 
-  range_touches : is_touched access (range_of file i) ≡ true → Touches file access i
+  range_touches : is_touched start end (range_of file i) ≡ true → TouchesBytes file start end i
   range_touches h =
-      let t = touched_from access (range_of file i) h in
-      (max (range_of file i).start access.start, (omega arith, t.1), (matches_range file i _ small).1 t.0)
+      let t = touched_from start end (range_of file i) h in
+      (max (range_of file i).start start, (omega arith, t.1), (matches_range file i _ small).1 t.0)
 
-  covers_range : Covers file access i → is_covered access (range_of file i) ≡ true
-  covers_range h =
-      let full : 0 < access.length = access.not_empty in
-      let first = (matches_range file i access.start small).0 (h access.start (omega arith, omega arith)) in
-      let last = (matches_range file i (access.start + access.length - 1) small).0 (h (access.start
-      + access.length - 1) (omega arith, omega arith)) in
-      covered_ends access (range_of file i) first.0 (omega (arith, last.1))
+  covers_range : start < end → CoversBytes file start end i → is_covered start end (range_of file i) ≡ true
+  covers_range full h =
+      let first = (matches_range file i start small).0 (h start (omega arith, omega arith)) in
+      let last = (matches_range file i (end - 1) small).0 (h (end - 1) (omega arith, omega arith)) in
+      covered_ends start end (range_of file i) first.0 (omega (arith, last.1))
 
-  range_covers : is_covered access (range_of file i) ≡ true → Covers file access i
+  range_covers : is_covered start end (range_of file i) ≡ true → CoversBytes file start end i
   range_covers h byte inside =
-      let ends = ends_covered access (range_of file i) h in
+      let ends = ends_covered start end (range_of file i) h in
       (matches_range file i byte small).1 (omega (arith, ends.0, inside.0), omega (arith, ends.1, inside.1))
 
-untouched_past : (file : RegisterFile) (access : Access) (i : ℕ) → length file.entries ≤ i → ¬ (Touches file access i)
-untouched_past file access i past touches = let matched = touches.2 in
+untouched_past : (file : RegisterFile) (start end i : ℕ) → length file.entries ≤ i → ¬ (TouchesBytes file start end i)
+untouched_past file start end i past touches = let matched = touches.2 in
     absurd (rw (get_or_past file.entries i reset_entry past) at matched)
 
 -- ---- one pass
 
-module _ (file : RegisterFile) (access : Access) (small : HasAddresses file) where
-  decided_by_cover : (i : ℕ) → IsDecider file access (Some i) → (covered : Bool)
-      → is_covered access (range_of file i) ≡ covered
-      → IsDecision file access (decision_in file access i (range_of file i))
-  decided_by_cover i first true e = rw e (first, range_covers file access small i e, refl)
-  decided_by_cover i first false e = rw e (
-    first,
-    (λ h. false≢true (sym e ∙ covers_range file access small i h)),
-    refl,
-  )
+-- entry i is the first that matches one of the bytes
+abbrev pub IsFirst : RegisterFile → (start end i : ℕ) → Type 0
+IsFirst file start end i =
+    TouchesBytes file start end i × ((j : ℕ) → j < i → ¬ (TouchesBytes file start end j))
+
+-- the cause says which entry is the first that matches one of the bytes, and whether it matches all
+abbrev pub IsCause : RegisterFile → (start end : ℕ) → Cause → Type 0
+IsCause file start end (Rule i) = IsFirst file start end i × CoversBytes file start end i
+IsCause file start end (Split i) = IsFirst file start end i × ¬ (CoversBytes file start end i)
+IsCause file start end NoMatch = (j : ℕ) → ¬ (TouchesBytes file start end j)
+
+module _ (file : RegisterFile) (start end : ℕ) (full : start < end) (small : HasAddresses file) where
+  cause_by_cover : (i : ℕ) → IsFirst file start end i → (covered : Bool)
+      → is_covered start end (range_of file i) ≡ covered
+      → IsCause file start end (cond covered (Rule i) (Split i))
+  cause_by_cover i first true e = (first, range_covers file start end small i e)
+  cause_by_cover i first false e = (first, λ h. false≢true (sym e ∙ covers_range file start end small i full h))
 
   -- ranges from entry i on, where no entry before it is touched
-  decided_from : (i : ℕ) (ranges : List ByteRange)
+  cause_is_from : (i : ℕ) (ranges : List ByteRange)
       → ((k : ℕ) → k < length ranges → slice_index_or ranges k no_range ≡ range_of file (i + k))
-      → ((j : ℕ) → j < i → ¬ (Touches file access j))
-      → ((j : ℕ) → i + length ranges ≤ j → ¬ (Touches file access j))
-      → IsDecision file access (decision_from file access i ranges)
-  unfolding decision_from
-  decided_from i [] here before after = (
-    (λ j. elim (cases_lt j i) [
-      | inl lt ↦ before j lt
-      | inr le ↦
-          after j (omega arith)
-    ]),
-    refl,
-  )
-  decided_from i (range ∷ ranges) here before after =
+      → ((j : ℕ) → j < i → ¬ (TouchesBytes file start end j))
+      → ((j : ℕ) → i + length ranges ≤ j → ¬ (TouchesBytes file start end j))
+      → IsCause file start end (cause_from start end i ranges)
+  unfolding cause_from
+  cause_is_from i [] here before after = λ j. elim (cases_lt j i) [
+    | inl lt ↦ before j lt
+    | inr le ↦ after j (omega arith)
+  ]
+  cause_is_from i (range ∷ ranges) here before after =
       let is_head : range_of file i ≡ range =
       sym (here 0 (omega arith) ∙ ap (range_of file) (add-zero i)) in
-      let more : is_touched access range ≡ false → (j : ℕ) → j < i + 1 → ¬ (Touches file access j) =
+      let more : is_touched start end range ≡ false → (j : ℕ) → j < i + 1 → ¬ (TouchesBytes file start end j) =
       λ untouched. below_more _ _ before
-      (λ touches. false≢true (sym untouched ∙ ap (is_touched access) (sym is_head)
-      ∙ touches_range file access small i touches)) in
-      elim (is_touched access range) as (λ touched. is_touched access range ≡ touched
-      → IsDecision file access (cond touched (decision_in file access i range)
-      (decision_from file access (suc i) ranges))) [
+      (λ touches. false≢true (sym untouched ∙ ap (is_touched start end) (sym is_head)
+      ∙ touches_range file start end small i touches)) in
+      elim (is_touched start end range) as (λ touched. is_touched start end range ≡ touched
+      → IsCause file start end (cond touched (cond (is_covered start end range) (Rule i) (Split i))
+      (cause_from start end (suc i) ranges))) [
         | true ↦ λ touched.
-            let found = decided_by_cover i (
-              range_touches file access small i (ap (is_touched access) is_head
-                  ∙ touched),
+            let found = cause_by_cover i (
+              range_touches file start end small i (ap (is_touched start end) is_head ∙ touched),
               before,
-            ) (is_covered access (range_of file i)) refl in
+            ) (is_covered start end (range_of file i)) refl in
             rw is_head at found
-        | false ↦ λ untouched. decided_from (suc i) ranges
+        | false ↦ λ untouched. cause_is_from (suc i) ranges
             (λ k inside. here (suc k) (omega arith) ∙ ap (range_of file) (omega arith))
             (λ j below. more untouched j (omega arith))
             (λ j above. after j (omega arith))
       ] refl
 
+  pub cause_is : IsCause file start end (cause_of file start end)
+  unfolding cause_of
+  cause_is = cause_is_from 0 (ranges_of file)
+      (λ k inside. get_or-map-range_with_len (range_of file) 0 (length file.entries) k (0
+      + k) no_range (omega (arith, length-ranges_of file.profile file.entries)) refl)
+      (λ j below. absurd (omega arith))
+      (λ j above touches. untouched_past file start end j
+      (omega (arith, length-ranges_of file.profile file.entries)) touches)
+
+refuses : (kind : Kind) → allows nothing kind ≡ false
+refuses Load = refl
+refuses Store = refl
+refuses Fetch = refl
+
+decided : (file : RegisterFile) (access : Access) (cause : Cause)
+    → IsCause file access.start (access.start + access.length) cause
+    → IsDecisionBy file access (allows (rights_by file access.mode cause) access.kind) cause
+decided file access (Rule i) is = (is.0, is.1, refl)
+decided file access (Split i) is = (is.0, is.1, refuses access.kind)
+decided file access NoMatch is = (is, refl)
+
 pub decided_by_ranges : (file : RegisterFile) (access : Access) → HasAddresses file
     → IsDecision file access (decision_of file access)
 unfolding decision_of
-decided_by_ranges file access small = decided_from file access small 0 (ranges_of file)
-    (λ k inside. get_or-map-range_with_len (range_of file) 0 (length file.entries) k (0
-    + k) no_range (omega (arith, length-ranges_of file.profile file.entries)) refl)
-    (λ j below. absurd (omega arith))
-    (λ j above touches. untouched_past file access j (omega (arith, length-ranges_of file.profile file.entries)) touches)
+decided_by_ranges file access small =
+    let full = access.not_empty in
+    decided file access (cause_at file access)
+    (cause_is file access.start (access.start + access.length) (omega arith) small)
 
 -- ---- one decision
 

@@ -16,14 +16,12 @@ pub mod Held
 pub mod Protection
 pub mod Sizes
 pub mod Others
-pub mod Changes
 pub mod Spans
 pub mod StoredBytes
 pub mod HartNumbers
 pub mod Saved
 pub mod Blocks
 pub mod Restored
-pub mod StoredRanges
 mod Written
 pub mod EachReason
 pub mod WordBytes

@@ -1,17 +1,14 @@
 -- An entry matches the bytes of its range.
-use Rattle.std.proofs.Common.{◌≡◌, ℕ, suc, ◌+◌, ◌*◌, ◌/◌, ◌^◌, ◌<◌, ◌≤◌, ◌↔◌, length, inl, inr, sym, ◌∙◌, arith}
+use Rattle.std.proofs.Common.{◌≡◌, ℕ, suc, ◌+◌, ◌*◌, ◌/◌, ◌^◌, ◌<◌, ◌≤◌, ◌↔◌, sym, ◌∙◌, arith}
 use Rattle.std.proofs.Common.{add-one}
 use Rattle.std.specs.Int.{trailing_ones, w64}
-use Rattle.std.proofs.lemmas.Bool.{cases_lt}
-use Rattle.std.proofs.lemmas.List.{get_or_past}
 use Rattle.std.proofs.Math.Pow.{pow_pos}
 use Rattle.pmp_core.specs.declared.configuration.AddressMatching.{AddressMatching}
 use Rattle.pmp_core.specs.declared.configuration.AddressMatching.TheVariants.{Off, Tor, Na4, Napot}
 use Rattle.pmp_core.specs.declared.register_write.TheConstants.{WORD_ADDRESSES}
-use Rattle.pmp_core.specs.RegisterFile.{RegisterFile, reset_entry, HasAddresses}
+use Rattle.pmp_core.specs.RegisterFile.{RegisterFile, HasAddresses}
 use Rattle.pmp_core.specs.Matching.{InNapot, MatchesBy, Matches}
-use Rattle.pmp_core.specs.Ranges.{IsInRange, AreRanges, napot_range, range_by, range_on, range_of, ranges_of}
-use Rattle.pmp_core.proofs.Places.{no_range, range_at, length-ranges_of}
+use Rattle.pmp_core.specs.Ranges.{IsInRange, napot_range, range_by, range_on, range_of}
 use Rattle.pmp_core.specs.Grain.{napot_address}
 use Rattle.pmp_core.proofs.Grains.{napot_below}
 use Rattle.pmp_core.proofs.Napot.{spelled_once, spelled_by_ones}
@@ -47,18 +44,3 @@ pub matches_range : (file : RegisterFile) (i byte : ℕ) → HasAddresses file
     → Matches file i byte ↔ IsInRange (range_of file i) byte
 unfolding range_on
 matches_range file i byte small = matched_by _ _ _ _ byte small.0 (small.1 i)
-
--- the ranges that are decoded are the entries'
-pub are_ranges : (file : RegisterFile) → HasAddresses file → AreRanges file (ranges_of file)
-are_ranges file small = record {
-  count = length-ranges_of file.profile file.entries;
-  by_bytes = λ i byte. elim (cases_lt i (length file.entries)) [
-    | inl inside ↦ rw (range_at file.profile file.entries i inside) (matches_range file i byte small)
-    | inr past ↦
-        let decoded_past : length (ranges_of file) ≤ i = omega (arith, length-ranges_of file.profile file.entries) in (
-          λ matched. absurd (rw (get_or_past file.entries i reset_entry past) at matched),
-          λ inside. let inside_none =
-              rw (get_or_past (ranges_of file) i no_range decoded_past) at inside in absurd (omega arith),
-        )
-  ];
-}

@@ -20,7 +20,6 @@ pub mod Lock
 pub mod SavedRegisters
 -- How decisions are computed: a law says that they are the same.
 pub mod Ranges
-pub mod Storage
 -- Laws of these definitions, which are proved, with the words that they alone need.
 pub mod SpanLaw
 pub mod RightsLaw

@@ -1,11 +1,13 @@
 -- The same decision computed from the entries' ranges: `laws::law_decided_by_ranges` says that it is the manual's.
-use Rattle.std.specs.Prelude.{◌≡◌, ◌↔◌, ℕ, suc, ◌+◌, ◌*◌, ◌/◌, ◌^◌, ◌<◌, ◌≤◌, Bool, false, ◌&&◌, nat_le, nat_lt, min}
+use Rattle.std.specs.Prelude.{ℕ, suc, ◌+◌, ◌*◌, ◌/◌, ◌^◌, ◌<◌, ◌≤◌, Bool, ◌&&◌, nat_le, nat_lt, min}
 use Rattle.std.specs.Prelude.{max, if◌then◌else◌, List, [], ◌∷◌, length, map}
 use Rattle.std.specs.List.{range_with_len, slice_index_or}
 use Rattle.std.specs.Int.{w64, trailing_ones}
 use Rattle.pmp_core.specs.declared.access.Access.{Access}
+use Rattle.pmp_core.specs.declared.access.Mode.{Mode}
 use Rattle.pmp_core.specs.declared.configuration.AddressMatching.{AddressMatching}
 use Rattle.pmp_core.specs.declared.configuration.AddressMatching.TheVariants.{Off, Tor, Na4, Napot}
+use Rattle.pmp_core.specs.declared.decision.Cause.{Cause}
 use Rattle.pmp_core.specs.declared.decision.Cause.TheVariants.{Rule, Split, NoMatch}
 use Rattle.pmp_core.specs.declared.decision.Decision.{Decision}
 use Rattle.pmp_core.specs.declared.entry.Entry.{Entry}
@@ -13,8 +15,8 @@ use Rattle.pmp_core.specs.declared.range.ByteRange.{ByteRange}
 use Rattle.pmp_core.specs.Grain.{napot_address, tor_address}
 use Rattle.pmp_core.specs.Hart.{Profile}
 use Rattle.pmp_core.specs.RegisterFile.{RegisterFile, entry_at}
-use Rattle.pmp_core.specs.Matching.{Matches, low_address}
-use Rattle.pmp_core.specs.Rights.{allows, rights, default_rights}
+use Rattle.pmp_core.specs.Matching.{low_address}
+use Rattle.pmp_core.specs.Rights.{Rights, allows, nothing, rights, default_rights}
 
 abbrev pub IsInRange : ByteRange → ℕ → Type 0
 IsInRange range byte = (range.start ≤ byte) × (byte < range.end)
@@ -51,32 +53,34 @@ ranges_of file = ranges_on file.profile file.entries
 abbrev pub range_in : List ByteRange → ℕ → ByteRange
 range_in ranges i = slice_index_or ranges i (record { start = 0; end = 0 })
 
--- as many ranges as entries, and a byte is in range i exactly where entry i matches it
-pub record AreRanges (file : RegisterFile) (ranges : List ByteRange) : Type 0 where
-  pub count : length ranges ≡ length file.entries
-  pub by_bytes : (i byte : ℕ) → Matches file i byte ↔ IsInRange (range_in ranges i) byte
+-- of the bytes from `start` up to `end`, without `end`: whether the range has one, and whether it has all
+abbrev pub is_touched : (start end : ℕ) → ByteRange → Bool
+is_touched start end range = nat_lt (max range.start start) (min range.end end)
 
-abbrev pub is_touched : Access → ByteRange → Bool
-is_touched access range = nat_lt (max range.start access.start) (min range.end (access.start + access.length))
+abbrev pub is_covered : (start end : ℕ) → ByteRange → Bool
+is_covered start end range = nat_le range.start start && nat_le end range.end
 
-abbrev pub is_covered : Access → ByteRange → Bool
-is_covered access range = nat_le range.start access.start && nat_le (access.start + access.length) range.end
+-- what decides them, where the first of these ranges is that of entry i
+unfoldable pub cause_from : (start end i : ℕ) → List ByteRange → Cause
+cause_from start end i [] = NoMatch
+cause_from start end i (range ∷ ranges) =
+    if is_touched start end range then (if is_covered start end range then Rule i else Split i)
+    else cause_from start end (suc i) ranges
 
--- what entry i decides, whose range is the first that the access touches
-abbrev pub decision_in : RegisterFile → Access → ℕ → ByteRange → Decision
-decision_in file access i range =
-    if is_covered access range then record { allowed = allows (rights file i access.mode) access.kind; cause = Rule i }
-    else record { allowed = false; cause = Split i }
+unfoldable pub cause_of : RegisterFile → (start end : ℕ) → Cause
+cause_of file start end = cause_from start end 0 (ranges_of file)
 
--- the decision by the ranges, the first of which is that of entry i
-unfoldable pub decision_from : RegisterFile → Access → ℕ → List ByteRange → Decision
-decision_from file access i [] = record {
-  allowed = allows (default_rights file access.mode) access.kind;
-  cause = NoMatch;
-}
-decision_from file access i (range ∷ ranges) =
-    if is_touched access range then decision_in file access i range
-    else decision_from file access (suc i) ranges
+-- what the mode may do where this decides
+abbrev pub rights_by : RegisterFile → Mode → Cause → Rights
+rights_by file mode (Rule i) = rights file i mode
+rights_by file mode (Split i) = nothing
+rights_by file mode NoMatch = default_rights file mode
+
+abbrev pub cause_at : RegisterFile → Access → Cause
+cause_at file access = cause_of file access.start (access.start + access.length)
 
 unfoldable pub decision_of : RegisterFile → Access → Decision
-decision_of file access = decision_from file access 0 (ranges_of file)
+decision_of file access = record {
+  allowed = allows (rights_by file access.mode (cause_at file access)) access.kind;
+  cause = cause_at file access;
+}

@@ -1,12 +1,16 @@
 //! What the unit answers.
 
-ghost use Rattle.std.specs.Prelude.{◌≡◌, ◌<◌, ◌≤◌, length};
+ghost use Rattle.std.specs.Prelude.{◌≡◌, ◌<◌, ◌≤◌, ℕ, length};
+ghost use Rattle.pmp_core.specs.declared.decision.Cause.{Cause};
 ghost use Rattle.pmp_core.specs.FaultCode.{access_fault_code, fault_of};
-ghost use Rattle.pmp_core.specs.Ranges.{decision_in, decision_of};
+ghost use Rattle.pmp_core.specs.Decision.{IsDecision};
+ghost use Rattle.pmp_core.specs.RegisterFile.{IsLegal};
+ghost use Rattle.pmp_core.specs.Ranges.{cause_of, decision_of, rights_by};
+ghost use Rattle.pmp_core.specs.Rights.{perms_of};
 ghost use Rattle.pmp_core.specs.SavedRegisters.{restored_file};
 
-use crate::access::{Access, Kind};
-use crate::range::ByteRange;
+use crate::access::{Access, Kind, Mode};
+use crate::perms::Perms;
 use crate::registers::Registers;
 use crate::saved_registers::SavedRegisters;
 
@@ -55,41 +59,50 @@ pub fn fault_code(access: &Access, decision: &Decision) -> Option<u8>
 }
 
 impl<'a> Registers<'a> {
-    /// The decision of the entry whose range is the first that the access touches.
+    /// What decides the bytes from `start` up to `end`, without `end`: the first entry that matches one of them, if it
+    /// matches all (Volume II, 3.7.1.3).
     #[inline(always)]
-    fn decide_in(&self, entry: u8, range: &ByteRange, access: &Access) -> Decision
-        requires { entry < length self.now.entries }
-        ensures { result ≡ decision_in self.now access.now entry range.now }
-    {
-        if range.is_covered(access) {
-            Decision {
-                allowed: self
-                    .rights(usize::from(entry), access.mode)
-                    .allows(access.kind),
-                cause: Cause::Rule(entry),
-            }
-        } else {
-            Decision {
-                allowed: false,
-                cause: Cause::Split(entry),
-            }
-        }
-    }
-
-    /// Decides an access, in one pass over the entries, as far as the first that has a byte of it.
-    #[inline(always)]
-    pub fn decide(&self, access: &Access) -> Decision
-        ensures { result ≡ decision_of self.now access.now }
+    pub fn cause(&self, start: u64, end: u64) -> Cause
+        ensures cause { result ≡ cause_of self.now start end }
+        ensures entry { (i : ℕ) → result ≡ Cause.Rule i → i < length self.now.entries }
+        ensures legal { IsLegal self.now }
     {
         for index in 0..self.count() {
             let range = self.range(index);
-            if range.is_touched(access) {
-                return self.decide_in(index as u8, &range, access);
+            if range.is_touched(start, end) {
+                return if range.is_covered(start, end) {
+                    Cause::Rule(index as u8)
+                } else {
+                    Cause::Split(index as u8)
+                };
             }
         }
+        Cause::NoMatch
+    }
+
+    /// What the mode may do where this decides.
+    #[inline(always)]
+    fn rights_by(&self, cause: Cause, mode: Mode) -> Perms
+        requires { (i : ℕ) → cause ≡ Cause.Rule i → i < length self.now.entries }
+        ensures { result ≡ perms_of (rights_by self.now mode cause) }
+    {
+        match cause {
+            Cause::Rule(entry) => self.rights(usize::from(entry), mode),
+            Cause::Split(_) => Perms::NONE,
+            Cause::NoMatch => self.default_rights(mode),
+        }
+    }
+
+    /// Decides an access, in one pass over the entries.
+    #[inline(always)]
+    pub fn decide(&self, access: &Access) -> Decision
+        ensures by_bytes { IsDecision self.now access.now result }
+        ensures computed { result ≡ decision_of self.now access.now }
+    {
+        let cause = self.cause(access.start, access.start + access.length);
         Decision {
-            allowed: self.default_rights(access.mode).allows(access.kind),
-            cause: Cause::NoMatch,
+            allowed: self.rights_by(cause, access.mode).allows(access.kind),
+            cause,
         }
     }
 }

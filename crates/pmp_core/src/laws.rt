@@ -26,6 +26,7 @@ ghost use Rattle.pmp_core.specs.Ranges.{decision_of};
 use crate::register_file::ENTRIES;
 
 /// What is computed from the entries' ranges is the manual's decision.
+#[tactic(auto, using(crate::proofs::Decisions::decided_by_ranges))]
 pub fn law_decided_by_ranges()
     ensures { (file : RegisterFile) (access : Access) → HasAddresses file
         → IsDecision file access (decision_of file access) }
@@ -49,11 +50,13 @@ pub fn law_matching_entry()
 {}
 
 /// An entry matches the bytes of one span, or no byte.
+#[tactic(auto, using(crate::proofs::Spans::one_span))]
 pub fn law_one_span()
     ensures { OneSpanLaw }
 {}
 
 /// Whatever events follow a reset, the register file is legal, on any hart.
+#[tactic(auto, using(crate::proofs::Legal::legal_law))]
 pub fn law_legal()
     ensures { LegalLaw }
 {}
@@ -66,6 +69,7 @@ pub fn law_barred_rules()
 
 /// The lock law: an entry that is frozen keeps its configuration and its bytes through every list of writes, and
 /// stays frozen, if no reset is among them. What the configuration means may change when lockdown rises.
+#[tactic(auto, using(crate::proofs::Locks::lock_law))]
 pub fn law_frozen()
     ensures { LockLaw }
 {}
@@ -77,6 +81,7 @@ pub fn law_store_load()
 {}
 
 /// The grain law: in a legal register file the bytes of one block of the grain are matched by the same entries.
+#[tactic(auto, using(crate::proofs::Blocks::grain_law))]
 pub fn law_grain()
     ensures { GrainLaw }
 {}
@@ -89,12 +94,14 @@ pub fn law_sizes()
 
 /// A write to a legal register file has no reason not to be stored as written exactly where the register then reads
 /// what was written. So the reasons are all that there are.
+#[tactic(auto, using(crate::proofs::ReasonsLaw::write_reasons_law))]
 pub fn law_write_reasons()
     ensures { WriteReasonsLaw }
 {}
 
 /// The saving law: the registers of a legal file restore it. Whatever numbers are restored, the file is legal; zeros
 /// are the unit of sixteen after reset.
+#[tactic(auto, using(crate::proofs::Saved::saved_law, crate::proofs::Saved::restored_legal, crate::proofs::Saved::restored_zero))]
 pub fn law_saved()
     ensures kept { SavedLaw }
     ensures legal { (saved : SavedRegisters) → IsLegal (restored_file saved) }
@@ -123,12 +130,14 @@ pub fn law_machine_code()
 
 /// MML and MMWP stay set through every list of writes, and with MMWP nothing is open where no entry matches, on a hart
 /// that has one.
+#[tactic(auto, using(crate::proofs::Sticky::sticky_law))]
 pub fn law_sticky()
     ensures { StickyLaw }
 {}
 
 /// A frozen address register keeps its address and stays frozen through every list of writes. It reads the same after
 /// them if its own entry is frozen, or with the finest grain.
+#[tactic(auto, using(crate::proofs::Sticky::frozen_address_law))]
 pub fn law_frozen_address()
     ensures { FrozenAddressLaw }
 {}
@@ -141,12 +150,14 @@ pub fn law_parts()
 /// A write leaves the others alone: the entries of which the register holds nothing; the bytes of those that it can't
 /// move; and, unless it is to `mseccfg`, the decisions on accesses with no byte of those that it may move, before and
 /// after.
+#[tactic(auto, using(crate::proofs::Others::others_law))]
 pub fn law_others()
     ensures { OthersLaw }
 {}
 
 /// Every legal register file is one that a reset and events give. So what is restored is never a state that a hart
 /// can't have.
+#[tactic(auto, using(crate::proofs::Reachable::reachable_law))]
 pub fn law_reachable()
     ensures { ReachableLaw }
 {}

@@ -16,7 +16,6 @@ mod lock;
 mod mseccfg;
 mod perms;
 mod range;
-mod ranges;
 mod register_file;
 mod register_write;
 mod registers;

@@ -1,12 +1,13 @@
 //! Where an entry matches, as a range of byte addresses.
 
-ghost use Rattle.std.specs.Prelude.{◌≡◌, ◌<◌, ◌↔◌, IsTrue};
-ghost use Rattle.pmp_core.specs.Ranges.{IsInRange, napot_range, range_by, is_touched, is_covered};
+ghost use Rattle.std.specs.Prelude.{◌≡◌, ◌<◌, ◌↔◌, IsTrue, length};
+ghost use Rattle.pmp_core.specs.Matching.{low_address};
+ghost use Rattle.pmp_core.specs.Ranges.{IsInRange, napot_range, range_by, range_of, is_touched, is_covered};
 ghost use Rattle.pmp_core.specs.declared.register_write.TheConstants.{WORD_ADDRESSES};
 
-use crate::access::Access;
 use crate::configuration::AddressMatching;
 use crate::hart::Hart;
+use crate::registers::Registers;
 
 /// The byte addresses from `start` up to `end`, without `end`: none where `end` isn't above `start`.
 #[derive(Clone, Copy, Debug, PartialEq, Eq)]
@@ -24,20 +25,18 @@ impl ByteRange {
         self.start <= byte && byte < self.end
     }
 
-    /// Whether it has a byte of the access, which has one.
-    pub fn is_touched(&self, access: &Access) -> bool
-        ensures { result ≡ is_touched access.now self.now }
+    /// Whether it has one of the bytes from `start` up to `end`, without `end`.
+    pub fn is_touched(&self, start: u64, end: u64) -> bool
+        ensures { result ≡ is_touched start end self.now }
     {
-        self.start < access.start + access.length
-            && access.start < self.end
-            && self.start < self.end
+        self.start.max(start) < self.end.min(end)
     }
 
-    /// Whether it has every byte of the access.
-    pub fn is_covered(&self, access: &Access) -> bool
-        ensures { result ≡ is_covered access.now self.now }
+    /// Whether it has all of them.
+    pub fn is_covered(&self, start: u64, end: u64) -> bool
+        ensures { result ≡ is_covered start end self.now }
     {
-        self.start <= access.start && access.start + access.length <= self.end
+        self.start <= start && end <= self.end
     }
 }
 
@@ -71,5 +70,31 @@ pub fn range_by(hart: Hart, matching: AddressMatching, low: u64, address: u64) -
             end: 4 * address + 4,
         },
         AddressMatching::Napot => napot_range(hart.napot_address(address)),
+    }
+}
+
+impl<'a> Registers<'a> {
+    /// The address register before the entry's own, and 0 for the first entry.
+    #[inline(always)]
+    #[tactic(auto, using(crate::proofs::Places::low_rules))]
+    fn low_address(&self, index: usize) -> u64
+        requires { index < length self.now.entries }
+        ensures low { result ≡ low_address self.now.entries index }
+        ensures most { result < WORD_ADDRESSES }
+    {
+        match index.checked_sub(1) {
+            Some(before) => self.address(before),
+            None => 0,
+        }
+    }
+
+    /// Where the entry matches.
+    #[inline(always)]
+    pub(crate) fn range(&self, index: usize) -> ByteRange
+        requires { index < length self.now.entries }
+        ensures { result ≡ range_of self.now index }
+    {
+        let low = self.low_address(index);
+        range_by(self.hart(), self.matching(index), low, self.address(index))
     }
 }

@@ -108,10 +108,19 @@ impl<'a> Registers<'a> {
         self.hart.selectable(admitted)
     }
 
+    /// How the entry's address register is read.
+    #[inline(always)]
+    pub fn matching(&self, index: usize) -> AddressMatching
+        requires { index < length self.now.entries }
+        ensures { result ≡ (entry_at self.now.entries index).configuration.matching }
+    {
+        self.configuration(index).matching
+    }
+
     /// The word address that the entry's register keeps. What it reads has zeros or ones below the grain, by the
     /// entry's mode.
     #[inline(always)]
-    pub(crate) fn address(&self, index: usize) -> u64
+    pub fn address(&self, index: usize) -> u64
         requires { index < length self.now.entries }
         ensures kept { result ≡ (entry_at self.now.entries index).address }
         ensures most { result < WORD_ADDRESSES }
@@ -155,8 +164,7 @@ impl<'a> Registers<'a> {
         if self.hart().grain() == 0 {
             address
         } else {
-            self.hart()
-                .read_address(self.configuration(index).matching, address)
+            self.hart().read_address(self.matching(index), address)
         }
     }
 
@@ -194,8 +202,9 @@ impl<'a> Registers<'a> {
         self.configuration(index).locked && !self.fields().rlb
     }
 
-    /// Whether the entry and all before it are frozen.
-    pub(crate) fn is_held(&self, index: usize) -> bool
+    /// Whether the entry and all before it are frozen. Then no write changes what they refuse, nor what they allow while
+    /// MML stays as it is. An entry that is frozen alone keeps its bytes, but an open one before it may still take them.
+    pub fn is_held(&self, index: usize) -> bool
         requires { index < length self.now.entries }
         ensures { result ≡ is_held self.now index }
     {
@@ -204,7 +213,7 @@ impl<'a> Registers<'a> {
     }
 
     /// How the entry is locked.
-    pub(crate) fn lock(&self, index: usize) -> Lock
+    pub fn lock(&self, index: usize) -> Lock
         requires { index < length self.now.entries }
         ensures { result ≡ lock_of self.now index }
     {
@@ -219,7 +228,7 @@ impl<'a> Registers<'a> {
 
     /// Whether writes leave the entry's address register as it is: the entry is frozen, or the next one is and is TOR.
     #[inline(always)]
-    pub(crate) fn is_address_frozen(&self, index: usize) -> bool
+    pub fn is_address_frozen(&self, index: usize) -> bool
         requires { index < length self.now.entries }
         ensures { result ≡ is_address_frozen self.now index }
     {
@@ -228,9 +237,7 @@ impl<'a> Registers<'a> {
             return true;
         }
         let next = index + 1;
-        next < count
-            && self.is_frozen(next)
-            && self.configuration(next).matching == AddressMatching::Tor
+        next < count && self.is_frozen(next) && self.matching(next) == AddressMatching::Tor
     }
 
     /// Whether some entry is locked, be it off or not.

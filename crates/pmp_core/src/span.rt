@@ -1,10 +1,11 @@
 //! The bytes that an entry matches, by the first and the last of them.
 
-ghost use Rattle.std.specs.Prelude.{◌≡◌};
-ghost use Rattle.pmp_core.specs.Span.{span_in};
+ghost use Rattle.std.specs.Prelude.{◌≡◌, ◌<◌, length};
+ghost use Rattle.pmp_core.specs.Span.{IsSpan, span_in, span_of};
 
 use crate::access::ADDRESS_LIMIT;
 use crate::range::ByteRange;
+use crate::registers::Registers;
 
 /// Bytes side by side, at least one, all below `2^56`.
 #[derive(Clone, Copy, Debug, PartialEq, Eq)]
@@ -27,5 +28,17 @@ pub fn span_in(range: &ByteRange) -> Option<Span>
         })
     } else {
         None
+    }
+}
+
+impl<'a> Registers<'a> {
+    /// The first and the last byte that the entry matches, if it matches any.
+    pub fn span(&self, index: usize) -> Option<Span>
+        requires { index < length self.now.entries }
+        ensures by_bytes { IsSpan self.now index result }
+        ensures computed { result ≡ span_of self.now index }
+    {
+        let _count = self.count();
+        span_in(&self.range(index))
     }
 }

@@ -1,6 +1,5 @@
-use Rattle.std.proofs.Common.{◌≡◌, ◌∙◌, ℕ, ap, refl}
+use Rattle.std.proofs.Common.{◌≡◌, ◌∙◌, ℕ, refl}
 use Rattle.pmp_core.specs.declared.configuration.AddressMatching.{AddressMatching}
-use Rattle.pmp_core.specs.declared.configuration.Configuration.{Configuration}
 use Rattle.pmp_core.specs.Matching.{low_address}
 use Rattle.pmp_core.specs.Ranges.{range_by, range_on, range_of}
 use Rattle.pmp_core.specs.RegisterFile.{RegisterFile, entry_at}
@@ -16,4 +15,4 @@ pub returns : goal.returns
 returns c =
     (rw c.hart.ensures at c.range_by.ensures)
     ∙ range_is c.args.self.now c.args.index c.low_address-low.result _ _ c.low_address-low.ensures.low
-    (ap (λ (k : Configuration). k.matching) c.configuration-matching.ensures) c.address.ensures.kept
+    c.matching.ensures c.address.ensures.kept
