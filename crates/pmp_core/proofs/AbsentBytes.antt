@@ -81,19 +81,3 @@ module _ (n q value first : ℕ) (there : AreThere n q first) where
 
   pub absent_bytes : list_any is_some_byte (drop first bytes) ≡ has_absent_byte n q value
   absent_bytes = alike _ _ absent_if absent_only_if
-
--- ---- how many bytes are for entries
-
-pub none_there : (n q : ℕ) → (q % 2 ≡ 1) ⊎ (n ≤ 4 * q) → AreThere n q 0
-none_there n q (inl odd) j near = grind (arith, nat_tests)
-none_there n q (inr past) j near = grind (arith, nat_tests)
-
-pub some_there : (n q : ℕ) → q % 2 ≡ 0 → 4 * q < n → AreThere n q (min 8 (n - 4 * q))
-some_there n q even inside j near = elim (cases_lt (4 * q + j) n) [
-  | inl below ↦
-      let holds : holds_byte_of q (4 * q + j) ≡ true = grind (arith, nat_tests) in
-      rw (holds, lt-ltb (4 * q + j) n below, lt-ltb j (min 8 (n - 4 * q)) (omega arith)) refl
-  | inr past ↦
-      and_right (holds_byte_of q (4 * q + j)) _ (le-ltb (4 * q + j) n past)
-      ∙ sym (le-ltb j (min 8 (n - 4 * q)) (omega arith))
-]

@@ -21,7 +21,6 @@ use Rattle.pmp_core.specs.Mseccfg.{mseccfg_written}
 use Rattle.pmp_core.specs.Configuration.{configuration_of, is_reserved}
 use Rattle.pmp_core.specs.RegisterFile.{RegisterFile, reset_entry, reset_mseccfg, reset_file, entry_at}
 use Rattle.pmp_core.specs.RegisterFile.{HasAddresses, IsLegal}
-use Rattle.pmp_core.specs.Histories.{joined, file_after}
 use Rattle.pmp_core.specs.ReachableLaw.{LegalLaw}
 use Rattle.pmp_core.specs.Grain.{selectable}
 use Rattle.pmp_core.specs.RegisterWrite.{admitted, without_reserved, stored_over, stored, holds_byte_of, configured}
@@ -225,12 +224,6 @@ length-fold file count (event ∷ events) =
     let kept = length-step file count event in
     length-fold (step file event) (kept ∙ count ∙ ap (λ (p : Profile). p.entries) (sym (profile-step file event))) events
     ∙ kept
-
-pub length-file_after : (profile : Profile) (batches : List (List Event))
-    → length (file_after profile batches).entries ≡ profile.entries
-length-file_after profile batches =
-    let count = length-replicate profile.entries reset_entry in
-    length-fold (reset_file profile) count (joined batches) ∙ count
 
 pub replay_legal_from : (file : RegisterFile) → IsLegal file → (events : List Event) → IsLegal (fold step file events)
 replay_legal_from file legal [] = legal

@@ -2,15 +2,17 @@
 use Rattle.std.proofs.Common.{◌≡◌, ℕ, suc, ◌+◌, ◌*◌, ◌/◌, ◌^◌, ◌<◌, ◌≤◌, ◌↔◌, sym, ◌∙◌, arith}
 use Rattle.std.proofs.Common.{add-one}
 use Rattle.std.specs.Int.{trailing_ones, w64}
+use Rattle.std.proofs.lemmas.List.{get_or_past}
 use Rattle.std.proofs.Math.Pow.{pow_pos}
 use Rattle.pmp_core.specs.declared.configuration.AddressMatching.{AddressMatching}
 use Rattle.pmp_core.specs.declared.configuration.AddressMatching.TheVariants.{Off, Tor, Na4, Napot}
 use Rattle.pmp_core.specs.declared.register_write.TheConstants.{WORD_ADDRESSES}
-use Rattle.pmp_core.specs.RegisterFile.{RegisterFile, HasAddresses}
+use Rattle.pmp_core.specs.RegisterFile.{RegisterFile, reset_entry, HasAddresses}
 use Rattle.pmp_core.specs.Matching.{InNapot, MatchesBy, Matches}
 use Rattle.pmp_core.specs.Ranges.{IsInRange, napot_range, range_by, range_on, range_of}
 use Rattle.pmp_core.specs.Grain.{napot_address}
 use Rattle.pmp_core.proofs.Grains.{napot_below}
+use Rattle.pmp_core.proofs.Places.{no_range}
 use Rattle.pmp_core.proofs.Napot.{spelled_once, spelled_by_ones}
 
 in_napot : (address byte : ℕ) → address < WORD_ADDRESSES → InNapot address byte → IsInRange (napot_range address) byte
@@ -44,3 +46,8 @@ pub matches_range : (file : RegisterFile) (i byte : ℕ) → HasAddresses file
     → Matches file i byte ↔ IsInRange (range_of file i) byte
 unfolding range_on
 matches_range file i byte small = matched_by _ _ _ _ byte small.0 (small.1 i)
+
+-- an entry that a file doesn't have matches nothing
+pub range_past : (file : RegisterFile) (i : ℕ) → length file.entries ≤ i → range_of file i ≡ no_range
+unfolding range_on
+range_past file i past = rw (get_or_past file.entries i reset_entry past) refl

@@ -6,28 +6,13 @@ use Rattle.std.proofs.lemmas.Bool.{or_from}
 use Rattle.std.proofs.lemmas.List.FromFn.{fill_by_all, length-map-range_with_len, get_or-map-range_with_len}
 use Rattle.pmp_core.specs.declared.entry.Entry.{Entry}
 use Rattle.pmp_core.specs.declared.range.ByteRange.{ByteRange}
-use Rattle.pmp_core.specs.declared.register_write.TheConstants.{WORD_ADDRESSES}
 use Rattle.pmp_core.specs.Hart.{Profile}
-use Rattle.pmp_core.specs.RegisterFile.{reset_entry, entry_at, AreWords}
+use Rattle.pmp_core.specs.RegisterFile.{reset_entry, entry_at}
 use Rattle.pmp_core.specs.Matching.{low_address}
 use Rattle.pmp_core.specs.Ranges.{range_on, ranges_on}
 
 abbrev pub no_range : ByteRange
 no_range = record { start = 0; end = 0 }
-
--- the ranges of the entries below this place are decoded
-abbrev pub Decoded : Profile → List Entry → List ByteRange → ℕ → Type 0
-Decoded profile entries ranges place =
-    (k : ℕ) → k < place → slice_index_or ranges k no_range ≡ range_on profile entries k
-
-pub all_decoded : (profile : Profile) (entries : List Entry) (ranges : List ByteRange) → length ranges ≡ length entries
-    → Decoded profile entries ranges (length entries) → ranges ≡ ranges_on profile entries
-all_decoded profile entries ranges len done =
-    fill_by_all (range_on profile entries) ranges (length entries) no_range len done
-
-pub low_address_below : (entries : List Entry) (i : ℕ) → AreWords entries → low_address entries i < WORD_ADDRESSES
-low_address_below entries zero h = omega arith
-low_address_below entries (suc i) h = h i
 
 pub low_after : (entries : List Entry) (i k : ℕ) → k + 1 ≡ i → low_address entries i ≡ (entry_at entries k).address
 low_after entries zero k next = absurd (omega arith)
