@@ -82,7 +82,7 @@ impl<'a> Registers<'a> {
 
     /// What the mode may do where this decides.
     #[inline(always)]
-    fn rights_by(&self, cause: Cause, mode: Mode) -> Perms
+    pub fn rights_by(&self, cause: Cause, mode: Mode) -> Perms
         requires { (i : ℕ) → cause ≡ Cause.Rule i → i < length self.now.entries }
         ensures { result ≡ perms_of (rights_by self.now mode cause) }
     {

@@ -50,6 +50,22 @@ impl Perms {
 
     pub const RWX: Perms = Perms(7);
 
+    /// The set of these rights.
+    #[inline(always)]
+    pub fn of(read: bool, write: bool, execute: bool) -> Perms
+        ensures { let rights : Rights = record { read = read; write = write; execute = execute } in
+            result ≡ perms_of rights }
+    {
+        Perms(u8::from(read) + 2 * u8::from(write) + 4 * u8::from(execute))
+    }
+
+    /// R is 1, W is 2, X is 4.
+    pub fn number(self) -> u8
+        ensures { result ≡ self.0 }
+    {
+        self.0
+    }
+
     /// The right that an access of this kind needs.
     pub fn of_kind(kind: Kind) -> Perms
         ensures { result ≡ right_of kind }

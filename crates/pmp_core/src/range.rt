@@ -90,7 +90,7 @@ impl<'a> Registers<'a> {
 
     /// Where the entry matches.
     #[inline(always)]
-    pub(crate) fn range(&self, index: usize) -> ByteRange
+    pub fn range(&self, index: usize) -> ByteRange
         requires { index < length self.now.entries }
         ensures { result ≡ range_of self.now index }
     {

@@ -15,11 +15,7 @@ use bitflags::Flags;
 fn bits(configuration: &Configuration) -> Perms
     ensures { result ≡ perms_of (bits_of configuration.now) }
 {
-    let mut perms = Perms::NONE;
-    perms.set(Perms::R, configuration.read);
-    perms.set(Perms::W, configuration.write);
-    perms.set(Perms::X, configuration.execute);
-    perms
+    Perms::of(configuration.read, configuration.write, configuration.execute)
 }
 
 /// What the rule allows under machine-mode lockdown.

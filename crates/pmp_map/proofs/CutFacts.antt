@@ -1,22 +1,26 @@
 -- How far the owner of a byte goes.
-use Rattle.std.proofs.Common.{◌≡◌, ℕ, ◌+◌, ◌-◌, ◌<◌, ◌≤◌, ◌↔◌, List, length, Option, Some, None, max, min, arith, inl}
+use Rattle.std.proofs.Common.{◌≡◌, ℕ, ◌+◌, ◌-◌, ◌<◌, ◌≤◌, ◌↔◌, length, Option, Some, None, max, min, arith, inl}
 use Rattle.std.proofs.Common.{inr}
 use Rattle.std.proofs.lemmas.Bool.{cases_lt}
-use Rattle.std.proofs.lemmas.List.{get_or_past}
-use Rattle.pmp_core.specs.declared.range.ByteRange.{ByteRange}
 use Rattle.pmp_core.specs.declared.access.TheConstants.{ADDRESS_LIMIT}
 use Rattle.pmp_core.specs.Decision.{IsLeast}
-use Rattle.pmp_core.specs.Ranges.{IsInRange, range_in}
-use Rattle.pmp_map.specs.Owners.{IsOwnerIn, OwnsBytes}
+use Rattle.pmp_core.specs.Ranges.{IsInRange, range_of}
+use Rattle.pmp_core.specs.RegisterFile.{RegisterFile}
+use Rattle.pmp_core.proofs.Matches.{range_past}
+use Rattle.pmp_map.specs.Owners.{IsOwnerIn}
 
 -- the least of the same numbers
 pub least_alike : (P Q : ℕ → Type 0) (least : Option ℕ) → ((i : ℕ) → P i ↔ Q i) → IsLeast P least → IsLeast Q least
 least_alike P Q None same none = λ i q. none i ((same i).1 q)
 least_alike P Q (Some i) same least = ((same i).0 least.0, λ j below q. least.1 j below ((same j).1 q))
 
-module _ (ranges : List ByteRange) (first : ℕ) where
+-- the bytes from `first` up to `end` have this owner
+abbrev pub OwnsBytes : RegisterFile → (first end : ℕ) → Option ℕ → Type 0
+OwnsBytes file first end owner = (byte : ℕ) → first ≤ byte → byte < end → IsOwnerIn file byte owner
+
+module _ (file : RegisterFile) (first : ℕ) where
   abbrev Has : ℕ → ℕ → Type 0
-  Has i byte = IsInRange (range_in ranges i) byte
+  Has i byte = IsInRange (range_of file i) byte
 
   moved : (i byte other : ℕ) → byte ≡ other → Has i other → Has i byte
   moved i byte other same has = rw same has
@@ -56,27 +60,12 @@ module _ (ranges : List ByteRange) (first : ℕ) where
     ];
   }
 
-  -- a range that has `first` owns the bytes up to its end, or to the start of a range before it
-  pub owned_bytes : (index end next : ℕ) → Swept index end → Has index first
-      → next ≡ min end (range_in ranges index).end → OwnsBytes ranges first next (Some index)
-  owned_bytes index end next so_far has least byte from to = (
-    (omega (arith, has.0), omega (arith, least)),
-    λ j below. so_far.clear j byte below from (omega (arith, least)),
-  )
-
-  -- no range has `first`
-  pub unowned_bytes : (index end : ℕ) → length ranges ≤ index → Swept index end → OwnsBytes ranges first end None
-  unowned_bytes index end all so_far byte from to = λ i. elim (cases_lt i (length ranges)) [
-    | inl inside ↦ so_far.clear i byte (omega arith) from to
-    | inr past ↦ rw (get_or_past ranges i (record { start = 0; end = 0 }) past) (λ has. omega (arith, has.1))
-  ]
-
-module _ (ranges : List ByteRange) (byte : ℕ) where
+module _ (file : RegisterFile) (byte : ℕ) where
   -- none of the ranges before `index` has a byte from `first` up to `byte`, and one of them has the one before `first`
   pub record SweptDown (index first : ℕ) : Type 0 where
     pub below : first ≤ byte
-    pub clear : (i other : ℕ) → i < index → first ≤ other → other ≤ byte → ¬ (Has ranges byte i other)
-    pub apart : 0 < first → (i : ℕ) × (i < index) × Has ranges byte i (first - 1)
+    pub clear : (i other : ℕ) → i < index → first ≤ other → other ≤ byte → ¬ (Has file byte i other)
+    pub apart : 0 < first → (i : ℕ) × (i < index) × Has file byte i (first - 1)
 
   pub none_swept_down : SweptDown 0 0
   none_swept_down = record {
@@ -85,10 +74,10 @@ module _ (ranges : List ByteRange) (byte : ℕ) where
     apart = λ some. absurd (omega arith);
   }
 
-  pub one_more_swept_down : (index first next : ℕ) → SweptDown index first → ¬ (Has ranges byte index byte)
+  pub one_more_swept_down : (index first next : ℕ) → SweptDown index first → ¬ (Has file byte index byte)
       → first ≤ next → next ≤ byte
-      → ((other : ℕ) → next ≤ other → other ≤ byte → Has ranges byte index other → Has ranges byte index byte)
-      → (first < next → Has ranges byte index (next - 1)) → SweptDown (index + 1) next
+      → ((other : ℕ) → next ≤ other → other ≤ byte → Has file byte index other → Has file byte index byte)
+      → (first < next → Has file byte index (next - 1)) → SweptDown (index + 1) next
   one_more_swept_down index first next so_far without bounded below clear reached = record {
     below = below;
     clear = λ i other lower from to. elim (cases_lt i index) [
@@ -100,21 +89,21 @@ module _ (ranges : List ByteRange) (byte : ℕ) where
       | inr same ↦
           let kept : next - 1 ≡ first - 1 = omega arith in
           let found = so_far.apart (omega arith) in
-          (found.0, omega (arith, found.1), moved ranges byte found.0 (next - 1) (first - 1) kept found.2)
+          (found.0, omega (arith, found.1), moved file byte found.0 (next - 1) (first - 1) kept found.2)
     ];
   }
 
   -- what ranges before `index` have, one of which has the byte at `at`, isn't that of `index`
-  pub taken_before : (index at : ℕ) → ((i : ℕ) × (i < index) × Has ranges byte i at)
-      → ¬ (IsOwnerIn ranges at (Some index))
+  pub taken_before : (index at : ℕ) → ((i : ℕ) × (i < index) × Has file byte i at)
+      → ¬ (IsOwnerIn file at (Some index))
   taken_before index at one owned = owned.1 one.0 one.1 one.2
 
-  pub taken : (index at : ℕ) → ((i : ℕ) × (i < index) × Has ranges byte i at) → ¬ (IsOwnerIn ranges at None)
+  pub taken : (index at : ℕ) → ((i : ℕ) × (i < index) × Has file byte i at) → ¬ (IsOwnerIn file at None)
   taken index at one none = none one.0 one.2
 
-  module _ (index first end : ℕ) (down : SweptDown index first) (up : Swept ranges byte index end) where
-    pub owned_around : Has ranges byte index byte → (low high : ℕ) → low ≡ max first (range_in ranges index).start
-        → high ≡ min end (range_in ranges index).end → OwnsBytes ranges low high (Some index)
+  module _ (index first end : ℕ) (down : SweptDown index first) (up : Swept file byte index end) where
+    pub owned_around : Has file byte index byte → (low high : ℕ) → low ≡ max first (range_of file index).start
+        → high ≡ min end (range_of file index).end → OwnsBytes file low high (Some index)
     owned_around has low high is_low is_high other from to = (
       (omega (arith, is_low), omega (arith, is_high)),
       λ j below. elim (cases_lt other byte) [
@@ -123,28 +112,28 @@ module _ (ranges : List ByteRange) (byte : ℕ) where
       ],
     )
 
-    pub unowned_around : length ranges ≤ index → OwnsBytes ranges first end None
-    unowned_around all other from to = λ i. elim (cases_lt i (length ranges)) [
+    pub unowned_around : length file.entries ≤ index → OwnsBytes file first end None
+    unowned_around all other from to = λ i. elim (cases_lt i (length file.entries)) [
       | inl inside ↦ elim (cases_lt other byte) [
         | inl before ↦ down.clear i other (omega arith) from (omega arith)
         | inr after ↦ up.clear i other (omega arith) after to
       ]
-      | inr past ↦ rw (get_or_past ranges i (record { start = 0; end = 0 }) past) (λ has. omega (arith, has.1))
+      | inr past ↦ rw (range_past file i past) (λ has. omega (arith, has.1))
     ]
 
     -- the byte before isn't the owner's: the owner's range begins here, or a range before it ends
-    pub not_before : Has ranges byte index byte → (low : ℕ) → low ≡ max first (range_in ranges index).start → 0 < low
-        → ¬ (IsOwnerIn ranges (low - 1) (Some index))
-    not_before has low is_low some owned = elim (cases_lt (range_in ranges index).start low) [
+    pub not_before : Has file byte index byte → (low : ℕ) → low ≡ max first (range_of file index).start → 0 < low
+        → ¬ (IsOwnerIn file (low - 1) (Some index))
+    not_before has low is_low some owned = elim (cases_lt (range_of file index).start low) [
       | inl inside ↦
           let here : low ≡ first = omega (arith, is_low) in
           taken_before index (low - 1) (rw (← here) at (down.apart (omega arith))) owned
       | inr begins ↦ let from = owned.0.0 in omega arith
     ]
 
-    pub not_after : Has ranges byte index byte → (high : ℕ) → high ≡ min end (range_in ranges index).end
-        → high < ADDRESS_LIMIT → ¬ (IsOwnerIn ranges high (Some index))
-    not_after has high is_high less owned = elim (cases_lt high (range_in ranges index).end) [
+    pub not_after : Has file byte index byte → (high : ℕ) → high ≡ min end (range_of file index).end
+        → high < ADDRESS_LIMIT → ¬ (IsOwnerIn file high (Some index))
+    not_after has high is_high less owned = elim (cases_lt high (range_of file index).end) [
       | inl inside ↦
           let here : high ≡ end = omega (arith, is_high) in
           taken_before index high (rw (← here) at (up.apart (omega arith))) owned

@@ -3,11 +3,15 @@ use Rattle.std.proofs.Common.{◌≡◌, ◌≢◌, ℕ, zero, suc, ◌+◌, ◌
 use Rattle.std.proofs.Common.{Some, None, nat_le, refl, ap, arith, add-one, inl, inr}
 use Rattle.std.proofs.lemmas.Bool.{cases_lt, le-leb, lt-leb}
 use Rattle.pmp_core.specs.declared.range.ByteRange.{ByteRange}
+use Rattle.pmp_core.specs.Decision.{IsLeast}
 use Rattle.pmp_core.specs.Ranges.{IsInRange, range_in}
 use Rattle.pmp_map.specs.declared.run.Run.{Run}
-use Rattle.pmp_map.specs.Owners.{IsOwnerIn}
 use Rattle.pmp_map.specs.Runs.{run_at, AreRunsTo}
 use Rattle.pmp_map.proofs.Order.{start_at}
+
+-- the lowest-numbered of these ranges that has the byte
+abbrev pub IsOwnerAmong : List ByteRange → (byte : ℕ) → Option ℕ → Type 0
+IsOwnerAmong ranges byte = IsLeast (λ i. IsInRange (range_in ranges i) byte)
 
 -- ---- where owners change
 
@@ -28,7 +32,7 @@ left range byte inside out = elim (cases_lt (byte + 1) range.end) [
 ]
 
 module _ (ranges : List ByteRange) (byte : ℕ) where
-  changed : (one other : Option ℕ) → IsOwnerIn ranges byte one → IsOwnerIn ranges (byte + 1) other → one ≢ other
+  changed : (one other : Option ℕ) → IsOwnerAmong ranges byte one → IsOwnerAmong ranges (byte + 1) other → one ≢ other
       → (i : ℕ) × IsCut (range_in ranges i) (byte + 1)
   changed None None p q apart = absurd (apart refl)
   changed None (Some j) p q apart = (j, entered (range_in ranges j) byte (p j) q.0)
@@ -127,7 +131,7 @@ one_more byte later (range ∷ ranges) (suc i) after at =
 
 -- ---- each run but the first begins at a cut
 
-module _ (to : ℕ) (ranges : List ByteRange) (runs : List Run) (are : AreRunsTo to (IsOwnerIn ranges) runs) where
+module _ (to : ℕ) (ranges : List ByteRange) (runs : List Run) (are : AreRunsTo to (IsOwnerAmong ranges) runs) where
   ranked : (k : ℕ) → k < length runs → k ≤ cuts_passed (start_at to runs k) ranges
   ranked zero inside = omega arith
   ranked (suc k) inside =

@@ -9,7 +9,7 @@ use Rattle.pmp_core.specs.declared.decision.Decision.{Decision}
 use Rattle.pmp_core.specs.declared.perms.Perms.{Perms}
 use Rattle.pmp_core.specs.RegisterFile.{RegisterFile}
 use Rattle.pmp_core.specs.Rights.{Rights, perms_of, allows, rights, default_rights}
-use Rattle.pmp_map.specs.declared.answers.Answers.{Answers}
+use Rattle.pmp_map.specs.declared.mode_rights.ModeRights.{ModeRights}
 
 -- what the owner's rule allows the mode, or the default where there is no owner (3.7.1.3)
 abbrev pub owned_rights : RegisterFile → Option ℕ → Mode → Rights
@@ -37,16 +37,15 @@ decision_by file owner access = record {
 abbrev pub refusal_by : Option ℕ → Decision
 refusal_by owner = record { allowed = false; cause = split_cause owner }
 
--- what the answers allow the mode
-abbrev pub kept_rights : Answers → Mode → Perms
-kept_rights answers M = answers.machine
-kept_rights answers S = answers.others
-kept_rights answers U = answers.others
-
--- what a run of this owner keeps
-abbrev pub answers_of : RegisterFile → Option ℕ → Answers
-answers_of file owner = record {
-  cause = whole_cause owner;
+-- what a file lets machine mode do where this entry owns, or none, and what the other two modes, whose rights are equal
+abbrev pub rights_by : RegisterFile → Option ℕ → ModeRights
+rights_by file owner = record {
   machine = perms_of (owned_rights file owner M);
   others = perms_of (owned_rights file owner U);
 }
+
+-- the mode's part of them
+abbrev pub kept_rights : ModeRights → Mode → Perms
+kept_rights rights M = rights.machine
+kept_rights rights S = rights.others
+kept_rights rights U = rights.others

@@ -5,18 +5,11 @@ use Rattle.pmp_core.specs.declared.access.TheConstants.{ADDRESS_LIMIT}
 use Rattle.pmp_core.specs.Decision.{IsOwner}
 use Rattle.pmp_core.specs.RegisterFile.{RegisterFile}
 use Rattle.pmp_core.specs.Rights.{perms_of}
-use Rattle.pmp_map.specs.declared.rights_run.ModeRights.{ModeRights}
+use Rattle.pmp_map.specs.declared.mode_rights.ModeRights.{ModeRights}
 use Rattle.pmp_map.specs.declared.rights_run.RightsRun.{RightsRun}
-use Rattle.pmp_map.specs.Answers.{owned_rights}
+use Rattle.pmp_map.specs.Answers.{rights_by}
 
--- what a file lets machine mode do where this entry owns, or none, and what the other two modes, whose rights are equal
-abbrev pub rights_by : RegisterFile → Option ℕ → ModeRights
-rights_by file owner = record {
-  machine = perms_of (owned_rights file owner M);
-  others = perms_of (owned_rights file owner U);
-}
-
--- what it lets them do with the byte, by the byte's owner
+-- what a file lets the modes do with the byte, by the byte's owner
 abbrev pub HasRights : RegisterFile → (byte : ℕ) → ModeRights → Type 0
 HasRights file byte rights = (owner : Option ℕ) × IsOwner file byte owner × (rights ≡ rights_by file owner)
 

@@ -1,5 +1,5 @@
 -- The runs of a register file: bytes side by side that have one owner (Volume II, 3.7.1.3).
-use Rattle.std.specs.Prelude.{◌≡◌, ◌≢◌, ℕ, ◌+◌, ◌<◌, ◌≤◌, Option, None, IfSome, List, length, All}
+use Rattle.std.specs.Prelude.{◌≡◌, ◌≢◌, ℕ, ◌+◌, ◌-◌, ◌<◌, ◌≤◌, Option, None, IfSome, List, length, All}
 use Rattle.std.specs.List.{slice_index_or}
 use Rattle.pmp_core.specs.RegisterFile.{RegisterFile}
 use Rattle.pmp_core.specs.declared.access.TheConstants.{ADDRESS_LIMIT}
@@ -38,11 +38,10 @@ AreRuns file = AreRunsTo ADDRESS_LIMIT (IsOwner file)
 abbrev pub HasOwnersBelow : (n : ℕ) → List Run → Type 0
 HasOwnersBelow n runs = All (λ run. IfSome run.owner (λ i. i < n)) runs
 
--- the bytes from `first` on that have its owner, as far as they have it
-pub record IsRunFrom (file : RegisterFile) (first : ℕ) (run : Run) : Type 0 where
-  pub begins : run.first ≡ first
-  pub proper : run.first ≤ run.last
+-- all bytes round this one that have its owner
+pub record IsRunAround (file : RegisterFile) (byte : ℕ) (run : Run) : Type 0 where
+  pub here : IsInRun run byte
   pub inside : run.last < ADDRESS_LIMIT
-  pub owned : (byte : ℕ) → IsInRun run byte → IsOwner file byte run.owner
-  pub apart : run.last + 1 < ADDRESS_LIMIT → (other : Option ℕ) → IsOwner file (run.last + 1) other
-      → run.owner ≢ other
+  pub owned : (other : ℕ) → IsInRun run other → IsOwner file other run.owner
+  pub before : 0 < run.first → ¬ (IsOwner file (run.first - 1) run.owner)
+  pub after : run.last + 1 < ADDRESS_LIMIT → ¬ (IsOwner file (run.last + 1) run.owner)

@@ -1,23 +1,52 @@
--- What a map keeps of its register file.
-use Rattle.std.specs.Prelude.{◌≡◌, ℕ, ◌<◌, ◌≤◌, Some, List, length, slice_get}
-use Rattle.pmp_core.specs.RegisterFile.{RegisterFile, HasAddresses}
+-- A map's tables: where its runs begin, and what they answer.
+use Rattle.std.specs.Prelude.{◌≡◌, ◌≢◌, ℕ, ◌+◌, ◌<◌, ◌≤◌, Option, List, length, slice_index}
+use Rattle.pmp_core.specs.declared.access.TheConstants.{ADDRESS_LIMIT}
+use Rattle.pmp_core.specs.RegisterFile.{IsLegal, RegisterFile}
 use Rattle.pmp_map.specs.declared.run.Run.{Run}
-use Rattle.pmp_map.specs.declared.answers.Answers.{Answers}
 use Rattle.pmp_map.specs.declared.run.TheConstants.{RUNS}
-use Rattle.pmp_map.specs.Runs.{map_run, AreRuns, HasOwnersBelow}
-use Rattle.pmp_map.specs.Search.{AreStarts}
-use Rattle.pmp_map.specs.Answers.{answers_of}
+use Rattle.pmp_map.specs.declared.search.TheConstants.{PLACES}
+use Rattle.pmp_core.specs.Decision.{IsOwner}
+use Rattle.pmp_map.specs.Runs.{map_run, run_at, AreRuns, AreRunsTo}
+use Rattle.pmp_map.specs.Search.{AreStarts, IsWithin, IsBetween}
+use Rattle.pmp_map.specs.declared.tables.Tables.{Tables}
+use Rattle.pmp_map.specs.declared.tables.TheConstants.{FEW}
+use Rattle.pmp_map.specs.Rows.{IsRow, row_at}
 
--- what each run answers
-abbrev pub AreAnswers : RegisterFile → List Run → List Answers → Type 0
-AreAnswers file runs answers = (k : ℕ) → k < length runs
-    → slice_get answers k ≡ Some (answers_of file (map_run runs k).owner)
+-- each run has the row of its owner
+abbrev pub AreRows : RegisterFile → List Run → List (List ℕ) → Type 0
+AreRows file runs rows = (k : ℕ) → k < length runs → IsRow file (map_run runs k).owner (row_at rows k)
 
--- a map's three tables, as they are for the register file
-pub record IsMapOf (file : RegisterFile) (runs : List Run) (starts : List ℕ) (answers : List Answers) : Type 0 where
-  pub addresses : HasAddresses file
+-- the first places have the runs of the bytes below `first`, with the rows of their owners
+pub record IsSweptTo (file : RegisterFile) (starts : List ℕ) (rows : List (List ℕ)) (first place : ℕ) : Type 0 where
+  pub list : List Run
+  pub runs_are : AreRunsTo first (IsOwner file) list
+  pub count : place ≡ length list
+  pub starts_are : (k : ℕ) → k < place → slice_index starts k ≡ (run_at first list k).first
+  pub rows_are : (k : ℕ) → k < place → IsRow file (run_at first list k).owner (row_at rows k)
+  pub long : length starts ≡ PLACES
+  pub wide : length rows ≡ PLACES
+
+-- a list of runs ties the tables to the register file
+pub record AreTables (file : RegisterFile) (tables : Tables) : Type 0 where
+  pub list : List Run
+  pub legal : IsLegal file
+  pub runs_are : AreRuns file list
+  pub few : length list ≤ RUNS
+  pub count : tables.runs ≡ length list
+  pub starts_are : AreStarts list tables.starts
+  pub rows_are : AreRows file list tables.rows
+
+-- where there are few runs, the byte lies below the start after them
+abbrev pub IsBelowFew : Tables → (byte : ℕ) → Type 0
+IsBelowFew tables byte = tables.runs ≤ FEW → byte < slice_index tables.starts FEW
+
+-- the place is that of the byte, as a search finds it
+abbrev pub IsFound : Tables → (byte place : ℕ) → Type 0
+IsFound tables byte place = IsWithin tables.starts tables.runs byte → IsBelowFew tables byte
+    → IsBetween tables.starts byte place 1
+
+-- the tables are those of the register file, and the list has their runs
+pub record IsMapOf (file : RegisterFile) (tables : Tables) (runs : List Run) : Type 0 where
+  pub tables_are : AreTables file tables
   pub runs_are : AreRuns file runs
   pub few : length runs ≤ RUNS
-  pub owners : HasOwnersBelow (length file.entries) runs
-  pub starts_are : AreStarts runs starts
-  pub answers_are : AreAnswers file runs answers

@@ -8,6 +8,7 @@ ghost use Rattle.pmp_map.specs.RightsRuns.{AreRightsRuns};
 ghost use Rattle.pmp_map.specs.Runs.{AreRuns};
 ghost use Rattle.pmp_map.specs.RunsLaw.{InsideRunLaw, AcrossRunsLaw};
 ghost use Rattle.pmp_map.specs.OpenBytesLaw.{HeldByteLaw, OneAnswerLaw, OpenByteLaw};
+ghost use Rattle.pmp_map.specs.AnswerLaw.{AnswerLaw, NoAccessLaw, NoAccessFaultLaw, ReadingLaw};
 
 use pmp_core::laws::{law_matching_entry, law_protected};
 
@@ -53,3 +54,13 @@ pub fn law_held_byte()
     law_matching_entry();
     law_protected();
 }
+
+/// Different decisions on one access are answered by different numbers, and none by one of no access, whose fault has
+/// the code of its kind. A number is below 1,024 exactly where the access is allowed; divided by 1,024 it gives the
+/// code of the fault, and what decided is left.
+pub fn law_answers()
+    ensures different { AnswerLaw }
+    ensures access { NoAccessLaw }
+    ensures fault { NoAccessFaultLaw }
+    ensures reading { ReadingLaw }
+{}

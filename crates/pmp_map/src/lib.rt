@@ -1,24 +1,33 @@
 //! The interval map of a PMP register file: the runs of bytes that one entry owns, and decisions by them.
 //!
-//! `RunMap` is built once from a register file, and answers from then on by a search in a table of where runs begin.
-//! The definitions that its contracts cite are in `specs/` and in those of `pmp_core`.
+//! `Tables` is the map, in plain numbers: where each run begins, and what it answers. `RunMap` is that of a register
+//! file, which a contract sees. The definitions that the contracts cite are in `specs/` and in those of `pmp_core`.
+//!
+//! An answer is a number: `i` for the rule of entry `i`, 256 + `i` for a split by entry `i`, 512 where no entry
+//! matches, and 1,024 times the exception code of a refusal.
 #![tactic(auto)]
 
-mod answers;
+mod answer;
+mod around;
 mod cuts;
 pub mod laws;
+mod mode_rights;
+mod painting;
 mod range_rights;
+mod request;
 mod rights_run;
+mod row;
 mod run;
 mod run_map;
 mod search;
-mod straddling;
 mod tables;
 
-pub use answers::{owned_rights, whole_cause};
-pub use cuts::{Stretch, run_around, run_from, stretch_from};
+pub use answer::{NO_CAUSE, answer_number, cause_number, no_access};
+pub use around::run_around;
+pub use mode_rights::{ModeRights, whole_cause};
 pub use range_rights::rights_in;
-pub use rights_run::{ModeRights, RightsRun, rights_run_from};
+pub use request::{Request, access_of, mode_of};
+pub use rights_run::{RightsRun, rights_run_from};
 pub use run::{RUNS, Run};
 pub use run_map::RunMap;
-pub use search::{PLACES, SHORT, place_among_six, place_of};
+pub use tables::Tables;

@@ -4,20 +4,18 @@ ghost use Rattle.std.specs.Prelude.{◌+◌, ◌<◌, ◌≤◌};
 ghost use Rattle.pmp_core.specs.declared.access.TheConstants.{ADDRESS_LIMIT};
 ghost use Rattle.pmp_map.specs.RangeRights.{AreRangeRights};
 
-use crate::answers::owned_rights;
-use crate::cuts::stretch_from;
-use pmp_core::{Mode, Perms, RegFile};
+use pmp_core::{Cause, Mode, Perms, Registers};
 
-/// What `RunMap::rights` answers with the map of this register file. For one range this is less work than the map.
-pub fn rights_in(file: &RegFile, mode: Mode, start: u64, length: u64) -> Option<Perms>
+/// What `RunMap::rights` answers with the map of these registers: what the mode may do in the whole range of `length`
+/// bytes from the byte address `start` on, or none where no one owner has all of them.
+#[inline(always)]
+pub fn rights_in(registers: &Registers<'_>, mode: Mode, start: u64, length: u64) -> Option<Perms>
     requires full { 0 < length }
     requires inside { start + length ≤ ADDRESS_LIMIT }
-    ensures { AreRangeRights file.now mode start length result }
+    ensures { AreRangeRights registers.now mode start length result }
 {
-    let stretch = stretch_from(file.ranges(), start);
-    if start + length <= stretch.end {
-        Some(owned_rights(file, stretch.owner, mode))
-    } else {
-        None
+    match registers.cause(start, start + length) {
+        Cause::Split(_) => None,
+        cause => Some(registers.rights_by(cause, mode)),
     }
 }

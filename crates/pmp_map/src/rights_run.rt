@@ -1,34 +1,12 @@
 //! The ranges of bytes that each of two register files lets the modes do the same with.
 
-ghost use Rattle.std.specs.Prelude.{◌≡◌, ◌<◌, ◌≤◌, ℕ, IsTrue, IfSome, length};
+ghost use Rattle.std.specs.Prelude.{◌≡◌, ◌<◌, ◌≤◌, ℕ, IsTrue};
 ghost use Rattle.pmp_core.specs.declared.access.TheConstants.{ADDRESS_LIMIT};
-ghost use Rattle.pmp_map.specs.RightsRuns.{HasRightsOf, IsRightsRun, rights_by};
+ghost use Rattle.pmp_map.specs.RightsRuns.{HasRightsOf, IsRightsRun};
 
-use crate::answers::owned_rights;
-use crate::cuts::run_from;
-use pmp_core::{ADDRESS_LIMIT, Mode, Perms, RegFile};
-
-/// What a register file lets the modes do with a byte.
-#[derive(Clone, Copy, Debug, PartialEq, Eq)]
-pub struct ModeRights {
-    /// What machine mode may do.
-    pub machine: Perms,
-    /// What supervisor and user mode may do, which have the same rights.
-    pub others: Perms,
-}
-
-impl ModeRights {
-    /// Where this entry owns, or none.
-    fn of_owner(file: &RegFile, owner: Option<u8>) -> ModeRights
-        requires { IfSome owner (λ entry. entry < length file.now.entries) }
-        ensures { result ≡ rights_by file.now owner }
-    {
-        ModeRights {
-            machine: owned_rights(file, owner, Mode::M),
-            others: owned_rights(file, owner, Mode::U),
-        }
-    }
-}
+use crate::around::run_around;
+use crate::mode_rights::ModeRights;
+use pmp_core::{ADDRESS_LIMIT, RegFile};
 
 /// Bytes that lie side by side, and that each of two register files lets the modes do the same with.
 #[derive(Clone, Copy, Debug, PartialEq, Eq)]
@@ -61,13 +39,13 @@ fn owned_from(old: &RegFile, new: &RegFile, first: u64) -> RightsRun
     ensures below { result.last < ADDRESS_LIMIT }
     ensures rights { (byte : ℕ) → first ≤ byte → byte ≤ result.last → HasRightsOf old.now new.now result byte }
 {
-    let before = run_from(old, first);
-    let after = run_from(new, first);
+    let before = run_around(&old.registers(), first);
+    let after = run_around(&new.registers(), first);
     RightsRun {
         first,
         last: before.last.min(after.last),
-        old: ModeRights::of_owner(old, before.owner),
-        new: ModeRights::of_owner(new, after.owner),
+        old: ModeRights::of_owner(&old.registers(), before.owner),
+        new: ModeRights::of_owner(&new.registers(), after.owner),
     }
 }
 

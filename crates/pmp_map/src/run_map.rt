@@ -1,20 +1,16 @@
 //! The map of a register file: its runs of bytes, and decisions by them.
 
-ghost use Rattle.std.specs.Prelude.{◌≡◌, ◌+◌, ◌*◌, ◌<◌, ◌≤◌, List, length};
+ghost use Rattle.std.specs.Prelude.{◌≡◌, ◌+◌, ◌*◌, ◌<◌, ◌≤◌, length};
+ghost use Rattle.pmp_core.specs.declared.access.TheConstants.{ADDRESS_LIMIT};
 ghost use Rattle.pmp_core.specs.Decision.{IsOwner, IsDecision};
 ghost use Rattle.pmp_core.specs.Ranges.{decision_of};
-ghost use Rattle.pmp_map.specs.declared.run.Run.{Run};
-ghost use Rattle.pmp_map.specs.Owners.{IsLeft};
 ghost use Rattle.pmp_map.specs.RangeRights.{AreRangeRights};
 ghost use Rattle.pmp_map.specs.Runs.{AreRuns, HasOwnersBelow};
-ghost use Rattle.pmp_map.specs.Search.{AreStarts};
-ghost use Rattle.pmp_core.specs.declared.access.TheConstants.{ADDRESS_LIMIT};
 
-use crate::answers::Answers;
+use crate::answer::decision;
+use crate::request::{Request, mode_number};
 use crate::run::{RUNS, Run};
-use crate::search::{PLACES, place_of};
-use crate::straddling::refuse_straddling;
-use crate::tables::{answers_of, runs_of, starts_of};
+use crate::tables::Tables;
 use arrayvec::ArrayVec;
 use pmp_core::{Access, Decision, Mode, Perms, RegFile};
 use std::marker::Model;
@@ -25,11 +21,8 @@ use std::snapshot::Snapshot;
 pub struct RunMap {
     /// The file that it was built from, for contracts alone.
     file: Snapshot<RegFile>,
+    tables: Tables,
     runs: ArrayVec<Run, RUNS>,
-    /// Where each run begins; past the last, the end of the address space.
-    starts: [u64; PLACES],
-    /// What each run answers; no place past the last is read.
-    answers: [Answers; RUNS],
 }
 
 impl Model for RunMap {
@@ -41,22 +34,20 @@ impl Model for RunMap {
 
     ghost view = { λ m. m.file.value };
 
-    ghost invariant = { λ m. IsMapOf m.file.value m.runs.items m.starts m.answers };
+    ghost invariant = { λ m. IsMapOf m.file.value m.tables m.runs.items };
 }
 
 impl RunMap {
-    /// The map of a register file, swept from one change of owner to the next.
+    /// The map of a register file.
     pub fn build(file: &RegFile) -> RunMap
         ensures { result ≡ file.now }
     {
-        let runs = runs_of(file.ranges());
-        let starts = starts_of(&runs);
-        let answers = answers_of(file, &runs);
+        let mut tables = Tables::EMPTY;
+        tables.fill(&file.registers());
         RunMap {
             file: Snapshot::of(file),
-            runs,
-            starts,
-            answers,
+            runs: tables.list(),
+            tables,
         }
     }
 
@@ -75,28 +66,7 @@ impl RunMap {
         requires { byte < ADDRESS_LIMIT }
         ensures { IsOwner self.now byte result }
     {
-        self.runs[place_of(&self.starts, self.runs.len(), byte)].owner
-    }
-
-    /// Where each run begins, in its order; past the last, the end of the address space.
-    pub fn starts(&self) -> &[u64; PLACES]
-        ensures { (runs : List Run) → AreRuns self.now runs → AreStarts runs result.now }
-    {
-        &self.starts
-    }
-
-    /// Decides an access that leaves the run in which it begins (Volume II, 3.7.1.3): rare, and out of the way of the
-    /// others.
-    #[cold]
-    #[inline(never)]
-    fn decide_straddling(&self, place: usize, access: &Access) -> Decision
-        requires { (runs : List Run) → AreRuns self.now runs → IsLeft runs place access.now }
-        ensures by_bytes { IsDecision self.now access.now result }
-        ensures computed { result ≡ decision_of self.now access.now }
-    {
-        let last_byte = access.start + access.length - 1;
-        let last = place_of(&self.starts, self.runs.len(), last_byte);
-        refuse_straddling(&self.runs[place..last + 1])
+        self.tables.run_of(byte).owner
     }
 
     /// Decides an access as the register file does that the map was built from (Volume II, 3.7.1.3). The contract
@@ -106,12 +76,7 @@ impl RunMap {
         ensures by_bytes { IsDecision file.now access.now result }
         ensures computed { result ≡ decision_of file.now access.now }
     {
-        let place = place_of(&self.starts, self.runs.len(), access.start);
-        if access.start + access.length <= self.starts[place + 1] {
-            self.answers[place].decision(access)
-        } else {
-            self.decide_straddling(place, access)
-        }
+        decision(self.tables.answer(&Request::of(access)))
     }
 
     /// What the mode may do in the whole range of `length` bytes from this byte address on, as a page, or none where no
@@ -121,11 +86,6 @@ impl RunMap {
         requires inside { start + length ≤ ADDRESS_LIMIT }
         ensures { AreRangeRights self.now mode start length result }
     {
-        let place = place_of(&self.starts, self.runs.len(), start);
-        if start + length <= self.starts[place + 1] {
-            Some(self.answers[place].rights(mode))
-        } else {
-            None
-        }
+        self.tables.rights(mode_number(mode), start, length)
     }
 }

@@ -1,58 +1,205 @@
-//! A map's tables.
+//! The map as tables: where each run begins, and what it answers.
 
-ghost use Rattle.std.specs.Prelude.{◌≤◌, length};
-ghost use Rattle.pmp_map.specs.Owners.{IsOwnerIn};
-ghost use Rattle.pmp_map.specs.Runs.{AreRunsTo, HasOwnersBelow};
-ghost use Rattle.pmp_map.specs.Search.{AreStarts};
-ghost use Rattle.pmp_map.specs.Tables.{AreAnswers};
+ghost use Rattle.std.specs.Prelude.{◌≡◌, ◌+◌, ◌<◌, ◌≤◌, IfSome, ℕ, Option, length, slice_index};
+ghost use Rattle.pmp_core.specs.declared.access.Access.{Access};
+ghost use Rattle.pmp_core.specs.declared.access.Mode.{Mode};
+ghost use Rattle.pmp_core.specs.declared.access.TheConstants.{ADDRESS_LIMIT};
+ghost use Rattle.pmp_core.specs.Ranges.{decision_of};
+ghost use Rattle.pmp_core.specs.RegisterFile.{RegisterFile};
+ghost use Rattle.pmp_map.specs.declared.search.TheConstants.{PLACES};
+ghost use Rattle.pmp_map.specs.Answer.{answer_number};
+ghost use Rattle.pmp_map.specs.Causes.{IsLeastCause};
+ghost use Rattle.pmp_map.specs.RangeRights.{AreRangeRights};
+ghost use Rattle.pmp_map.specs.Request.{IsNamed, kind_number, mode_number};
+ghost use Rattle.pmp_map.specs.Rows.{IsRow};
+ghost use Rattle.pmp_map.specs.Runs.{AreRuns, IsRunAround, map_run};
+ghost use Rattle.pmp_map.specs.Tables.{AreTables, IsFound};
 
-use crate::answers::Answers;
-use crate::cuts::stretch_from;
+use crate::answer::{no_access, split_number};
+use crate::painting::cuts_of;
+use crate::request::{Request, kind_of};
+use crate::row::{Row, row_of, row_rights};
 use crate::run::{RUNS, Run};
-use crate::search::PLACES;
+use crate::search::{PLACES, place_among_six, place_of};
 use arrayvec::ArrayVec;
-use pmp_core::{ADDRESS_LIMIT, ByteRange, MAX_ENTRIES, RegFile};
+use pmp_core::{ADDRESS_LIMIT, Perms, Registers};
 
-/// The runs of these ranges' owners, from one change of owner to the next.
-pub fn runs_of(ranges: &[ByteRange]) -> ArrayVec<Run, RUNS>
-    requires { length ranges.now ≤ MAX_ENTRIES }
-    ensures { AreRunsTo ADDRESS_LIMIT (IsOwnerIn ranges.now) result.items }
-{
-    let mut runs = ArrayVec::new();
-    let mut first = 0;
-    while first < ADDRESS_LIMIT {
-        let stretch = stretch_from(ranges, first);
-        runs.push(Run {
-            first,
-            last: stretch.end - 1,
-            owner: stretch.owner,
-        });
-        first = stretch.end;
-    }
-    runs
+/// Tables with no more runs than this are searched by one count.
+const FEW: u64 = 6;
+
+/// Where each run of a register file's map begins, and what it answers.
+#[repr(C)]
+#[derive(Clone, Copy, Debug, PartialEq, Eq)]
+pub struct Tables {
+    /// The byte address of each run's first byte; past the last run, the end of the address space.
+    pub starts: [u64; PLACES],
+    /// How many runs there are: 0 where the tables aren't built.
+    pub runs: u64,
+    /// What each run answers to the accesses inside it.
+    pub rows: [Row; PLACES],
 }
 
-/// Where each run begins; past the last, the end of the address space.
-pub fn starts_of(runs: &[Run]) -> [u64; PLACES]
-    requires { length runs.now ≤ PLACES }
-    ensures { AreStarts runs.now result }
+/// The least number of the causes of the runs from one place up to another, without that; 512 where no entry owns any.
+fn least_cause(rows: &[Row; PLACES], first: usize, end: usize) -> u16
+    requires { end ≤ PLACES }
+    ensures most { result ≤ 512 }
+    ensures least { first ≤ end → IsLeastCause rows.now first end result }
 {
-    let mut starts = [ADDRESS_LIMIT; PLACES];
-    for (place, run) in runs.iter().enumerate() {
-        starts[place] = run.first;
+    let mut least = 512;
+    for place in first..end {
+        least = least.min(rows[place][0] % 1024);
     }
-    starts
+    least
 }
 
-/// What each run answers.
-pub fn answers_of(file: &RegFile, runs: &[Run]) -> [Answers; RUNS]
-    requires few { length runs.now ≤ RUNS }
-    requires owners { HasOwnersBelow (length file.now.entries) runs.now }
-    ensures { AreAnswers file.now runs.now result }
+/// The row of an owner, where that of none is known.
+#[inline]
+fn row_by(registers: &Registers<'_>, unowned: &Row, owner: Option<u8>) -> Row
+    requires owner { IfSome owner (λ entry. entry < length registers.now.entries) }
+    requires unowned { IsRow registers.now None unowned.now }
+    ensures { IsRow registers.now owner result }
 {
-    let mut answers = [Answers::of_owner(file, None); RUNS];
-    for (place, run) in runs.iter().enumerate() {
-        answers[place] = Answers::of_owner(file, run.owner);
+    match owner {
+        Some(entry) => row_of(registers, Some(entry)),
+        None => *unowned,
     }
-    answers
+}
+
+impl Tables {
+    /// Tables that aren't built.
+    pub const EMPTY: Tables = Tables {
+        starts: [0; PLACES],
+        runs: 0,
+        rows: [[0; 16]; PLACES],
+    };
+
+    /// Makes them the tables of the registers.
+    pub fn fill(&mut self, registers: &Registers<'_>)
+        ensures { AreTables registers.now self.new }
+    {
+        let mut cuts = cuts_of(registers);
+        let unowned = row_of(registers, None);
+        let mut runs = 0;
+        while let Some(cut) = cuts.pop() {
+            self.starts[runs] = cut.start;
+            self.rows[runs] = row_by(registers, &unowned, cut.owner);
+            runs += 1;
+        }
+        self.runs = runs as u64;
+        for place in runs..PLACES {
+            self.starts[place] = ADDRESS_LIMIT;
+        }
+    }
+
+    /// The place of the run that has the byte.
+    #[inline(always)]
+    fn place_of(&self, byte: u64) -> usize
+        ensures inside { result + 1 < PLACES }
+        ensures found { IsFound self.now byte result }
+    {
+        if self.runs <= FEW {
+            place_among_six(&self.starts, byte)
+        } else {
+            place_of(&self.starts, self.runs as usize, byte)
+        }
+    }
+
+    /// The same place, found sooner where it is `near`.
+    #[inline(always)]
+    fn place_near(&self, near: usize, byte: u64) -> usize
+        ensures inside { result + 1 < PLACES }
+        ensures found { IsFound self.now byte result }
+    {
+        if near < PLACES - 1 && self.starts[near] <= byte && byte < self.starts[near + 1] {
+            near
+        } else {
+            self.place_of(byte)
+        }
+    }
+
+    /// The answer to an access of this kind that begins in the run at this place and leaves it: rare, and out of the
+    /// way of the others.
+    #[cold]
+    #[inline(never)]
+    fn answer_straddling(&self, place: usize, kind: u32, last_byte: u64) -> u16
+        requires { place + 1 < PLACES }
+        ensures { (file : RegisterFile) (access : Access) → AreTables file self.now
+            → IsFound self.now access.start place
+            → slice_index self.now.starts (place + 1) < access.start + access.length
+            → kind_number access.kind ≡ kind → access.start + access.length ≡ last_byte + 1
+            → result ≡ answer_number access (decision_of file access) }
+    {
+        let last = self.place_near(place + 1, last_byte);
+        let least = least_cause(&self.rows, place, last + 1);
+        match kind_of(kind) {
+            Some(kind) => split_number(kind, least),
+            None => no_access(kind),
+        }
+    }
+
+    /// The number that answers an access.
+    #[inline(always)]
+    pub fn answer(&self, request: &Request) -> u16
+        ensures { (file : RegisterFile) (access : Access) → AreTables file self.now
+            → IsNamed access request.now.mode request.now.kind request.now.start request.now.length
+            → result ≡ answer_number access (decision_of file access) }
+    {
+        let place = self.place_of(request.start);
+        let end = request.start + request.length;
+        if end <= self.starts[place + 1] {
+            self.rows[place][(4 * request.mode + request.kind) as usize]
+        } else {
+            self.answer_straddling(place, request.kind, end - 1)
+        }
+    }
+
+    /// What the mode of this level may do in the whole range, or none where no one owner has all of its bytes.
+    #[inline(always)]
+    pub fn rights(&self, mode: u32, start: u64, length: u64) -> Option<Perms>
+        requires level { mode < 4 }
+        requires full { 0 < length }
+        requires inside { start + length ≤ ADDRESS_LIMIT }
+        ensures { (file : RegisterFile) (named : Mode) → AreTables file self.now → mode_number named ≡ mode
+            → AreRangeRights file named start length result }
+    {
+        let place = self.place_of(start);
+        if start + length <= self.starts[place + 1] {
+            Some(row_rights(&self.rows[place], mode))
+        } else {
+            None
+        }
+    }
+
+    /// The run at this place.
+    #[inline(always)]
+    fn run_at(&self, place: usize) -> Run
+        requires { place + 1 < PLACES }
+        ensures { (file : RegisterFile) (are : AreTables file self.now) → place < length are.list
+            → result ≡ map_run are.list place }
+    {
+        Run {
+            first: self.starts[place],
+            last: self.starts[place + 1].saturating_sub(1),
+            owner: u8::try_from(self.rows[place][0] % 1024).ok(),
+        }
+    }
+
+    /// All runs.
+    pub fn list(&self) -> ArrayVec<Run, RUNS>
+        ensures { (file : RegisterFile) → AreTables file self.now → AreRuns file result.items }
+    {
+        let mut runs = ArrayVec::new();
+        for place in 0..RUNS.min(self.runs as usize) {
+            runs.push(self.run_at(place));
+        }
+        runs
+    }
+
+    /// The run of the byte.
+    pub fn run_of(&self, byte: u64) -> Run
+        requires { byte < ADDRESS_LIMIT }
+        ensures { (file : RegisterFile) → AreTables file self.now → IsRunAround file byte result }
+    {
+        self.run_at(self.place_of(byte))
+    }
 }

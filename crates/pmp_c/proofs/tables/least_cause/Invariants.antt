@@ -1,6 +1,0 @@
-use Rattle.std.proofs.Common.{◌≤◌}
-use Rattle.pmp_c.specs.Causes.{IsLeastCause}
-use Rattle.pmp_c.proofs.tables.least_cause.Given as goal
-
-abbrev pub invariant-loop-place : goal.invariant-loop-place
-invariant-loop-place l = (l.least ≤ 512) × IsLeastCause l.rows l.first l.place l.least

@@ -1,0 +1,120 @@
+-- Numbers name one access.
+use Rattle.std.proofs.Common.{◌≡◌, ◌≢◌, ℕ, zero, suc, ◌+◌, ◌<◌, ◌≤◌, refl, sym, ap, ◌∙◌, subst, arith}
+use Rattle.std.proofs.Math.Bridge.{le_prop}
+use Rattle.pmp_core.specs.declared.access.Access.{Access}
+use Rattle.pmp_core.specs.declared.access.Mode.{Mode}
+use Rattle.pmp_core.specs.declared.access.Mode.TheVariants.{M, S, U}
+use Rattle.pmp_core.specs.declared.access.Kind.{Kind}
+use Rattle.pmp_core.specs.declared.access.Kind.TheVariants.{Fetch, Load, Store}
+use Rattle.pmp_core.specs.declared.access.TheConstants.{ADDRESS_LIMIT, MAX_LENGTH}
+use Rattle.pmp_map.specs.Request.{mode_number, kind_number, IsNamed}
+
+pub mode_once : (one other : Mode) → mode_number one ≡ mode_number other → one ≡ other
+mode_once U U e = refl
+mode_once U S e = absurd (omega arith)
+mode_once U M e = absurd (omega arith)
+mode_once S U e = absurd (omega arith)
+mode_once S S e = refl
+mode_once S M e = absurd (omega arith)
+mode_once M U e = absurd (omega arith)
+mode_once M S e = absurd (omega arith)
+mode_once M M e = refl
+
+pub kind_once : (one other : Kind) → kind_number one ≡ kind_number other → one ≡ other
+kind_once Fetch Fetch e = refl
+kind_once Fetch Load e = absurd (omega arith)
+kind_once Fetch Store e = absurd (omega arith)
+kind_once Load Fetch e = absurd (omega arith)
+kind_once Load Load e = refl
+kind_once Load Store e = absurd (omega arith)
+kind_once Store Fetch e = absurd (omega arith)
+kind_once Store Load e = absurd (omega arith)
+kind_once Store Store e = refl
+
+-- a lawful start and length
+abbrev IsLawful : (start length : ℕ) → Type 0
+IsLawful start length = (0 < length) × (length ≤ MAX_LENGTH) × (start + length ≤ ADDRESS_LIMIT)
+
+made : Mode → Kind → (start length : ℕ) → IsLawful start length → Access
+made mode kind start length lawful = record {
+  mode = mode;
+  kind = kind;
+  start = start;
+  length = length;
+  not_empty = lawful.0;
+  not_long = lawful.1;
+  inside = lawful.2;
+}
+
+lawful_once : (start length : ℕ) (one other : IsLawful start length) → one ≡ other
+lawful_once start length one other = let once : IsProp (IsLawful start length) = hlevel le_prop in once one other
+
+module _ (mode : Mode) (kind : Kind) (start length : ℕ) (lawful : IsLawful start length) where
+  same_length : (n : ℕ) → length ≡ n → (other : IsLawful start n)
+      → made mode kind start length lawful ≡ made mode kind start n other
+  same_length n e =
+      let P : ℕ → Type 0 = λ n. (other : IsLawful start n)
+      → made mode kind start length lawful ≡ made mode kind start n other in
+      subst P e (λ other. ap (made mode kind start length) (lawful_once start length lawful other))
+
+  same_start : (first n : ℕ) → start ≡ first → length ≡ n → (other : IsLawful first n)
+      → made mode kind start length lawful ≡ made mode kind first n other
+  same_start first n e d =
+      let P : ℕ → Type 0 = λ first. (other : IsLawful first n)
+      → made mode kind start length lawful ≡ made mode kind first n other in
+      subst P e (same_length n d)
+
+same_numbers : (one other : Access) → one.mode ≡ other.mode → one.kind ≡ other.kind → one.start ≡ other.start
+    → one.length ≡ other.length → one ≡ other
+unfolding made
+same_numbers one other mode kind start length =
+    let lawful : IsLawful one.start one.length = (one.not_empty, one.not_long, one.inside) in
+    let right : IsLawful other.start other.length = (other.not_empty, other.not_long, other.inside) in
+    ap (λ (m : Mode). made m one.kind one.start one.length lawful) mode
+    ∙ ap (λ (k : Kind). made other.mode k one.start one.length lawful) kind
+    ∙ same_start other.mode other.kind one.start one.length lawful other.start other.length start length right
+
+pub named_once : (one other : Access) (mode kind start length : ℕ) → IsNamed one mode kind start length
+    → IsNamed other mode kind start length → one ≡ other
+named_once one other mode kind start length p q = same_numbers one other
+    (mode_once one.mode other.mode (p.mode_is ∙ sym q.mode_is))
+    (kind_once one.kind other.kind (p.kind_is ∙ sym q.kind_is))
+    (p.start_is ∙ sym q.start_is) (p.length_is ∙ sym q.length_is)
+
+-- accesses of the same numbers have the same answer
+pub named_alike : (answer : Access → ℕ) (one other : Access) (mode kind start length : ℕ)
+    → IsNamed one mode kind start length → IsNamed other mode kind start length → answer one ≡ answer other
+named_alike answer one other mode kind start length p q = ap answer (named_once one other mode kind start length p q)
+
+-- ---- numbers that an access has
+
+pub mode_with : (n : ℕ) → n ≤ 3 → n ≢ 2 → (mode : Mode) × (mode_number mode ≡ n)
+mode_with zero few other = (U, refl)
+mode_with (suc zero) few other = (S, refl)
+mode_with (suc (suc zero)) few other = absurd (other refl)
+mode_with (suc (suc (suc zero))) few other = (M, refl)
+mode_with (suc (suc (suc (suc n)))) few other = absurd (omega arith)
+
+kind_with : (n : ℕ) → n ≤ 2 → (kind : Kind) × (kind_number kind ≡ n)
+kind_with zero few = (Fetch, refl)
+kind_with (suc zero) few = (Load, refl)
+kind_with (suc (suc zero)) few = (Store, refl)
+kind_with (suc (suc (suc n))) few = absurd (omega arith)
+
+pub named_some : (mode kind start length : ℕ) → mode ≤ 3 → mode ≢ 2 → kind ≤ 2 → length ≢ 0 → length ≤ MAX_LENGTH
+    → start + length ≤ ADDRESS_LIMIT → (access : Access) × IsNamed access mode kind start length
+named_some mode kind start length level other known full few ends =
+    let m = mode_with mode level other in
+    let k = kind_with kind known in
+    let some : 0 < length = omega arith in (
+      record {
+        mode = m.0;
+        kind = k.0;
+        start = start;
+        length = length;
+        not_empty = some;
+        not_long = few;
+        inside = ends;
+      },
+      record { mode_is = m.1; kind_is = k.1; start_is = refl; length_is = refl },
+    )

@@ -1,0 +1,17 @@
+use Rattle.std.proofs.Common.{◌≡◌, ◌+◌, ◌*◌, ◌≤◌, slice_index, arith}
+use Rattle.pmp_map.specs.Columns.{column_of}
+use Rattle.pmp_map.proofs.Answering.{answered}
+use Rattle.pmp_map.proofs.tables.Tables.answer_at.Goals as goal
+
+pub returns-then-end-self : goal.returns-then-end-self
+returns-then-end-self c = λ file access are found named.
+    let short : access.start + access.length ≤ slice_index c.args.self.now.starts (c.args.place + 1) =
+    omega (arith, named.start_is, named.length_is) in
+    let column : 4 * c.args.request.now.mode + c.args.request.now.kind ≡ column_of access.mode access.kind =
+    omega (arith, named.mode_is, named.kind_is) in
+    rw column (answered file c.args.self.now are access c.args.place c.requires found short)
+
+pub returns-else-end-self : goal.returns-else-end-self
+returns-else-end-self c = λ file access are found named.
+    c.answer_straddling.ensures file access are found (omega (arith, named.start_is, named.length_is)) named.kind_is
+    (omega (arith, named.start_is, named.length_is))
