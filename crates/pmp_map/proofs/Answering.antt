@@ -1,13 +1,16 @@
 -- What a unit's tables answer.
 use Rattle.std.proofs.Common.{◌≡◌, ℕ, ◌+◌, ◌-◌, ◌*◌, ◌%◌, ◌<◌, ◌≤◌, List, length, slice_index, Option, Some, None}
-use Rattle.std.proofs.Common.{IfSome, Bool, true, false, drop, length-take, length-drop, refl, sym, ap, ◌∙◌, arith, inl}
+use Rattle.std.proofs.Common.{IfSome, Bool, true, false, nat_lt, drop, length-take, length-drop, refl, sym, ap, ◌∙◌, arith, inl}
 use Rattle.std.proofs.Common.{inr}
 use Rattle.std.specs.List.{slice_range}
 use Rattle.std.proofs.lemmas.Bool.{cases_lt}
+use Rattle.std.proofs.lemmas.Bool.Decides.{nat_tests}
 use Rattle.std.proofs.lemmas.List.{get_or-take, get_or-drop}
 use Rattle.pmp_core.specs.declared.access.Access.{Access}
+use Rattle.pmp_core.specs.declared.access.Mode.{Mode}
 use Rattle.pmp_core.specs.declared.access.Mode.TheVariants.{U}
-use Rattle.pmp_core.specs.declared.access.Kind.TheVariants.{Fetch}
+use Rattle.pmp_core.specs.declared.access.Kind.{Kind}
+use Rattle.pmp_core.specs.declared.access.Kind.TheVariants.{Fetch, Load, Store}
 use Rattle.pmp_core.specs.declared.decision.Decision.{Decision}
 use Rattle.pmp_core.specs.declared.access.TheConstants.{ADDRESS_LIMIT}
 use Rattle.pmp_core.specs.RegisterFile.{RegisterFile}
@@ -16,6 +19,7 @@ use Rattle.pmp_core.specs.FaultCode.{access_fault_code}
 use Rattle.pmp_core.specs.Ranges.{decision_of}
 use Rattle.pmp_core.specs.Rights.{allows}
 use Rattle.pmp_core.proofs.Decisions.{decided_by_ranges, one_decision}
+use Rattle.pmp_core.proofs.Legal.{legal_addresses}
 use Rattle.pmp_map.specs.declared.run.Run.{Run}
 use Rattle.pmp_map.specs.declared.search.TheConstants.{PLACES}
 use Rattle.pmp_map.specs.Answers.{decision_by, refusal_by, whole_cause, owned_rights}
@@ -42,6 +46,24 @@ pub cause_most : (owner : Option ℕ) → IfSome owner (λ i. i < 256) → cause
 cause_most None small = omega arith
 cause_most (Some i) small = omega arith
 
+-- allowed answers are below 1024
+allowed_low : (cause : ℕ) (kind : Kind) (allowed : Bool) → cause ≤ 512
+    → nat_lt (cause + 1024 * fault_number kind allowed) 1024 ≡ allowed
+allowed_low cause kind true low = grind (arith, nat_tests)
+allowed_low cause Fetch false low = grind (arith, nat_tests)
+allowed_low cause Load false low = grind (arith, nat_tests)
+allowed_low cause Store false low = grind (arith, nat_tests)
+
+-- the answer in a mode's and a kind's column is low where the kind is allowed
+pub low_where_allowed : (file : RegisterFile) (owner : Option ℕ) (row : List ℕ) → IsRow file owner row → (mode : Mode)
+    (kind : Kind) (column : ℕ) → column ≡ column_of mode kind
+    → nat_lt (slice_index row column) 1024 ≡ allows (owned_rights file owner mode) kind
+low_where_allowed file owner row is mode kind column here =
+    let allowed = allows (owned_rights file owner mode) kind in
+    ap (λ (n : ℕ). nat_lt (slice_index row n) 1024) here
+    ∙ ap (λ (n : ℕ). nat_lt n 1024) (is.answers mode kind)
+    ∙ allowed_low (cause_number (whole_cause owner)) kind allowed (cause_most owner is.number)
+
 -- the first answer of a row tells the cause
 pub row_cause : (file : RegisterFile) (owner : Option ℕ) (row : List ℕ) → IsRow file owner row
     → slice_index row 0 % 1024 ≡ cause_number (whole_cause owner)
@@ -51,14 +73,14 @@ row_cause file owner row is =
     is.answers U Fetch in
     omega (arith, first, cause_most owner is.number)
 
-owned_by_cause : (owner : Option ℕ) (i : ℕ) → cause_number (whole_cause owner) ≡ i → i < 512 → owner ≡ Some i
+pub owned_by_cause : (owner : Option ℕ) (i : ℕ) → cause_number (whole_cause owner) ≡ i → i < 512 → owner ≡ Some i
 owned_by_cause None i is low = absurd (omega arith)
 owned_by_cause (Some j) i is low = ap Some is
 
 cause_of_owner : (owner : Option ℕ) (i : ℕ) → owner ≡ Some i → cause_number (whole_cause owner) ≡ i
 cause_of_owner owner i is = ap (λ (o : Option ℕ). cause_number (whole_cause o)) is
 
-unowned_by_cause : (owner : Option ℕ) → IfSome owner (λ i. i < 256) → 512 ≤ cause_number (whole_cause owner)
+pub unowned_by_cause : (owner : Option ℕ) → IfSome owner (λ i. i < 256) → 256 ≤ cause_number (whole_cause owner)
     → owner ≡ None
 unowned_by_cause None small high = refl
 unowned_by_cause (Some i) small high = absurd (omega arith)
@@ -84,7 +106,7 @@ module _ (file : RegisterFile) (tables : Tables) (are : AreTables file tables) w
   pub computed : (access : Access) (decision : Decision) → IsDecision file access decision
       → decision ≡ decision_of file access
   computed access decision decided = one_decision file access decision (decision_of file access) decided
-      (decided_by_ranges file access are.addresses)
+      (decided_by_ranges file access (legal_addresses file are.legal))
 
   module _ (access : Access) (place : ℕ) (places : place + 1 < PLACES)
       (is_found : IsFound tables access.start place) where

@@ -3,16 +3,32 @@ use Rattle.std.proofs.Common.{◌≡◌, ℕ, ◌+◌, ◌-◌, ◌<◌, ◌≤�
 use Rattle.std.proofs.Common.{inr}
 use Rattle.std.proofs.lemmas.Bool.{cases_lt}
 use Rattle.pmp_core.specs.declared.access.TheConstants.{ADDRESS_LIMIT}
-use Rattle.pmp_core.specs.Decision.{IsLeast}
+use Rattle.pmp_core.specs.Decision.{IsLeast, IsOwner}
+use Rattle.pmp_core.specs.Matching.{Matches}
+use Rattle.pmp_core.specs.declared.range.ByteRange.{ByteRange}
 use Rattle.pmp_core.specs.Ranges.{IsInRange, range_of}
-use Rattle.pmp_core.specs.RegisterFile.{RegisterFile}
-use Rattle.pmp_core.proofs.Matches.{range_past}
+use Rattle.pmp_core.specs.RegisterFile.{HasAddresses, RegisterFile}
+use Rattle.pmp_core.proofs.Matches.{matches_range, range_past}
+use Rattle.pmp_map.specs.declared.run.Run.{Run}
 use Rattle.pmp_map.specs.Owners.{IsOwnerIn}
+use Rattle.pmp_map.specs.Runs.{IsRunAround}
 
 -- the least of the same numbers
 pub least_alike : (P Q : ℕ → Type 0) (least : Option ℕ) → ((i : ℕ) → P i ↔ Q i) → IsLeast P least → IsLeast Q least
 least_alike P Q None same none = λ i q. none i ((same i).1 q)
 least_alike P Q (Some i) same least = ((same i).0 least.0, λ j below q. least.1 j below ((same j).1 q))
+
+pub owner_by_entries : (file : RegisterFile) → HasAddresses file → (byte : ℕ) (owner : Option ℕ)
+    → IsOwnerIn file byte owner → IsOwner file byte owner
+owner_by_entries file small byte owner =
+    least_alike (λ i. IsInRange (range_of file i) byte) (λ i. Matches file i byte) owner
+    (λ i. let same = matches_range file i byte small in (same.1, same.0))
+
+pub owner_by_ranges : (file : RegisterFile) → HasAddresses file → (byte : ℕ) (owner : Option ℕ)
+    → IsOwner file byte owner → IsOwnerIn file byte owner
+owner_by_ranges file small byte owner =
+    least_alike (λ i. Matches file i byte) (λ i. IsInRange (range_of file i) byte) owner
+    (λ i. matches_range file i byte small)
 
 -- the bytes from `first` up to `end` have this owner
 abbrev pub OwnsBytes : RegisterFile → (first end : ℕ) → Option ℕ → Type 0
@@ -139,3 +155,53 @@ module _ (file : RegisterFile) (byte : ℕ) where
           taken_before index high (rw (← here) at (up.apart (omega arith))) owned
       | inr ends ↦ let to = owned.0.1 in omega arith
     ]
+
+-- the range of entry `index`
+module _ (file : RegisterFile) (byte index : ℕ) (range : ByteRange) (is : range ≡ range_of file index)
+    (first end : ℕ) (down : SweptDown file byte index first) (up : Swept file byte index end) where
+  module _ (low high : ℕ) (without : ¬ (IsInRange range byte)) where
+    pub swept_below : first ≤ low → low ≤ byte
+        → ((other : ℕ) → low ≤ other → other ≤ byte → IsInRange range other → IsInRange range byte)
+        → (first < low → IsInRange range (low - 1)) → SweptDown file byte (index + 1) low
+    swept_below bounded below clear reached = one_more_swept_down file byte index first low down
+        (rw is at without) bounded below (rw is at clear) (rw is at reached)
+
+    pub swept_above : byte < high → high ≤ end
+        → ((other : ℕ) → byte ≤ other → other < high → IsInRange range other → IsInRange range byte)
+        → (high < end → IsInRange range high) → Swept file byte (index + 1) high
+    swept_above above bounded clear reached = one_more_swept file byte index end high up
+        (rw is at without) above bounded (rw is at clear) (rw is at reached)
+
+  pub found_around : HasAddresses file → (run : Run) → run.owner ≡ Some index → IsInRange range byte
+      → run.first ≡ max first range.start → run.last ≡ min end range.end - 1 → IsRunAround file byte run
+  found_around small run owner has low high =
+      let here = rw is at has in
+      let last : run.last + 1 ≡ min end (range_of file index).end =
+      omega (arith, has.1, up.above, rw is at high) in
+      let owned = owned_around file byte index first end down up here run.first (run.last + 1) (rw is at low) last in
+      let to_ranges : (at : ℕ) → IsOwner file at run.owner → IsOwnerIn file at (Some index) =
+      λ at owns. owner_by_ranges file small at (Some index) (rw owner at owns) in
+      record {
+        here = (omega (arith, low, has.0, down.below), omega (arith, high, has.1, up.above));
+        inside = omega (arith, high, has.1, up.above, up.bounded);
+        owned = λ other inside. rw owner (owner_by_entries file small other (Some index) (owned other inside.0 (omega (arith, inside.1))));
+        before = λ some owns. not_before file byte index first end down up here run.first (rw is at low) some
+            (to_ranges (run.first - 1) owns);
+        after = λ less owns. not_after file byte index first end down up here (run.last + 1) last less
+            (to_ranges (run.last + 1) owns);
+      }
+
+  pub none_around : HasAddresses file → length file.entries ≤ index → (run : Run) → run.owner ≡ None
+      → run.first ≡ first → run.last ≡ end - 1 → IsRunAround file byte run
+  none_around small all run owner low high =
+      let last : run.last + 1 ≡ end = omega (arith, high, up.above) in
+      let owned = unowned_around file byte index first end down up all in
+      let to_ranges : (at : ℕ) → IsOwner file at run.owner → IsOwnerIn file at None =
+      λ at owns. owner_by_ranges file small at None (rw owner at owns) in
+      record {
+        here = (omega (arith, low, down.below), omega (arith, high, up.above));
+        inside = omega (arith, high, up.above, up.bounded);
+        owned = λ other inside. rw owner (owner_by_entries file small other None (owned other (omega (arith, low, inside.0)) (omega (arith, inside.1, last))));
+        before = λ some owns. taken file byte index (run.first - 1) (rw (← low) at (down.apart (omega (arith, some, low)))) (to_ranges (run.first - 1) owns);
+        after = λ less owns. taken file byte index (run.last + 1) (rw (← last) at (up.apart (omega (arith, less, last)))) (to_ranges (run.last + 1) owns);
+      }

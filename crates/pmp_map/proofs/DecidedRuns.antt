@@ -9,11 +9,10 @@ use Rattle.pmp_core.specs.declared.access.TheConstants.{ADDRESS_LIMIT}
 use Rattle.pmp_core.specs.RegisterFile.{RegisterFile}
 use Rattle.pmp_core.specs.Decision.{IsDecision, IsLeast}
 use Rattle.pmp_map.specs.declared.run.Run.{Run}
-use Rattle.pmp_map.specs.Owners.{least_owner}
 use Rattle.pmp_map.specs.Runs.{AreRuns, map_run}
 use Rattle.pmp_map.specs.RunsLaw.{AcrossRunsLaw, InsideRunLaw, OwnsOneOf}
 use Rattle.pmp_map.proofs.Decided.{Straddles, decided_split, decided_whole, owns_part, some_owner}
-use Rattle.pmp_map.proofs.LeastOwner.{OwnsOne, least_owner_is}
+use Rattle.pmp_map.proofs.LeastOwner.{OwnsOne, least_owner, least_owner_is}
 
 pub inside_run : InsideRunLaw
 inside_run file runs are k within access inside =

@@ -1,33 +1,26 @@
 -- Owners by entries and by their ranges.
-use Rattle.std.proofs.Common.{◌≡◌, ℕ, ◌+◌, ◌*◌, ◌<◌, ◌≤◌, ◌↔◌, List, length, Option, Some, None, refl, sym, ◌∙◌, arith}
+use Rattle.std.proofs.Common.{◌≡◌, ℕ, ◌+◌, ◌*◌, ◌<◌, ◌≤◌, Bool, List, length, Option, Some, None, sym, ◌∙◌, arith}
 use Rattle.std.proofs.Common.{inl, inr}
 use Rattle.std.specs.Prelude.{IfSome}
 use Rattle.std.proofs.lemmas.Bool.{cases_lt}
 use Rattle.std.proofs.lemmas.List.{get_or_past}
+use Rattle.std.proofs.lemmas.List.Elements.{All-from_get_or}
 use Rattle.pmp_core.specs.declared.access.TheConstants.{ADDRESS_LIMIT}
-use Rattle.pmp_core.specs.Decision.{IsOwner}
-use Rattle.pmp_core.specs.Matching.{Matches}
-use Rattle.pmp_core.specs.RegisterFile.{RegisterFile, HasAddresses, reset_entry}
-use Rattle.pmp_core.specs.Ranges.{IsInRange, range_in, range_of, ranges_of}
-use Rattle.pmp_core.proofs.Matches.{matches_range, range_past}
+use Rattle.pmp_core.specs.declared.access.Access.{Access}
+use Rattle.pmp_core.specs.declared.decision.Cause.{Cause}
+use Rattle.pmp_core.specs.declared.decision.Cause.TheVariants.{Rule, Split, NoMatch}
+use Rattle.pmp_core.specs.Decision.{IsDecisionBy, IsOwner, Touches}
+use Rattle.pmp_core.specs.RegisterFile.{RegisterFile, HasAddresses, IsLegal, reset_entry}
+use Rattle.pmp_core.specs.Ranges.{IsInRange, decision_of, range_in, range_of, ranges_of}
+use Rattle.pmp_core.proofs.Decisions.{decided_by_ranges}
+use Rattle.pmp_core.proofs.Legal.{legal_addresses}
+use Rattle.pmp_core.proofs.Matches.{range_past}
 use Rattle.pmp_core.proofs.Places.{length-ranges_of, no_range, range_at}
 use Rattle.pmp_map.specs.declared.run.Run.{Run}
-use Rattle.pmp_map.specs.Owners.{IsOwnerIn}
-use Rattle.pmp_map.specs.Runs.{AreRuns}
-use Rattle.pmp_map.proofs.CutFacts.{least_alike}
+use Rattle.pmp_map.specs.AnswerLaw.{IsByteCause}
+use Rattle.pmp_map.specs.Runs.{AreRuns, HasOwnersBelow, map_run}
+use Rattle.pmp_map.proofs.CutFacts.{least_alike, owner_by_ranges}
 use Rattle.pmp_map.proofs.FewRuns.{few_runs}
-
-pub owner_by_entries : (file : RegisterFile) → HasAddresses file → (byte : ℕ) (owner : Option ℕ)
-    → IsOwnerIn file byte owner → IsOwner file byte owner
-owner_by_entries file small byte owner =
-    least_alike (λ i. IsInRange (range_of file i) byte) (λ i. Matches file i byte) owner
-    (λ i. let same = matches_range file i byte small in (same.1, same.0))
-
-pub owner_by_ranges : (file : RegisterFile) → HasAddresses file → (byte : ℕ) (owner : Option ℕ)
-    → IsOwner file byte owner → IsOwnerIn file byte owner
-owner_by_ranges file small byte owner =
-    least_alike (λ i. Matches file i byte) (λ i. IsInRange (range_of file i) byte) owner
-    (λ i. matches_range file i byte small)
 
 -- only an entry that there is owns a byte
 pub owner_below : (file : RegisterFile) (byte : ℕ) (owner : Option ℕ) → IsOwner file byte owner
@@ -37,6 +30,25 @@ owner_below file byte (Some i) owned = elim (cases_lt i (length file.entries)) [
   | inl lt ↦ lt
   | inr past ↦ let matched = owned.0 in absurd (rw (get_or_past file.entries i reset_entry past) at matched)
 ]
+
+-- ---- a decision's entry
+
+module _ (file : RegisterFile) (access : Access) where
+  touched_below : (i : ℕ) → Touches file access i → i < length file.entries
+  touched_below i touches = elim (cases_lt i (length file.entries)) [
+    | inl lt ↦ lt
+    | inr past ↦ let matched = touches.2 in absurd (rw (get_or_past file.entries i reset_entry past) at matched)
+  ]
+
+  byte_cause_by : length file.entries ≤ 256 → (allowed : Bool) (cause : Cause) → IsDecisionBy file access allowed cause
+      → IsByteCause cause
+  byte_cause_by few allowed (Rule i) is = omega (arith, touched_below i is.0.0)
+  byte_cause_by few allowed (Split i) is = omega (arith, touched_below i is.0.0)
+  byte_cause_by few allowed NoMatch is = tt
+
+  pub byte_cause : IsLegal file → IsByteCause (decision_of file access).cause
+  byte_cause legal = byte_cause_by (omega (arith, legal.count, legal.profile.few)) (decision_of file access).allowed
+      (decision_of file access).cause (decided_by_ranges file access (legal_addresses file legal))
 
 -- ---- few runs
 
@@ -64,3 +76,8 @@ few_runs_of_entries file runs small are =
         apart = are.apart;
       }),
     )
+
+pub owners_below : (file : RegisterFile) (runs : List Run) → AreRuns file runs → HasOwnersBelow (length file.entries) runs
+owners_below file runs are = All-from_get_or (λ (run : Run). IfSome run.owner (λ i. i < length file.entries)) runs _
+    (λ k inside. owner_below file (map_run runs k).first (map_run runs k).owner
+    (are.owned k (map_run runs k).first inside (omega arith, are.proper k inside)))

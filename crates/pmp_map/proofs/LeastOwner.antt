@@ -5,7 +5,6 @@ use Rattle.std.specs.List.{filter_map, cons_option, reduce}
 use Rattle.std.proofs.lemmas.Bool.{cases_lt}
 use Rattle.pmp_core.specs.Decision.{IsLeast}
 use Rattle.pmp_map.specs.declared.run.Run.{Run}
-use Rattle.pmp_map.specs.Owners.{least_owner}
 use Rattle.pmp_map.specs.Runs.{run_at}
 use Rattle.pmp_map.proofs.CutFacts.{least_alike}
 
@@ -15,6 +14,10 @@ OwnsOne to runs i = (k : ℕ) × (k < length runs) × ((run_at to runs k).owner 
 
 abbrev owners : List Run → List ℕ
 owners runs = filter_map (λ run. run.owner) runs
+
+-- the lowest-numbered owner of the runs, or none where none of them has one
+abbrev pub least_owner : List Run → Option ℕ
+least_owner runs = reduce min (owners runs)
 
 module _ (to : ℕ) where
   owns_none : (i : ℕ) → ¬ (OwnsOne to [] i)

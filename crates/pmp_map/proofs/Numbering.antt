@@ -1,12 +1,15 @@
 -- Numbers of answers tell decisions apart.
-use Rattle.std.proofs.Common.{◌≡◌, ◌↔◌, ◌≤◌, ◌<◌, ◌+◌, ◌*◌, ◌/◌, ◌%◌, ℕ, Bool, true, false, refl, ap, ◌∙◌, arith}
+use Rattle.std.proofs.Common.{◌≡◌, ◌↔◌, ◌≤◌, ◌<◌, ◌+◌, ◌-◌, ◌*◌, ◌/◌, ◌%◌, ℕ, Bool, true, false, nat_lt, refl, ap, ◌∙◌, arith}
+use Rattle.std.proofs.Common.{inl, inr}
+use Rattle.std.proofs.lemmas.Bool.{cases_lt, false≢true, le-ltb, lt-ltb}
+use Rattle.pmp_core.specs.declared.access.Access.{Access}
 use Rattle.pmp_core.specs.declared.access.Kind.{Kind}
 use Rattle.pmp_core.specs.declared.access.Kind.TheVariants.{Fetch, Load, Store}
 use Rattle.pmp_core.specs.declared.decision.Cause.{Cause}
 use Rattle.pmp_core.specs.declared.decision.Cause.TheVariants.{Rule, Split, NoMatch}
 use Rattle.pmp_core.specs.declared.decision.Decision.{Decision}
 use Rattle.pmp_core.specs.FaultCode.{access_fault_code}
-use Rattle.pmp_map.specs.Answer.{cause_number, fault_number, number_by, no_access}
+use Rattle.pmp_map.specs.Answer.{answer_number, cause_number, fault_number, number_by, no_access}
 use Rattle.pmp_map.specs.AnswerLaw.{IsByteCause, AnswerLaw, NoAccessLaw, NoAccessFaultLaw, ReadingLaw}
 
 cause_low : (cause : Cause) → IsByteCause cause → cause_number cause ≤ 512
@@ -88,3 +91,42 @@ read_off access decision low =
       fault = parts.0;
       cause = parts.1;
     }
+
+-- ---- the decision of a number
+
+pub rule_of : (cause : Cause) (n : ℕ) → IsByteCause cause → n ≡ cause_number cause → n < 256 → Rule n ≡ cause
+rule_of (Rule i) n low is few = ap Rule is
+rule_of (Split i) n low is few = absurd (omega arith)
+rule_of NoMatch n low is few = absurd (omega arith)
+
+pub split_of : (cause : Cause) (n : ℕ) → IsByteCause cause → n ≡ cause_number cause → 256 ≤ n → n < 512
+    → Split (n - 256) ≡ cause
+split_of (Rule i) n low is some few = absurd (omega arith)
+split_of (Split i) n low is some few = ap Split (omega arith)
+split_of NoMatch n low is some few = absurd (omega arith)
+
+pub none_of : (cause : Cause) (n : ℕ) → IsByteCause cause → n ≡ cause_number cause → 512 ≤ n → NoMatch ≡ cause
+none_of (Rule i) n low is some = absurd (omega arith)
+none_of (Split i) n low is some = absurd (omega arith)
+none_of NoMatch n low is some = refl
+
+allowed_of : (n : ℕ) (allowed : Bool) → n < 1024 ↔ allowed ≡ true → nat_lt n 1024 ≡ allowed
+allowed_of n true same = let low = same.1 refl in lt-ltb n 1024 low
+allowed_of n false same = elim (cases_lt n 1024) [
+  | inl low ↦ absurd (false≢true (same.0 low))
+  | inr high ↦ le-ltb n 1024 high
+]
+
+module _ (access : Access) (decision : Decision) (low : IsByteCause decision.cause) (number : ℕ)
+    (is : number ≡ answer_number access decision) where
+  pub cause_left : number % 1024 ≡ cause_number decision.cause
+  cause_left = ap (λ (n : ℕ). n % 1024) is ∙ (read_off access decision low).cause
+
+  pub decided_as : (cause : Cause) → cause ≡ decision.cause
+      → (let told : Decision = record { allowed = nat_lt number 1024; cause = cause } in told ≡ decision)
+  decided_as cause same =
+      let make : Bool → Cause → Decision = λ allowed why. record { allowed = allowed; cause = why } in
+      ap (λ (n : ℕ). make (nat_lt n 1024) cause) is
+      ∙ ap (λ (b : Bool). make b cause)
+      (allowed_of (answer_number access decision) decision.allowed (read_off access decision low).allowed)
+      ∙ ap (make decision.allowed) same

@@ -1,7 +1,7 @@
 -- Painting entries from the last to the first.
-use Rattle.std.proofs.Common.{◌≡◌, ◌≢◌, ℕ, suc, ◌+◌, ◌<◌, ◌≤◌, nat_le, nat_lt, Bool, true, false, List, [], ◌∷◌, length}
-use Rattle.std.proofs.Common.{Option, Some, None, refl, sym, ap, ◌∙◌, arith, inl, inr}
-use Rattle.std.proofs.lemmas.Bool.{cases_lt, ltb-true}
+use Rattle.std.proofs.Common.{◌≡◌, ◌≢◌, ℕ, ◌+◌, ◌<◌, ◌≤◌, true, false, List, [], ◌∷◌, length}
+use Rattle.std.proofs.Common.{Option, Some, None, refl, sym, arith, inl, inr}
+use Rattle.std.proofs.lemmas.Bool.{cases_lt}
 use Rattle.std.proofs.lemmas.Bool.Decides.{nat_tests}
 use Rattle.pmp_core.specs.declared.access.TheConstants.{ADDRESS_LIMIT}
 use Rattle.pmp_core.specs.declared.range.ByteRange.{ByteRange}
@@ -9,8 +9,7 @@ use Rattle.pmp_core.specs.Ranges.{IsInRange, range_of}
 use Rattle.pmp_core.specs.Decision.{IsOwner}
 use Rattle.pmp_core.specs.RegisterFile.{HasAddresses, RegisterFile}
 use Rattle.pmp_core.proofs.Matches.{range_past}
-use Rattle.pmp_map.proofs.CutFacts.{least_alike}
-use Rattle.pmp_map.proofs.Entries.{owner_by_entries}
+use Rattle.pmp_map.proofs.CutFacts.{least_alike, owner_by_entries}
 use Rattle.pmp_map.specs.declared.cuts.Cut.{Cut}
 use Rattle.pmp_map.specs.Painting.{AreApart, AreCuts, AreDown, AreUp, ArePainted, IsApart, IsOwnerFrom, IsStretch, is_from}
 use Rattle.pmp_map.specs.Painting.{owner_of, start_of}

@@ -1,13 +1,11 @@
 -- A list of runs with one run more.
-use Rattle.std.proofs.Common.{◌≡◌, ◌≢◌, ℕ, ◌+◌, ◌-◌, ◌<◌, ◌≤◌, List, [], ◌∷◌, ◌++◌, length, Option, refl, sym, ap, ◌∙◌}
+use Rattle.std.proofs.Common.{◌≡◌, ◌≢◌, ℕ, ◌+◌, ◌<◌, ◌≤◌, List, [], ◌∷◌, ◌++◌, length, Option, sym, ap, ◌∙◌}
 use Rattle.std.proofs.Common.{arith, length-append, inl, inr}
 use Rattle.std.proofs.lemmas.Bool.{cases_lt}
 use Rattle.std.proofs.lemmas.List.{get_or_default}
 use Rattle.std.proofs.Math.ListN.{get_or-append}
 use Rattle.std.proofs.Math.Seq.{get_or-append_seam}
-use Rattle.pmp_core.specs.declared.range.ByteRange.{ByteRange}
 use Rattle.pmp_map.specs.declared.run.Run.{Run}
-use Rattle.pmp_map.specs.Owners.{IsOwnerIn, OwnsBytes}
 use Rattle.pmp_map.specs.Runs.{IsInRun, run_at, AreRunsTo}
 use Rattle.pmp_map.proofs.Order.{start_at, start_past}
 
@@ -67,15 +65,3 @@ module _ (to : ℕ) (Owns : ℕ → Option ℕ
 
   pub last_pushed : (end k : ℕ) → k + 1 ≡ length (runs ++ run ∷ []) → run_at end (runs ++ run ∷ []) k ≡ run
   last_pushed end k last = new_run to end runs run k (omega (arith, length_pushed to end runs run))
-
--- the bytes up to the next change of owner
-pub next_run : (ranges : List ByteRange) (runs : List Run) (first end : ℕ) (owner : Option ℕ) → first < end
-    → OwnsBytes ranges first end owner
-    → ((k : ℕ) → k + 1 ≡ length runs → (run_at first runs k).owner ≢ owner)
-    → IsNextRun first (IsOwnerIn ranges) runs (record { first = first; last = end - 1; owner = owner })
-next_run ranges runs first end owner some owned apart = record {
-  begins = refl;
-  proper = omega arith;
-  owned = λ byte inside. owned byte inside.0 (omega (arith, inside.1));
-  apart = apart;
-}

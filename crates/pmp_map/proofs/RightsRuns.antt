@@ -5,9 +5,10 @@ use Rattle.pmp_core.specs.declared.access.TheConstants.{ADDRESS_LIMIT}
 use Rattle.pmp_core.specs.RegisterFile.{RegisterFile}
 use Rattle.pmp_core.specs.Matching.{Matches}
 use Rattle.pmp_core.proofs.Decisions.{least_once}
-use Rattle.pmp_map.specs.declared.rights_run.ModeRights.{ModeRights}
+use Rattle.pmp_map.specs.declared.mode_rights.ModeRights.{ModeRights}
 use Rattle.pmp_map.specs.declared.rights_run.RightsRun.{RightsRun}
-use Rattle.pmp_map.specs.RightsRuns.{AreRightsRunsFrom, HasRights, HasRightsOf, IsRightsRun, rights_by}
+use Rattle.pmp_map.specs.Answers.{rights_by}
+use Rattle.pmp_map.specs.RightsRuns.{AreRightsRunsFrom, HasRights, HasRightsOf, IsRightsRun}
 
 -- a byte has one set of rights in a file
 once : (file : RegisterFile) (byte : ℕ) (one other : ModeRights) → HasRights file byte one → HasRights file byte other

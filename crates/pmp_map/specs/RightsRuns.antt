@@ -1,10 +1,8 @@
 -- The ranges of bytes that each of two register files lets the modes do the same with.
 use Rattle.std.specs.Prelude.{◌≡◌, ℕ, ◌+◌, ◌<◌, ◌≤◌, Option, List, [], ◌∷◌}
-use Rattle.pmp_core.specs.declared.access.Mode.TheVariants.{M, U}
 use Rattle.pmp_core.specs.declared.access.TheConstants.{ADDRESS_LIMIT}
 use Rattle.pmp_core.specs.Decision.{IsOwner}
 use Rattle.pmp_core.specs.RegisterFile.{RegisterFile}
-use Rattle.pmp_core.specs.Rights.{perms_of}
 use Rattle.pmp_map.specs.declared.mode_rights.ModeRights.{ModeRights}
 use Rattle.pmp_map.specs.declared.rights_run.RightsRun.{RightsRun}
 use Rattle.pmp_map.specs.Answers.{rights_by}

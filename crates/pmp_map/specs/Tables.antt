@@ -1,11 +1,12 @@
 -- A map's tables: where its runs begin, and what they answer.
-use Rattle.std.specs.Prelude.{◌≡◌, ◌≢◌, ℕ, ◌+◌, ◌<◌, ◌≤◌, Option, List, length, slice_index}
-use Rattle.pmp_core.specs.declared.access.TheConstants.{ADDRESS_LIMIT}
+use Rattle.std.specs.Prelude.{◌≡◌, ℕ, ◌+◌, ◌<◌, ◌≤◌, List, length, slice_index}
 use Rattle.pmp_core.specs.RegisterFile.{IsLegal, RegisterFile}
+use Rattle.pmp_map.specs.declared.cuts.Cut.{Cut}
 use Rattle.pmp_map.specs.declared.run.Run.{Run}
 use Rattle.pmp_map.specs.declared.run.TheConstants.{RUNS}
 use Rattle.pmp_map.specs.declared.search.TheConstants.{PLACES}
 use Rattle.pmp_core.specs.Decision.{IsOwner}
+use Rattle.pmp_map.specs.Painting.{AreUp, IsApart, start_of}
 use Rattle.pmp_map.specs.Runs.{map_run, run_at, AreRuns, AreRunsTo}
 use Rattle.pmp_map.specs.Search.{AreStarts, IsWithin, IsBetween}
 use Rattle.pmp_map.specs.declared.tables.Tables.{Tables}
@@ -16,13 +17,17 @@ use Rattle.pmp_map.specs.Rows.{IsRow, row_at}
 abbrev pub AreRows : RegisterFile → List Run → List (List ℕ) → Type 0
 AreRows file runs rows = (k : ℕ) → k < length runs → IsRow file (map_run runs k).owner (row_at rows k)
 
--- the first places have the runs of the bytes below `first`, with the rows of their owners
-pub record IsSweptTo (file : RegisterFile) (starts : List ℕ) (rows : List (List ℕ)) (first place : ℕ) : Type 0 where
+-- the first places have the runs of the bytes below these cuts upwards, with the rows of their owners
+pub record IsSweptTo (file : RegisterFile) (starts : List ℕ) (rows : List (List ℕ)) (cuts : List Cut) (place : ℕ)
+    : Type 0 where
+  pub up : AreUp (IsOwner file) cuts
   pub list : List Run
-  pub runs_are : AreRunsTo first (IsOwner file) list
+  pub runs_are : AreRunsTo (start_of cuts) (IsOwner file) list
+  pub apart : (k : ℕ) → k + 1 ≡ length list → IsApart (run_at (start_of cuts) list k).owner cuts
   pub count : place ≡ length list
-  pub starts_are : (k : ℕ) → k < place → slice_index starts k ≡ (run_at first list k).first
-  pub rows_are : (k : ℕ) → k < place → IsRow file (run_at first list k).owner (row_at rows k)
+  pub room : place + length cuts ≤ RUNS
+  pub starts_are : (k : ℕ) → k < place → slice_index starts k ≡ (run_at (start_of cuts) list k).first
+  pub rows_are : (k : ℕ) → k < place → IsRow file (run_at (start_of cuts) list k).owner (row_at rows k)
   pub long : length starts ≡ PLACES
   pub wide : length rows ≡ PLACES
 
@@ -49,4 +54,3 @@ IsFound tables byte place = IsWithin tables.starts tables.runs byte → IsBelowF
 pub record IsMapOf (file : RegisterFile) (tables : Tables) (runs : List Run) : Type 0 where
   pub tables_are : AreTables file tables
   pub runs_are : AreRuns file runs
-  pub few : length runs ≤ RUNS

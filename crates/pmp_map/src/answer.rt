@@ -72,10 +72,12 @@ pub fn decision(number: u16) -> Decision
     let cause = number % 1024;
     Decision {
         allowed: number < 1024,
-        cause: match (u8::try_from(cause), u8::try_from(cause.wrapping_sub(256))) {
-            (Ok(entry), _) => Cause::Rule(entry),
-            (_, Ok(entry)) => Cause::Split(entry),
-            _ => Cause::NoMatch,
+        cause: if cause < 256 {
+            Cause::Rule(cause as u8)
+        } else if cause < 512 {
+            Cause::Split((cause - 256) as u8)
+        } else {
+            Cause::NoMatch
         },
     }
 }

@@ -15,7 +15,8 @@ pub fn rights_in(registers: &Registers<'_>, mode: Mode, start: u64, length: u64)
     ensures { AreRangeRights registers.now mode start length result }
 {
     match registers.cause(start, start + length) {
+        Cause::Rule(entry) => Some(registers.rights(usize::from(entry), mode)),
         Cause::Split(_) => None,
-        cause => Some(registers.rights_by(cause, mode)),
+        Cause::NoMatch => Some(registers.default_rights(mode)),
     }
 }

@@ -6,7 +6,7 @@ ghost use Rattle.pmp_map.specs.RightsRuns.{HasRightsOf, IsRightsRun};
 
 use crate::around::run_around;
 use crate::mode_rights::ModeRights;
-use pmp_core::{ADDRESS_LIMIT, RegFile};
+use pmp_core::{ADDRESS_LIMIT, Registers};
 
 /// Bytes that lie side by side, and that each of two register files lets the modes do the same with.
 #[derive(Clone, Copy, Debug, PartialEq, Eq)]
@@ -32,26 +32,26 @@ impl RightsRun {
 }
 
 /// The bytes from `first` on that have one owner in the old file, and one in the new.
-fn owned_from(old: &RegFile, new: &RegFile, first: u64) -> RightsRun
+fn owned_from(old: &Registers<'_>, new: &Registers<'_>, first: u64) -> RightsRun
     requires { first < ADDRESS_LIMIT }
     ensures begins { result.first ≡ first }
     ensures proper { first ≤ result.last }
     ensures below { result.last < ADDRESS_LIMIT }
     ensures rights { (byte : ℕ) → first ≤ byte → byte ≤ result.last → HasRightsOf old.now new.now result byte }
 {
-    let before = run_around(&old.registers(), first);
-    let after = run_around(&new.registers(), first);
+    let before = run_around(old, first);
+    let after = run_around(new, first);
     RightsRun {
         first,
         last: before.last.min(after.last),
-        old: ModeRights::of_owner(&old.registers(), before.owner),
-        new: ModeRights::of_owner(&new.registers(), after.owner),
+        old: ModeRights::of_owner(old, before.owner),
+        new: ModeRights::of_owner(new, after.owner),
     }
 }
 
 /// The longest range of bytes from the byte address `first` on that each of the files lets the modes do the same with.
 /// The files may be of different harts. From the byte behind its last one the next range goes on, up to `2^56 - 1`.
-pub fn rights_run_from(old: &RegFile, new: &RegFile, first: u64) -> RightsRun
+pub fn rights_run_from(old: &Registers<'_>, new: &Registers<'_>, first: u64) -> RightsRun
     requires { first < ADDRESS_LIMIT }
     ensures begins { result.first ≡ first }
     ensures longest { IsRightsRun old.now new.now result }

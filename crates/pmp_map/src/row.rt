@@ -53,6 +53,15 @@ pub fn row_of(registers: &Registers<'_>, owner: Option<u8>) -> Row
     ]
 }
 
+/// The owner of which a row is.
+#[inline(always)]
+pub fn row_owner(row: &Row) -> Option<u8>
+    ensures { (file : RegisterFile) (owner : Option ℕ) → IsRow file owner row.now → result ≡ owner }
+{
+    let cause = row[0] % 1024;
+    if cause < 256 { Some(cause as u8) } else { None }
+}
+
 /// What a row allows the mode of this level.
 #[inline(always)]
 pub fn row_rights(row: &Row, mode: u32) -> Perms

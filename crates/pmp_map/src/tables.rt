@@ -18,7 +18,7 @@ ghost use Rattle.pmp_map.specs.Tables.{AreTables, IsFound};
 use crate::answer::{no_access, split_number};
 use crate::painting::cuts_of;
 use crate::request::{Request, kind_of};
-use crate::row::{Row, row_of, row_rights};
+use crate::row::{Row, row_of, row_owner, row_rights};
 use crate::run::{RUNS, Run};
 use crate::search::{PLACES, place_among_six, place_of};
 use arrayvec::ArrayVec;
@@ -180,7 +180,7 @@ impl Tables {
         Run {
             first: self.starts[place],
             last: self.starts[place + 1].saturating_sub(1),
-            owner: u8::try_from(self.rows[place][0] % 1024).ok(),
+            owner: row_owner(&self.rows[place]),
         }
     }
 

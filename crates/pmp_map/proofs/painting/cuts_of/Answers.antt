@@ -1,4 +1,4 @@
-use Rattle.std.proofs.Common.{◌≡◌, ap, arith}
+use Rattle.std.proofs.Common.{◌≡◌, arith}
 use Rattle.pmp_core.specs.Decision.{IsOwner}
 use Rattle.pmp_core.proofs.Legal.{legal_addresses}
 use Rattle.pmp_map.specs.Painting.{IsOwnerFrom}

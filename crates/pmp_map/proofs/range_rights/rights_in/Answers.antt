@@ -1,34 +1,36 @@
-use Rattle.std.proofs.Common.{arith}
-use Rattle.pmp_map.proofs.Entries.{owner_by_entries, owner_by_ranges, owner_below}
-use Rattle.pmp_map.proofs.RangeRights.{rights_by_owner, rights_of_two}
+use Rattle.std.proofs.Common.{◌≡◌, ◌+◌, sym, subst, ◌∙◌, arith}
+use Rattle.pmp_core.specs.declared.decision.Cause.{Cause}
+use Rattle.pmp_core.specs.RegisterFile.{HasAddresses}
+use Rattle.pmp_core.proofs.Decisions.{IsCause, cause_is}
+use Rattle.pmp_core.proofs.Legal.{legal_addresses}
+use Rattle.pmp_map.proofs.RangeRights.{rights_of_none, rights_of_rule, rights_of_split}
 use Rattle.pmp_map.proofs.range_rights.rights_in.Goals as goal
+use Rattle.pmp_map.proofs.range_rights.rights_in.Goals.{After-cause}
 
-pub owned_rights-requires : goal.owned_rights-requires
-owned_rights-requires c =
-    let stretch = c.stretch_from-stretch in
-    rw (← c.ranges-2.ensures.ranges.count) (owner_below c.ranges-2.result.now c.args.start stretch.result.owner
-    (stretch.ensures.owned c.args.start (omega arith) stretch.ensures.above))
+module _ (c : After-cause) where
+  small : HasAddresses c.args.registers.now
+  small = legal_addresses c.args.registers.now c.cause.ensures.legal
 
-pub returns-then-start-length : goal.returns-then-start-length
-returns-then-start-length c =
-    let stretch = c.stretch_from-stretch in
-    let file = c.args.file.now in
-    rw c.owned_rights.ensures (rights_by_owner c.args.file.now c.ranges-2.ensures.addresses c.args.mode
-    c.args.start c.args.length c.requires.full stretch.result.owner
-    (λ byte from to. owner_by_entries file c.ranges-2.result.now c.ranges-2.ensures.ranges byte _
-    (stretch.ensures.owned byte from (omega (arith, to, c.if-start-length.true)))))
+  decided : (cause : Cause) → c.cause.result ≡ cause
+      → IsCause c.args.registers.now c.args.start (c.args.start + c.args.length) cause
+  decided cause is = subst (IsCause c.args.registers.now c.args.start (c.args.start + c.args.length))
+      (sym c.cause.ensures.cause ∙ is)
+      (cause_is c.args.registers.now c.args.start (c.args.start + c.args.length) (omega (arith, c.requires.full)) small)
 
-pub returns-else-start-length : goal.returns-else-start-length
-returns-else-start-length c =
-    let stretch = c.stretch_from-stretch in
-    let end = stretch.result.end in
-    let file = c.args.file.now in
-    let ranges = c.ranges-2.result.now in
-    let decoded = c.ranges-2.ensures.ranges in
-    rights_of_two c.args.file.now c.ranges-2.ensures.addresses c.args.mode c.args.start c.args.length
-    c.requires.full stretch.result.owner end
-    (owner_by_entries file ranges decoded c.args.start _
-    (stretch.ensures.owned c.args.start (omega arith) stretch.ensures.above))
-    (omega (arith, stretch.ensures.above)) c.if-start-length.false
-    (λ other is. stretch.ensures.apart (omega (arith, c.if-start-length.false, c.requires.inside)) other
-    (owner_by_ranges file ranges decoded end other is))
+pub returns-in-Rule : goal.returns-in-Rule
+returns-in-Rule c =
+    let a = (goal.at.returns-in-Rule c).After-cause in
+    rw (c.rights.ensures, c.from.ensures) (rights_of_rule c.args.registers.now (small a) c.args.mode c.args.start
+    c.args.length c.requires.full c.in-Rule.entry (decided a _ c.in-Rule.is))
+
+pub returns-in-Split : goal.returns-in-Split
+returns-in-Split c =
+    let a = (goal.at.returns-in-Split c).After-cause in
+    rights_of_split c.args.registers.now (small a) c.args.mode c.args.start c.args.length c.requires.full
+    c.in-Split.field-0 (decided a _ c.in-Split.is)
+
+pub returns-in-NoMatch : goal.returns-in-NoMatch
+returns-in-NoMatch c =
+    let a = (goal.at.returns-in-NoMatch c).After-cause in
+    rw c.default_rights.ensures (rights_of_none c.args.registers.now (small a) c.args.mode c.args.start c.args.length
+    c.requires.full (decided a _ c.in-NoMatch.is))

@@ -1,4 +1,4 @@
-use Rattle.std.proofs.Common.{◌≡◌, ◌∙◌, ℕ, [], ◌∷◌, Option, slice_index}
+use Rattle.std.proofs.Common.{◌≡◌, ◌∙◌, ℕ, [], ◌∷◌, Option, slice_index, ap}
 use Rattle.pmp_core.specs.declared.access.Mode.{Mode}
 use Rattle.pmp_core.specs.declared.access.Mode.TheVariants.{M, S, U}
 use Rattle.pmp_core.specs.declared.access.Kind.{Kind}
@@ -6,6 +6,7 @@ use Rattle.pmp_core.specs.declared.access.Kind.TheVariants.{Fetch, Load, Store}
 use Rattle.pmp_core.specs.RegisterFile.{RegisterFile}
 use Rattle.pmp_core.specs.declared.perms.Perms.{Perms}
 use Rattle.pmp_core.specs.Rights.{perms_of}
+use Rattle.pmp_map.specs.declared.mode_rights.ModeRights.{ModeRights}
 use Rattle.pmp_map.specs.Answers.{owned_rights}
 use Rattle.pmp_map.proofs.KeptRights.{rights_kept}
 use Rattle.pmp_map.specs.Columns.{column_of}
@@ -45,8 +46,10 @@ alike file owner rights is = is ∙ rights_kept file owner S
 pub returns : goal.returns
 returns c =
     let file = c.args.registers.now in
-    let user = c.owned_rights-others.ensures in
-    let supervisor = alike file c.args.owner c.owned_rights-others.result user in
+    let rights = c.of_owner-rights.result in
+    let user = ap (λ (r : ModeRights). r.others) c.of_owner-rights.ensures in
+    let machine = ap (λ (r : ModeRights). r.machine) c.of_owner-rights.ensures in
+    let supervisor = alike file c.args.owner rights.others user in
     record {
       number = c.owned_answer-fetch.ensures.number;
       answers = nine file c.args.owner _ _ _ _ _ _ _ _ _
@@ -56,7 +59,7 @@ returns c =
           (c.owned_answer-fetch.ensures.answer file S supervisor)
           (c.owned_answer-load.ensures.answer file S supervisor)
           (c.owned_answer-store.ensures.answer file S supervisor)
-          (c.owned_answer.ensures.answer file M c.owned_rights-machine.ensures)
-          (c.owned_answer-2.ensures.answer file M c.owned_rights-machine.ensures)
-          (c.owned_answer-3.ensures.answer file M c.owned_rights-machine.ensures);
+          (c.owned_answer.ensures.answer file M machine)
+          (c.owned_answer-2.ensures.answer file M machine)
+          (c.owned_answer-3.ensures.answer file M machine);
     }

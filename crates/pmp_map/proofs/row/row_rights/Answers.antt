@@ -1,36 +1,17 @@
-use Rattle.std.proofs.Common.{◌≡◌, ◌+◌, ◌*◌, ℕ, List, Option, nat_lt, slice_index, ap, ◌∙◌, arith}
-use Rattle.pmp_core.specs.declared.access.Kind.{Kind}
+use Rattle.std.proofs.Common.{◌≡◌, ◌+◌, ◌*◌, Bool, refl, ◌∙◌, arith}
 use Rattle.pmp_core.specs.declared.access.Kind.TheVariants.{Fetch, Load, Store}
-use Rattle.pmp_core.specs.declared.access.Mode.{Mode}
-use Rattle.pmp_core.specs.Configuration.{bit_of}
-use Rattle.pmp_core.specs.RegisterFile.{RegisterFile}
-use Rattle.pmp_core.specs.Rights.{allows}
-use Rattle.pmp_map.specs.Answers.{owned_rights, whole_cause}
-use Rattle.pmp_map.specs.Answer.{cause_number}
-use Rattle.pmp_map.specs.Columns.{column_of}
-use Rattle.pmp_map.specs.Rows.{IsRow}
-use Rattle.pmp_map.proofs.Answering.{cause_most}
-use Rattle.pmp_map.proofs.Ranging.{allowed_low}
-use Rattle.pmp_map.proofs.rights.row_rights.Goals as goal
+use Rattle.pmp_core.specs.Rights.{Rights, perms_of}
+use Rattle.pmp_map.specs.Answers.{owned_rights}
+use Rattle.pmp_map.proofs.Answering.{low_where_allowed}
+use Rattle.pmp_map.proofs.row.row_rights.Goals as goal
 
-module _ (file : RegisterFile) (owner : Option ℕ) (row : List ℕ) (is : IsRow file owner row) (mode : Mode) where
-  -- the answer in the kind's column is low where the kind is allowed
-  bit_at : (kind : Kind) (column bit : ℕ) → column ≡ column_of mode kind
-      → bit ≡ bit_of (nat_lt (slice_index row column) 1024) → bit ≡ bit_of (allows (owned_rights file owner mode) kind)
-  bit_at kind column bit here bit_is =
-      let allowed = allows (owned_rights file owner mode) kind in
-      bit_is
-      ∙ ap (λ (n : ℕ). bit_of (nat_lt (slice_index row n) 1024)) here
-      ∙ ap (λ (n : ℕ). bit_of (nat_lt n 1024)) (is.answers mode kind)
-      ∙ ap bit_of (allowed_low (cause_number (whole_cause owner)) kind allowed (cause_most owner is.number))
+same_perms : (read write execute : Bool) (rights : Rights) → read ≡ rights.read → write ≡ rights.write
+    → execute ≡ rights.execute
+    → (let given : Rights = record { read = read; write = write; execute = execute } in perms_of given ≡ perms_of rights)
+same_perms read write execute rights r w x = rw (r, w, x) refl
 
-pub returns-clause-rights : goal.returns-clause-rights
-returns-clause-rights c = λ file owner named is mode_is.
-    let row = c.args.row.now in
-    let load = bit_at file owner row is named Load (4 * c.args.mode + 1) c.allowed.result (omega arith)
-    c.allowed.ensures.bit in
-    let store = bit_at file owner row is named Store (4 * c.args.mode + 2) c.allowed-2.result (omega arith)
-    c.allowed-2.ensures.bit in
-    let fetch = bit_at file owner row is named Fetch (4 * c.args.mode) c.allowed-3.result (omega arith)
-    c.allowed-3.ensures.bit in
-    omega (arith, load, store, fetch)
+pub returns : goal.returns
+returns c = λ file owner named is mode_is.
+    let low = low_where_allowed file owner c.args.row.now is named in
+    c.of.ensures ∙ same_perms _ _ _ (owned_rights file owner named) (low Load (4 * c.args.mode + 1) (omega arith))
+    (low Store (4 * c.args.mode + 2) (omega arith)) (low Fetch (4 * c.args.mode) (omega arith))

@@ -1,4 +1,3 @@
-use Rattle.std.proofs.Common.{◌≡◌, [], ◌∷◌, ap, refl, arith}
 use Rattle.pmp_map.proofs.Painted.{blank_cuts}
 use Rattle.pmp_map.proofs.painting.Canvas.blank.Goals as goal
 

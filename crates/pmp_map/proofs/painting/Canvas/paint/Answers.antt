@@ -1,6 +1,4 @@
-use Rattle.std.proofs.Common.{◌≡◌, ◌≢◌, ℕ, ◌+◌, ◌<◌, ◌≤◌, length, refl, sym, ap, ◌∙◌, arith}
-use Rattle.pmp_core.specs.declared.access.TheConstants.{ADDRESS_LIMIT}
-use Rattle.pmp_core.specs.Ranges.{IsInRange, range_of}
+use Rattle.std.proofs.Common.{◌≡◌, ◌+◌, refl, sym, ◌∙◌, arith}
 use Rattle.pmp_map.specs.Painting.{IsOwnerFrom, start_of}
 use Rattle.pmp_map.proofs.Painted.{cut_down, painted, split, unpainted}
 use Rattle.pmp_map.proofs.painting.Canvas.paint.Goals as goal

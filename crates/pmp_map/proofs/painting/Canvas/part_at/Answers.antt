@@ -1,4 +1,4 @@
-use Rattle.std.proofs.Common.{◌≡◌, length, ap, arith}
+use Rattle.std.proofs.Common.{length, ap, arith}
 use Rattle.pmp_map.specs.Painting.{IsOwnerFrom}
 use Rattle.pmp_map.proofs.Painted.{moved_up}
 use Rattle.pmp_map.proofs.painting.Canvas.part_at.Goals as goal

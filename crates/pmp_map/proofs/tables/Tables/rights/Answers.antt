@@ -1,27 +1,31 @@
-use Rattle.std.proofs.Common.{◌<◌, arith}
-use Rattle.pmp_core.specs.declared.access.TheConstants.{ADDRESS_LIMIT}
+use Rattle.std.proofs.Common.{arith}
+use Rattle.pmp_core.specs.RegisterFile.{RegisterFile}
 use Rattle.pmp_map.specs.Runs.{map_run}
+use Rattle.pmp_map.specs.Tables.{AreTables}
 use Rattle.pmp_map.proofs.Answering.{run_found}
-use Rattle.pmp_map.proofs.Ranging.{whole_rights, mixed_rights}
+use Rattle.pmp_map.proofs.RangeRights.{mixed_rights, whole_rights_at}
+use Rattle.pmp_map.proofs.Starts.{IsPlaceOf}
 use Rattle.pmp_map.proofs.tables.Tables.rights.Goals as goal
+use Rattle.pmp_map.proofs.tables.Tables.rights.Goals.{After-place_of-place}
+
+at : (c : After-place_of-place) (file : RegisterFile) (are : AreTables file c.args.self.now)
+    → IsPlaceOf are.list c.args.start c.place_of-place.result
+at c file are =
+    let full = c.requires.full in
+    let ends = c.requires.inside in
+    run_found file c.args.self.now are c.args.start c.place_of-place.result (omega arith) c.place_of-place.ensures.inside
+    c.place_of-place.ensures.found
 
 pub returns-then-start-length : goal.returns-then-start-length
-returns-then-start-length c = λ file named are range.
+returns-then-start-length c = λ file named are mode_is.
     let place = c.place_of-place.result in
-    let full = range.full in
-    let ends = range.inside in
-    let small : c.args.start < ADDRESS_LIMIT = omega arith in
-    let at = run_found file c.args.self.now are c.args.start place small c.place_of-place.ensures.inside
-    c.place_of-place.ensures.found in
-    whole_rights file c.args.self.now are c.args.start place small c.place_of-place.ensures.inside
-    c.place_of-place.ensures.found named c.args.length range.full range.inside c.if-start-length.true
-    c.row_rights.result
-    (c.row_rights.ensures.rights file (map_run are.list place).owner named (are.rows_are place at.inside) range.mode_is)
+    let here = at (goal.at.returns-then-start-length c).After-place_of-place file are in
+    rw (c.row_rights.ensures file (map_run are.list place).owner named (are.rows_are place here.inside) mode_is)
+    (whole_rights_at file c.args.self.now are c.args.start place here named c.args.length c.requires.full c.requires.inside
+    c.if-start-length.true)
 
 pub returns-else-start-length : goal.returns-else-start-length
-returns-else-start-length c = λ file named are range.
-    let full = range.full in
-    let ends = range.inside in
-    mixed_rights file c.args.self.now are c.args.start c.place_of-place.result (omega arith)
-    c.place_of-place.ensures.inside c.place_of-place.ensures.found named c.args.length range.full range.inside
-    c.if-start-length.false
+returns-else-start-length c = λ file named are mode_is.
+    mixed_rights file c.args.self.now are c.args.start c.place_of-place.result
+    (at (goal.at.returns-else-start-length c).After-place_of-place file are) named c.args.length c.requires.full
+    c.requires.inside c.if-start-length.false
