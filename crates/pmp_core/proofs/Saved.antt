@@ -202,3 +202,5 @@ saved_reset profile number is =
     ∙ ap (λ (xs : List ℕ). numbers (map address (range_with_len 0 64)) xs number)
     (zeros byte (λ k. ap (λ (e : Entry). byte_of e.configuration) (reset_at profile.entries k)))
     ∙ ap (numbers (map address (range_with_len 0 64)) (map byte (range_with_len 0 64))) is
+
+pub ruleset saving_laws = (saved_law, restored_legal, restored_zero)

@@ -101,7 +101,7 @@ pub fn law_write_reasons()
 
 /// The saving law: the registers of a legal file restore it. Whatever numbers are restored, the file is legal; zeros
 /// are the unit of sixteen after reset.
-#[tactic(auto, using(crate::proofs::Saved::saved_law, crate::proofs::Saved::restored_legal, crate::proofs::Saved::restored_zero))]
+#[tactic(auto, using(crate::proofs::Saved::saving_laws))]
 pub fn law_saved()
     ensures kept { SavedLaw }
     ensures legal { (saved : SavedRegisters) → IsLegal (restored_file saved) }

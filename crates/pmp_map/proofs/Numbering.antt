@@ -130,3 +130,5 @@ module _ (access : Access) (decision : Decision) (low : IsByteCause decision.cau
       ∙ ap (λ (b : Bool). make b cause)
       (allowed_of (answer_number access decision) decision.allowed (read_off access decision low).allowed)
       ∙ ap (make decision.allowed) same
+
+pub ruleset answer_laws = (answer_once, never_no_access, no_access_fault, read_off)

@@ -13,7 +13,6 @@ ghost use Rattle.pmp_map.specs.AnswerLaw.{AnswerLaw, NoAccessLaw, NoAccessFaultL
 use pmp_core::laws::{law_matching_entry, law_protected};
 
 /// Entries have one list of runs.
-#[tactic(auto, using(crate::proofs::OneList::one_list_of_runs))]
 pub fn law_one_list_of_runs()
     ensures { (file : RegisterFile) (one other : List Run) → AreRuns file one → AreRuns file other
         → one ≡ other }
@@ -27,7 +26,6 @@ pub fn law_few_runs()
 {}
 
 /// An access inside one run is decided by the rule of the run's owner, or as where no entry matches.
-#[tactic(auto, using(crate::proofs::DecidedRuns::inside_run))]
 pub fn law_inside_run()
     ensures { InsideRunLaw }
 {}
@@ -39,14 +37,12 @@ pub fn law_across_runs()
 {}
 
 /// Two register files have one list of longest ranges of bytes that each of them lets the modes do the same with.
-#[tactic(auto, using())]
 pub fn law_one_list_of_rights_runs()
     ensures { (old new : RegisterFile) (one other : List RightsRun) → AreRightsRuns old new one
         → AreRightsRuns old new other → one ≡ other }
 {}
 
 /// A byte is open to what its owner's rule allows, or the default where it has no owner, and to nothing else.
-#[tactic(auto, using(crate::proofs::OpenBytes::open_byte, crate::proofs::OpenBytes::answer_by_owner))]
 pub fn law_open_byte()
     ensures answered { OpenByteLaw }
     ensures once { OneAnswerLaw }
@@ -64,7 +60,7 @@ pub fn law_held_byte()
 /// Different decisions on one access are answered by different numbers, and none by one of no access, whose fault has
 /// the code of its kind. A number is below 1,024 exactly where the access is allowed; divided by 1,024 it gives the
 /// code of the fault, and what decided is left.
-#[tactic(auto, using())]
+#[tactic(auto, using(crate::proofs::Numbering::answer_laws))]
 pub fn law_answers()
     ensures different { AnswerLaw }
     ensures access { NoAccessLaw }
