@@ -1,6 +1,1 @@
-pub mod Answering
-pub mod Naming
-pub mod Ranging
-pub mod Numbering
-pub mod Filling
 pub mod Reasoning

@@ -3,7 +3,7 @@ use Rattle.std.specs.Prelude.{◌≡◌, ◌≢◌, ◌<◌}
 use Rattle.pmp_core.specs.RegisterFile.{RegisterFile}
 use Rattle.pmp_core.specs.SavedRegisters.{restored_file}
 use Rattle.pmp_c.specs.declared.unit.Unit.{Unit}
-use Rattle.pmp_c.specs.Tables.{AreTables}
+use Rattle.pmp_map.specs.Tables.{AreTables}
 
 -- the register file of the registers, whatever the numbers are
 abbrev pub file_of_unit : Unit → RegisterFile

@@ -18,28 +18,21 @@ ghost use Rattle.pmp_core.specs.Ranges.{decision_of};
 ghost use Rattle.pmp_core.specs.RegisterFile.{reset_file};
 ghost use Rattle.pmp_core.specs.RegisterValue.{register_value};
 ghost use Rattle.pmp_core.specs.SavedRegisters.{saved_registers, restored_file, saved_hart};
-ghost use Rattle.pmp_c.specs.Answer.{answer_number, no_access, no_cause};
-ghost use Rattle.pmp_c.specs.RangeRights.{IsRangeOf, AreRangeRights, no_range};
-ghost use Rattle.pmp_c.specs.Request.{IsNamed, mode_number};
+ghost use Rattle.pmp_map.specs.Answer.{answer_number, no_access, no_cause};
+ghost use Rattle.pmp_map.specs.Request.{IsNamed, mode_number};
+ghost use Rattle.pmp_c.specs.RangeRights.{IsRangeOf, IsRightsNumber, no_range};
 ghost use Rattle.pmp_c.specs.RunAnswer.{IsRunAnswer};
 ghost use Rattle.pmp_c.specs.Status.{status_number, IsWriteAnswer};
 ghost use Rattle.pmp_c.specs.Unit.{file_of_unit, IsUnit};
 
-mod answer;
-pub mod laws;
-mod request;
 mod rights;
-mod row;
 mod status;
-mod tables;
 mod unit;
 
-use crate::answer::{NO_CAUSE, no_access};
-use crate::request::Request;
-use crate::rights::NO_RANGE;
+use crate::rights::{NO_RANGE, rights_number};
 use crate::status::{CHANGED, REASONS, TAKEN, csr_of, refusal_status};
 use pmp_core::{ADDRESS_LIMIT, Hart, SavedRegisters};
-pub use tables::Tables;
+use pmp_map::{NO_CAUSE, Request, cause_number, no_access, whole_cause};
 pub use unit::Unit;
 
 /// Resets a unit of the hart with this number, as `SavedRegisters` has it: 64 is one of sixty-four entries, one with
@@ -152,7 +145,7 @@ pub extern "C" fn tilvenka_pmp_decide_by_registers(
 #[unsafe(no_mangle)]
 pub extern "C" fn tilvenka_pmp_rights(unit: &Unit, mode: u32, start: u64, length: u64) -> u32
     ensures rights { (named : Mode) → IsRangeOf named mode start length → IsUnit unit.now
-        → AreRangeRights (file_of_unit unit.now) named start length result }
+        → IsRightsNumber (file_of_unit unit.now) named start length result }
     ensures none { ((named : Mode) → ¬ (IsRangeOf named mode start length)) → result ≡ no_range }
 {
     if mode > 3 || mode == 2 || length == 0 {
@@ -161,7 +154,7 @@ pub extern "C" fn tilvenka_pmp_rights(unit: &Unit, mode: u32, start: u64, length
     if length > ADDRESS_LIMIT || start > ADDRESS_LIMIT - length {
         return NO_RANGE;
     }
-    unit.rights(mode, start, length)
+    rights_number(unit.rights(mode, start, length))
 }
 
 /// All bytes round this one that have its owner: the first and the last of them, and as the answer the number of the
@@ -183,10 +176,11 @@ pub extern "C" fn tilvenka_pmp_run(
     if mode > 3 || mode == 2 || address >= ADDRESS_LIMIT {
         return u32::from(NO_CAUSE);
     }
-    let around = unit.around(mode, address);
-    *first = around.first;
-    *last = around.last;
-    around.answer
+    let run = unit.run(address);
+    *first = run.first;
+    *last = run.last;
+    let rights = rights_number(unit.rights(mode, address, 1));
+    u32::from(cause_number(whole_cause(run.owner))) + 1024 * rights
 }
 
 /// Writes the registers out, with zeros for what the unit doesn't have.

@@ -3,25 +3,21 @@
 ghost use Rattle.std.specs.Prelude.{◌≡◌, ◌+◌, ◌<◌, ◌≤◌, true, false, nat_lt};
 ghost use Rattle.pmp_core.specs.declared.access.Access.{Access};
 ghost use Rattle.pmp_core.specs.declared.access.Mode.{Mode};
+ghost use Rattle.pmp_core.specs.declared.access.TheConstants.{ADDRESS_LIMIT};
 ghost use Rattle.pmp_core.specs.Ranges.{decision_of};
-ghost use Rattle.pmp_core.specs.SavedRegisters.{IsCanonical};
-ghost use Rattle.pmp_c.specs.Answer.{answer_number, no_access};
-ghost use Rattle.pmp_c.specs.RangeRights.{IsRangeOf, AreRangeRights};
 ghost use Rattle.pmp_core.specs.RegisterValue.{register_value};
 ghost use Rattle.pmp_core.specs.RegisterWrite.{written};
+ghost use Rattle.pmp_core.specs.SavedRegisters.{IsCanonical};
+ghost use Rattle.pmp_map.specs.Answer.{answer_number, no_access};
+ghost use Rattle.pmp_map.specs.RangeRights.{AreRangeRights};
+ghost use Rattle.pmp_map.specs.Request.{IsNamed, mode_number};
+ghost use Rattle.pmp_map.specs.Runs.{IsRunAround};
 ghost use Rattle.pmp_c.specs.Reasons.{reasons_number};
-ghost use Rattle.pmp_c.specs.Request.{IsNamed, mode_number};
-ghost use Rattle.pmp_c.specs.RunAnswer.{IsRunAnswer};
 ghost use Rattle.pmp_c.specs.Unit.{file_of_unit, IsUnit, IsChanged};
-ghost use Rattle.pmp_core.specs.declared.access.TheConstants.{ADDRESS_LIMIT};
 
-use crate::answer::{answer_number, no_access};
-use crate::request::{Request, access_of};
-use crate::rights::{MIXED, row_answer, row_rights};
-use crate::row::row_of;
-use crate::tables::Tables;
-use pmp_core::{ByteRange, Csr, MAX_ENTRIES, Registers, SavedRegisters};
-use pmp_map::{run_around, stretch_from};
+use pmp_core::{Csr, Mode, Perms, Registers, SavedRegisters};
+use pmp_map::{Request, Run, Tables};
+use pmp_map::{access_of, answer_number, mode_of, no_access, rights_in, run_around};
 
 /// A unit. All zero it is one of sixteen entries after reset, whose map isn't built.
 #[repr(C)]
@@ -38,17 +34,6 @@ pub struct Written {
     pub is_changed: bool,
     /// Why the register doesn't read what was written: a bit for each reason.
     pub reasons: u32,
-}
-
-/// A run of bytes, its owner, and what a mode may do there.
-#[derive(Clone, Copy, Debug, PartialEq, Eq)]
-pub struct Around {
-    /// The byte address of its first byte.
-    pub first: u64,
-    /// The byte address of its last byte.
-    pub last: u64,
-    /// The number of its cause, and 1,024 times the rights.
-    pub answer: u32,
 }
 
 impl Unit {
@@ -108,7 +93,7 @@ impl Unit {
         ensures kept { 0 < self.old.map.runs → self.new ≡ self.old }
     {
         if self.map.runs == 0 {
-            self.map.fill(&self.registers);
+            self.map.fill(&Registers::of(&self.registers));
         }
     }
 
@@ -142,85 +127,52 @@ impl Unit {
             → result ≡ answer_number access (decision_of (file_of_unit self.now) access) }
     {
         if self.is_built() {
-            self.map
-                .answer_at(self.map.place_of(request.start), request)
+            self.map.answer(request)
         } else {
             self.answer_by_registers(request.mode, request.kind, request.start, request.length)
         }
     }
 
-    /// What the mode of this level may do in the whole range, by the ranges of the entries.
+    /// What the mode may do in the whole range, by the registers.
     #[cold]
     #[inline(never)]
-    fn rights_by_registers(&self, mode: u32, start: u64, length: u64) -> u32
-        requires level { mode < 4 }
+    fn rights_by_registers(&self, mode: Mode, start: u64, length: u64) -> Option<Perms>
         requires full { 0 < length }
         requires inside { start + length ≤ ADDRESS_LIMIT }
-        ensures { (named : Mode) → IsRangeOf named mode start length
-            → AreRangeRights (file_of_unit self.now) named start length result }
+        ensures { AreRangeRights (file_of_unit self.now) mode start length result }
     {
-        let registers = Registers::of(&self.registers);
-        let mut decoded = [ByteRange::EMPTY; MAX_ENTRIES];
-        let count = registers.count();
-        let ranges = &mut decoded[..count];
-        registers.decode(ranges, 0..count);
-        let stretch = stretch_from(ranges, start);
-        if start + length <= stretch.end {
-            row_rights(&row_of(&registers, stretch.owner), mode)
-        } else {
-            MIXED
+        match Registers::on_standard(&self.registers) {
+            Some(registers) => rights_in(&registers, mode, start, length),
+            None => rights_in(&Registers::of(&self.registers), mode, start, length),
         }
     }
 
-    /// What the mode of this level may do in the whole range, by the map where it is built.
+    /// What the mode of this level may do in the whole range, by the map where it is built, or none where no one owner
+    /// has all of its bytes.
     #[inline(always)]
-    pub fn rights(&self, mode: u32, start: u64, length: u64) -> u32
+    pub fn rights(&self, mode: u32, start: u64, length: u64) -> Option<Perms>
         requires level { mode < 4 }
         requires full { 0 < length }
         requires inside { start + length ≤ ADDRESS_LIMIT }
-        ensures { (named : Mode) → IsRangeOf named mode start length → IsUnit self.now
+        ensures { (named : Mode) → mode_number named ≡ mode → IsUnit self.now
             → AreRangeRights (file_of_unit self.now) named start length result }
     {
         if self.is_built() {
             self.map.rights(mode, start, length)
         } else {
-            self.rights_by_registers(mode, start, length)
+            self.rights_by_registers(mode_of(mode)?, start, length)
         }
     }
 
-    /// The run of the byte, by the ranges of the entries.
-    #[cold]
-    #[inline(never)]
-    fn around_by_registers(&self, mode: u32, byte: u64) -> Around
-        requires level { mode < 4 }
-        requires inside { byte < ADDRESS_LIMIT }
-        ensures { (named : Mode) → mode_number named ≡ mode
-            → IsRunAnswer (file_of_unit self.now) named byte result.first result.last result.answer }
-    {
-        let registers = Registers::of(&self.registers);
-        let mut decoded = [ByteRange::EMPTY; MAX_ENTRIES];
-        let count = registers.count();
-        let ranges = &mut decoded[..count];
-        registers.decode(ranges, 0..count);
-        let run = run_around(ranges, byte);
-        Around {
-            first: run.first,
-            last: run.last,
-            answer: row_answer(&row_of(&registers, run.owner), mode),
-        }
-    }
-
-    /// The run of the byte, by the map where it is built.
-    pub fn around(&self, mode: u32, byte: u64) -> Around
-        requires level { mode < 4 }
-        requires inside { byte < ADDRESS_LIMIT }
-        ensures { (named : Mode) → mode_number named ≡ mode → IsUnit self.now
-            → IsRunAnswer (file_of_unit self.now) named byte result.first result.last result.answer }
+    /// All bytes round this one that have its owner, by the map where it is built.
+    pub fn run(&self, byte: u64) -> Run
+        requires { byte < ADDRESS_LIMIT }
+        ensures { IsUnit self.now → IsRunAround (file_of_unit self.now) byte result }
     {
         if self.is_built() {
-            self.map.around(mode, byte)
+            self.map.run_of(byte)
         } else {
-            self.around_by_registers(mode, byte)
+            run_around(&Registers::of(&self.registers), byte)
         }
     }
 }

@@ -55,7 +55,7 @@ impl<'a> Registers<'a> {
 
     /// The same on a standard hart, else none. What is inlined into a branch that has it is compiled for such harts.
     #[inline(always)]
-    pub(crate) fn on_standard(numbers: &'a SavedRegisters) -> Option<Registers<'a>>
+    pub fn on_standard(numbers: &'a SavedRegisters) -> Option<Registers<'a>>
         ensures { MatchOption result (numbers.now.entries / 2 ^ 32 ≡ 1) (λ registers. registers
             ≡ restored_file numbers.now) }
     {

@@ -5,6 +5,5 @@ use Rattle.pmp_c.proofs.unit.Unit.answer.Goals as goal
 
 pub returns-then-is_built : goal.returns-then-is_built
 returns-then-is_built c = λ access named is_unit.
-    c.answer_at.ensures (file_of_unit c.args.self.now) access
-    (is_unit (ltb-true _ _ (sym c.is_built.ensures ∙ c.if-is_built.true)))
-    (rw named.start_is c.place_of.ensures.found) named
+    c.answer.ensures (file_of_unit c.args.self.now) access
+    (is_unit (ltb-true _ _ (sym c.is_built.ensures ∙ c.if-is_built.true))) named

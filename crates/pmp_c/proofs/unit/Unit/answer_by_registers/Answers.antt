@@ -1,9 +1,9 @@
 use Rattle.std.proofs.Common.{◌∙◌, ap}
 use Rattle.pmp_core.specs.declared.access.Access.{Access}
 use Rattle.pmp_core.specs.Ranges.{decision_of}
-use Rattle.pmp_c.specs.Answer.{answer_number}
+use Rattle.pmp_map.specs.Answer.{answer_number}
 use Rattle.pmp_c.specs.Unit.{file_of_unit}
-use Rattle.pmp_c.proofs.Naming.{named_alike}
+use Rattle.pmp_map.proofs.Naming.{named_alike}
 use Rattle.pmp_c.proofs.unit.Unit.answer_by_registers.Goals as goal
 
 pub returns-in-Some-clause-answer : goal.returns-in-Some-clause-answer

@@ -1,9 +1,0 @@
-use Rattle.std.proofs.Common.{sym, ◌∙◌}
-use Rattle.std.proofs.lemmas.Bool.{ltb-true}
-use Rattle.pmp_c.specs.Unit.{file_of_unit}
-use Rattle.pmp_c.proofs.unit.Unit.around.Goals as goal
-
-pub returns-then-is_built : goal.returns-then-is_built
-returns-then-is_built c = λ named mode_is is_unit.
-    c.around.ensures (file_of_unit c.args.self.now) named
-    (is_unit (ltb-true _ _ (sym c.is_built.ensures ∙ c.if-is_built.true))) mode_is
