@@ -5,9 +5,9 @@ use Rattle.std.proofs.Math.Nat.{div-lt_iff_lt-mul, le-div_iff_mul-le, mul-mod_le
 use Rattle.std.proofs.Math.Pow.{pow_pos}
 use Rattle.std.proofs.lemmas.Bool.{cases_lt, lt-ltb}
 use Rattle.std.proofs.lemmas.Nat.{mod-mul-add, pow-add}
+use Rattle.pmp_core.specs.Configuration.{Configuration}
 use Rattle.pmp_core.specs.declared.configuration.AddressMatching.{AddressMatching}
 use Rattle.pmp_core.specs.declared.configuration.AddressMatching.TheVariants.{Off, Tor, Na4, Napot}
-use Rattle.pmp_core.specs.declared.configuration.Configuration.{Configuration}
 use Rattle.pmp_core.specs.Grain.{napot_address, selectable, tor_address}
 use Rattle.pmp_core.specs.GrainLaw.{GrainLaw}
 use Rattle.pmp_core.specs.Matching.{InNapot, MatchesBy, low_address}

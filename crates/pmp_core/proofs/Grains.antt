@@ -8,9 +8,8 @@ use Rattle.std.proofs.lemmas.Bool.{cases_Bool, and_right}
 use Rattle.std.proofs.lemmas.Nat.{pow-add}
 use Rattle.pmp_core.specs.declared.configuration.AddressMatching.{AddressMatching}
 use Rattle.pmp_core.specs.declared.configuration.AddressMatching.TheVariants.{Off, Tor, Na4, Napot}
-use Rattle.pmp_core.specs.declared.configuration.Configuration.{Configuration}
 use Rattle.pmp_core.specs.declared.register_write.TheConstants.{WORD_ADDRESSES}
-use Rattle.pmp_core.specs.Configuration.{is_reserved}
+use Rattle.pmp_core.specs.Configuration.{Configuration, is_reserved}
 use Rattle.pmp_core.specs.Grain.{is_na4, napot_address, read_address, selectable, tor_address}
 
 -- ---- addresses

@@ -10,16 +10,15 @@ use Rattle.pmp_core.specs.declared.access.Access.{Access}
 use Rattle.pmp_core.specs.declared.access.Kind.TheVariants.{Fetch}
 use Rattle.pmp_core.specs.declared.access.Mode.TheVariants.{M}
 use Rattle.pmp_core.specs.declared.configuration.AddressMatching.TheVariants.{Off}
-use Rattle.pmp_core.specs.declared.configuration.Configuration.{Configuration}
 use Rattle.pmp_core.specs.declared.csr.Csr.{Csr}
 use Rattle.pmp_core.specs.declared.csr.Csr.TheVariants.{Cfg, Addr, Mseccfg}
 use Rattle.pmp_core.specs.declared.decision.Cause.{Cause}
 use Rattle.pmp_core.specs.declared.decision.Cause.TheVariants.{Rule, Split, NoMatch}
-use Rattle.pmp_core.specs.declared.entry.Entry.{Entry}
+use Rattle.pmp_core.specs.Entry.{Entry}
 use Rattle.pmp_core.specs.declared.event.Event.{Event}
 use Rattle.pmp_core.specs.declared.event.Event.TheVariants.{Write, Reset}
 use Rattle.pmp_core.specs.Hart.{word_addresses}
-use Rattle.pmp_core.specs.Configuration.{configuration_of}
+use Rattle.pmp_core.specs.Configuration.{Configuration, configuration_of}
 use Rattle.pmp_core.specs.Decision.{IsDecisionBy}
 use Rattle.pmp_core.specs.RegisterFile.{RegisterFile, reset_entry, entry_at, is_frozen}
 use Rattle.pmp_core.specs.Grain.{is_na4, selectable}

@@ -8,7 +8,7 @@ use Rattle.pmp_core.specs.declared.csr.Csr.{Csr}
 use Rattle.pmp_core.specs.declared.csr.Csr.TheVariants.{Cfg, Addr, Mseccfg}
 use Rattle.pmp_core.specs.declared.decision.Cause.{Cause}
 use Rattle.pmp_core.specs.declared.decision.Cause.TheVariants.{Rule, Split, NoMatch}
-use Rattle.pmp_core.specs.declared.entry.Entry.{Entry}
+use Rattle.pmp_core.specs.Entry.{Entry}
 use Rattle.pmp_core.specs.RegisterFile.{RegisterFile, entry_at, reset_entry}
 use Rattle.pmp_core.specs.RegisterWrite.{holds_byte_of, holds, is_tor, written}
 use Rattle.pmp_core.specs.Matching.{Matches, low_address}

@@ -6,14 +6,13 @@ use Rattle.std.proofs.lemmas.Bool.{false≢true}
 use Rattle.pmp_core.specs.declared.access.Access.{Access}
 use Rattle.pmp_core.specs.declared.access.Kind.{Kind}
 use Rattle.pmp_core.specs.declared.access.Mode.{Mode}
-use Rattle.pmp_core.specs.declared.configuration.Configuration.{Configuration}
 use Rattle.pmp_core.specs.declared.decision.Cause.{Cause}
 use Rattle.pmp_core.specs.declared.decision.Cause.TheVariants.{Rule, Split, NoMatch}
 use Rattle.pmp_core.specs.declared.decision.Decision.{Decision}
 use Rattle.pmp_core.specs.declared.event.Event.{Event}
 use Rattle.pmp_core.specs.Decision.{Covers, IsDecider, IsDecision, IsDecisionBy, Touches}
 use Rattle.pmp_core.specs.Matching.{Matches}
-use Rattle.pmp_core.specs.Configuration.{is_reserved}
+use Rattle.pmp_core.specs.Configuration.{Configuration, is_reserved}
 use Rattle.pmp_core.specs.RegisterFile.{RegisterFile, entry_at, is_held, IsLegal}
 use Rattle.pmp_core.specs.RegisterWrite.{step}
 use Rattle.pmp_core.specs.Rights.{allows, rights, rule_rights}

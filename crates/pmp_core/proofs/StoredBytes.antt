@@ -4,8 +4,7 @@ use Rattle.std.proofs.Common.{nat_lt, refl, subst, sym, ap, ◌∙◌, inl, inr,
 use Rattle.std.proofs.lemmas.Bool.{agree_below_at, and_right, cases_Bool, false≢true, not-true, not-false, eqb-true, eq-eqb, lt-ltb, and_parts}
 use Rattle.pmp_core.specs.declared.configuration.AddressMatching.{AddressMatching}
 use Rattle.pmp_core.specs.declared.configuration.AddressMatching.TheVariants.{Off, Tor, Na4, Napot}
-use Rattle.pmp_core.specs.declared.configuration.Configuration.{Configuration}
-use Rattle.pmp_core.specs.Configuration.{configuration_of, byte_of, bit_of, field_of, matching_of, is_reserved}
+use Rattle.pmp_core.specs.Configuration.{Configuration, configuration_of, byte_of, bit_of, field_of, matching_of, is_reserved}
 use Rattle.pmp_core.specs.Grain.{is_na4, selectable}
 use Rattle.pmp_core.specs.RegisterWrite.{without_reserved, admitted}
 use Rattle.pmp_core.specs.Rights.{is_barred}

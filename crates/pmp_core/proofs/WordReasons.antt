@@ -6,11 +6,10 @@ use Rattle.std.proofs.lemmas.Bool.{cases_lt, cases_eq, cases_Bool, false≢true,
 use Rattle.std.proofs.lemmas.Bool.{and_parts, eqb-true, eq-eqb, ne_eqb, leb-true, ltb-true, le-ltb}
 use Rattle.std.proofs.lemmas.Bool.Decides.{nat_tests}
 use Rattle.std.proofs.lemmas.List.{get_or_past}
-use Rattle.pmp_core.specs.declared.configuration.Configuration.{Configuration}
 use Rattle.pmp_core.specs.declared.csr.Csr.TheVariants.{Cfg}
-use Rattle.pmp_core.specs.declared.entry.Entry.{Entry}
+use Rattle.pmp_core.specs.Entry.{Entry}
 use Rattle.pmp_core.specs.declared.write_reasons.WriteReason.TheVariants.{Frozen, Tor, Reserved, Lockdown, Grain}
-use Rattle.pmp_core.specs.Configuration.{byte_of}
+use Rattle.pmp_core.specs.Configuration.{Configuration, byte_of}
 use Rattle.pmp_core.specs.RegisterFile.{RegisterFile, reset_entry, entry_at, is_frozen}
 use Rattle.pmp_core.specs.RegisterValue.{configuration_word, register_value}
 use Rattle.pmp_core.specs.RegisterWrite.{holds_byte_of, written}

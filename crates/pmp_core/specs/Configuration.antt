@@ -2,7 +2,14 @@
 use Rattle.std.specs.Prelude.{ℕ, ◌+◌, ◌*◌, ◌/◌, ◌%◌, Bool, true, false, not, ◌&&◌, ◌==◌, if◌then◌else◌}
 use Rattle.pmp_core.specs.declared.configuration.AddressMatching.{AddressMatching}
 use Rattle.pmp_core.specs.declared.configuration.AddressMatching.TheVariants.{Off, Tor, Na4, Napot}
-use Rattle.pmp_core.specs.declared.configuration.Configuration.{Configuration}
+
+-- L, A, X, W and R (3.7.1)
+pub record Configuration : Type 0 where
+  pub locked : Bool
+  pub matching : AddressMatching
+  pub execute : Bool
+  pub write : Bool
+  pub read : Bool
 
 -- the field A (3.7.1.1)
 abbrev pub matching_of : ℕ → AddressMatching

@@ -1,8 +1,8 @@
 -- The grain of a hart's ranges, 2^(G+2) bytes (Volume II, 3.7.1.1).
 use Rattle.std.specs.Prelude.{ℕ, ◌+◌, ◌-◌, ◌*◌, ◌/◌, ◌^◌, nat_lt, Bool, true, false, ◌&&◌, if◌then◌else◌}
+use Rattle.pmp_core.specs.Configuration.{Configuration}
 use Rattle.pmp_core.specs.declared.configuration.AddressMatching.{AddressMatching}
 use Rattle.pmp_core.specs.declared.configuration.AddressMatching.TheVariants.{Off, Tor, Na4, Napot}
-use Rattle.pmp_core.specs.declared.configuration.Configuration.{Configuration}
 
 -- bits G-1 to 0 of an address read as zeros where its mode is OFF or TOR, and do not matter to a top of range
 abbrev pub tor_address : (grain address : ℕ) → ℕ

@@ -2,6 +2,7 @@
 pub mod Access
 pub mod Csr
 pub mod Configuration
+pub mod Entry
 pub mod Hart
 pub mod Mseccfg
 pub mod RegisterFile

@@ -6,11 +6,10 @@ use Rattle.pmp_core.specs.declared.access.Kind.{Kind}
 use Rattle.pmp_core.specs.declared.access.Kind.TheVariants.{Fetch}
 use Rattle.pmp_core.specs.declared.access.Mode.{Mode}
 use Rattle.pmp_core.specs.declared.access.Mode.TheVariants.{M}
-use Rattle.pmp_core.specs.declared.configuration.Configuration.{Configuration}
 use Rattle.pmp_core.specs.declared.decision.Cause.TheVariants.{Rule}
 use Rattle.pmp_core.specs.declared.decision.Decision.{Decision}
 use Rattle.pmp_core.specs.declared.event.Event.{Event}
-use Rattle.pmp_core.specs.Configuration.{is_reserved}
+use Rattle.pmp_core.specs.Configuration.{Configuration, is_reserved}
 use Rattle.pmp_core.specs.Decision.{IsDecider, IsDecision}
 use Rattle.pmp_core.specs.RegisterFile.{RegisterFile, is_frozen, is_held, IsLegal}
 use Rattle.pmp_core.specs.RegisterWrite.{step}

@@ -10,7 +10,7 @@ use Rattle.pmp_core.specs.declared.configuration.AddressMatching.TheVariants.{Of
 use Rattle.pmp_core.specs.declared.decision.Cause.{Cause}
 use Rattle.pmp_core.specs.declared.decision.Cause.TheVariants.{Rule, Split, NoMatch}
 use Rattle.pmp_core.specs.declared.decision.Decision.{Decision}
-use Rattle.pmp_core.specs.declared.entry.Entry.{Entry}
+use Rattle.pmp_core.specs.Entry.{Entry}
 use Rattle.pmp_core.specs.declared.range.ByteRange.{ByteRange}
 use Rattle.pmp_core.specs.Grain.{napot_address, tor_address}
 use Rattle.pmp_core.specs.Hart.{Profile}

@@ -3,7 +3,7 @@ use Rattle.std.specs.Prelude.{◌≡◌, ℕ, ◌+◌, ◌<◌, ◌≤◌, Bool,
 use Rattle.std.specs.Prelude.{length}
 use Rattle.std.specs.List.{list_all, range_with_len, slice_index_or}
 use Rattle.pmp_core.specs.declared.configuration.AddressMatching.TheVariants.{Off}
-use Rattle.pmp_core.specs.declared.entry.Entry.{Entry}
+use Rattle.pmp_core.specs.Entry.{Entry}
 use Rattle.pmp_core.specs.declared.mseccfg.MseccfgFields.{MseccfgFields}
 use Rattle.pmp_core.specs.declared.hart.TheConstants.{MAX_GRAIN}
 use Rattle.pmp_core.specs.declared.register_write.TheConstants.{WORD_ADDRESSES}

@@ -5,15 +5,14 @@ use Rattle.std.specs.List.{range_with_len, list_any}
 use Rattle.std.specs.Int.{w64, to_le_bytes}
 use Rattle.pmp_core.specs.declared.configuration.AddressMatching.{AddressMatching}
 use Rattle.pmp_core.specs.declared.configuration.AddressMatching.TheVariants.{Off, Tor, Na4, Napot}
-use Rattle.pmp_core.specs.declared.configuration.Configuration.{Configuration}
 use Rattle.pmp_core.specs.declared.csr.Csr.{Csr}
 use Rattle.pmp_core.specs.declared.csr.Csr.TheVariants.{Cfg, Addr, Mseccfg}
-use Rattle.pmp_core.specs.declared.entry.Entry.{Entry}
+use Rattle.pmp_core.specs.Entry.{Entry}
 use Rattle.pmp_core.specs.declared.event.Event.{Event}
 use Rattle.pmp_core.specs.declared.mseccfg.MseccfgFields.{MseccfgFields}
 use Rattle.pmp_core.specs.declared.event.Event.TheVariants.{Write, Reset}
 use Rattle.pmp_core.specs.declared.register_write.TheConstants.{ENTRIES_PER_CFG}
-use Rattle.pmp_core.specs.Configuration.{configuration_of, is_reserved}
+use Rattle.pmp_core.specs.Configuration.{Configuration, configuration_of, is_reserved}
 use Rattle.pmp_core.specs.Grain.{selectable}
 use Rattle.pmp_core.specs.Hart.{word_addresses}
 use Rattle.pmp_core.specs.Mseccfg.{mseccfg_written}

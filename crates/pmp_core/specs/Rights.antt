@@ -4,9 +4,8 @@ use Rattle.pmp_core.specs.declared.access.Mode.{Mode}
 use Rattle.pmp_core.specs.declared.access.Mode.TheVariants.{M, S, U}
 use Rattle.pmp_core.specs.declared.access.Kind.{Kind}
 use Rattle.pmp_core.specs.declared.access.Kind.TheVariants.{Fetch, Load, Store}
-use Rattle.pmp_core.specs.declared.configuration.Configuration.{Configuration}
 use Rattle.pmp_core.specs.declared.perms.Perms.{Perms}
-use Rattle.pmp_core.specs.Configuration.{bit_of}
+use Rattle.pmp_core.specs.Configuration.{Configuration, bit_of}
 use Rattle.pmp_core.specs.RegisterFile.{RegisterFile, entry_at}
 
 pub record Rights : Type 0 where

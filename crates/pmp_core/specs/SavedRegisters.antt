@@ -4,7 +4,7 @@ use Rattle.std.specs.Prelude.{List, map, replicate, slice_index}
 use Rattle.std.specs.Option.{is_none}
 use Rattle.std.specs.List.{range_with_len}
 use Rattle.pmp_core.specs.declared.csr.Csr.TheVariants.{Mseccfg}
-use Rattle.pmp_core.specs.declared.entry.Entry.{Entry}
+use Rattle.pmp_core.specs.Entry.{Entry}
 use Rattle.pmp_core.specs.declared.saved_registers.SavedRegisters.{SavedRegisters}
 use Rattle.pmp_core.specs.declared.size.TheConstants.{MAX_ENTRIES}
 use Rattle.pmp_core.specs.declared.register_file.TheConstants.{ENTRIES}

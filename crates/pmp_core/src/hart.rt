@@ -6,7 +6,7 @@ ghost use Rattle.pmp_core.specs.declared.hart.TheConstants.{MAX_GRAIN};
 ghost use Rattle.pmp_core.specs.declared.register_write.TheConstants.{WORD_ADDRESSES};
 ghost use Rattle.pmp_core.specs.declared.size.TheConstants.{MAX_ENTRIES};
 
-use crate::configuration::{AddressMatching, Configuration};
+use crate::configuration::AddressMatching;
 use crate::size::{MAX_ENTRIES, Size};
 use std::marker::Model;
 
@@ -61,7 +61,7 @@ impl Model for Hart {
 impl Hart {
     ghost use Rattle.std.specs.Prelude.{◌/◌, ◌^◌};
     ghost use Rattle.pmp_core.specs.SavedRegisters.{is_usual, hart_number, saved_hart};
-    ghost use Rattle.pmp_core.specs.Grain.{napot_address, read_address, selectable, tor_address};
+    ghost use Rattle.pmp_core.specs.Grain.{napot_address, read_address, tor_address};
     ghost use Rattle.pmp_core.specs.Hart.{hart_fault, profile_by, profile_of, word_addresses};
 
     /// The hart with so many entries, 0 to 64, a grain of `2^(G+2)` bytes by the manual's G, 0 to 10, physical
@@ -222,21 +222,6 @@ impl Hart {
             AddressMatching::Off | AddressMatching::Tor => self.tor_address(address),
             AddressMatching::Na4 => address,
             AddressMatching::Napot => self.napot_address(address),
-        }
-    }
-
-    /// The configuration as it is stored: OFF in place of NA4 where the grain is above four bytes.
-    #[inline(always)]
-    pub fn selectable(&self, configuration: Configuration) -> Configuration
-        ensures { result ≡ selectable self.now.grain configuration }
-    {
-        if self.grain > 0 && configuration.matching == AddressMatching::Na4 {
-            Configuration {
-                matching: AddressMatching::Off,
-                ..configuration
-            }
-        } else {
-            configuration
         }
     }
 

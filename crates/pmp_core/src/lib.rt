@@ -8,7 +8,6 @@ mod access;
 mod configuration;
 mod csr;
 mod decision;
-mod entry;
 mod event;
 mod hart;
 pub mod laws;

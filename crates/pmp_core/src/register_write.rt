@@ -4,7 +4,7 @@ ghost use Rattle.std.specs.Prelude.{◌≡◌, ◌≢◌, ◌<◌, ◌≤◌, tr
 ghost use Rattle.pmp_core.specs.declared.csr.Csr.{Csr};
 ghost use Rattle.pmp_core.specs.Configuration.{byte_of};
 ghost use Rattle.pmp_core.specs.RegisterValue.{register_value};
-ghost use Rattle.pmp_core.specs.RegisterWrite.{admitted, without_reserved, stored, stored_over, security_written, written};
+ghost use Rattle.pmp_core.specs.RegisterWrite.{admitted, stored, stored_over, security_written, written};
 ghost use Rattle.pmp_core.specs.SavedRegisters.{IsCanonical, restored_file};
 
 use crate::configuration::Configuration;
@@ -21,28 +21,12 @@ pub const WORD_ADDRESSES: u64 = 1 << 54;
 /// How many entries a configuration register has bytes of.
 pub const ENTRIES_PER_CFG: usize = 8;
 
-/// A reserved combination of R and W as it is stored.
-pub fn without_reserved(configuration: Configuration) -> Configuration
-    ensures { result ≡ without_reserved configuration }
-{
-    if configuration.is_reserved() {
-        Configuration {
-            read: false,
-            write: false,
-            execute: false,
-            ..configuration
-        }
-    } else {
-        configuration
-    }
-}
-
 /// What a byte leaves that is written over a configuration that isn't frozen, on a hart where every mode can be chosen.
 fn admitted(old: Configuration, new: Configuration, mseccfg: &MseccfgFields) -> Configuration
     ensures { result ≡ admitted mseccfg.now.mml mseccfg.now.rlb old new }
 {
     if !mseccfg.mml {
-        without_reserved(new)
+        new.without_reserved()
     } else if is_barred(&new) && !mseccfg.rlb {
         old
     } else {
@@ -54,10 +38,10 @@ fn admitted(old: Configuration, new: Configuration, mseccfg: &MseccfgFields) -> 
 fn stored_over(hart: Hart, old: Configuration, byte: u8, mseccfg: &MseccfgFields) -> Configuration
     ensures { result ≡ stored_over hart.grain mseccfg.now.mml mseccfg.now.rlb old byte }
 {
-    if old.locked && !mseccfg.rlb {
+    if old.is_locked() && !mseccfg.rlb {
         return old;
     }
-    hart.selectable(admitted(old, Configuration::from_byte(byte), mseccfg))
+    admitted(old, Configuration::from_byte(byte), mseccfg).selectable(hart)
 }
 
 impl<'a> Registers<'a> {

@@ -16,7 +16,6 @@ use crate::csr::Csr;
 use crate::hart::Hart;
 use crate::lock::Lock;
 use crate::mseccfg::MseccfgFields;
-use crate::register_write::without_reserved;
 use crate::saved_registers::SavedRegisters;
 use crate::size::MAX_ENTRIES;
 use std::marker::Model;
@@ -103,9 +102,9 @@ impl<'a> Registers<'a> {
         let admitted = if self.fields().mml {
             configuration
         } else {
-            without_reserved(configuration)
+            configuration.without_reserved()
         };
-        self.hart.selectable(admitted)
+        admitted.selectable(self.hart)
     }
 
     /// How the entry's address register is read.
@@ -114,7 +113,7 @@ impl<'a> Registers<'a> {
         requires { index < length self.now.entries }
         ensures { result ≡ (entry_at self.now.entries index).configuration.matching }
     {
-        self.configuration(index).matching
+        self.configuration(index).matching()
     }
 
     /// The word address that the entry's register keeps. What it reads has zeros or ones below the grain, by the
@@ -199,7 +198,7 @@ impl<'a> Registers<'a> {
         requires { index < length self.now.entries }
         ensures { result ≡ is_frozen self.now index }
     {
-        self.configuration(index).locked && !self.fields().rlb
+        self.configuration(index).is_locked() && !self.fields().rlb
     }
 
     /// Whether the entry and all before it are frozen. Then no write changes what they refuse, nor what they allow while
@@ -219,7 +218,7 @@ impl<'a> Registers<'a> {
     {
         if self.is_frozen(index) {
             Lock::Frozen
-        } else if self.configuration(index).locked {
+        } else if self.configuration(index).is_locked() {
             Lock::Bypassed
         } else {
             Lock::Open
@@ -245,7 +244,7 @@ impl<'a> Registers<'a> {
         ensures { result ≡ is_any_locked self.now.entries }
     {
         for index in 0..self.count() {
-            if self.configuration(index).locked {
+            if self.configuration(index).is_locked() {
                 return true;
             }
         }

@@ -15,7 +15,11 @@ use bitflags::Flags;
 fn bits(configuration: &Configuration) -> Perms
     ensures { result ≡ perms_of (bits_of configuration.now) }
 {
-    Perms::of(configuration.read, configuration.write, configuration.execute)
+    Perms::of(
+        configuration.reads(),
+        configuration.writes(),
+        configuration.executes(),
+    )
 }
 
 /// What the rule allows under machine-mode lockdown.
@@ -26,15 +30,10 @@ fn lockdown_rights(configuration: &Configuration, mode: Mode) -> Perms
     ensures { result ≡ perms_of (lockdown_rights configuration.now.locked configuration.now.read configuration.now.write
         configuration.now.execute mode) }
 {
-    let Configuration {
-        locked,
-        read,
-        write,
-        execute,
-        matching: _,
-    } = *configuration;
+    let locked = configuration.is_locked();
+    let execute = configuration.executes();
     let is_machine = mode == Mode::M;
-    match (read, write) {
+    match (configuration.reads(), configuration.writes()) {
         (false, true) if locked && execute && is_machine => Perms::RX,
         (false, true) if locked => Perms::X,
         (false, true) if execute || is_machine => Perms::RW,
@@ -51,7 +50,7 @@ fn rule_rights(configuration: &Configuration, mode: Mode, mseccfg: &MseccfgField
 {
     if mseccfg.mml {
         lockdown_rights(configuration, mode)
-    } else if mode == Mode::M && !configuration.locked {
+    } else if mode == Mode::M && !configuration.is_locked() {
         Perms::RWX
     } else {
         bits(configuration)
@@ -75,7 +74,7 @@ pub fn is_barred(configuration: &Configuration) -> bool
     ensures { result ≡ is_barred configuration.now.locked configuration.now.read configuration.now.write
         configuration.now.execute }
 {
-    configuration.locked && lockdown_rights(configuration, Mode::M).contains(Perms::X)
+    configuration.is_locked() && lockdown_rights(configuration, Mode::M).contains(Perms::X)
 }
 
 impl<'a> Registers<'a> {

@@ -179,7 +179,7 @@ impl<'a> Registers<'a> {
     fn adds_na4(&self, byte: u8) -> bool
         ensures { result ≡ (nat_lt 0 self.now.profile.grain && is_na4 (configuration_of byte).matching) }
     {
-        self.hart().grain() > 0 && Configuration::from_byte(byte).matching == AddressMatching::Na4
+        self.hart().grain() > 0 && Configuration::from_byte(byte).matching() == AddressMatching::Na4
     }
 
     /// Whether this reason holds for the entry.

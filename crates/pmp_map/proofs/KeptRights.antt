@@ -1,8 +1,8 @@
 -- Two sets of rights are those of every mode.
 use Rattle.std.proofs.Common.{rules, ◌≡◌, ℕ, Bool, Option, Some, None, refl, ap}
+use Rattle.pmp_core.specs.Configuration.{Configuration}
 use Rattle.pmp_core.specs.declared.access.Mode.{Mode}
 use Rattle.pmp_core.specs.declared.access.Mode.TheVariants.{M, S, U}
-use Rattle.pmp_core.specs.declared.configuration.Configuration.{Configuration}
 use Rattle.pmp_core.specs.RegisterFile.{RegisterFile, entry_at}
 use Rattle.pmp_core.specs.Rights.{perms_of, rule_rights}
 use Rattle.pmp_map.specs.Answers.{owned_rights, kept_rights, rights_by}

@@ -1,5 +1,5 @@
 use Rattle.std.proofs.Common.{◌≡◌, ℕ, ◌%◌, slice_index, ap, ◌∙◌, arith}
-use Rattle.pmp_core.specs.declared.entry.Entry.{Entry}
+use Rattle.pmp_core.specs.Entry.{Entry}
 use Rattle.pmp_core.specs.Hart.{word_addresses}
 use Rattle.pmp_core.specs.SavedRegisters.{restored_entry}
 use Rattle.pmp_core.proofs.Restored.{entry_seen, few_bits, near}

@@ -1,8 +1,7 @@
 use Rattle.std.proofs.Common.{◌≡◌, Bool, true, false, slice_index, refl, sym, ap, ◌∙◌}
-use Rattle.pmp_core.specs.declared.configuration.Configuration.{Configuration}
-use Rattle.pmp_core.specs.declared.entry.Entry.{Entry}
+use Rattle.pmp_core.specs.Entry.{Entry}
 use Rattle.pmp_core.specs.declared.mseccfg.MseccfgFields.{MseccfgFields}
-use Rattle.pmp_core.specs.Configuration.{configuration_of}
+use Rattle.pmp_core.specs.Configuration.{Configuration, configuration_of}
 use Rattle.pmp_core.specs.Grain.{selectable}
 use Rattle.pmp_core.specs.Hart.{Profile}
 use Rattle.pmp_core.specs.RegisterFile.{RegisterFile, reset_entry}
