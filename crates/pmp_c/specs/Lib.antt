@@ -2,5 +2,4 @@
 pub mod RangeRights
 pub mod RunAnswer
 pub mod Unit
-pub mod Reasons
 pub mod Status

@@ -6,8 +6,8 @@ use Rattle.pmp_core.specs.declared.csr.CsrFault.TheVariants.{OddCfg, NotPmp}
 use Rattle.pmp_core.specs.RegisterValue.{register_value}
 use Rattle.pmp_core.specs.RegisterWrite.{written}
 use Rattle.pmp_core.specs.SavedRegisters.{IsCanonical}
+use Rattle.pmp_core.specs.WriteReasons.{reasons_of}
 use Rattle.pmp_c.specs.declared.unit.Unit.{Unit}
-use Rattle.pmp_c.specs.Reasons.{reasons_number}
 use Rattle.pmp_c.specs.Unit.{file_of_unit, IsUnit, IsChanged}
 
 -- 0 where the call took it
@@ -25,5 +25,5 @@ pub record IsWriteAnswer (old new : Unit) (csr : Csr) (value number : ℕ) : Typ
   pub low : number % 256 ≡ 4 * (number / 4 % 2)
   pub same : number / 4 % 2 ≡ 0 → new ≡ old
   pub changed : number / 4 % 2 ≡ 1 → IsChanged old new
-  pub reasons : number / 256 ≡ reasons_number (file_of_unit old) csr value
+  pub reasons : number / 256 ≡ (reasons_of (file_of_unit old) csr value).0
   pub stored : number < 256 ↔ register_value (file_of_unit new) csr ≡ value

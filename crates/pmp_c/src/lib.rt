@@ -59,10 +59,11 @@ pub extern "C" fn tilvenka_pmp_write(unit: &mut Unit, csr: u32, value: u64) -> u
     match csr_of(csr) {
         Ok(csr) => {
             let written = unit.write(csr, value);
+            let reasons = REASONS * u32::from(written.reasons.bits());
             if written.is_changed {
-                CHANGED + REASONS * written.reasons
+                CHANGED + reasons
             } else {
-                TAKEN + REASONS * written.reasons
+                TAKEN + reasons
             }
         }
         Err(fault) => refusal_status(fault),

@@ -5,17 +5,16 @@ ghost use Rattle.pmp_core.specs.declared.access.Access.{Access};
 ghost use Rattle.pmp_core.specs.declared.access.Mode.{Mode};
 ghost use Rattle.pmp_core.specs.declared.access.TheConstants.{ADDRESS_LIMIT};
 ghost use Rattle.pmp_core.specs.Ranges.{decision_of};
-ghost use Rattle.pmp_core.specs.RegisterValue.{register_value};
 ghost use Rattle.pmp_core.specs.RegisterWrite.{written};
 ghost use Rattle.pmp_core.specs.SavedRegisters.{IsCanonical};
+ghost use Rattle.pmp_core.specs.WriteReasons.{reasons_of};
 ghost use Rattle.pmp_map.specs.Answer.{answer_number, no_access};
 ghost use Rattle.pmp_map.specs.RangeRights.{AreRangeRights};
 ghost use Rattle.pmp_map.specs.Request.{IsNamed, mode_number};
 ghost use Rattle.pmp_map.specs.Runs.{IsRunAround};
-ghost use Rattle.pmp_c.specs.Reasons.{reasons_number};
 ghost use Rattle.pmp_c.specs.Unit.{file_of_unit, IsUnit, IsChanged};
 
-use pmp_core::{Csr, Mode, Perms, Registers, SavedRegisters};
+use pmp_core::{Csr, Mode, Perms, Registers, SavedRegisters, Written};
 use pmp_map::{Request, Run, Tables};
 use pmp_map::{access_of, answer_number, mode_of, no_access, rights_in, run_around};
 
@@ -26,14 +25,6 @@ pub struct Unit {
     pub registers: SavedRegisters,
     /// Empty from a write until it is built.
     pub map: Tables,
-}
-
-/// What a write came to.
-#[derive(Clone, Copy, Debug, PartialEq, Eq)]
-pub struct Written {
-    pub is_changed: bool,
-    /// Why the register doesn't read what was written: a bit for each reason.
-    pub reasons: u32,
 }
 
 impl Unit {
@@ -47,21 +38,6 @@ impl Unit {
         self.map.runs = 0;
     }
 
-    /// Why the register wouldn't read the value, if it were written now, and read this then: a bit for each reason.
-    #[inline(always)]
-    fn reasons(&self, csr: Csr, value: u64, reads: u64) -> u32
-        requires { reads ≡ register_value (written (file_of_unit self.now) csr value) csr }
-        ensures reasons { result ≡ reasons_number (file_of_unit self.now) csr value }
-        ensures most { result ≤ 511 }
-    {
-        if reads == value {
-            0
-        } else {
-            let reasons = Registers::of(&self.registers).reasons(csr, value);
-            u32::from(reasons.bits())
-        }
-    }
-
     /// Writes a register. Where that changes any, the map is empty then.
     #[inline]
     pub fn write(&mut self, csr: Csr, value: u64) -> Written
@@ -70,19 +46,13 @@ impl Unit {
         ensures canonical { IsCanonical self.old.registers → IsCanonical self.new.registers }
         ensures same { result.is_changed ≡ false → self.new ≡ self.old }
         ensures changed { result.is_changed ≡ true → IsChanged self.old self.new }
-        ensures reasons { result.reasons ≡ reasons_number (file_of_unit self.old) csr value }
-        ensures most { result.reasons ≤ 511 }
+        ensures reasons { result.reasons ≡ reasons_of (file_of_unit self.old) csr value }
     {
-        let reads = self.registers.value_after(csr, value);
-        let reasons = self.reasons(csr, value, reads);
-        let is_changed = self.registers.write(csr, value, reads);
-        if is_changed {
+        let written = self.registers.write(csr, value);
+        if written.is_changed {
             self.map.runs = 0;
         }
-        Written {
-            is_changed,
-            reasons,
-        }
+        written
     }
 
     /// Builds the map, where it isn't built.

@@ -22,7 +22,7 @@ pub mod HartNumbers
 pub mod Saved
 pub mod Blocks
 pub mod Restored
-mod Written
+mod Writes
 pub mod EachReason
 pub mod WordBytes
 pub mod AbsentBytes

@@ -35,6 +35,7 @@ pub use mseccfg::Mseccfg;
 pub use perms::Perms;
 pub use range::ByteRange;
 pub use register_file::{ENTRIES, RegFile};
+pub use register_write::Written;
 pub use registers::Registers;
 pub use saved_registers::SavedRegisters;
 pub use size::{MAX_ENTRIES, Size};

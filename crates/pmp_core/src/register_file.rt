@@ -137,8 +137,7 @@ impl RegFile {
     {
         match event {
             Event::Write(csr, value) => {
-                let reads = self.numbers.value_after(csr, value);
-                self.numbers.write(csr, value, reads);
+                self.numbers.write(csr, value);
             }
             Event::Reset => self.reset_again(),
         }

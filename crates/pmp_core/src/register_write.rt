@@ -5,7 +5,8 @@ ghost use Rattle.pmp_core.specs.declared.csr.Csr.{Csr};
 ghost use Rattle.pmp_core.specs.Configuration.{byte_of};
 ghost use Rattle.pmp_core.specs.RegisterValue.{register_value};
 ghost use Rattle.pmp_core.specs.RegisterWrite.{admitted, stored, stored_over, security_written, written};
-ghost use Rattle.pmp_core.specs.SavedRegisters.{IsCanonical, restored_file};
+ghost use Rattle.pmp_core.specs.SavedRegisters.{IsCanonical, hart_in, restored_file};
+ghost use Rattle.pmp_core.specs.WriteReasons.{reasons_of};
 
 use crate::configuration::Configuration;
 use crate::csr::Csr;
@@ -14,12 +15,21 @@ use crate::mseccfg::MseccfgFields;
 use crate::registers::Registers;
 use crate::rights::is_barred;
 use crate::saved_registers::SavedRegisters;
+use crate::write_reasons::Reasons;
 
 /// How many word addresses there are at most: an address register has no more than 54 bits.
 pub const WORD_ADDRESSES: u64 = 1 << 54;
 
 /// How many entries a configuration register has bytes of.
 pub const ENTRIES_PER_CFG: usize = 8;
+
+/// What a write came to.
+#[derive(Clone, Copy, Debug, PartialEq, Eq)]
+pub struct Written {
+    pub is_changed: bool,
+    /// Why the register doesn't read what was written to it.
+    pub reasons: Reasons,
+}
 
 /// What a byte leaves that is written over a configuration that isn't frozen, on a hart where every mode can be chosen.
 fn admitted(old: Configuration, new: Configuration, mseccfg: &MseccfgFields) -> Configuration
@@ -102,7 +112,7 @@ impl<'a> Registers<'a> {
 
     /// What the register reads once the value is written to it.
     #[inline(always)]
-    pub fn value_after(&self, csr: Csr, value: u64) -> u64
+    fn value_after(&self, csr: Csr, value: u64) -> u64
         ensures { result ≡ register_value (written self.now csr value) csr }
     {
         match csr {
@@ -114,30 +124,23 @@ impl<'a> Registers<'a> {
 }
 
 impl SavedRegisters {
-    /// What the register reads once the value is written to it.
-    #[inline(always)]
-    pub fn value_after(&self, csr: Csr, value: u64) -> u64
-        ensures { result ≡ register_value (written (restored_file self.now) csr value) csr }
-    {
-        match Registers::on_standard(self) {
-            Some(registers) => registers.value_after(csr, value),
-            None => Registers::of(self).value_after(csr, value),
-        }
-    }
-
     /// Writes a configuration register, which then reads this word, and returns whether that changed it.
-    fn write_configurations(&mut self, register: u8, value: u64, word: u64) -> bool
-        requires { let csr = Csr.Cfg register in word ≡ register_value (written (restored_file self.old) csr value) csr }
+    #[inline(always)]
+    fn write_configurations(&mut self, hart: Hart, register: u8, value: u64, word: u64) -> bool
+        requires hart { hart ≡ hart_in self.old }
+        requires word { let csr = Csr.Cfg register in
+            word ≡ register_value (written (restored_file self.old) csr value) csr }
         ensures written { restored_file self.new ≡ written (restored_file self.old) (Csr.Cfg register) value }
         ensures canonical { IsCanonical self.old → IsCanonical self.new }
         ensures same { result ≡ false → self.new ≡ self.old }
         ensures changed { result ≡ true → restored_file self.new ≢ restored_file self.old }
     {
-        if word == self.read(Csr::Cfg(register)) {
+        let registers = Registers::with(self, hart);
+        if word == registers.read(Csr::Cfg(register)) {
             return false;
         }
         let first = 4 * usize::from(register);
-        let end = Registers::of(self).count().min(first + ENTRIES_PER_CFG);
+        let end = registers.count().min(first + ENTRIES_PER_CFG);
         let bytes = word.to_le_bytes();
         for index in first..end {
             self.configurations[index] = bytes[index - first];
@@ -146,14 +149,15 @@ impl SavedRegisters {
     }
 
     /// Writes an address register, and returns whether that changed it.
-    #[inline]
-    fn write_address(&mut self, register: u8, value: u64) -> bool
+    #[inline(always)]
+    fn write_address(&mut self, hart: Hart, register: u8, value: u64) -> bool
+        requires { hart ≡ hart_in self.old }
         ensures written { restored_file self.new ≡ written (restored_file self.old) (Csr.Addr register) value }
         ensures canonical { IsCanonical self.old → IsCanonical self.new }
         ensures same { result ≡ false → self.new ≡ self.old }
         ensures changed { result ≡ true → restored_file self.new ≢ restored_file self.old }
     {
-        let registers = Registers::of(self);
+        let registers = Registers::with(self, hart);
         let index = usize::from(register);
         if index >= registers.count() || registers.is_address_frozen(index) {
             return false;
@@ -168,14 +172,16 @@ impl SavedRegisters {
 
     /// Writes `mseccfg`, which then reads this, and returns whether that changed it. Once MML is set a byte may stand
     /// for other rights, so each becomes the one that is stored.
-    fn write_mseccfg(&mut self, value: u64, reads: u64) -> bool
-        requires { reads ≡ register_value (written (restored_file self.old) Csr.Mseccfg value) Csr.Mseccfg }
+    #[inline(always)]
+    fn write_mseccfg(&mut self, hart: Hart, value: u64, reads: u64) -> bool
+        requires hart { hart ≡ hart_in self.old }
+        requires reads { reads ≡ register_value (written (restored_file self.old) Csr.Mseccfg value) Csr.Mseccfg }
         ensures written { restored_file self.new ≡ written (restored_file self.old) Csr.Mseccfg value }
         ensures canonical { IsCanonical self.old → IsCanonical self.new }
         ensures same { result ≡ false → self.new ≡ self.old }
         ensures changed { result ≡ true → restored_file self.new ≢ restored_file self.old }
     {
-        let old = Registers::of(self).fields();
+        let old = Registers::with(self, hart).fields();
         if reads == old.value() {
             return false;
         }
@@ -186,19 +192,42 @@ impl SavedRegisters {
         true
     }
 
-    /// Writes a register, which then reads what `value_after` says, and returns whether that changed any.
-    #[inline]
-    pub fn write(&mut self, csr: Csr, value: u64, reads: u64) -> bool
-        requires { reads ≡ register_value (written (restored_file self.old) csr value) csr }
+    /// Writes a register of this hart, which is known where this is inlined.
+    #[inline(always)]
+    fn write_on(&mut self, hart: Hart, csr: Csr, value: u64) -> Written
+        requires { hart ≡ hart_in self.old }
         ensures written { restored_file self.new ≡ written (restored_file self.old) csr value }
         ensures canonical { IsCanonical self.old → IsCanonical self.new }
-        ensures same { result ≡ false → self.new ≡ self.old }
-        ensures changed { result ≡ true → restored_file self.new ≢ restored_file self.old }
+        ensures same { result.is_changed ≡ false → self.new ≡ self.old }
+        ensures changed { result.is_changed ≡ true → restored_file self.new ≢ restored_file self.old }
+        ensures reasons { result.reasons ≡ reasons_of (restored_file self.old) csr value }
     {
-        match csr {
-            Csr::Cfg(register) => self.write_configurations(register, value, reads),
-            Csr::Addr(register) => self.write_address(register, value),
-            Csr::Mseccfg => self.write_mseccfg(value, reads),
+        let registers = Registers::with(self, hart);
+        let reads = registers.value_after(csr, value);
+        let reasons = registers.reasons_where(csr, value, reads);
+        let is_changed = match csr {
+            Csr::Cfg(register) => self.write_configurations(hart, register, value, reads),
+            Csr::Addr(register) => self.write_address(hart, register, value),
+            Csr::Mseccfg => self.write_mseccfg(hart, value, reads),
+        };
+        Written {
+            is_changed,
+            reasons,
+        }
+    }
+
+    /// Writes a register.
+    #[inline]
+    pub fn write(&mut self, csr: Csr, value: u64) -> Written
+        ensures written { restored_file self.new ≡ written (restored_file self.old) csr value }
+        ensures canonical { IsCanonical self.old → IsCanonical self.new }
+        ensures same { result.is_changed ≡ false → self.new ≡ self.old }
+        ensures changed { result.is_changed ≡ true → restored_file self.new ≢ restored_file self.old }
+        ensures reasons { result.reasons ≡ reasons_of (restored_file self.old) csr value }
+    {
+        match Hart::standard(self.entries) {
+            Some(hart) => self.write_on(hart, csr, value),
+            None => self.write_on(Hart::from_number(self.entries), csr, value),
         }
     }
 }

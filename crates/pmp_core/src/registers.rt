@@ -9,7 +9,7 @@ ghost use Rattle.pmp_core.specs.Lock.{lock_of};
 ghost use Rattle.pmp_core.specs.RegisterFile.{IsLegal, entry_at, is_frozen, is_held};
 ghost use Rattle.pmp_core.specs.RegisterValue.{configuration_word, register_value};
 ghost use Rattle.pmp_core.specs.RegisterWrite.{is_address_frozen, is_any_locked};
-ghost use Rattle.pmp_core.specs.SavedRegisters.{restored_file};
+ghost use Rattle.pmp_core.specs.SavedRegisters.{hart_in, restored_file};
 
 use crate::configuration::{AddressMatching, Configuration};
 use crate::csr::Csr;
@@ -48,7 +48,15 @@ impl<'a> Registers<'a> {
     pub fn of(numbers: &'a SavedRegisters) -> Registers<'a>
         ensures { result ≡ restored_file numbers.now }
     {
-        let hart = Hart::from_number(numbers.entries);
+        Registers::with(numbers, Hart::from_number(numbers.entries))
+    }
+
+    /// The same on their hart, which is decoded.
+    #[inline(always)]
+    pub(crate) fn with(numbers: &'a SavedRegisters, hart: Hart) -> Registers<'a>
+        requires { hart ≡ hart_in numbers.now }
+        ensures { result ≡ restored_file numbers.now }
+    {
         Registers { numbers, hart }
     }
 
@@ -59,7 +67,7 @@ impl<'a> Registers<'a> {
             ≡ restored_file numbers.now) }
     {
         let hart = Hart::standard(numbers.entries)?;
-        Some(Registers { numbers, hart })
+        Some(Registers::with(numbers, hart))
     }
 
     /// The hart that has them.

@@ -6,7 +6,8 @@ ghost use Rattle.std.specs.List.{list_any};
 ghost use Rattle.pmp_core.specs.declared.register_write.TheConstants.{ENTRIES_PER_CFG};
 ghost use Rattle.pmp_core.specs.Configuration.{configuration_of, is_reserved};
 ghost use Rattle.pmp_core.specs.Grain.{is_na4};
-ghost use Rattle.pmp_core.specs.RegisterWrite.{holds_byte_of, holds};
+ghost use Rattle.pmp_core.specs.RegisterValue.{register_value};
+ghost use Rattle.pmp_core.specs.RegisterWrite.{holds_byte_of, holds, written};
 ghost use Rattle.pmp_core.specs.Rights.{is_barred};
 ghost use Rattle.pmp_core.specs.WriteReasons.{byte_for, is_changed, reasons_of};
 ghost use Rattle.pmp_core.specs.WriteReasons.{is_entry_reason, has_reason, is_some_entry_reason, is_reason};
@@ -299,5 +300,19 @@ impl<'a> Registers<'a> {
             bits = 2 * bits + u16::from(self.is_reason(reason, csr, value));
         }
         Reasons(bits)
+    }
+
+    /// The same where the register reads this once the value is written, which it mostly does as it was written.
+    #[inline(always)]
+    pub(crate) fn reasons_where(&self, csr: Csr, value: u64, reads: u64) -> Reasons
+        requires { reads ≡ register_value (written self.now csr value) csr }
+        ensures { result ≡ reasons_of self.now csr value }
+    {
+        let _count = self.count();
+        if reads == value {
+            Reasons(0)
+        } else {
+            self.reasons(csr, value)
+        }
     }
 }

@@ -1,39 +1,40 @@
-use Rattle.std.proofs.Common.{◌≡◌, ◌↔◌, ℕ, ◌+◌, ◌*◌, ◌/◌, ◌^◌, ◌<◌, sym, ap, ◌∙◌, arith, refl}
+use Rattle.std.proofs.Common.{◌≡◌, ◌↔◌, ℕ, ◌+◌, ◌*◌, ◌/◌, ◌^◌, ◌<◌, sym, ap, ◌∙◌, arith}
 use Rattle.pmp_core.specs.declared.csr.Csr.{Csr}
 use Rattle.pmp_core.specs.declared.saved_registers.SavedRegisters.{SavedRegisters}
+use Rattle.pmp_core.specs.declared.write_reasons.Reasons.{Reasons}
 use Rattle.pmp_core.specs.RegisterFile.{RegisterFile}
 use Rattle.pmp_core.specs.RegisterValue.{register_value}
 use Rattle.pmp_core.specs.RegisterWrite.{written}
 use Rattle.pmp_core.specs.SavedRegisters.{restored_file}
+use Rattle.pmp_core.specs.WriteReasons.{reasons_of}
 use Rattle.pmp_core.proofs.Saved.{restored_legal}
-use Rattle.pmp_c.specs.Reasons.{reasons_number}
-use Rattle.pmp_c.proofs.Reasoning.{reads_value, without_reason}
+use Rattle.pmp_core.proofs.ReasonsLaw.{reads_value, without_reason}
 use Rattle.pmp_c.proofs.tilvenka_pmp_write.Goals as goal
 
-module _ (saved : SavedRegisters) (new : RegisterFile) (csr : Csr) (value number reasons low : ℕ)
-    (small : value < 2 ^ 64)
-    (is : number ≡ low + 256 * reasons) (short : low < 256)
-    (reasons_are : reasons ≡ reasons_number (restored_file saved) csr value)
+module _ (saved : SavedRegisters) (new : RegisterFile) (csr : Csr) (value low bits : ℕ)
+    (small : value < 2 ^ 64) (short : low < 256)
+    (bits_are : bits ≡ (reasons_of (restored_file saved) csr value).0)
     (new_is : new ≡ written (restored_file saved) csr value) where
-  reasons_part : number / 256 ≡ reasons_number (restored_file saved) csr value
-  reasons_part = let part : number / 256 ≡ reasons = omega arith in part ∙ reasons_are
+  reasons_part : (low + 256 * bits) / 256 ≡ (reasons_of (restored_file saved) csr value).0
+  reasons_part = let part : (low + 256 * bits) / 256 ≡ bits = omega arith in part ∙ bits_are
 
-  stored_part : number < 256 ↔ register_value new csr ≡ value
+  stored_part : low + 256 * bits < 256 ↔ register_value new csr ≡ value
   stored_part = (
     λ few. ap (λ (f : RegisterFile). register_value f csr) new_is
         ∙ without_reason (restored_file saved) csr value (restored_legal saved) small
-        (let none : reasons ≡ 0 = omega arith in sym reasons_are ∙ none),
+        (let none : bits ≡ 0 = omega arith in sym bits_are ∙ none),
     λ same.
-        let none : reasons_number (restored_file saved) csr value ≡ 0 =
-        reads_value (restored_file saved) csr value (restored_legal saved) small
-        (sym (ap (λ (f : RegisterFile). register_value f csr) new_is) ∙ same) in
-        omega (arith, none, reasons_are),
+        let none : bits ≡ 0 =
+        bits_are ∙ ap (λ (r : Reasons). r.0) (reads_value (restored_file saved) csr value (restored_legal saved) small
+        (sym (ap (λ (f : RegisterFile). register_value f csr) new_is) ∙ same)) in
+        omega (arith, none),
   )
 
 pub returns-then-written : goal.returns-then-written
 returns-then-written c =
     let write = c.write-written in
     let fits : c.args.value < 2 ^ 64 = omega (arith, c.ranges.value) in
+    let bits = c.from-reasons.ensures ∙ c.bits.ensures ∙ ap (λ (r : Reasons). r.0) write.ensures.reasons in
     rw (← c.in-Ok.ensures) (record {
       file = write.ensures.written;
       order = write.ensures.unit;
@@ -41,16 +42,17 @@ returns-then-written c =
       low = omega arith;
       same = λ e. absurd (omega arith);
       changed = λ e. write.ensures.changed c.if-written.true;
-      reasons = reasons_part c.args.unit.now.registers _ c.in-Ok.csr c.args.value (4 + 256 * write.result.reasons)
-          write.result.reasons 4 fits refl (omega arith) write.ensures.reasons write.ensures.written;
-      stored = stored_part c.args.unit.now.registers _ c.in-Ok.csr c.args.value (4 + 256 * write.result.reasons)
-          write.result.reasons 4 fits refl (omega arith) write.ensures.reasons write.ensures.written;
+      reasons = reasons_part c.args.unit.now.registers _ c.in-Ok.csr c.args.value 4 c.from-reasons.result
+          fits (omega arith) bits write.ensures.written;
+      stored = stored_part c.args.unit.now.registers _ c.in-Ok.csr c.args.value 4 c.from-reasons.result
+          fits (omega arith) bits write.ensures.written;
     })
 
 pub returns-else-written : goal.returns-else-written
 returns-else-written c =
     let write = c.write-written in
     let fits : c.args.value < 2 ^ 64 = omega (arith, c.ranges.value) in
+    let bits = c.from-reasons.ensures ∙ c.bits.ensures ∙ ap (λ (r : Reasons). r.0) write.ensures.reasons in
     rw (← c.in-Ok.ensures) (record {
       file = write.ensures.written;
       order = write.ensures.unit;
@@ -58,8 +60,8 @@ returns-else-written c =
       low = omega arith;
       same = λ e. write.ensures.same c.if-written.false;
       changed = λ e. absurd (omega arith);
-      reasons = reasons_part c.args.unit.now.registers _ c.in-Ok.csr c.args.value (0 + 256 * write.result.reasons)
-          write.result.reasons 0 fits refl (omega arith) write.ensures.reasons write.ensures.written;
-      stored = stored_part c.args.unit.now.registers _ c.in-Ok.csr c.args.value (0 + 256 * write.result.reasons)
-          write.result.reasons 0 fits refl (omega arith) write.ensures.reasons write.ensures.written;
+      reasons = reasons_part c.args.unit.now.registers _ c.in-Ok.csr c.args.value 0 c.from-reasons.result
+          fits (omega arith) bits write.ensures.written;
+      stored = stored_part c.args.unit.now.registers _ c.in-Ok.csr c.args.value 0 c.from-reasons.result
+          fits (omega arith) bits write.ensures.written;
     })

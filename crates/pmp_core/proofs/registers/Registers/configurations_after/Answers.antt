@@ -8,7 +8,7 @@ use Rattle.pmp_core.specs.Configuration.{byte_of}
 use Rattle.pmp_core.specs.RegisterFile.{entry_at}
 use Rattle.pmp_core.specs.RegisterValue.{configuration_word}
 use Rattle.pmp_core.specs.RegisterWrite.{configurations_written, stored}
-use Rattle.pmp_core.proofs.Written.{byte_written}
+use Rattle.pmp_core.proofs.Writes.{byte_written}
 use Rattle.pmp_core.proofs.registers.Registers.configurations_after.Goals as goal
 
 pub loop-place-preserved : goal.loop-place-preserved

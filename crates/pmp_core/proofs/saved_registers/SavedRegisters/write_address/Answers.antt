@@ -4,7 +4,7 @@ use Rattle.pmp_core.specs.RegisterFile.{RegisterFile, entry_at}
 use Rattle.pmp_core.specs.RegisterWrite.{is_address_frozen}
 use Rattle.pmp_core.specs.SavedRegisters.{hart_in, restored_file}
 use Rattle.pmp_core.proofs.Restored.{profile_in}
-use Rattle.pmp_core.proofs.Written.{address_canonical, address_changed, address_restored}
+use Rattle.pmp_core.proofs.Writes.{address_canonical, address_changed, address_restored}
 use Rattle.pmp_core.proofs.saved_registers.SavedRegisters.write_address.Goals as goal
 use Rattle.pmp_core.proofs.saved_registers.SavedRegisters.write_address.Goals.{After-address}
 
@@ -17,18 +17,18 @@ inside c = omega (
   c.if-index-count.false,
   c.count.ensures.count,
   c.from-index.ensures,
-  ap (λ (f : RegisterFile). length f.entries) c.of-registers.ensures,
+  ap (λ (f : RegisterFile). length f.entries) c.with-registers.ensures,
 )
 
 free : (c : After-address) → is_address_frozen (file c) c.args.register ≡ false
 free c = sym (c.if-is_address_frozen.ensures
-    ∙ ap (λ (f : RegisterFile). is_address_frozen f c.from-index.result) c.of-registers.ensures
+    ∙ ap (λ (f : RegisterFile). is_address_frozen f c.from-index.result) c.with-registers.ensures
     ∙ ap (is_address_frozen (file c)) c.from-index.ensures)
 
 kept : (c : After-address) → c.args.value % c.word_addresses.result
     ≡ c.args.value % word_addresses (hart_in c.args.self.now)
 kept c = ap (λ (n : ℕ). c.args.value % n) (c.word_addresses.ensures ∙ ap word_addresses (c.hart.ensures
-    ∙ ap (λ (f : RegisterFile). f.profile) c.of-registers.ensures ∙ profile_in c.args.self.now))
+    ∙ ap (λ (f : RegisterFile). f.profile) c.with-registers.ensures ∙ profile_in c.args.self.now))
 
 pub returns-clause-written : goal.returns-clause-written
 returns-clause-written c =
@@ -47,5 +47,5 @@ returns-clause-changed c = λ _.
     let a = (goal.at.returns-clause-changed c).After-address in
     rw c.from-index.ensures (address_changed c.args.self.now c.args.register c.args.value _ (inside a) (free a) (kept a)
     (omega arith) (λ same. c.if-address.false (c.address.ensures.kept
-    ∙ ap (λ (f : RegisterFile). (entry_at f.entries c.from-index.result).address) c.of-registers.ensures
+    ∙ ap (λ (f : RegisterFile). (entry_at f.entries c.from-index.result).address) c.with-registers.ensures
     ∙ ap (λ (i : ℕ). (entry_at (file a).entries i).address) c.from-index.ensures ∙ same)))

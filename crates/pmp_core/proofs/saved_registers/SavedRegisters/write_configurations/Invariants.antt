@@ -1,4 +1,4 @@
-use Rattle.pmp_core.proofs.Written.{AreWrittenTo}
+use Rattle.pmp_core.proofs.Writes.{AreWrittenTo}
 use Rattle.pmp_core.proofs.saved_registers.SavedRegisters.write_configurations.Given as goal
 
 abbrev pub invariant-loop-index : goal.invariant-loop-index

@@ -12,7 +12,7 @@ use Rattle.pmp_core.specs.SavedRegisters.{restored_file, saved_registers}
 use Rattle.pmp_core.proofs.Legal.{step_legal}
 use Rattle.pmp_core.proofs.Restored.{mseccfg_in, profile_in}
 use Rattle.pmp_core.proofs.Saved.{fields_back, restored_legal, restored_saved}
-use Rattle.pmp_core.proofs.Written.{mseccfg_restored, mseccfg_saved}
+use Rattle.pmp_core.proofs.Writes.{mseccfg_restored, mseccfg_saved}
 use Rattle.pmp_core.proofs.saved_registers.SavedRegisters.write_mseccfg.Goals as goal
 use Rattle.pmp_core.proofs.saved_registers.SavedRegisters.write_mseccfg.Goals.{Else-reads-value}
 use Rattle.pmp_core.proofs.saved_registers.SavedRegisters.write_mseccfg.Goals.{
@@ -30,10 +30,10 @@ module _ (c : Else-reads-value) where
   wanted = security_written file c.args.value
 
   old_is : c.fields-old.result ≡ file.mseccfg
-  old_is = c.fields-old.ensures ∙ ap (λ (f : RegisterFile). f.mseccfg) c.of.ensures
+  old_is = c.fields-old.ensures ∙ ap (λ (f : RegisterFile). f.mseccfg) c.with.ensures
 
   differs : wanted ≢ file.mseccfg
-  differs same = c.if-reads-value.false (c.requires ∙ ap mseccfg_value (same ∙ sym old_is) ∙ sym c.value.ensures)
+  differs same = c.if-reads-value.false (c.requires.reads ∙ ap mseccfg_value (same ∙ sym old_is) ∙ sym c.value.ensures)
 
   -- the hart has mseccfg
   has : file.profile.has_smepmp ≡ true
@@ -57,15 +57,15 @@ returns c =
     let after = written (file e) Mseccfg c.args.value in
     let mml : MseccfgFields → Bool = λ m. m.mml in
     let with : SavedRegisters → SavedRegisters = λ s. record s { mseccfg = c.args.reads } in
-    let new_is : c.from_value.result ≡ wanted e = c.from_value.ensures ∙ ap mseccfg_fields c.requires
+    let new_is : c.from_value.result ≡ wanted e = c.from_value.ensures ∙ ap mseccfg_fields c.requires.reads
     ∙ fields_back (wanted e).mml (wanted e).mmwp (wanted e).rlb in
     let saved : (s : SavedRegisters) → s ≡ saved_registers (file e) → with s ≡ saved_registers after =
-    λ s same. ap with same ∙ mseccfg_saved (file e) (wanted e) c.args.reads c.requires in
+    λ s same. ap with same ∙ mseccfg_saved (file e) (wanted e) c.args.reads c.requires.reads in
     let restored : restored_file (with c.if-from_value.self) ≡ after = elim c.if-from_value.branch [
       | then-from_value+then-not-old w ↦ ap restored_file (saved c.if-from_value.self (w.self-is ∙ w.canonical.ensures.saved))
           ∙ restored_saved after (step_legal (file e) (restored_legal before) (Write Mseccfg c.args.value))
       | else-from_value w ↦ ap (λ (s : SavedRegisters). restored_file (with s)) w.self-is
-          ∙ mseccfg_restored before (wanted e) c.args.reads c.requires
+          ∙ mseccfg_restored before (wanted e) c.args.reads c.requires.reads
           (ap (λ (p : Profile). p.has_smepmp) (sym (profile_in before)) ∙ has e)
           (elim w.else-from_value.branch [
             | else-from_value-via-then-from_value+else-not-old v ↦ ap mml (sym new_is) ∙ v.if-from_value.true
