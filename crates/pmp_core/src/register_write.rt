@@ -6,7 +6,7 @@ ghost use Rattle.pmp_core.specs.Configuration.{byte_of};
 ghost use Rattle.pmp_core.specs.RegisterValue.{register_value};
 ghost use Rattle.pmp_core.specs.RegisterWrite.{admitted, stored, stored_over, security_written, written};
 ghost use Rattle.pmp_core.specs.SavedRegisters.{IsCanonical, hart_in, restored_file};
-ghost use Rattle.pmp_core.specs.WriteReasons.{reasons_of};
+ghost use Rattle.pmp_core.specs.Writing.{IsWritten};
 
 use crate::configuration::Configuration;
 use crate::csr::Csr;
@@ -196,11 +196,7 @@ impl SavedRegisters {
     #[inline(always)]
     fn write_on(&mut self, hart: Hart, csr: Csr, value: u64) -> Written
         requires { hart ≡ hart_in self.old }
-        ensures written { restored_file self.new ≡ written (restored_file self.old) csr value }
-        ensures canonical { IsCanonical self.old → IsCanonical self.new }
-        ensures same { result.is_changed ≡ false → self.new ≡ self.old }
-        ensures changed { result.is_changed ≡ true → restored_file self.new ≢ restored_file self.old }
-        ensures reasons { result.reasons ≡ reasons_of (restored_file self.old) csr value }
+        ensures { IsWritten self.old self.new csr value result }
     {
         let registers = Registers::with(self, hart);
         let reads = registers.value_after(csr, value);
@@ -210,24 +206,35 @@ impl SavedRegisters {
             Csr::Addr(register) => self.write_address(hart, register, value),
             Csr::Mseccfg => self.write_mseccfg(hart, value, reads),
         };
-        Written {
-            is_changed,
-            reasons,
-        }
+        Written { is_changed, reasons }
     }
 
-    /// Writes a register.
-    #[inline]
-    pub fn write(&mut self, csr: Csr, value: u64) -> Written
-        ensures written { restored_file self.new ≡ written (restored_file self.old) csr value }
-        ensures canonical { IsCanonical self.old → IsCanonical self.new }
-        ensures same { result.is_changed ≡ false → self.new ≡ self.old }
-        ensures changed { result.is_changed ≡ true → restored_file self.new ≢ restored_file self.old }
-        ensures reasons { result.reasons ≡ reasons_of (restored_file self.old) csr value }
+    /// The same, compiled for a standard hart and for any.
+    #[inline(always)]
+    fn write_here(&mut self, csr: Csr, value: u64) -> Written
+        ensures { IsWritten self.old self.new csr value result }
     {
         match Hart::standard(self.entries) {
             Some(hart) => self.write_on(hart, csr, value),
             None => self.write_on(Hart::from_number(self.entries), csr, value),
+        }
+    }
+
+    #[inline(never)]
+    fn write_apart(&mut self, csr: Csr, value: u64) -> Written
+        ensures { IsWritten self.old self.new csr value result }
+    {
+        self.write_here(csr, value)
+    }
+
+    /// Writes a register. An address register is written in place, which takes little room.
+    #[inline]
+    pub fn write(&mut self, csr: Csr, value: u64) -> Written
+        ensures { IsWritten self.old self.new csr value result }
+    {
+        match csr {
+            Csr::Addr(_) => self.write_here(csr, value),
+            _ => self.write_apart(csr, value),
         }
     }
 }

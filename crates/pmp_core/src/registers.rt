@@ -200,13 +200,22 @@ impl<'a> Registers<'a> {
         }
     }
 
+    /// Whether the entry's lock bit is set, which no rule about the other bits changes.
+    #[inline(always)]
+    fn is_locked(&self, index: usize) -> bool
+        requires { index < length self.now.entries }
+        ensures { result ≡ (entry_at self.now.entries index).configuration.locked }
+    {
+        Configuration::from_byte(self.numbers.configurations[index]).is_locked()
+    }
+
     /// Whether the entry is frozen: its lock bit is set and rule-locking bypass is off.
     #[inline(always)]
     pub(crate) fn is_frozen(&self, index: usize) -> bool
         requires { index < length self.now.entries }
         ensures { result ≡ is_frozen self.now index }
     {
-        self.configuration(index).is_locked() && !self.fields().rlb
+        self.is_locked(index) && !self.fields().rlb
     }
 
     /// Whether the entry and all before it are frozen. Then no write changes what they refuse, nor what they allow while
@@ -226,7 +235,7 @@ impl<'a> Registers<'a> {
     {
         if self.is_frozen(index) {
             Lock::Frozen
-        } else if self.configuration(index).is_locked() {
+        } else if self.is_locked(index) {
             Lock::Bypassed
         } else {
             Lock::Open
@@ -252,7 +261,7 @@ impl<'a> Registers<'a> {
         ensures { result ≡ is_any_locked self.now.entries }
     {
         for index in 0..self.count() {
-            if self.configuration(index).is_locked() {
+            if self.is_locked(index) {
                 return true;
             }
         }
