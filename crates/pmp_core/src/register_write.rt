@@ -99,14 +99,20 @@ impl<'a> Registers<'a> {
         self.reads(index, value % self.hart().word_addresses())
     }
 
-    /// What `mseccfg` says once the value is written to it, if the hart has it.
+    /// What `mseccfg` says once the value is written to it, if the hart has it: MML and MMWP are sticky, and RLB doesn't
+    /// rise over a lock.
     fn fields_after(&self, value: u64) -> MseccfgFields
         ensures { result ≡ security_written self.now value }
     {
-        if self.hart().has_smepmp() {
-            self.fields().written(value, self.is_any_locked())
-        } else {
-            self.fields()
+        let old = self.fields();
+        if !self.hart().has_smepmp() {
+            return old;
+        }
+        let new = MseccfgFields::from_value(value);
+        MseccfgFields {
+            mml: old.mml || new.mml,
+            mmwp: old.mmwp || new.mmwp,
+            rlb: new.rlb && (old.rlb || !self.is_any_locked()),
         }
     }
 
