@@ -28,7 +28,7 @@ use Rattle.pmp_core.proofs.Sticky.{sticky_law}
 use Rattle.pmp_map.specs.Answers.{decision_by, owned_rights}
 use Rattle.pmp_map.specs.OpenBytes.{IsAnswered, holds}
 use Rattle.pmp_map.specs.OpenBytesLaw.{HeldByteLaw, OneAnswerLaw, OpenByteLaw}
-use Rattle.pmp_map.proofs.Decided.{decided_whole}
+use Rattle.pmp_map.proofs.DecidedRuns.{decided_whole}
 
 -- the access of one byte
 abbrev byte_access : (mode : Mode) (kind : Kind) (byte : ℕ) → byte < ADDRESS_LIMIT → Access

@@ -26,7 +26,7 @@ use Rattle.pmp_map.specs.Runs.{AreRuns, IsRunAround, map_run}
 use Rattle.pmp_map.specs.Tables.{AreTables}
 use Rattle.pmp_map.proofs.Order.{start_at, start_most, start_past, in_run}
 use Rattle.pmp_map.proofs.Starts.{IsPlaceOf}
-use Rattle.pmp_map.proofs.Decided.{decided_whole}
+use Rattle.pmp_map.proofs.DecidedRuns.{decided_whole}
 
 -- ---- bits
 
