@@ -1,15 +1,13 @@
 -- How owners answer for their bytes, and what a hold keeps closed.
 use Rattle.std.proofs.Common.{◌≡◌, ◌<◌, ℕ, Bool, true, false, List, Option, Some, None, length, fold, refl, sym}
-use Rattle.std.proofs.Common.{ap, ◌∙◌, arith, get_or}
+use Rattle.std.proofs.Common.{ap, ◌∙◌, arith, get_or, rules}
 use Rattle.std.specs.List.{list_all, range_with_len}
 use Rattle.std.proofs.lemmas.Bool.{false≢true}
 use Rattle.std.proofs.lemmas.List.FromFn.{get_or-range_with_len, length-range_with_len}
 use Rattle.std.proofs.lemmas.List.Sums.{AllPass-from_list_all}
 use Rattle.pmp_core.specs.declared.access.Access.{Access}
 use Rattle.pmp_core.specs.declared.access.Kind.{Kind}
-use Rattle.pmp_core.specs.declared.access.Kind.TheVariants.{Fetch, Load, Store}
 use Rattle.pmp_core.specs.declared.access.Mode.{Mode}
-use Rattle.pmp_core.specs.declared.access.Mode.TheVariants.{M, S, U}
 use Rattle.pmp_core.specs.declared.access.TheConstants.{ADDRESS_LIMIT}
 use Rattle.pmp_core.specs.declared.decision.Decision.{Decision}
 use Rattle.pmp_core.specs.declared.event.Event.{Event}
@@ -28,7 +26,7 @@ use Rattle.pmp_core.proofs.Sticky.{sticky_law}
 use Rattle.pmp_map.specs.Answers.{decision_by, owned_rights}
 use Rattle.pmp_map.specs.OpenBytes.{IsAnswered, holds}
 use Rattle.pmp_map.specs.OpenBytesLaw.{HeldByteLaw, OneAnswerLaw, OpenByteLaw}
-use Rattle.pmp_map.proofs.Decided.{decided_whole}
+use Rattle.pmp_map.proofs.DecidedRuns.{decided_whole}
 
 -- the access of one byte
 abbrev byte_access : (mode : Mode) (kind : Kind) (byte : ℕ) → byte < ADDRESS_LIMIT → Access
@@ -72,28 +70,13 @@ answer_by_owner file byte owner allowed mode kind owned (access, decision, is, d
 fewer_for_machine : (mml mmwp mml_later mmwp_later : Bool) → (mml ≡ true → mml_later ≡ true)
     → (mmwp ≡ true → mmwp_later ≡ true) → (kind : Kind) → allows (machine_default mml mmwp) kind ≡ false
     → allows (machine_default mml_later mmwp_later) kind ≡ false
-fewer_for_machine mml mmwp true true up stays Load closed = refl
-fewer_for_machine mml mmwp true true up stays Store closed = refl
-fewer_for_machine mml mmwp true true up stays Fetch closed = refl
-fewer_for_machine mml mmwp false true up stays Load closed = refl
-fewer_for_machine mml mmwp false true up stays Store closed = refl
-fewer_for_machine mml mmwp false true up stays Fetch closed = refl
-fewer_for_machine mml true mml_later false up stays kind closed = absurd (false≢true (stays refl))
-fewer_for_machine true false false false up stays kind closed = absurd (false≢true (up refl))
-fewer_for_machine true false true false up stays kind closed = closed
-fewer_for_machine false false false false up stays kind closed = closed
-fewer_for_machine false false true false up stays Load closed = closed
-fewer_for_machine false false true false up stays Store closed = closed
-fewer_for_machine false false true false up stays Fetch closed = refl
+fewer_for_machine mml mmwp mml_later mmwp_later up stays kind closed = search rules
 
 fewer_by_default : (some mml mmwp mml_later mmwp_later : Bool) → (mml ≡ true → mml_later ≡ true)
     → (mmwp ≡ true → mmwp_later ≡ true) → (mode : Mode) (kind : Kind)
     → allows (default_rights_by some mml mmwp mode) kind ≡ false
     → allows (default_rights_by some mml_later mmwp_later mode) kind ≡ false
-fewer_by_default some mml mmwp mml_later mmwp_later up stays M kind closed =
-    fewer_for_machine mml mmwp mml_later mmwp_later up stays kind closed
-fewer_by_default some mml mmwp mml_later mmwp_later up stays S kind closed = closed
-fewer_by_default some mml mmwp mml_later mmwp_later up stays U kind closed = closed
+fewer_by_default some mml mmwp mml_later mmwp_later up stays mode kind closed = search rules
 
 module _ (entry_inside : (file : RegisterFile) (i byte : ℕ) → Matches file i byte → i < length file.entries)
     (file : RegisterFile) (events : List Event) (writes : list_all is_write events ≡ true) (byte : ℕ) where
