@@ -212,7 +212,10 @@ impl SavedRegisters {
             Csr::Addr(register) => self.write_address(hart, register, value),
             Csr::Mseccfg => self.write_mseccfg(hart, value, reads),
         };
-        Written { is_changed, reasons }
+        Written {
+            is_changed,
+            reasons,
+        }
     }
 
     /// The same, compiled for a standard hart and for any.

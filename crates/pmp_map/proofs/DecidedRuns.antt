@@ -45,8 +45,11 @@ module _ (P : ℕ → Type 0) where
   none_lower i m le none j below (inr later) = none j below later
 
   least_with : (first least : Option ℕ) → IsLeast P least → (o : Option ℕ) × IsLeast (λ i. (first ≡ Some i) ⊎ P i) o
-  least_with None least is = (least, least_alike P (λ i. (None ≡ Some i) ⊎ P i) least
-      (λ i. (λ later. inr later, λ one. elim one [ inl first ↦ cc | inr later ↦ later ])) is)
+  least_with None least is = (
+    least,
+    least_alike P (λ i. (None ≡ Some i) ⊎ P i) least
+        (λ i. (λ later. inr later, λ one. elim one [ inl first ↦ cc | inr later ↦ later ])) is,
+  )
   least_with (Some i) None none = (Some i, (inl refl, none_lower i i (omega arith) (λ j below. none j)))
   least_with (Some i) (Some m) is = elim (cases_lt i m) [
     | inl lower ↦ (Some i, (inl refl, none_lower i i (omega arith) (λ j below. is.1 j (omega arith))))
@@ -58,17 +61,19 @@ least_owner : (runs : List Run) (d p q : ℕ) → p + d ≡ q + 1 → (owner : O
 least_owner runs zero p q none = (None, λ i owned. absurd (omega (arith, owned.1, owned.2)))
 least_owner runs (suc d) p q all =
     let rest = least_owner runs d (suc p) q (omega arith) in
-    let least = least_with (OwnsOneOf runs (suc p) q) (map_run runs p).owner rest.0 rest.1 in
-    (least.0, least_alike _ (OwnsOneOf runs p q) least.0 (λ i. (
-      λ one. elim one [
-        | inl first ↦ (p, omega arith, omega arith, first)
-        | inr later ↦ (later.0, omega (arith, later.1), later.2, later.3)
-      ],
-      λ owned. elim (cases_lt p owned.0) [
-        | inl after ↦ inr (owned.0, omega arith, owned.2, owned.3)
-        | inr same ↦ let here : p ≡ owned.0 = omega (arith, owned.1) in inl (rw here owned.3)
-      ],
-    )) least.1)
+    let least = least_with (OwnsOneOf runs (suc p) q) (map_run runs p).owner rest.0 rest.1 in (
+      least.0,
+      least_alike _ (OwnsOneOf runs p q) least.0 (λ i. (
+        λ one. elim one [
+          | inl first ↦ (p, omega arith, omega arith, first)
+          | inr later ↦ (later.0, omega (arith, later.1), later.2, later.3)
+        ],
+        λ owned. elim (cases_lt p owned.0) [
+          | inl after ↦ inr (owned.0, omega arith, owned.2, owned.3)
+          | inr same ↦ let here : p ≡ owned.0 = omega (arith, owned.1) in inl (rw here owned.3)
+        ],
+      )) least.1,
+    )
 
 -- ---- several owners
 
@@ -111,9 +116,9 @@ module _ (file : RegisterFile) (runs : List Run) (are : AreRuns file runs) (p q 
   several_owners : (owner : Option ℕ) → ¬ ((byte : ℕ) → IsByteOf access byte → IsOwner file byte owner)
   several_owners owner all =
       let same : (k : ℕ) → p ≤ k → k ≤ q → (map_run runs k).owner ≡ owner = λ k from to.
-          let byte = touched k from to in
-          least_once (λ i. Matches file i byte.0) (map_run runs k).owner owner
-          (are.owned k byte.0 (omega arith) byte.2) (all byte.0 byte.1) in
+      let byte = touched k from to in
+      least_once (λ i. Matches file i byte.0) (map_run runs k).owner owner
+      (are.owned k byte.0 (omega arith) byte.2) (all byte.0 byte.1) in
       are.apart p (omega arith) (same p (omega arith) (omega arith) ∙ sym (same (p + 1) (omega arith) (omega arith)))
 
   refused : (least : Option ℕ) → IsLeast (OwnsOneOf runs p q) least → (i : ℕ) × IsLeast (OwnsOneOf runs p q) (Some i)
@@ -124,8 +129,8 @@ module _ (file : RegisterFile) (runs : List Run) (are : AreRuns file runs) (p q 
       let (k, from, to, owned) = least.0 in
       let byte = touched k from to in
       let none_before : (j : ℕ) → j < i → ¬ (Touches file access j) = λ j below touches.
-          let owner = owner_before j touches in
-          least.1 owner.0 (omega (arith, owner.2)) owner.1 in
+      let owner = owner_before j touches in
+      least.1 owner.0 (omega (arith, owner.2)) owner.1 in
       let matched = (rw owned at (are.owned k byte.0 (omega arith) byte.2)).0 in (
         i,
         least,

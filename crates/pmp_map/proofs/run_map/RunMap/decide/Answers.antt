@@ -15,7 +15,7 @@ module _ (c : After-decision) where
   decided : c.decision.result ≡ decision_of file c.args.access.now
   decided = c.decision.ensures c.args.access.now (decision_of file c.args.access.now)
       (byte_cause file c.args.access.now c.self.invariant.tables_are.legal)
-      (c.answer.ensures file c.args.access.now c.self.invariant.tables_are c.of.ensures)
+      (c.answer.ensures file c.self.invariant.tables_are)
 
   same : file ≡ c.args.file.now
   same = c.self.view_is ∙ c.requires
