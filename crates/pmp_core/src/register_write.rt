@@ -6,7 +6,7 @@ ghost use Rattle.pmp_core.specs.Configuration.{byte_of};
 ghost use Rattle.pmp_core.specs.RegisterValue.{register_value};
 ghost use Rattle.pmp_core.specs.RegisterWrite.{admitted, stored, stored_over, security_written, written};
 ghost use Rattle.pmp_core.specs.SavedRegisters.{IsCanonical, hart_in, restored_file};
-ghost use Rattle.pmp_core.specs.Writing.{IsWritten};
+ghost use Rattle.pmp_core.specs.Writing.{IsStored, IsWritten};
 
 use crate::configuration::Configuration;
 use crate::csr::Csr;
@@ -136,10 +136,7 @@ impl SavedRegisters {
         requires hart { hart ≡ hart_in self.old }
         requires word { let csr = Csr.Cfg register in
             word ≡ register_value (written (restored_file self.old) csr value) csr }
-        ensures written { restored_file self.new ≡ written (restored_file self.old) (Csr.Cfg register) value }
-        ensures canonical { IsCanonical self.old → IsCanonical self.new }
-        ensures same { result ≡ false → self.new ≡ self.old }
-        ensures changed { result ≡ true → restored_file self.new ≢ restored_file self.old }
+        ensures { IsStored self.old self.new (Csr.Cfg register) value result }
     {
         let registers = Registers::with(self, hart);
         if word == registers.read(Csr::Cfg(register)) {
@@ -158,10 +155,7 @@ impl SavedRegisters {
     #[inline(always)]
     fn write_address(&mut self, hart: Hart, register: u8, value: u64) -> bool
         requires { hart ≡ hart_in self.old }
-        ensures written { restored_file self.new ≡ written (restored_file self.old) (Csr.Addr register) value }
-        ensures canonical { IsCanonical self.old → IsCanonical self.new }
-        ensures same { result ≡ false → self.new ≡ self.old }
-        ensures changed { result ≡ true → restored_file self.new ≢ restored_file self.old }
+        ensures { IsStored self.old self.new (Csr.Addr register) value result }
     {
         let registers = Registers::with(self, hart);
         let index = usize::from(register);
@@ -182,10 +176,7 @@ impl SavedRegisters {
     fn write_mseccfg(&mut self, hart: Hart, value: u64, reads: u64) -> bool
         requires hart { hart ≡ hart_in self.old }
         requires reads { reads ≡ register_value (written (restored_file self.old) Csr.Mseccfg value) Csr.Mseccfg }
-        ensures written { restored_file self.new ≡ written (restored_file self.old) Csr.Mseccfg value }
-        ensures canonical { IsCanonical self.old → IsCanonical self.new }
-        ensures same { result ≡ false → self.new ≡ self.old }
-        ensures changed { result ≡ true → restored_file self.new ≢ restored_file self.old }
+        ensures { IsStored self.old self.new Csr.Mseccfg value result }
     {
         let old = Registers::with(self, hart).fields();
         if reads == old.value() {

@@ -181,22 +181,13 @@ impl<'a> Registers<'a> {
         ensures { result ≡ register_value self.now csr }
     {
         match csr {
-            Csr::Cfg(register) if register % 2 == 1 => 0,
-            Csr::Cfg(register) => self.configuration_word(register),
-            Csr::Addr(register) => self.read_address(usize::from(register)),
+            Csr::Cfg(register) if register % 2 == 0 => self.configuration_word(register),
+            Csr::Addr(register) if usize::from(register) < self.count() => {
+                let index = usize::from(register);
+                self.reads(index, self.address(index))
+            }
             Csr::Mseccfg => self.fields().value(),
-        }
-    }
-
-    /// What the entry's address register reads, and zero where there is no entry.
-    #[inline(always)]
-    fn read_address(&self, index: usize) -> u64
-        ensures { result ≡ register_value self.now (Csr.Addr index) }
-    {
-        if index < self.count() {
-            self.reads(index, self.address(index))
-        } else {
-            0
+            _ => 0,
         }
     }
 

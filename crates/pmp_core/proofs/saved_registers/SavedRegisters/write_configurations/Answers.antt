@@ -1,4 +1,4 @@
-use Rattle.std.proofs.Common.{◌≡◌, ◌≢◌, ◌+◌, ◌*◌, ◌≤◌, length, min, sym, ap, ◌∙◌, arith}
+use Rattle.std.proofs.Common.{◌≡◌, ◌≢◌, ◌+◌, ◌*◌, ◌≤◌, length, min, refl, sym, ap, ◌∙◌, arith}
 use Rattle.pmp_core.specs.declared.csr.Csr.TheVariants.{Cfg}
 use Rattle.pmp_core.specs.RegisterFile.{RegisterFile}
 use Rattle.pmp_core.specs.RegisterValue.{configuration_word, register_value}
@@ -16,10 +16,15 @@ read_is : (c : After-read) → c.read.result ≡ register_value (file c) (Cfg c.
 read_is c = c.read.ensures
     ∙ ap (λ (f : RegisterFile). register_value f (Cfg c.args.register)) c.with-registers.ensures
 
-pub returns-then-word-read-clause-written : goal.returns-then-word-read-clause-written
-returns-then-word-read-clause-written c =
-    let r = (goal.at.returns-then-word-read-clause-written c).After-read in
-    reads_same (file r) c.args.register c.args.value (sym c.requires.word ∙ c.if-word-read.true ∙ read_is r)
+pub returns-then-word-read : goal.returns-then-word-read
+returns-then-word-read c =
+    let r = (goal.at.returns-then-word-read c).After-read in
+    record {
+      file = reads_same (file r) c.args.register c.args.value (sym c.requires.word ∙ c.if-word-read.true ∙ read_is r);
+      canonical = λ canonical. canonical;
+      same = λ _. refl;
+      changed = λ e. absurd cc;
+    }
 
 pub loop-index-init : goal.loop-index-init
 loop-index-init c = written_none c.args.self.now _ _ (omega arith)
@@ -47,7 +52,7 @@ returns c =
     let is = configurations_restored c.args.self.now loop.self q c.args.value c.args.word loop.index even
     word all done in
     record {
-      written = is;
+      file = is;
       canonical = configurations_canonical c.args.self.now loop.self q c.args.value c.args.word loop.index
           even word all done (omega arith);
       same = λ e. absurd cc;
