@@ -5,7 +5,7 @@ use Rattle.pmp_core.specs.RegisterValue.{configuration_word, register_value}
 use Rattle.pmp_core.specs.RegisterWrite.{configurations_written, written}
 use Rattle.pmp_core.specs.SavedRegisters.{restored_file}
 use Rattle.pmp_core.proofs.Writes.{configurations_canonical, configurations_restored, even_value, even_where}
-use Rattle.pmp_core.proofs.Writes.{reads_same, written_more, written_none}
+use Rattle.pmp_core.proofs.Writes.{reads_same}
 use Rattle.pmp_core.proofs.saved_registers.SavedRegisters.write_configurations.Goals as goal
 use Rattle.pmp_core.proofs.saved_registers.SavedRegisters.write_configurations.Goals.{After-read}
 
@@ -25,14 +25,6 @@ returns-then-word-read c =
       same = λ _. refl;
       changed = λ e. absurd cc;
     }
-
-pub loop-index-init : goal.loop-index-init
-loop-index-init c = written_none c.args.self.now _ _ (omega arith)
-
-pub loop-index-preserved : goal.loop-index-preserved
-loop-index-preserved c = written_more c.args.self.now c.loop-index.self _ _ c.loop-index.index
-    c.loop-index.auto.index (omega (arith, c.loop-index-test.true, c.min-end.ensures))
-    (omega (arith, c.loop-index-test.true, c.min-end.ensures, c.count.ensures.most)) c.loop-index.invariant
 
 pub returns : goal.returns
 returns c =
