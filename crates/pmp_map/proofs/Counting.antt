@@ -1,6 +1,6 @@
 -- The place of a byte among six that lie a stride apart, by counting those whose start is at or below it.
-use Rattle.std.proofs.Common.{◌≡◌, ℕ, ◌+◌, ◌*◌, ◌<◌, ◌≤◌, List, slice_index, inl, inr, arith}
-use Rattle.std.proofs.Math.Nat.{mul-le-mul_left, mul-suc}
+use Rattle.std.proofs.Common.{rules, ◌≡◌, ℕ, ◌+◌, ◌*◌, ◌<◌, ◌≤◌, List, slice_index, inl, inr, arith}
+use Rattle.std.proofs.Math.Nat.{mul-le-mul_left}
 use Rattle.std.proofs.lemmas.Bool.{cases_lt}
 use Rattle.pmp_map.specs.declared.search.TheConstants.{PLACES}
 use Rattle.pmp_map.specs.Search.{IsRising, IsBetween}
@@ -33,9 +33,7 @@ module _ (starts : List ℕ) (byte low stride : ℕ) (inside : low + 6 * stride 
       (omega (arith, mul-le-mul_left stride few, inside))
 
   none_yet : Reached 0 0
-  none_yet =
-      let same : low + stride * 0 ≡ low = omega arith in
-      record { most = omega arith; from = rw same between.0; to = λ less. absurd (omega arith) }
+  none_yet = search rules
 
   one_more : (n count passed : ℕ) → n < 5 → Reached n count → Passed (start_of (n + 1)) byte passed
       → Reached (n + 1) (count + passed)
@@ -57,18 +55,7 @@ module _ (starts : List ℕ) (byte low stride : ℕ) (inside : low + 6 * stride 
   ]
 
   all_tested : (count : ℕ) → Reached 5 count → IsBetween starts byte (low + stride * count) stride
-  all_tested count done = (
-    done.from,
-    elim (cases_lt count 5) [
-      | inl lt ↦ let next : low + stride * count + stride ≡ low + stride * (count + 1) = omega (
-        arith,
-        mul-suc stride count,
-      ) in rw next (done.to lt)
-      | inr le ↦ let last : count ≡ 5 = omega (arith, done.most) in
-          let next : low + stride * count + stride ≡ low + 6 * stride = rw last (omega arith) in
-          rw next between.1
-    ],
-  )
+  all_tested count done = search rules
 
   pub counted : (a b c d e : ℕ) → Passed (slice_index starts (low + stride)) byte a
       → Passed (slice_index starts (low + 2 * stride)) byte b → Passed (slice_index starts (low + 3 * stride)) byte c

@@ -1,5 +1,5 @@
 -- How far the owner of a byte goes.
-use Rattle.std.proofs.Common.{◌≡◌, ℕ, ◌+◌, ◌-◌, ◌<◌, ◌≤◌, ◌↔◌, length, Option, Some, None, max, min, arith, inl}
+use Rattle.std.proofs.Common.{rules, ◌≡◌, ℕ, ◌+◌, ◌-◌, ◌<◌, ◌≤◌, ◌↔◌, length, Option, Some, None, max, min, arith, inl}
 use Rattle.std.proofs.Common.{inr}
 use Rattle.std.proofs.lemmas.Bool.{cases_lt}
 use Rattle.pmp_core.specs.declared.access.TheConstants.{ADDRESS_LIMIT}
@@ -15,8 +15,7 @@ use Rattle.pmp_map.specs.Runs.{IsRunAround}
 
 -- the least of the same numbers
 pub least_alike : (P Q : ℕ → Type 0) (least : Option ℕ) → ((i : ℕ) → P i ↔ Q i) → IsLeast P least → IsLeast Q least
-least_alike P Q None same none = λ i q. none i ((same i).1 q)
-least_alike P Q (Some i) same least = ((same i).0 least.0, λ j below q. least.1 j below ((same j).1 q))
+least_alike P Q least same is = search rules
 
 pub owner_by_entries : (file : RegisterFile) → HasAddresses file → (byte : ℕ) (owner : Option ℕ)
     → IsOwnerIn file byte owner → IsOwner file byte owner
@@ -49,12 +48,7 @@ module _ (file : RegisterFile) (first : ℕ) where
     pub apart : end < ADDRESS_LIMIT → (i : ℕ) × (i < index) × Has i end
 
   pub none_swept : first < ADDRESS_LIMIT → Swept 0 ADDRESS_LIMIT
-  none_swept small = record {
-    above = small;
-    bounded = omega arith;
-    clear = λ i byte below. absurd (omega arith);
-    apart = λ less. absurd (omega arith);
-  }
+  none_swept small = search rules
 
   -- one range more, which doesn't have `first`
   pub one_more_swept : (index end next : ℕ) → Swept index end → ¬ (Has index first) → first < next → next ≤ end
@@ -84,11 +78,7 @@ module _ (file : RegisterFile) (byte : ℕ) where
     pub apart : 0 < first → (i : ℕ) × (i < index) × Has file byte i (first - 1)
 
   pub none_swept_down : SweptDown 0 0
-  none_swept_down = record {
-    below = omega arith;
-    clear = λ i other below. absurd (omega arith);
-    apart = λ some. absurd (omega arith);
-  }
+  none_swept_down = search rules
 
   pub one_more_swept_down : (index first next : ℕ) → SweptDown index first → ¬ (Has file byte index byte)
       → first ≤ next → next ≤ byte
@@ -140,21 +130,11 @@ module _ (file : RegisterFile) (byte : ℕ) where
     -- the byte before isn't the owner's: the owner's range begins here, or a range before it ends
     pub not_before : Has file byte index byte → (low : ℕ) → low ≡ max first (range_of file index).start → 0 < low
         → ¬ (IsOwnerIn file (low - 1) (Some index))
-    not_before has low is_low some owned = elim (cases_lt (range_of file index).start low) [
-      | inl inside ↦
-          let here : low ≡ first = omega (arith, is_low) in
-          taken_before index (low - 1) (rw (← here) at (down.apart (omega arith))) owned
-      | inr begins ↦ let from = owned.0.0 in omega arith
-    ]
+    not_before has low is_low some owned = search rules
 
     pub not_after : Has file byte index byte → (high : ℕ) → high ≡ min end (range_of file index).end
         → high < ADDRESS_LIMIT → ¬ (IsOwnerIn file high (Some index))
-    not_after has high is_high less owned = elim (cases_lt high (range_of file index).end) [
-      | inl inside ↦
-          let here : high ≡ end = omega (arith, is_high) in
-          taken_before index high (rw (← here) at (up.apart (omega arith))) owned
-      | inr ends ↦ let to = owned.0.1 in omega arith
-    ]
+    not_after has high is_high less owned = search rules
 
 -- the range of entry `index`
 module _ (file : RegisterFile) (byte index : ℕ) (range : ByteRange) (is : range ≡ range_of file index)

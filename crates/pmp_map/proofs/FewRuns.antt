@@ -1,5 +1,5 @@
 -- Owners change at cuts, the ends of ranges, of which each range has two. So there are few runs.
-use Rattle.std.proofs.Common.{◌≡◌, ◌≢◌, ℕ, zero, suc, ◌+◌, ◌-◌, ◌*◌, ◌<◌, ◌≤◌, ◌⊎◌, cond, List, [], ◌∷◌, length, Option}
+use Rattle.std.proofs.Common.{rules, ◌≡◌, ◌≢◌, ℕ, zero, suc, ◌+◌, ◌-◌, ◌*◌, ◌<◌, ◌≤◌, ◌⊎◌, cond, List, [], ◌∷◌, length, Option}
 use Rattle.std.proofs.Common.{Some, None, nat_le, refl, ap, arith, add-one, inl, inr}
 use Rattle.std.proofs.lemmas.Bool.{cases_lt, le-leb, lt-leb}
 use Rattle.pmp_core.specs.declared.range.ByteRange.{ByteRange}
@@ -20,16 +20,10 @@ IsCut range at = (range.start ≡ at) ⊎ (range.end ≡ at)
 
 entered : (range : ByteRange) (byte : ℕ) → ¬ (IsInRange range byte) → IsInRange range (byte + 1)
     → IsCut range (byte + 1)
-entered range byte out inside = elim (cases_lt byte range.start) [
-  | inl before ↦ inl (omega (arith, inside.0))
-  | inr after ↦ absurd (out (after, omega (arith, inside.1)))
-]
+entered range byte out inside = search rules
 
 left : (range : ByteRange) (byte : ℕ) → IsInRange range byte → ¬ (IsInRange range (byte + 1)) → IsCut range (byte + 1)
-left range byte inside out = elim (cases_lt (byte + 1) range.end) [
-  | inl before ↦ absurd (out (omega (arith, inside.0), before))
-  | inr after ↦ inr (omega (arith, inside.1))
-]
+left range byte inside out = search rules
 
 module _ (ranges : List ByteRange) (byte : ℕ) where
   changed : (one other : Option ℕ) → IsOwnerAmong ranges byte one → IsOwnerAmong ranges (byte + 1) other → one ≢ other

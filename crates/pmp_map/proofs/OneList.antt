@@ -1,5 +1,5 @@
 -- Where each byte has one owner, there is one list of runs.
-use Rattle.std.proofs.Common.{◌≡◌, ℕ, zero, suc, ◌+◌, ◌<◌, ◌≤◌, List, length, Option, sym, ap, ◌∙◌, arith, add-one, inl}
+use Rattle.std.proofs.Common.{rules, ◌≡◌, ℕ, zero, suc, ◌+◌, ◌<◌, ◌≤◌, List, length, Option, sym, ap, ◌∙◌, arith, add-one, inl}
 use Rattle.std.proofs.Common.{inr}
 use Rattle.std.proofs.lemmas.Bool.{cases_lt}
 use Rattle.std.proofs.lemmas.List.{get_or_default, same_lists}
@@ -18,9 +18,7 @@ run_of first last owner = record { first = first; last = last; owner = owner }
 -- two runs of the same fields
 same_fields : (run other : Run) → run.first ≡ other.first → run.last ≡ other.last → run.owner ≡ other.owner
     → run ≡ other
-same_fields run other first last owner =
-    ap (λ (n : ℕ). run_of n run.last run.owner) first ∙ ap (λ (n : ℕ). run_of other.first n run.owner) last
-    ∙ ap (run_of other.first other.last) owner
+same_fields run other first last owner = search rules
 
 module _ (to : ℕ) (Owns : ℕ → Option ℕ → Type 0) (once : (byte : ℕ) (one other : Option ℕ) → Owns byte one
     → Owns byte other → one ≡ other) where

@@ -26,7 +26,6 @@ use Rattle.pmp_core.proofs.Sticky.{sticky_law}
 use Rattle.pmp_map.specs.Answers.{decision_by, owned_rights}
 use Rattle.pmp_map.specs.OpenBytes.{IsAnswered, holds}
 use Rattle.pmp_map.specs.OpenBytesLaw.{HeldByteLaw, OneAnswerLaw, OpenByteLaw}
-use Rattle.pmp_map.proofs.DecidedRuns.{decided_whole}
 
 -- the access of one byte
 abbrev byte_access : (mode : Mode) (kind : Kind) (byte : ℕ) → byte < ADDRESS_LIMIT → Access
@@ -44,9 +43,7 @@ byte_access mode kind byte inside = record {
 pub decided_by_owner : (file : RegisterFile) (access : Access) (mode : Mode) (kind : Kind) (byte : ℕ) (owner : Option ℕ)
     → IsAccess access mode kind byte 1 → IsOwner file byte owner
     → IsDecision file access (decision_by file owner access)
-decided_by_owner file access mode kind byte owner is owned =
-    decided_whole file access owner (λ other inside.
-    let same : other ≡ byte = omega (arith, is.start_is, is.length_is, inside.0, inside.1) in rw same owned)
+decided_by_owner file access mode kind byte owner is owned = search rules
 
 pub open_byte : OpenByteLaw
 open_byte file byte owner mode kind inside owned =

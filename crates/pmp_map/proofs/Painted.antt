@@ -1,6 +1,6 @@
 -- Painting entries from the last to the first.
-use Rattle.std.proofs.Common.{◌≡◌, ◌≢◌, ℕ, ◌+◌, ◌<◌, ◌≤◌, true, false, List, [], ◌∷◌, length}
-use Rattle.std.proofs.Common.{Option, Some, None, refl, sym, arith, inl, inr}
+use Rattle.std.proofs.Common.{rules, ◌≡◌, ◌≢◌, ℕ, ◌+◌, ◌<◌, ◌≤◌, true, false, List, [], ◌∷◌, length}
+use Rattle.std.proofs.Common.{Option, Some, None, refl, arith, inl, inr}
 use Rattle.std.proofs.lemmas.Bool.{cases_lt}
 use Rattle.std.proofs.lemmas.Bool.Decides.{nat_tests}
 use Rattle.pmp_core.specs.declared.access.TheConstants.{ADDRESS_LIMIT}
@@ -18,28 +18,18 @@ module _ (Owns : ℕ → Option ℕ → Type 0) where
   -- ---- the gap moves
 
   apart_up : (cut : Cut) (below above : List Cut) → AreApart below (cut ∷ above) → IsApart cut.owner below
-  apart_up cut [] above apart = tt
-  apart_up cut (low ∷ below) above apart = λ same. apart (sym same)
+  apart_up cut below above apart = search rules
 
   apart_down : (cut : Cut) (below above : List Cut) → IsApart cut.owner below → AreApart below (cut ∷ above)
-  apart_down cut [] above apart = tt
-  apart_down cut (low ∷ below) above apart = λ same. apart (sym same)
+  apart_down cut below above apart = search rules
 
   pub moved_up : (cut : Cut) (below above : List Cut) → AreCuts Owns below (cut ∷ above)
       → AreCuts Owns (cut ∷ below) above
-  moved_up cut below above are = record {
-    down = (are.up.0, apart_up cut below above are.apart, are.down);
-    up = are.up.2;
-    apart = are.up.1;
-  }
+  moved_up cut below above are = search rules
 
   pub moved_down : (cut : Cut) (below above : List Cut) → AreCuts Owns (cut ∷ below) above
       → AreCuts Owns below (cut ∷ above)
-  moved_down cut below above are = record {
-    down = are.down.2;
-    up = (are.down.0, are.apart, are.up);
-    apart = apart_down cut below above are.down.1;
-  }
+  moved_down cut below above are = search rules
 
   -- ---- cuts go up to the end of all bytes
 
@@ -49,10 +39,7 @@ module _ (Owns : ℕ → Option ℕ → Type 0) where
 
   -- fewer bytes below
   shorter : (cut : Cut) (end less : ℕ) → IsStretch Owns cut end → cut.start < less → less ≤ end → IsStretch Owns cut less
-  shorter cut end less is some below = record {
-    some = some;
-    owned = λ byte from to. is.owned byte from (omega arith);
-  }
+  shorter cut end less is some below = search rules
 
   below_of : (byte : ℕ) (cut : Cut) (cuts : List Cut) → is_from byte (cut ∷ cuts) ≡ false → cut.start < byte
   below_of byte cut cuts none = grind (arith, nat_tests)
@@ -62,20 +49,13 @@ module _ (Owns : ℕ → Option ℕ → Type 0) where
 
   pub cut_down : (end less : ℕ) (cuts : List Cut) → AreDown Owns end cuts → less ≤ end → is_from less cuts ≡ false
       → AreDown Owns less cuts
-  cut_down end less [] are below none = omega arith
-  cut_down end less (cut ∷ cuts) are below none =
-      (shorter cut end less are.0 (below_of less cut cuts none) below, are.1, are.2)
+  cut_down end less cuts are below none = search rules
 
   -- a cut more, inside the bytes of the first one below
   pub split : (end : ℕ) (below above : List Cut) → AreCuts Owns below above → 0 < end → end < start_of above
       → is_from end below ≡ false → (let cut : Cut = record { start = end; owner = owner_of below } in
       AreUp Owns (cut ∷ above))
-  split end [] above are some less none = absurd (omega (arith, are.down))
-  split end (cut ∷ below) above are some less none = (
-    record { some = less; owned = λ byte from to. are.down.0.owned byte (omega (arith, below_of end cut below none)) to },
-    are.apart,
-    are.up,
-  )
+  split end below above are some less none = search rules
 
   -- cuts that are painted over
   pub dropped : (end first : ℕ) (cut : Cut) (cuts : List Cut) → AreDown Owns end (cut ∷ cuts)
@@ -112,33 +92,20 @@ module _ (file : RegisterFile) (i : ℕ) where
   -- an entry whose range doesn't have the byte changes nothing there
   pub owned_alike : (byte : ℕ) (owner : Option ℕ) → ¬ (IsInRange (range_of file i) byte)
       → IsOwnerFrom file (i + 1) byte owner → IsOwnerFrom file i byte owner
-  owned_alike byte None without none = λ j has. elim (cases_lt i j) [
-    | inl after ↦ none j (omega arith, has.1)
-    | inr here ↦ let same : j ≡ i = omega (arith, has.0) in without (rw same at has.1)
-  ]
-  owned_alike byte (Some k) without owned = (
-    (omega (arith, owned.0.0), owned.0.1),
-    λ j below has. elim (cases_lt i j) [
-      | inl after ↦ owned.1 j below (omega arith, has.1)
-      | inr here ↦ let same : j ≡ i = omega (arith, has.0) in without (rw same at has.1)
-    ],
-  )
+  owned_alike byte owner without owned = search rules
 
   owned_here : (byte : ℕ) → IsInRange (range_of file i) byte → IsOwnerFrom file i byte (Some i)
   owned_here byte has = ((omega arith, has), λ j below from. absurd (omega (arith, from.0)))
 
   -- the owners before are others
   other : (byte : ℕ) (owner : Option ℕ) → IsOwnerFrom file (i + 1) byte owner → Some i ≢ owner
-  other byte None owned same = cc
-  other byte (Some k) owned same = let is : i ≡ k = cc in absurd (omega (arith, owned.0.0))
+  other byte owner owned same = search rules
 
   other_down : (end : ℕ) (cuts : List Cut) → AreDown (IsOwnerFrom file (i + 1)) end cuts → IsApart (Some i) cuts
-  other_down end [] are = tt
-  other_down end (cut ∷ cuts) are = other cut.start cut.owner (are.0.owned cut.start (omega arith) are.0.some)
+  other_down end cuts are = search rules
 
   other_up : (cuts : List Cut) → AreUp (IsOwnerFrom file (i + 1)) cuts → IsApart (Some i) cuts
-  other_up [] are = tt
-  other_up (cut ∷ cuts) are = other cut.start cut.owner (are.0.owned cut.start (omega arith) are.0.some)
+  other_up cuts are = search rules
 
   module _ (range : ByteRange) (is : range ≡ range_of file i) (end : ℕ) (to : end ≤ range.end) (some : range.start < end)
       (all : end < range.end → ADDRESS_LIMIT ≤ end) where

@@ -1,5 +1,5 @@
 -- Ranges of bytes with the same rights in two register files, while they are found.
-use Rattle.std.proofs.Common.{◌≡◌, ◌∙◌, sym, refl, ap, ap₂, ℕ, ◌+◌, ◌≤◌, List, [], ◌∷◌, ◌++◌, arith, inl, inr}
+use Rattle.std.proofs.Common.{rules, ◌≡◌, ◌∙◌, sym, refl, ap, ap₂, ℕ, ◌+◌, ◌≤◌, List, [], ◌∷◌, ◌++◌, arith, inl, inr}
 use Rattle.std.proofs.lemmas.Bool.{cases_lt}
 use Rattle.pmp_core.specs.declared.access.TheConstants.{ADDRESS_LIMIT}
 use Rattle.pmp_core.specs.RegisterFile.{RegisterFile}
@@ -20,11 +20,7 @@ once file byte one other here there =
 -- two runs of the same fields
 same_fields : (one other : RightsRun) → one.first ≡ other.first → one.last ≡ other.last → one.old ≡ other.old
     → one.new ≡ other.new → one ≡ other
-same_fields one other first last old new =
-    ap (λ (n : ℕ). record one { first = n }) first
-    ∙ ap (λ (n : ℕ). record one { first = other.first; last = n }) last
-    ∙ ap (λ (r : ModeRights). record one { first = other.first; last = other.last; old = r }) old
-    ∙ ap (λ (r : ModeRights). record other { new = r }) new
+same_fields one other first last old new = search rules
 
 module _ (old new : RegisterFile) where
   -- each byte of the run has its rights
