@@ -1,7 +1,6 @@
 -- The place of a byte among six that lie a stride apart, by counting those whose start is at or below it.
-use Rattle.std.proofs.Common.{rules, ◌≡◌, ℕ, ◌+◌, ◌*◌, ◌<◌, ◌≤◌, List, slice_index, inl, inr, arith}
+use Rattle.std.proofs.Common.{rules, ◌≡◌, ℕ, ◌+◌, ◌*◌, ◌<◌, ◌≤◌, List, slice_index, arith}
 use Rattle.std.proofs.Math.Nat.{mul-le-mul_left}
-use Rattle.std.proofs.lemmas.Bool.{cases_lt}
 use Rattle.pmp_map.specs.declared.search.TheConstants.{PLACES}
 use Rattle.pmp_map.specs.Search.{IsRising, IsBetween}
 
@@ -37,22 +36,7 @@ module _ (starts : List ℕ) (byte low stride : ℕ) (inside : low + 6 * stride 
 
   one_more : (n count passed : ℕ) → n < 5 → Reached n count → Passed (start_of (n + 1)) byte passed
       → Reached (n + 1) (count + passed)
-  one_more n count passed few so_far test = elim (cases_lt byte (start_of (n + 1))) [
-    | inl below ↦ let same : count + passed ≡ count = omega (arith, test.below below) in
-        rw same (record {
-          most = omega (arith, so_far.most);
-          from = so_far.from;
-          to = λ less. elim (cases_lt count n) [
-            | inl lt ↦ so_far.to lt
-            | inr le ↦ let last : count ≡ n = omega (arith, so_far.most) in rw last below
-          ];
-        })
-    | inr from ↦ elim (cases_lt count n) [
-      | inl lt ↦ absurd (omega (arith, so_far.to lt, from, starts_rise (count + 1) (n + 1) (omega arith) (omega arith)))
-      | inr le ↦ let next : count + passed ≡ n + 1 = omega (arith, test.from from, so_far.most) in
-          rw next (record { most = omega arith; from = from; to = λ less. absurd (omega arith) })
-    ]
-  ]
+  one_more n count passed few so_far test = search (rules, starts_rise)
 
   all_tested : (count : ℕ) → Reached 5 count → IsBetween starts byte (low + stride * count) stride
   all_tested count done = search rules

@@ -19,9 +19,7 @@ least_alike P Q least same is = search rules
 
 pub owner_by_entries : (file : RegisterFile) → HasAddresses file → (byte : ℕ) (owner : Option ℕ)
     → IsOwnerIn file byte owner → IsOwner file byte owner
-owner_by_entries file small byte owner =
-    least_alike (λ i. IsInRange (range_of file i) byte) (λ i. Matches file i byte) owner
-    (λ i. let same = matches_range file i byte small in (same.1, same.0))
+owner_by_entries file small byte owner = search (rules, matches_range)
 
 pub owner_by_ranges : (file : RegisterFile) → HasAddresses file → (byte : ℕ) (owner : Option ℕ)
     → IsOwner file byte owner → IsOwnerIn file byte owner

@@ -1,5 +1,5 @@
 -- Owners by entries and by their ranges.
-use Rattle.std.proofs.Common.{◌≡◌, ℕ, ◌+◌, ◌*◌, ◌<◌, ◌≤◌, Bool, List, length, Option, Some, None, sym, ◌∙◌, arith}
+use Rattle.std.proofs.Common.{rules, ◌≡◌, ℕ, ◌+◌, ◌*◌, ◌<◌, ◌≤◌, Bool, List, length, Option, Some, None, sym, ◌∙◌, arith}
 use Rattle.std.proofs.Common.{inl, inr}
 use Rattle.std.specs.Prelude.{IfSome}
 use Rattle.std.proofs.lemmas.Bool.{cases_lt}
@@ -47,8 +47,7 @@ module _ (file : RegisterFile) (access : Access) where
   byte_cause_by few allowed NoMatch is = tt
 
   pub byte_cause : IsLegal file → IsByteCause (decision_of file access).cause
-  byte_cause legal = byte_cause_by (omega (arith, legal.count, legal.profile.few)) (decision_of file access).allowed
-      (decision_of file access).cause (decided_by_ranges file access (legal_addresses file legal))
+  byte_cause legal = search (rules, byte_cause_by, decided_by_ranges, legal_addresses)
 
 -- ---- few runs
 

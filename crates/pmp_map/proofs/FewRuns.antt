@@ -59,16 +59,7 @@ unfolding passed
 passed_none byte cut above = rw (lt-leb cut byte above) refl
 
 passed_rises : (byte later cut : ℕ) → byte ≤ later → (passed byte cut ≤ passed later cut) × (passed later cut ≤ 1)
-passed_rises byte later cut after = elim (cases_lt later cut) [
-  | inl before ↦ (omega (arith, passed_none byte cut (omega arith)), omega (arith, passed_none later cut before))
-  | inr reached ↦ elim (cases_lt byte cut) [
-    | inl before ↦ (omega (arith, passed_none byte cut before), omega (arith, passed_one later cut reached))
-    | inr sooner ↦ (
-      omega (arith, passed_one byte cut sooner, passed_one later cut reached),
-      omega (arith, passed_one later cut reached),
-    )
-  ]
-]
+passed_rises byte later cut after = search (rules, passed_one, passed_none)
 
 cuts_at_most : (byte : ℕ) (ranges : List ByteRange) → cuts_passed byte ranges ≤ 2 * length ranges
 unfolding cuts_passed

@@ -81,10 +81,7 @@ module _ (to : ℕ) (Owns : ℕ → Option ℕ → Type 0) (once : (byte : ℕ) 
     ]
 
   same_length : (one other : List Run) → AreRunsTo to Owns one → AreRunsTo to Owns other → length one ≡ length other
-  same_length one other p q = elim (cases_lt (length one) (length other)) [
-    | inl short ↦ omega (arith, not_longer one other p q (omega arith))
-    | inr long ↦ omega (arith, not_longer other one q p long)
-  ]
+  same_length one other p q = search (rules, not_longer)
 
   one_list : (one other : List Run) → AreRunsTo to Owns one → AreRunsTo to Owns other → one ≡ other
   one_list one other p q =

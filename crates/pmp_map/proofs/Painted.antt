@@ -1,7 +1,6 @@
 -- Painting entries from the last to the first.
 use Rattle.std.proofs.Common.{rules, ◌≡◌, ◌≢◌, ℕ, ◌+◌, ◌<◌, ◌≤◌, true, false, List, [], ◌∷◌, length}
-use Rattle.std.proofs.Common.{Option, Some, None, refl, arith, inl, inr}
-use Rattle.std.proofs.lemmas.Bool.{cases_lt}
+use Rattle.std.proofs.Common.{Option, Some, None, arith}
 use Rattle.std.proofs.lemmas.Bool.Decides.{nat_tests}
 use Rattle.pmp_core.specs.declared.access.TheConstants.{ADDRESS_LIMIT}
 use Rattle.pmp_core.specs.declared.range.ByteRange.{ByteRange}
@@ -112,28 +111,7 @@ module _ (file : RegisterFile) (i : ℕ) where
     pub painted : (below above : List Cut) → AreDown (IsOwnerFrom file (i + 1)) range.start below
         → AreUp (IsOwnerFrom file (i + 1)) above → start_of above ≡ end
         → (let cut : Cut = record { start = range.start; owner = Some i } in ArePainted file i (cut ∷ below) above)
-    painted below above down up meets =
-        let before : (byte : ℕ) → byte < range.start → ¬ (IsInRange (range_of file i) byte) =
-        λ byte low has. let from = rw (← is) at has.0 in absurd (omega arith) in
-        let after : (byte : ℕ) → end ≤ byte → byte < ADDRESS_LIMIT → ¬ (IsInRange (range_of file i) byte) =
-        λ byte high inside has. let less = rw (← is) at has.1 in elim (cases_lt end range.end) [
-          | inl lt ↦ absurd (omega (arith, all lt))
-          | inr ge ↦ absurd (omega arith)
-        ] in
-        record {
-          down = (
-            record {
-              some = omega (arith, meets);
-              owned = λ byte from less. owned_here byte (rw (← is) (from, omega (arith, meets)));
-            },
-            other_down range.start below down,
-            down_alike (IsOwnerFrom file (i + 1)) (IsOwnerFrom file i) range.start below
-                (λ byte owner low. owned_alike byte owner (before byte low)) down,
-          );
-          up = up_alike (IsOwnerFrom file (i + 1)) (IsOwnerFrom file i) end above
-              (λ byte owner from inside. owned_alike byte owner (after byte from inside)) (omega (arith, meets)) up;
-          apart = other_up above up;
-        }
+    painted below above down up meets = search (rules, other_down, other_up, down_alike, up_alike, owned_alike, owned_here)
 
   -- an entry without a byte changes nothing
   pub unpainted : (below above : List Cut)
@@ -150,24 +128,13 @@ module _ (file : RegisterFile) (i : ℕ) where
 
 -- before any entry no byte has an owner
 pub blank_owned : (file : RegisterFile) (i byte : ℕ) → length file.entries ≤ i → IsOwnerFrom file i byte None
-blank_owned file i byte past j has =
-    let in_range = rw (range_past file j (omega (arith, has.0))) at has.1 in absurd (omega arith)
+blank_owned file i byte past j has = search (rules, range_past)
 
 pub blank_cuts : (file : RegisterFile) (i : ℕ) → length file.entries ≤ i
     → (let cut : Cut = record { start = 0; owner = None } in ArePainted file i (cut ∷ []) [])
-blank_cuts file i past = record {
-  down = (
-    record { some = omega arith; owned = λ byte from to. blank_owned file i byte past },
-    tt,
-    refl,
-  );
-  up = tt;
-  apart = tt;
-}
+blank_cuts file i past = search (rules, blank_owned)
 
 -- after all entries each byte has its owner
 pub owners_of : (file : RegisterFile) → HasAddresses file → (byte : ℕ) (owner : Option ℕ) → IsOwnerFrom file 0 byte owner
     → IsOwner file byte owner
-owners_of file small byte owner owned = owner_by_entries file small byte owner
-    (least_alike (λ j. (0 ≤ j) × IsInRange (range_of file j) byte) (λ j. IsInRange (range_of file j) byte) owner
-    (λ j. ((λ has. has.1), (λ has. (omega arith, has)))) owned)
+owners_of file small byte owner owned = search (rules, least_alike, owner_by_entries)

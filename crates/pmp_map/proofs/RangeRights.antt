@@ -76,11 +76,7 @@ module _ (file : RegisterFile) (addresses : HasAddresses file) (mode : Mode) (st
         (same_owner file start owner other first (all start (omega arith) (omega arith)))
 
     pub rights_of_two : AreRangeRights file mode start size None
-    rights_of_two = record {
-      owned = λ other all. absurd (two_owners other all);
-      mixed = λ none. refl;
-      accesses = λ perms is. absurd cc;
-    }
+    rights_of_two = search (rules, two_owners)
 
 -- ---- by what decides
 
