@@ -1,4 +1,4 @@
-use Rattle.std.proofs.Common.{◌+◌, refl, sym, arith, true≢false}
+use Rattle.std.proofs.Common.{rules, ◌+◌, refl, sym, arith, true≢false}
 use Rattle.pmp_map.proofs.RightsRuns.{grown, same_rights}
 use Rattle.pmp_map.proofs.rights_run.rights_run_from.Goals as goal
 
@@ -35,10 +35,4 @@ loop-run-preserved c =
     )
 
 pub returns-clause-longest : goal.returns-clause-longest
-returns-clause-longest c =
-    record {
-      proper = omega (arith, c.loop-run.invariant.0, c.loop-run.invariant.1);
-      below = c.loop-run.invariant.2;
-      rights = c.loop-run.invariant.3;
-      longest = λ inside here. absurd (omega (arith, inside, c.loop-run-test.false));
-    }
+returns-clause-longest c = search rules
