@@ -1,4 +1,4 @@
-use Rattle.std.proofs.Common.{rules, ◌+◌, refl, sym, arith, true≢false}
+use Rattle.std.proofs.Common.{◌+◌, refl, sym, arith, true≢false}
 use Rattle.pmp_map.proofs.RightsRuns.{grown, same_rights}
 use Rattle.pmp_map.proofs.rights_run.rights_run_from.Goals as goal
 
@@ -33,6 +33,3 @@ loop-run-preserved c =
           (λ byte from to. next.ensures.rights byte (omega (arith, from, next.ensures.begins)) to)
           next.ensures.begins same.0 same.1,
     )
-
-pub returns-clause-longest : goal.returns-clause-longest
-returns-clause-longest c = search rules

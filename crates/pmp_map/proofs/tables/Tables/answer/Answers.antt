@@ -4,6 +4,3 @@ use Rattle.pmp_map.proofs.tables.Tables.answer.Goals as goal
 
 pub returns-then-end-self : goal.returns-then-end-self
 returns-then-end-self c = λ file access are named. search (rules, answered)
-
-pub returns-else-end-self : goal.returns-else-end-self
-returns-else-end-self c = λ file access are named. search rules
