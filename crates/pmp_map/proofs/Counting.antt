@@ -1,5 +1,5 @@
 -- The place of a byte among six that lie a stride apart, by counting those whose start is at or below it.
-use Rattle.std.proofs.Common.{rules, ◌≡◌, ℕ, ◌+◌, ◌*◌, ◌<◌, ◌≤◌, List, slice_index, arith}
+use Rattle.std.proofs.Common.{◌≡◌, ℕ, ◌+◌, ◌*◌, ◌<◌, ◌≤◌, List, slice_index, arith, rules}
 use Rattle.std.proofs.Math.Nat.{mul-le-mul_left}
 use Rattle.pmp_map.specs.declared.search.TheConstants.{PLACES}
 use Rattle.pmp_map.specs.Search.{IsRising, IsBetween}

@@ -1,6 +1,6 @@
 -- How far the owner of a byte goes.
-use Rattle.std.proofs.Common.{rules, ◌≡◌, ℕ, ◌+◌, ◌-◌, ◌<◌, ◌≤◌, ◌↔◌, length, Option, Some, None, max, min, arith, inl}
-use Rattle.std.proofs.Common.{inr}
+use Rattle.std.proofs.Common.{◌≡◌, ℕ, ◌+◌, ◌-◌, ◌<◌, ◌≤◌, ◌↔◌, length, Option, Some, None, max, min, arith, inl, inr}
+use Rattle.std.proofs.Common.{rules}
 use Rattle.std.proofs.lemmas.Bool.{cases_lt}
 use Rattle.pmp_core.specs.declared.access.TheConstants.{ADDRESS_LIMIT}
 use Rattle.pmp_core.specs.Decision.{IsLeast, IsOwner}
@@ -45,9 +45,6 @@ module _ (file : RegisterFile) (first : ℕ) where
     pub clear : (i byte : ℕ) → i < index → first ≤ byte → byte < end → ¬ (Has i byte)
     pub apart : end < ADDRESS_LIMIT → (i : ℕ) × (i < index) × Has i end
 
-  pub none_swept : first < ADDRESS_LIMIT → Swept 0 ADDRESS_LIMIT
-  none_swept small = search rules
-
   -- one range more, which doesn't have `first`
   pub one_more_swept : (index end next : ℕ) → Swept index end → ¬ (Has index first) → first < next → next ≤ end
       → ((byte : ℕ) → first ≤ byte → byte < next → Has index byte → Has index first)
@@ -75,9 +72,6 @@ module _ (file : RegisterFile) (byte : ℕ) where
     pub clear : (i other : ℕ) → i < index → first ≤ other → other ≤ byte → ¬ (Has file byte i other)
     pub apart : 0 < first → (i : ℕ) × (i < index) × Has file byte i (first - 1)
 
-  pub none_swept_down : SweptDown 0 0
-  none_swept_down = search rules
-
   pub one_more_swept_down : (index first next : ℕ) → SweptDown index first → ¬ (Has file byte index byte)
       → first ≤ next → next ≤ byte
       → ((other : ℕ) → next ≤ other → other ≤ byte → Has file byte index other → Has file byte index byte)
@@ -96,11 +90,6 @@ module _ (file : RegisterFile) (byte : ℕ) where
           (found.0, omega (arith, found.1), moved file byte found.0 (next - 1) (first - 1) kept found.2)
     ];
   }
-
-  -- what ranges before `index` have, one of which has the byte at `at`, isn't that of `index`
-  pub taken_before : (index at : ℕ) → ((i : ℕ) × (i < index) × Has file byte i at)
-      → ¬ (IsOwnerIn file at (Some index))
-  taken_before index at one owned = owned.1 one.0 one.1 one.2
 
   pub taken : (index at : ℕ) → ((i : ℕ) × (i < index) × Has file byte i at) → ¬ (IsOwnerIn file at None)
   taken index at one none = none one.0 one.2

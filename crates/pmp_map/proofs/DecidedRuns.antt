@@ -1,6 +1,6 @@
 -- Decisions on accesses by the owners of their bytes: inside a run, and across runs.
-use Rattle.std.proofs.Common.{rules, ◌≡◌, ℕ, zero, suc, ◌+◌, ◌-◌, ◌<◌, ◌≤◌, ◌⊎◌, List, length, Option, Some, None, refl, sym}
-use Rattle.std.proofs.Common.{◌∙◌, arith, inl, inr, max, false}
+use Rattle.std.proofs.Common.{◌≡◌, ℕ, zero, suc, ◌+◌, ◌-◌, ◌<◌, ◌≤◌, ◌⊎◌, List, length, Option, Some, None, refl, sym}
+use Rattle.std.proofs.Common.{◌∙◌, arith, inl, inr, max, false, rules}
 use Rattle.std.proofs.lemmas.Bool.{cases_lt}
 use Rattle.pmp_core.specs.declared.access.Access.{Access}
 use Rattle.pmp_core.specs.declared.access.TheConstants.{ADDRESS_LIMIT}

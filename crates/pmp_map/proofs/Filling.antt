@@ -1,6 +1,6 @@
 -- Tables that are filled run by run.
-use Rattle.std.proofs.Common.{rules, ◌≡◌, ◌≢◌, ℕ, ◌+◌, ◌-◌, ◌<◌, ◌≤◌, List, [], ◌∷◌, ◌++◌, length, slice_index}
-use Rattle.std.proofs.Common.{get_or-set_other, get_or-set_same, length-set, refl, sym, ap, ◌∙◌, arith, inl, inr}
+use Rattle.std.proofs.Common.{◌≡◌, ◌≢◌, ℕ, ◌+◌, ◌-◌, ◌<◌, ◌≤◌, List, [], ◌∷◌, ◌++◌, length, slice_index}
+use Rattle.std.proofs.Common.{get_or-set_other, get_or-set_same, length-set, refl, sym, ap, ◌∙◌, arith, inl, inr, rules}
 use Rattle.std.proofs.Math.ListN.{set}
 use Rattle.std.proofs.lemmas.Bool.{cases_lt}
 use Rattle.pmp_core.specs.declared.access.TheConstants.{ADDRESS_LIMIT}

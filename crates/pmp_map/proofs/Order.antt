@@ -1,6 +1,6 @@
 -- Runs follow one another upwards.
-use Rattle.std.proofs.Common.{rules, ◌≡◌, ℕ, zero, suc, ◌+◌, ◌-◌, ◌<◌, ◌≤◌, List, length, Option, ap, arith, inl, inr}
-use Rattle.std.proofs.Common.{add-zero}
+use Rattle.std.proofs.Common.{◌≡◌, ℕ, zero, suc, ◌+◌, ◌-◌, ◌<◌, ◌≤◌, List, length, Option, ap, arith, inl, inr}
+use Rattle.std.proofs.Common.{add-zero, rules}
 use Rattle.std.proofs.lemmas.Bool.{cases_lt}
 use Rattle.std.proofs.lemmas.List.{get_or_past}
 use Rattle.pmp_map.specs.declared.run.Run.{Run}

@@ -1,7 +1,5 @@
 -- Painting entries from the last to the first.
-use Rattle.std.proofs.Common.{rules, ◌≡◌, ◌≢◌, ℕ, ◌+◌, ◌<◌, ◌≤◌, true, false, List, [], ◌∷◌, length}
-use Rattle.std.proofs.Common.{Option, Some, None, arith}
-use Rattle.std.proofs.lemmas.Bool.Decides.{nat_tests}
+use Rattle.std.proofs.Common.{◌≡◌, ℕ, ◌+◌, ◌<◌, ◌≤◌, false, List, [], ◌∷◌, length, Option, Some, None, arith, rules}
 use Rattle.pmp_core.specs.declared.access.TheConstants.{ADDRESS_LIMIT}
 use Rattle.pmp_core.specs.declared.range.ByteRange.{ByteRange}
 use Rattle.pmp_core.specs.Ranges.{IsInRange, range_of}
@@ -10,41 +8,21 @@ use Rattle.pmp_core.specs.RegisterFile.{HasAddresses, RegisterFile}
 use Rattle.pmp_core.proofs.Matches.{range_past}
 use Rattle.pmp_map.proofs.CutFacts.{least_alike, owner_by_entries}
 use Rattle.pmp_map.specs.declared.cuts.Cut.{Cut}
-use Rattle.pmp_map.specs.Painting.{AreApart, AreCuts, AreDown, AreUp, ArePainted, IsApart, IsOwnerFrom, IsStretch, is_from}
+use Rattle.pmp_map.specs.Painting.{AreCuts, AreDown, AreUp, ArePainted, IsApart, IsOwnerFrom, is_from}
 use Rattle.pmp_map.specs.Painting.{owner_of, start_of}
 
 module _ (Owns : ℕ → Option ℕ → Type 0) where
   -- ---- the gap moves
 
-  apart_up : (cut : Cut) (below above : List Cut) → AreApart below (cut ∷ above) → IsApart cut.owner below
-  apart_up cut below above apart = search rules
-
-  apart_down : (cut : Cut) (below above : List Cut) → IsApart cut.owner below → AreApart below (cut ∷ above)
-  apart_down cut below above apart = search rules
-
   pub moved_up : (cut : Cut) (below above : List Cut) → AreCuts Owns below (cut ∷ above)
       → AreCuts Owns (cut ∷ below) above
   moved_up cut below above are = search rules
-
-  pub moved_down : (cut : Cut) (below above : List Cut) → AreCuts Owns (cut ∷ below) above
-      → AreCuts Owns below (cut ∷ above)
-  moved_down cut below above are = search rules
 
   -- ---- cuts go up to the end of all bytes
 
   pub start_most : (cuts : List Cut) → AreUp Owns cuts → start_of cuts ≤ ADDRESS_LIMIT
   start_most [] are = omega arith
   start_most (cut ∷ cuts) are = omega (arith, are.0.some, start_most cuts are.2)
-
-  -- fewer bytes below
-  shorter : (cut : Cut) (end less : ℕ) → IsStretch Owns cut end → cut.start < less → less ≤ end → IsStretch Owns cut less
-  shorter cut end less is some below = search rules
-
-  below_of : (byte : ℕ) (cut : Cut) (cuts : List Cut) → is_from byte (cut ∷ cuts) ≡ false → cut.start < byte
-  below_of byte cut cuts none = grind (arith, nat_tests)
-
-  from_of : (byte : ℕ) (cut : Cut) (cuts : List Cut) → is_from byte (cut ∷ cuts) ≡ true → byte ≤ cut.start
-  from_of byte cut cuts is = grind (arith, nat_tests)
 
   pub cut_down : (end less : ℕ) (cuts : List Cut) → AreDown Owns end cuts → less ≤ end → is_from less cuts ≡ false
       → AreDown Owns less cuts
@@ -56,34 +34,19 @@ module _ (Owns : ℕ → Option ℕ → Type 0) where
       AreUp Owns (cut ∷ above))
   split end below above are some less none = search rules
 
-  -- cuts that are painted over
-  pub dropped : (end first : ℕ) (cut : Cut) (cuts : List Cut) → AreDown Owns end (cut ∷ cuts)
-      → is_from first (cut ∷ cuts) ≡ true → AreDown Owns cut.start cuts × (first ≤ cut.start)
-  dropped end first cut cuts are from = (are.2, from_of first cut cuts from)
-
 module _ (Owns Has : ℕ → Option ℕ → Type 0) where
   pub up_alike : (first : ℕ) (cuts : List Cut)
       → ((byte : ℕ) (owner : Option ℕ) → first ≤ byte → byte < ADDRESS_LIMIT → Owns byte owner → Has byte owner)
       → first ≤ start_of cuts → AreUp Owns cuts → AreUp Has cuts
   up_alike first [] alike from are = tt
   up_alike first (cut ∷ cuts) alike from are =
-      let some = are.0.some in
-      let most = start_most Owns cuts are.2 in (
-        record { some = some; owned = λ byte low high. alike byte cut.owner (omega arith) (omega arith) (are.0.owned byte low high) },
-        are.1,
-        up_alike first cuts alike (omega arith) are.2,
-      )
+      search (rules, start_most Owns cuts are.2, up_alike first cuts alike)
 
   pub down_alike : (end : ℕ) (cuts : List Cut)
       → ((byte : ℕ) (owner : Option ℕ) → byte < end → Owns byte owner → Has byte owner)
       → AreDown Owns end cuts → AreDown Has end cuts
   down_alike end [] alike are = are
-  down_alike end (cut ∷ cuts) alike are =
-      let some = are.0.some in (
-        record { some = some; owned = λ byte low high. alike byte cut.owner high (are.0.owned byte low high) },
-        are.1,
-        down_alike cut.start cuts (λ byte owner below. alike byte owner (omega arith)) are.2,
-      )
+  down_alike end (cut ∷ cuts) alike are = search (rules, down_alike cut.start cuts)
 
 -- ---- one entry more
 
@@ -97,9 +60,6 @@ module _ (file : RegisterFile) (i : ℕ) where
   owned_here byte has = ((omega arith, has), λ j below from. absurd (omega (arith, from.0)))
 
   -- the owners before are others
-  other : (byte : ℕ) (owner : Option ℕ) → IsOwnerFrom file (i + 1) byte owner → Some i ≢ owner
-  other byte owner owned same = search rules
-
   other_down : (end : ℕ) (cuts : List Cut) → AreDown (IsOwnerFrom file (i + 1)) end cuts → IsApart (Some i) cuts
   other_down end cuts are = search rules
 

@@ -1,4 +1,4 @@
-use Rattle.std.proofs.Common.{rules, ◌≡◌, ◌+◌}
+use Rattle.std.proofs.Common.{◌≡◌, ◌+◌, rules}
 use Rattle.pmp_core.specs.declared.decision.Cause.{Cause}
 use Rattle.pmp_core.specs.RegisterFile.{HasAddresses}
 use Rattle.pmp_core.proofs.Decisions.{IsCause, cause_is}

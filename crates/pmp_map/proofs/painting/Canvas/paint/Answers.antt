@@ -1,4 +1,4 @@
-use Rattle.std.proofs.Common.{rules, ◌+◌, sym, ◌∙◌, arith}
+use Rattle.std.proofs.Common.{◌+◌, sym, ◌∙◌, arith, rules}
 use Rattle.pmp_map.specs.Painting.{IsOwnerFrom}
 use Rattle.pmp_map.proofs.Painted.{cut_down, painted, split, unpainted}
 use Rattle.pmp_map.proofs.painting.Canvas.paint.Goals as goal
