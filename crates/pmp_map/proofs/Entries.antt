@@ -1,5 +1,5 @@
 -- Owners by entries and by their ranges.
-use Rattle.std.proofs.Common.{◌≡◌, ℕ, ◌+◌, ◌*◌, ◌<◌, ◌≤◌, Bool, List, length, Option, Some, None, sym, ◌∙◌, arith, inl}
+use Rattle.std.proofs.Common.{◌≡◌, ℕ, ◌+◌, ◌*◌, ◌<◌, ◌≤◌, Bool, List, length, Option, sym, ◌∙◌, arith, inl}
 use Rattle.std.proofs.Common.{inr, rules}
 use Rattle.std.specs.Prelude.{IfSome}
 use Rattle.std.proofs.lemmas.Bool.{cases_lt}
@@ -8,8 +8,8 @@ use Rattle.std.proofs.lemmas.List.Elements.{All-from_get_or}
 use Rattle.pmp_core.specs.declared.access.TheConstants.{ADDRESS_LIMIT}
 use Rattle.pmp_core.specs.declared.access.Access.{Access}
 use Rattle.pmp_core.specs.declared.decision.Cause.{Cause}
-use Rattle.pmp_core.specs.declared.decision.Cause.TheVariants.{Rule, Split, NoMatch}
-use Rattle.pmp_core.specs.Decision.{IsDecisionBy, IsOwner, Touches}
+use Rattle.pmp_core.specs.Matching.{Matches}
+use Rattle.pmp_core.specs.Decision.{IsDecisionBy, IsOwner}
 use Rattle.pmp_core.specs.RegisterFile.{RegisterFile, HasAddresses, IsLegal, reset_entry}
 use Rattle.pmp_core.specs.Ranges.{IsInRange, decision_of, range_in, range_of, ranges_of}
 use Rattle.pmp_core.proofs.Decisions.{decided_by_ranges}
@@ -22,29 +22,23 @@ use Rattle.pmp_map.specs.Runs.{AreRuns, HasOwnersBelow, map_run}
 use Rattle.pmp_map.proofs.CutFacts.{least_alike, owner_by_ranges}
 use Rattle.pmp_map.proofs.FewRuns.{few_runs}
 
--- only an entry that there is owns a byte
+-- only an entry that there is matches a byte, and so owns it
+matched_below : (file : RegisterFile) (i byte : ℕ) → Matches file i byte → i < length file.entries
+matched_below file i byte matched = elim (cases_lt i (length file.entries)) [
+  | inl lt ↦ lt
+  | inr past ↦ absurd (rw (get_or_past file.entries i reset_entry past) at matched)
+]
+
 pub owner_below : (file : RegisterFile) (byte : ℕ) (owner : Option ℕ) → IsOwner file byte owner
     → IfSome owner (λ i. i < length file.entries)
-owner_below file byte None owned = tt
-owner_below file byte (Some i) owned = elim (cases_lt i (length file.entries)) [
-  | inl lt ↦ lt
-  | inr past ↦ let matched = owned.0 in absurd (rw (get_or_past file.entries i reset_entry past) at matched)
-]
+owner_below file byte owner owned = search (rules, matched_below file)
 
 -- ---- a decision's entry
 
 module _ (file : RegisterFile) (access : Access) where
-  touched_below : (i : ℕ) → Touches file access i → i < length file.entries
-  touched_below i touches = elim (cases_lt i (length file.entries)) [
-    | inl lt ↦ lt
-    | inr past ↦ let matched = touches.2 in absurd (rw (get_or_past file.entries i reset_entry past) at matched)
-  ]
-
   byte_cause_by : length file.entries ≤ 256 → (allowed : Bool) (cause : Cause) → IsDecisionBy file access allowed cause
       → IsByteCause cause
-  byte_cause_by few allowed (Rule i) is = omega (arith, touched_below i is.0.0)
-  byte_cause_by few allowed (Split i) is = omega (arith, touched_below i is.0.0)
-  byte_cause_by few allowed NoMatch is = tt
+  byte_cause_by few allowed cause is = search (rules, matched_below file)
 
   pub byte_cause : IsLegal file → IsByteCause (decision_of file access).cause
   byte_cause legal = search (rules, byte_cause_by, decided_by_ranges, legal_addresses)
