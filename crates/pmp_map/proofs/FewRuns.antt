@@ -64,55 +64,23 @@ passed_rises byte later cut after = search (rules, passed_one, passed_none)
 cuts_at_most : (byte : ℕ) (ranges : List ByteRange) → cuts_passed byte ranges ≤ 2 * length ranges
 unfolding cuts_passed
 cuts_at_most byte [] = omega arith
-cuts_at_most byte (range ∷ ranges) =
-    omega (
-      arith,
-      cuts_at_most byte ranges,
-      (passed_rises byte byte range.start (omega arith)).1,
-      (passed_rises byte byte range.end (omega arith)).1,
-    )
+cuts_at_most byte (range ∷ ranges) = grind (arith, cuts_at_most byte ranges, passed_rises byte byte)
 
 cuts_rise : (byte later : ℕ) (ranges : List ByteRange) → byte ≤ later
     → cuts_passed byte ranges ≤ cuts_passed later ranges
 unfolding cuts_passed
 cuts_rise byte later [] after = omega arith
-cuts_rise byte later (range ∷ ranges) after =
-    omega (
-      arith,
-      cuts_rise byte later ranges after,
-      (passed_rises byte later range.start after).0,
-      (passed_rises byte later range.end after).0,
-    )
+cuts_rise byte later (range ∷ ranges) after = grind (arith, cuts_rise byte later ranges, passed_rises byte later)
 
 -- one more is passed at a cut
 one_more : (byte later : ℕ) (ranges : List ByteRange) (i : ℕ) → byte < later → IsCut (range_in ranges i) later
     → cuts_passed byte ranges + 1 ≤ cuts_passed later ranges
 unfolding cuts_passed
-one_more byte later [] i after (inl at) = absurd (omega arith)
-one_more byte later [] i after (inr at) = absurd (omega arith)
-one_more byte later (range ∷ ranges) zero after (inl at) =
-    omega (
-      arith,
-      cuts_rise byte later ranges (omega arith),
-      passed_none byte range.start (omega arith),
-      passed_one later range.start (omega arith),
-      (passed_rises byte later range.end (omega arith)).0,
-    )
-one_more byte later (range ∷ ranges) zero after (inr at) =
-    omega (
-      arith,
-      cuts_rise byte later ranges (omega arith),
-      passed_none byte range.end (omega arith),
-      passed_one later range.end (omega arith),
-      (passed_rises byte later range.start (omega arith)).0,
-    )
+one_more byte later [] i after at = search rules
+one_more byte later (range ∷ ranges) zero after at =
+    search (rules, cuts_rise byte later ranges, passed_none byte, passed_one later, passed_rises byte later)
 one_more byte later (range ∷ ranges) (suc i) after at =
-    omega (
-      arith,
-      one_more byte later ranges i after at,
-      (passed_rises byte later range.start (omega arith)).0,
-      (passed_rises byte later range.end (omega arith)).0,
-    )
+    search (rules, one_more byte later ranges i after at, passed_rises byte later)
 
 -- ---- each run but the first begins at a cut
 
