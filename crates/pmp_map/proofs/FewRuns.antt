@@ -1,7 +1,8 @@
 -- Owners change at cuts, the ends of ranges, of which each range has two. So there are few runs.
 use Rattle.std.proofs.Common.{◌≡◌, ◌≢◌, ℕ, zero, suc, ◌+◌, ◌-◌, ◌*◌, ◌<◌, ◌≤◌, ◌⊎◌, cond, List, [], ◌∷◌, length, Option}
 use Rattle.std.proofs.Common.{Some, None, nat_le, refl, ap, arith, add-one, inl, inr, rules}
-use Rattle.std.proofs.lemmas.Bool.{cases_lt, le-leb, lt-leb}
+use Rattle.std.proofs.lemmas.Bool.Decides.{nat_tests}
+use Rattle.std.proofs.lemmas.Bool.{cases_lt}
 use Rattle.pmp_core.specs.declared.range.ByteRange.{ByteRange}
 use Rattle.pmp_core.specs.Decision.{IsLeast}
 use Rattle.pmp_core.specs.Ranges.{IsInRange, range_in}
@@ -42,7 +43,7 @@ module _ (ranges : List ByteRange) (byte : ℕ) where
 -- ---- how many cuts there are
 
 -- whether the cut is at or below the byte
-passed : (byte cut : ℕ) → ℕ
+abbrev passed : (byte cut : ℕ) → ℕ
 passed byte cut = cond (nat_le cut byte) 1 0
 
 -- how many ends of ranges are
@@ -50,37 +51,24 @@ cuts_passed : (byte : ℕ) → List ByteRange → ℕ
 cuts_passed byte [] = 0
 cuts_passed byte (range ∷ ranges) = passed byte range.start + passed byte range.end + cuts_passed byte ranges
 
-passed_one : (byte cut : ℕ) → cut ≤ byte → passed byte cut ≡ 1
-unfolding passed
-passed_one byte cut below = rw (le-leb cut byte below) refl
-
-passed_none : (byte cut : ℕ) → byte < cut → passed byte cut ≡ 0
-unfolding passed
-passed_none byte cut above = rw (lt-leb cut byte above) refl
-
-passed_rises : (byte later cut : ℕ) → byte ≤ later → (passed byte cut ≤ passed later cut) × (passed later cut ≤ 1)
-passed_rises byte later cut after = search (rules, passed_one, passed_none)
-
 cuts_at_most : (byte : ℕ) (ranges : List ByteRange) → cuts_passed byte ranges ≤ 2 * length ranges
 unfolding cuts_passed
 cuts_at_most byte [] = omega arith
-cuts_at_most byte (range ∷ ranges) = grind (arith, cuts_at_most byte ranges, passed_rises byte byte)
+cuts_at_most byte (range ∷ ranges) = grind (arith, nat_tests, cuts_at_most byte ranges)
 
 cuts_rise : (byte later : ℕ) (ranges : List ByteRange) → byte ≤ later
     → cuts_passed byte ranges ≤ cuts_passed later ranges
 unfolding cuts_passed
 cuts_rise byte later [] after = omega arith
-cuts_rise byte later (range ∷ ranges) after = grind (arith, cuts_rise byte later ranges, passed_rises byte later)
+cuts_rise byte later (range ∷ ranges) after = grind (arith, nat_tests, cuts_rise byte later ranges)
 
 -- one more is passed at a cut
 one_more : (byte later : ℕ) (ranges : List ByteRange) (i : ℕ) → byte < later → IsCut (range_in ranges i) later
     → cuts_passed byte ranges + 1 ≤ cuts_passed later ranges
 unfolding cuts_passed
 one_more byte later [] i after at = search rules
-one_more byte later (range ∷ ranges) zero after at =
-    search (rules, cuts_rise byte later ranges, passed_none byte, passed_one later, passed_rises byte later)
-one_more byte later (range ∷ ranges) (suc i) after at =
-    search (rules, one_more byte later ranges i after at, passed_rises byte later)
+one_more byte later (range ∷ ranges) zero after at = grind (arith, nat_tests, cuts_rise byte later ranges)
+one_more byte later (range ∷ ranges) (suc i) after at = grind (arith, nat_tests, one_more byte later ranges i after at)
 
 -- ---- each run but the first begins at a cut
 
