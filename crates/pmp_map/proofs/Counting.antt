@@ -27,9 +27,7 @@ module _ (starts : List ℕ) (byte low stride : ℕ) (inside : low + 6 * stride 
     pub to : count < n → byte < start_of (count + 1)
 
   starts_rise : (i j : ℕ) → i ≤ j → j ≤ 5 → start_of i ≤ start_of j
-  starts_rise i j ordered few = rising (low + stride * i) (low + stride * j)
-      (omega (arith, mul-le-mul_left stride ordered))
-      (omega (arith, mul-le-mul_left stride few, inside))
+  starts_rise i j ordered few = search (rules, mul-le-mul_left)
 
   none_yet : Reached 0 0
   none_yet = search rules

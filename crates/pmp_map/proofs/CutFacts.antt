@@ -4,7 +4,6 @@ use Rattle.std.proofs.Common.{rules}
 use Rattle.std.proofs.lemmas.Bool.{cases_lt}
 use Rattle.pmp_core.specs.declared.access.TheConstants.{ADDRESS_LIMIT}
 use Rattle.pmp_core.specs.Decision.{IsLeast, IsOwner}
-use Rattle.pmp_core.specs.Matching.{Matches}
 use Rattle.pmp_core.specs.declared.range.ByteRange.{ByteRange}
 use Rattle.pmp_core.specs.Ranges.{IsInRange, range_of}
 use Rattle.pmp_core.specs.RegisterFile.{HasAddresses, RegisterFile}
@@ -23,9 +22,7 @@ owner_by_entries file small byte owner = search (rules, matches_range)
 
 pub owner_by_ranges : (file : RegisterFile) → HasAddresses file → (byte : ℕ) (owner : Option ℕ)
     → IsOwner file byte owner → IsOwnerIn file byte owner
-owner_by_ranges file small byte owner =
-    least_alike (λ i. Matches file i byte) (λ i. IsInRange (range_of file i) byte) owner
-    (λ i. matches_range file i byte small)
+owner_by_ranges file small byte owner = search (rules, least_alike, matches_range)
 
 -- the bytes from `first` up to `end` have this owner
 abbrev pub OwnsBytes : RegisterFile → (first end : ℕ) → Option ℕ → Type 0

@@ -1,6 +1,6 @@
 -- Owners by entries and by their ranges.
-use Rattle.std.proofs.Common.{◌≡◌, ℕ, ◌+◌, ◌*◌, ◌<◌, ◌≤◌, Bool, List, length, Option, sym, ◌∙◌, arith, inl}
-use Rattle.std.proofs.Common.{inr, rules}
+use Rattle.std.proofs.Common.{◌≡◌, ℕ, ◌+◌, ◌*◌, ◌<◌, ◌≤◌, Bool, List, length, Option, arith}
+use Rattle.std.proofs.Common.{rules}
 use Rattle.std.specs.Prelude.{IfSome}
 use Rattle.std.proofs.lemmas.Bool.{cases_lt}
 use Rattle.std.proofs.lemmas.List.{get_or_past}
@@ -10,7 +10,7 @@ use Rattle.pmp_core.specs.declared.access.Access.{Access}
 use Rattle.pmp_core.specs.declared.decision.Cause.{Cause}
 use Rattle.pmp_core.specs.Matching.{Matches}
 use Rattle.pmp_core.specs.Decision.{IsDecisionBy, IsOwner}
-use Rattle.pmp_core.specs.RegisterFile.{RegisterFile, HasAddresses, IsLegal, reset_entry}
+use Rattle.pmp_core.specs.RegisterFile.{RegisterFile, HasAddresses, IsLegal}
 use Rattle.pmp_core.specs.Ranges.{IsInRange, decision_of, range_in, range_of, ranges_of}
 use Rattle.pmp_core.proofs.Decisions.{decided_by_ranges}
 use Rattle.pmp_core.proofs.Legal.{legal_addresses}
@@ -24,10 +24,7 @@ use Rattle.pmp_map.proofs.FewRuns.{few_runs}
 
 -- only an entry that there is matches a byte, and so owns it
 matched_below : (file : RegisterFile) (i byte : ℕ) → Matches file i byte → i < length file.entries
-matched_below file i byte matched = elim (cases_lt i (length file.entries)) [
-  | inl lt ↦ lt
-  | inr past ↦ absurd (rw (get_or_past file.entries i reset_entry past) at matched)
-]
+matched_below file i byte matched = search (rules, cases_lt, get_or_past)
 
 pub owner_below : (file : RegisterFile) (byte : ℕ) (owner : Option ℕ) → IsOwner file byte owner
     → IfSome owner (λ i. i < length file.entries)
@@ -46,11 +43,7 @@ module _ (file : RegisterFile) (access : Access) where
 -- ---- few runs
 
 listed : (file : RegisterFile) (i : ℕ) → range_of file i ≡ range_in (ranges_of file) i
-listed file i = elim (cases_lt i (length file.entries)) [
-  | inl inside ↦ sym (range_at file.profile file.entries i inside)
-  | inr past ↦ range_past file i past
-      ∙ sym (get_or_past (ranges_of file) i no_range (omega (arith, length-ranges_of file.profile file.entries)))
-]
+listed file i = search (rules, cases_lt, get_or_past, range_past, length-ranges_of, no_range, range_at)
 
 pub few_runs_of_entries : (file : RegisterFile) (runs : List Run) → HasAddresses file → AreRuns file runs
     → length runs ≤ 2 * length file.entries + 1

@@ -1,4 +1,4 @@
-use Rattle.std.proofs.Common.{◌≡◌, ◌+◌, ◌-◌, ◌*◌, ◌∙◌, refl, sym, ap, arith}
+use Rattle.std.proofs.Common.{rules, ◌≡◌, ◌+◌, ◌-◌, ◌*◌, ◌∙◌, sym, ap, arith}
 use Rattle.pmp_core.specs.declared.access.Kind.{Kind}
 use Rattle.pmp_core.specs.FaultCode.{access_fault_code}
 use Rattle.pmp_map.proofs.Answering.{rises, refused}
@@ -22,5 +22,4 @@ returns-in-Some c = λ file access are found long kind_is last_is.
     c.least_cause-least.result (c.least_cause-least.ensures.least (omega arith))
 
 pub returns-in-None : goal.returns-in-None
-returns-in-None c = λ file access are found long kind_is last_is.
-    absurd (c.in-None.ensures.none refl access.kind kind_is)
+returns-in-None c = λ file access are found long kind_is last_is. search rules
