@@ -2,7 +2,6 @@
 use Rattle.std.proofs.Common.{◌≡◌, ℕ, ◌+◌, ◌*◌, ◌<◌, ◌≤◌, Bool, List, length, Option, arith}
 use Rattle.std.proofs.Common.{rules}
 use Rattle.std.specs.Prelude.{IfSome}
-use Rattle.std.proofs.lemmas.Bool.{cases_lt}
 use Rattle.std.proofs.lemmas.List.{get_or_past}
 use Rattle.std.proofs.lemmas.List.Elements.{All-from_get_or}
 use Rattle.pmp_core.specs.declared.access.TheConstants.{ADDRESS_LIMIT}
@@ -15,7 +14,7 @@ use Rattle.pmp_core.specs.Ranges.{IsInRange, decision_of, range_in, range_of, ra
 use Rattle.pmp_core.proofs.Decisions.{decided_by_ranges}
 use Rattle.pmp_core.proofs.Legal.{legal_addresses}
 use Rattle.pmp_core.proofs.Matches.{range_past}
-use Rattle.pmp_core.proofs.Places.{length-ranges_of, no_range, range_at}
+use Rattle.pmp_core.proofs.Places.{length-ranges_of, range_at}
 use Rattle.pmp_map.specs.declared.run.Run.{Run}
 use Rattle.pmp_map.specs.AnswerLaw.{IsByteCause}
 use Rattle.pmp_map.specs.Runs.{AreRuns, HasOwnersBelow, map_run}
@@ -24,7 +23,7 @@ use Rattle.pmp_map.proofs.FewRuns.{few_runs}
 
 -- only an entry that there is matches a byte, and so owns it
 matched_below : (file : RegisterFile) (i byte : ℕ) → Matches file i byte → i < length file.entries
-matched_below file i byte matched = search (rules, cases_lt, get_or_past)
+matched_below file i byte matched = search (rules, get_or_past)
 
 pub owner_below : (file : RegisterFile) (byte : ℕ) (owner : Option ℕ) → IsOwner file byte owner
     → IfSome owner (λ i. i < length file.entries)
@@ -43,7 +42,7 @@ module _ (file : RegisterFile) (access : Access) where
 -- ---- few runs
 
 listed : (file : RegisterFile) (i : ℕ) → range_of file i ≡ range_in (ranges_of file) i
-listed file i = search (rules, cases_lt, get_or_past, range_past, length-ranges_of, no_range, range_at)
+listed file i = search (rules, get_or_past, range_past, length-ranges_of, range_at)
 
 pub few_runs_of_entries : (file : RegisterFile) (runs : List Run) → HasAddresses file → AreRuns file runs
     → length runs ≤ 2 * length file.entries + 1

@@ -1,4 +1,4 @@
-use Rattle.std.proofs.Common.{rules, ◌≡◌, ◌+◌, ◌-◌, ◌*◌, ◌∙◌, sym, ap, arith}
+use Rattle.std.proofs.Common.{◌≡◌, ◌+◌, ◌-◌, ◌*◌, ◌∙◌, sym, ap, arith}
 use Rattle.pmp_core.specs.declared.access.Kind.{Kind}
 use Rattle.pmp_core.specs.FaultCode.{access_fault_code}
 use Rattle.pmp_map.proofs.Answering.{rises, refused}
@@ -20,6 +20,3 @@ returns-in-Some c = λ file access are found long kind_is last_is.
     ∙ ap (λ (k : Kind). 256 + c.least_cause-least.result + 1024 * access_fault_code k) kind
     ∙ refused file tables are access place c.requires found long last c.place_near-last.ensures.inside last_found
     c.least_cause-least.result (c.least_cause-least.ensures.least (omega arith))
-
-pub returns-in-None : goal.returns-in-None
-returns-in-None c = λ file access are found long kind_is last_is. search rules
