@@ -128,10 +128,7 @@ module _ (file : RegisterFile) (runs : List Run) (are : AreRuns file runs) (p q 
         least,
         (
           ((byte.0, byte.1, matched), none_before),
-          λ covers. several_owners (Some i) (λ other here. (
-            covers other here,
-            λ j below matches. none_before j below (other, here, matches),
-          )),
+          λ covers. several_owners (Some i) (λ other here. search (rules, none_before)),
           refl,
         ),
       )

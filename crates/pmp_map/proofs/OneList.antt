@@ -12,9 +12,6 @@ use Rattle.pmp_map.specs.declared.run.Run.{Run}
 use Rattle.pmp_map.specs.Runs.{run_at, AreRunsTo, AreRuns}
 use Rattle.pmp_map.proofs.Order.{start_at, start_past, starts_rise, start_below}
 
-abbrev run_of : (first last : ℕ) → Option ℕ → Run
-run_of first last owner = record { first = first; last = last; owner = owner }
-
 -- two runs of the same fields
 same_fields : (run other : Run) → run.first ≡ other.first → run.last ≡ other.last → run.owner ≡ other.owner
     → run ≡ other
