@@ -1,6 +1,6 @@
 -- Decisions on accesses by the owners of their bytes: inside a run, and across runs.
 use Rattle.std.proofs.Common.{◌≡◌, ℕ, zero, suc, ◌+◌, ◌-◌, ◌<◌, ◌≤◌, ◌⊎◌, List, length, Option, Some, None, refl, sym}
-use Rattle.std.proofs.Common.{◌∙◌, arith, inl, inr, max, false}
+use Rattle.std.proofs.Common.{◌∙◌, arith, inl, inr, max, false, rules}
 use Rattle.std.proofs.lemmas.Bool.{cases_lt}
 use Rattle.pmp_core.specs.declared.access.Access.{Access}
 use Rattle.pmp_core.specs.declared.access.TheConstants.{ADDRESS_LIMIT}
@@ -41,8 +41,7 @@ inside_run file runs are k within access inside =
 
 module _ (P : ℕ → Type 0) where
   none_lower : (i m : ℕ) → m ≤ i → ((j : ℕ) → j < m → ¬ (P j)) → (j : ℕ) → j < m → ¬ ((Some i ≡ Some j) ⊎ P j)
-  none_lower i m le none j below (inl first) = let same : i ≡ j = cc in absurd (omega arith)
-  none_lower i m le none j below (inr later) = none j below later
+  none_lower i m le none j below is = search rules
 
   least_with : (first least : Option ℕ) → IsLeast P least → (o : Option ℕ) × IsLeast (λ i. (first ≡ Some i) ⊎ P i) o
   least_with None least is = (
@@ -80,9 +79,7 @@ least_owner runs (suc d) p q all =
 -- a byte that entry j matches is owned by j or by a lower entry
 owner_up_to : (file : RegisterFile) (byte j : ℕ) (owner : Option ℕ) → IsOwner file byte owner
     → Matches file j byte → (i : ℕ) × (owner ≡ Some i) × (i ≤ j)
-owner_up_to file byte j None unowned matched = absurd (unowned j matched)
-owner_up_to file byte j (Some i) owned matched =
-    (i, refl, elim (cases_lt j i) [ inl lower ↦ absurd (owned.1 j lower matched) | inr le ↦ le ])
+owner_up_to file byte j owner owned matched = search rules
 
 -- the access begins in run p and ends in run q after it
 module _ (file : RegisterFile) (runs : List Run) (are : AreRuns file runs) (p q : ℕ) (several : p < q)
@@ -136,10 +133,7 @@ module _ (file : RegisterFile) (runs : List Run) (are : AreRuns file runs) (p q 
         least,
         (
           ((byte.0, byte.1, matched), none_before),
-          λ covers. several_owners (Some i) (λ other here. (
-            covers other here,
-            λ j below matches. none_before j below (other, here, matches),
-          )),
+          λ covers. several_owners (Some i) (λ other here. search (rules, none_before)),
           refl,
         ),
       )

@@ -1,6 +1,6 @@
 -- What a mode may do in a whole range.
-use Rattle.std.proofs.Common.{◌≡◌, ◌≢◌, ℕ, List, ◌+◌, ◌-◌, ◌/◌, ◌%◌, ◌<◌, ◌≤◌, ◌==◌, length}
-use Rattle.std.proofs.Common.{rules, slice_index, Option, Some, None, refl, sym, ap, ◌∙◌, arith, inl, inr}
+use Rattle.std.proofs.Common.{◌≡◌, ◌≢◌, ℕ, List, ◌+◌, ◌-◌, ◌/◌, ◌%◌, ◌<◌, ◌≤◌, ◌==◌, length, slice_index, Option, Some}
+use Rattle.std.proofs.Common.{None, refl, sym, ap, ◌∙◌, arith, inl, inr, rules}
 use Rattle.std.proofs.lemmas.Bool.{cases_lt}
 use Rattle.pmp_core.specs.declared.access.Access.{Access}
 use Rattle.pmp_core.specs.declared.access.Mode.{Mode}
@@ -76,11 +76,7 @@ module _ (file : RegisterFile) (addresses : HasAddresses file) (mode : Mode) (st
         (same_owner file start owner other first (all start (omega arith) (omega arith)))
 
     pub rights_of_two : AreRangeRights file mode start size None
-    rights_of_two = record {
-      owned = λ other all. absurd (two_owners other all);
-      mixed = λ none. refl;
-      accesses = λ perms is. absurd cc;
-    }
+    rights_of_two = search (rules, two_owners)
 
 -- ---- by what decides
 

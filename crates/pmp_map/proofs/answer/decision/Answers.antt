@@ -1,13 +1,12 @@
 use Rattle.std.proofs.Common.{rules}
-use Rattle.std.proofs.lemmas.Bool.Decides.{nat_tests}
 use Rattle.pmp_map.proofs.Numbering.{cause_once, read_off}
 use Rattle.pmp_map.proofs.answer.decision.Goals as goal
 
 pub returns-then-cause-lt256 : goal.returns-then-cause-lt256
-returns-then-cause-lt256 c = λ access decision low is. search (rules, nat_tests, read_off access decision low, cause_once)
+returns-then-cause-lt256 c = λ access decision low is. search (rules, read_off access decision low, cause_once)
 
 pub returns-then-cause-lt512 : goal.returns-then-cause-lt512
-returns-then-cause-lt512 c = λ access decision low is. search (rules, nat_tests, read_off access decision low, cause_once)
+returns-then-cause-lt512 c = λ access decision low is. search (rules, read_off access decision low, cause_once)
 
 pub returns-else-cause-lt512 : goal.returns-else-cause-lt512
-returns-else-cause-lt512 c = λ access decision low is. search (rules, nat_tests, read_off access decision low, cause_once)
+returns-else-cause-lt512 c = λ access decision low is. search (rules, read_off access decision low, cause_once)
