@@ -104,7 +104,7 @@ bench: bench-decide bench-threads bench-limits bench-audit bench-page
 
 bench-decide: library
 	@mkdir -p bench/out
-	@bench/qemu/fetch bench/out/qemu || echo "QEMU's source can't be fetched, so it isn't timed"
+	@bench/qemu/fetch bench/out/qemu bookworm || echo "QEMU's source can't be fetched, so it isn't timed"
 	@for entries in 16 64; do bench/decide $$entries || exit 1; done
 
 bench-threads: stress
