@@ -32,7 +32,7 @@ mod unit;
 use crate::rights::{NO_RANGE, rights_number};
 use crate::status::{CHANGED, REASONS, TAKEN, csr_of, refusal_status};
 use pmp_core::{ADDRESS_LIMIT, Hart, SavedRegisters};
-use pmp_map::{NO_CAUSE, Request, cause_number, no_access, whole_cause};
+use pmp_map::{NO_CAUSE, access_of, cause_number, mode_of, no_access, whole_cause};
 pub use unit::Unit;
 
 /// Resets a unit of the hart with this number, as `SavedRegisters` has it: 64 is one of sixty-four entries, one with
@@ -119,8 +119,8 @@ pub extern "C" fn tilvenka_pmp_decide(
         → result ≡ answer_number access (decision_of (file_of_unit unit.now) access) }
     ensures none { ((access : Access) → ¬ (IsNamed access mode kind start length)) → result ≡ no_access kind }
 {
-    match Request::new(mode, kind, start, length) {
-        Some(request) => u32::from(unit.answer(&request)),
+    match access_of(mode, kind, start, length) {
+        Some(access) => u32::from(unit.answer(&access)),
         None => u32::from(no_access(kind)),
     }
 }
@@ -138,7 +138,10 @@ pub extern "C" fn tilvenka_pmp_decide_by_registers(
         → result ≡ answer_number access (decision_of (file_of_unit unit.now) access) }
     ensures none { ((access : Access) → ¬ (IsNamed access mode kind start length)) → result ≡ no_access kind }
 {
-    u32::from(unit.answer_by_registers(mode, kind, start, length))
+    match access_of(mode, kind, start, length) {
+        Some(access) => u32::from(unit.answer_by_registers(&access)),
+        None => u32::from(no_access(kind)),
+    }
 }
 
 /// What a mode may do in a whole range of bytes, as a page: R is 1, W is 2, X is 4; 8 where no one owner has all of its
@@ -149,13 +152,12 @@ pub extern "C" fn tilvenka_pmp_rights(unit: &Unit, mode: u32, start: u64, length
         → IsRightsNumber (file_of_unit unit.now) named start length result }
     ensures none { ((named : Mode) → ¬ (IsRangeOf named mode start length)) → result ≡ no_range }
 {
-    if mode > 3 || mode == 2 || length == 0 {
-        return NO_RANGE;
+    match mode_of(mode) {
+        Some(mode) if length > 0 && length <= ADDRESS_LIMIT && start <= ADDRESS_LIMIT - length => {
+            rights_number(unit.rights(mode, start, length))
+        }
+        _ => NO_RANGE,
     }
-    if length > ADDRESS_LIMIT || start > ADDRESS_LIMIT - length {
-        return NO_RANGE;
-    }
-    rights_number(unit.rights(mode, start, length))
 }
 
 /// All bytes round this one that have its owner: the first and the last of them, and as the answer the number of the
@@ -174,14 +176,16 @@ pub extern "C" fn tilvenka_pmp_run(
     ensures none { (((named : Mode) → ¬ (mode_number named ≡ mode)) ⊎ (ADDRESS_LIMIT ≤ address))
         → (result ≡ no_cause) × (first.new ≡ first.old) × (last.new ≡ last.old) }
 {
-    if mode > 3 || mode == 2 || address >= ADDRESS_LIMIT {
-        return u32::from(NO_CAUSE);
+    match mode_of(mode) {
+        Some(mode) if address < ADDRESS_LIMIT => {
+            let run = unit.run(address);
+            *first = run.first;
+            *last = run.last;
+            let rights = rights_number(unit.rights(mode, address, 1));
+            u32::from(cause_number(whole_cause(run.owner))) + 1024 * rights
+        }
+        _ => u32::from(NO_CAUSE),
     }
-    let run = unit.run(address);
-    *first = run.first;
-    *last = run.last;
-    let rights = rights_number(unit.rights(mode, address, 1));
-    u32::from(cause_number(whole_cause(run.owner))) + 1024 * rights
 }
 
 /// Writes the registers out, with zeros for what the unit doesn't have.

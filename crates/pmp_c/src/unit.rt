@@ -1,22 +1,18 @@
 //! The unit: its registers, and the tables of its map.
 
 ghost use Rattle.std.specs.Prelude.{◌≡◌, ◌+◌, ◌<◌, ◌≤◌, true, false, nat_lt};
-ghost use Rattle.pmp_core.specs.declared.access.Access.{Access};
-ghost use Rattle.pmp_core.specs.declared.access.Mode.{Mode};
 ghost use Rattle.pmp_core.specs.declared.access.TheConstants.{ADDRESS_LIMIT};
 ghost use Rattle.pmp_core.specs.Ranges.{decision_of};
 ghost use Rattle.pmp_core.specs.RegisterWrite.{written};
 ghost use Rattle.pmp_core.specs.SavedRegisters.{IsCanonical};
 ghost use Rattle.pmp_core.specs.WriteReasons.{reasons_of};
-ghost use Rattle.pmp_map.specs.Answer.{answer_number, no_access};
+ghost use Rattle.pmp_map.specs.Answer.{answer_number};
 ghost use Rattle.pmp_map.specs.RangeRights.{AreRangeRights};
-ghost use Rattle.pmp_map.specs.Request.{IsNamed, mode_number};
 ghost use Rattle.pmp_map.specs.Runs.{IsRunAround};
 ghost use Rattle.pmp_c.specs.Unit.{file_of_unit, IsUnit, IsChanged};
 
-use pmp_core::{Csr, Mode, Perms, Registers, SavedRegisters, Written};
-use pmp_map::{Request, Run, Tables};
-use pmp_map::{access_of, answer_number, mode_of, no_access, rights_in, run_around};
+use pmp_core::{Access, Csr, Mode, Perms, Registers, SavedRegisters, Written};
+use pmp_map::{Run, Tables, answer_number, rights_in, run_around};
 
 /// A unit. All zero it is one of sixteen entries after reset, whose map isn't built.
 #[repr(C)]
@@ -78,28 +74,21 @@ impl Unit {
     /// The answer by the registers, without the map.
     #[cold]
     #[inline(never)]
-    pub fn answer_by_registers(&self, mode: u32, kind: u32, start: u64, length: u64) -> u16
-        ensures answer { (access : Access) → IsNamed access mode kind start length
-            → result ≡ answer_number access (decision_of (file_of_unit self.now) access) }
-        ensures none { ((access : Access) → ¬ (IsNamed access mode kind start length)) → result ≡ no_access kind }
+    pub fn answer_by_registers(&self, access: &Access) -> u16
+        ensures { result ≡ answer_number access.now (decision_of (file_of_unit self.now) access.now) }
     {
-        match access_of(mode, kind, start, length) {
-            Some(access) => answer_number(&access, &self.registers.decide(&access)),
-            None => no_access(kind),
-        }
+        answer_number(access, &self.registers.decide(access))
     }
 
     /// The answer, by the map where it is built.
     #[inline(always)]
-    pub fn answer(&self, request: &Request) -> u16
-        ensures { (access : Access)
-            → IsNamed access request.now.mode request.now.kind request.now.start request.now.length → IsUnit self.now
-            → result ≡ answer_number access (decision_of (file_of_unit self.now) access) }
+    pub fn answer(&self, access: &Access) -> u16
+        ensures { IsUnit self.now → result ≡ answer_number access.now (decision_of (file_of_unit self.now) access.now) }
     {
         if self.is_built() {
-            self.map.answer(request)
+            self.map.answer(access)
         } else {
-            self.answer_by_registers(request.mode, request.kind, request.start, request.length)
+            self.answer_by_registers(access)
         }
     }
 
@@ -117,20 +106,18 @@ impl Unit {
         }
     }
 
-    /// What the mode of this level may do in the whole range, by the map where it is built, or none where no one owner
-    /// has all of its bytes.
+    /// What the mode may do in the whole range, by the map where it is built, or none where no one owner has all of its
+    /// bytes.
     #[inline(always)]
-    pub fn rights(&self, mode: u32, start: u64, length: u64) -> Option<Perms>
-        requires level { mode < 4 }
+    pub fn rights(&self, mode: Mode, start: u64, length: u64) -> Option<Perms>
         requires full { 0 < length }
         requires inside { start + length ≤ ADDRESS_LIMIT }
-        ensures { (named : Mode) → mode_number named ≡ mode → IsUnit self.now
-            → AreRangeRights (file_of_unit self.now) named start length result }
+        ensures { IsUnit self.now → AreRangeRights (file_of_unit self.now) mode start length result }
     {
         if self.is_built() {
             self.map.rights(mode, start, length)
         } else {
-            self.rights_by_registers(mode_of(mode)?, start, length)
+            self.rights_by_registers(mode, start, length)
         }
     }
 

@@ -16,6 +16,7 @@ pub mod Grain
 pub mod RegisterWrite
 pub mod RegisterValue
 pub mod WriteReasons
+pub mod Writing
 pub mod Histories
 pub mod Lock
 pub mod SavedRegisters

@@ -4,15 +4,15 @@ ghost use Rattle.std.specs.Prelude.{◌≡◌, ◌+◌, ◌<◌, ◌≤◌, IfOk
 ghost use Rattle.pmp_core.specs.declared.access.TheConstants.{ADDRESS_LIMIT, MAX_LENGTH};
 
 /// The effective privilege mode of an access, after MPRV and MPP were taken into account
-/// (Volume II, 3.1.6.3).
+/// (Volume II, 3.1.6.3). Its number is its level (1.2).
 #[derive(Clone, Copy, Debug, PartialEq, Eq)]
 pub enum Mode {
     /// Machine mode.
-    M,
+    M = 3,
     /// Supervisor mode.
-    S,
+    S = 1,
     /// User mode.
-    U,
+    U = 0,
 }
 
 /// What an access does. An AMO or a store-conditional is a store.
@@ -57,6 +57,7 @@ impl Access {
     ghost use Rattle.pmp_core.specs.Access.{access_fault, IsAccess};
 
     /// The access of `length` bytes from byte address `start` on. The length is tested first.
+    #[inline]
     pub fn new(mode: Mode, kind: Kind, start: u64, length: u64) -> Result<Access, AccessFault>
         ensures made { IfOk result (λ access. (access_fault start length ≡ None)
             × IsAccess access mode kind start length) }

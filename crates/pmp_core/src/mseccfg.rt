@@ -1,7 +1,7 @@
 //! The bits of `mseccfg` (Smepmp).
 
 ghost use Rattle.std.specs.Prelude.{⊤, ◌≡◌, [], ◌∷◌, codes};
-ghost use Rattle.pmp_core.specs.Mseccfg.{mseccfg_value, mseccfg_fields, mseccfg_written};
+ghost use Rattle.pmp_core.specs.Mseccfg.{mseccfg_value, mseccfg_fields};
 
 use bitflags::{Flag, Flags, bitflag_items};
 
@@ -78,18 +78,6 @@ impl MseccfgFields {
             mml: set.contains(Mseccfg::MML),
             mmwp: set.contains(Mseccfg::MMWP),
             rlb: set.contains(Mseccfg::RLB),
-        }
-    }
-
-    /// What a write of this value leaves: MML and MMWP are sticky, and RLB doesn't rise over a lock.
-    pub fn written(self, value: u64, is_any_locked: bool) -> MseccfgFields
-        ensures { result ≡ mseccfg_written self is_any_locked value }
-    {
-        let new = MseccfgFields::from_value(value);
-        MseccfgFields {
-            mml: self.mml || new.mml,
-            mmwp: self.mmwp || new.mmwp,
-            rlb: new.rlb && (self.rlb || !is_any_locked),
         }
     }
 }

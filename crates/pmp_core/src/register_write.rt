@@ -6,7 +6,7 @@ ghost use Rattle.pmp_core.specs.Configuration.{byte_of};
 ghost use Rattle.pmp_core.specs.RegisterValue.{register_value};
 ghost use Rattle.pmp_core.specs.RegisterWrite.{admitted, stored, stored_over, security_written, written};
 ghost use Rattle.pmp_core.specs.SavedRegisters.{IsCanonical, hart_in, restored_file};
-ghost use Rattle.pmp_core.specs.WriteReasons.{reasons_of};
+ghost use Rattle.pmp_core.specs.Writing.{IsStored, IsWritten};
 
 use crate::configuration::Configuration;
 use crate::csr::Csr;
@@ -99,14 +99,20 @@ impl<'a> Registers<'a> {
         self.reads(index, value % self.hart().word_addresses())
     }
 
-    /// What `mseccfg` says once the value is written to it, if the hart has it.
+    /// What `mseccfg` says once the value is written to it, if the hart has it: MML and MMWP are sticky, and RLB doesn't
+    /// rise over a lock.
     fn fields_after(&self, value: u64) -> MseccfgFields
         ensures { result ≡ security_written self.now value }
     {
-        if self.hart().has_smepmp() {
-            self.fields().written(value, self.is_any_locked())
-        } else {
-            self.fields()
+        let old = self.fields();
+        if !self.hart().has_smepmp() {
+            return old;
+        }
+        let new = MseccfgFields::from_value(value);
+        MseccfgFields {
+            mml: old.mml || new.mml,
+            mmwp: old.mmwp || new.mmwp,
+            rlb: new.rlb && (old.rlb || !self.is_any_locked()),
         }
     }
 
@@ -130,10 +136,7 @@ impl SavedRegisters {
         requires hart { hart ≡ hart_in self.old }
         requires word { let csr = Csr.Cfg register in
             word ≡ register_value (written (restored_file self.old) csr value) csr }
-        ensures written { restored_file self.new ≡ written (restored_file self.old) (Csr.Cfg register) value }
-        ensures canonical { IsCanonical self.old → IsCanonical self.new }
-        ensures same { result ≡ false → self.new ≡ self.old }
-        ensures changed { result ≡ true → restored_file self.new ≢ restored_file self.old }
+        ensures { IsStored self.old self.new (Csr.Cfg register) value result }
     {
         let registers = Registers::with(self, hart);
         if word == registers.read(Csr::Cfg(register)) {
@@ -152,10 +155,7 @@ impl SavedRegisters {
     #[inline(always)]
     fn write_address(&mut self, hart: Hart, register: u8, value: u64) -> bool
         requires { hart ≡ hart_in self.old }
-        ensures written { restored_file self.new ≡ written (restored_file self.old) (Csr.Addr register) value }
-        ensures canonical { IsCanonical self.old → IsCanonical self.new }
-        ensures same { result ≡ false → self.new ≡ self.old }
-        ensures changed { result ≡ true → restored_file self.new ≢ restored_file self.old }
+        ensures { IsStored self.old self.new (Csr.Addr register) value result }
     {
         let registers = Registers::with(self, hart);
         let index = usize::from(register);
@@ -176,10 +176,7 @@ impl SavedRegisters {
     fn write_mseccfg(&mut self, hart: Hart, value: u64, reads: u64) -> bool
         requires hart { hart ≡ hart_in self.old }
         requires reads { reads ≡ register_value (written (restored_file self.old) Csr.Mseccfg value) Csr.Mseccfg }
-        ensures written { restored_file self.new ≡ written (restored_file self.old) Csr.Mseccfg value }
-        ensures canonical { IsCanonical self.old → IsCanonical self.new }
-        ensures same { result ≡ false → self.new ≡ self.old }
-        ensures changed { result ≡ true → restored_file self.new ≢ restored_file self.old }
+        ensures { IsStored self.old self.new Csr.Mseccfg value result }
     {
         let old = Registers::with(self, hart).fields();
         if reads == old.value() {
@@ -196,11 +193,7 @@ impl SavedRegisters {
     #[inline(always)]
     fn write_on(&mut self, hart: Hart, csr: Csr, value: u64) -> Written
         requires { hart ≡ hart_in self.old }
-        ensures written { restored_file self.new ≡ written (restored_file self.old) csr value }
-        ensures canonical { IsCanonical self.old → IsCanonical self.new }
-        ensures same { result.is_changed ≡ false → self.new ≡ self.old }
-        ensures changed { result.is_changed ≡ true → restored_file self.new ≢ restored_file self.old }
-        ensures reasons { result.reasons ≡ reasons_of (restored_file self.old) csr value }
+        ensures { IsWritten self.old self.new csr value result }
     {
         let registers = Registers::with(self, hart);
         let reads = registers.value_after(csr, value);
@@ -216,18 +209,32 @@ impl SavedRegisters {
         }
     }
 
-    /// Writes a register.
-    #[inline]
-    pub fn write(&mut self, csr: Csr, value: u64) -> Written
-        ensures written { restored_file self.new ≡ written (restored_file self.old) csr value }
-        ensures canonical { IsCanonical self.old → IsCanonical self.new }
-        ensures same { result.is_changed ≡ false → self.new ≡ self.old }
-        ensures changed { result.is_changed ≡ true → restored_file self.new ≢ restored_file self.old }
-        ensures reasons { result.reasons ≡ reasons_of (restored_file self.old) csr value }
+    /// The same, compiled for a standard hart and for any.
+    #[inline(always)]
+    fn write_here(&mut self, csr: Csr, value: u64) -> Written
+        ensures { IsWritten self.old self.new csr value result }
     {
         match Hart::standard(self.entries) {
             Some(hart) => self.write_on(hart, csr, value),
             None => self.write_on(Hart::from_number(self.entries), csr, value),
+        }
+    }
+
+    #[inline(never)]
+    fn write_apart(&mut self, csr: Csr, value: u64) -> Written
+        ensures { IsWritten self.old self.new csr value result }
+    {
+        self.write_here(csr, value)
+    }
+
+    /// Writes a register. An address register is written in place, which takes little room.
+    #[inline]
+    pub fn write(&mut self, csr: Csr, value: u64) -> Written
+        ensures { IsWritten self.old self.new csr value result }
+    {
+        match csr {
+            Csr::Addr(_) => self.write_here(csr, value),
+            _ => self.write_apart(csr, value),
         }
     }
 }

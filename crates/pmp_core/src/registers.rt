@@ -115,13 +115,23 @@ impl<'a> Registers<'a> {
         admitted.selectable(self.hart)
     }
 
+    /// The entry's configuration, but for a reserved combination of R and W, which it keeps.
+    #[inline(always)]
+    fn raw(&self, index: usize) -> Configuration
+        requires { index < length self.now.entries }
+        ensures locked { result.locked ≡ (entry_at self.now.entries index).configuration.locked }
+        ensures matching { result.matching ≡ (entry_at self.now.entries index).configuration.matching }
+    {
+        Configuration::from_byte(self.numbers.configurations[index]).selectable(self.hart)
+    }
+
     /// How the entry's address register is read.
     #[inline(always)]
     pub fn matching(&self, index: usize) -> AddressMatching
         requires { index < length self.now.entries }
         ensures { result ≡ (entry_at self.now.entries index).configuration.matching }
     {
-        self.configuration(index).matching()
+        self.raw(index).matching()
     }
 
     /// The word address that the entry's register keeps. What it reads has zeros or ones below the grain, by the
@@ -181,22 +191,13 @@ impl<'a> Registers<'a> {
         ensures { result ≡ register_value self.now csr }
     {
         match csr {
-            Csr::Cfg(register) if register % 2 == 1 => 0,
-            Csr::Cfg(register) => self.configuration_word(register),
-            Csr::Addr(register) => self.read_address(usize::from(register)),
+            Csr::Cfg(register) if register % 2 == 0 => self.configuration_word(register),
+            Csr::Addr(register) if usize::from(register) < self.count() => {
+                let index = usize::from(register);
+                self.reads(index, self.address(index))
+            }
             Csr::Mseccfg => self.fields().value(),
-        }
-    }
-
-    /// What the entry's address register reads, and zero where there is no entry.
-    #[inline(always)]
-    fn read_address(&self, index: usize) -> u64
-        ensures { result ≡ register_value self.now (Csr.Addr index) }
-    {
-        if index < self.count() {
-            self.reads(index, self.address(index))
-        } else {
-            0
+            _ => 0,
         }
     }
 
@@ -206,7 +207,7 @@ impl<'a> Registers<'a> {
         requires { index < length self.now.entries }
         ensures { result ≡ is_frozen self.now index }
     {
-        self.configuration(index).is_locked() && !self.fields().rlb
+        self.raw(index).is_locked() && !self.fields().rlb
     }
 
     /// Whether the entry and all before it are frozen. Then no write changes what they refuse, nor what they allow while
@@ -226,7 +227,7 @@ impl<'a> Registers<'a> {
     {
         if self.is_frozen(index) {
             Lock::Frozen
-        } else if self.configuration(index).is_locked() {
+        } else if self.raw(index).is_locked() {
             Lock::Bypassed
         } else {
             Lock::Open
@@ -252,7 +253,7 @@ impl<'a> Registers<'a> {
         ensures { result ≡ is_any_locked self.now.entries }
     {
         for index in 0..self.count() {
-            if self.configuration(index).is_locked() {
+            if self.raw(index).is_locked() {
                 return true;
             }
         }

@@ -1,16 +1,15 @@
 -- What a unit's tables answer.
 use Rattle.std.proofs.Common.{◌≡◌, ℕ, ◌+◌, ◌-◌, ◌*◌, ◌%◌, ◌<◌, ◌≤◌, List, length, slice_index, Option, Some, None}
-use Rattle.std.proofs.Common.{IfSome, Bool, true, false, nat_lt, drop, length-take, length-drop, refl, sym, ap, ◌∙◌, arith, inl}
+use Rattle.std.proofs.Common.{IfSome, Bool, true, false, nat_lt, refl, ap, ◌∙◌, arith, inl}
 use Rattle.std.proofs.Common.{inr}
-use Rattle.std.specs.List.{slice_range}
 use Rattle.std.proofs.lemmas.Bool.{cases_lt}
 use Rattle.std.proofs.lemmas.Bool.Decides.{nat_tests}
-use Rattle.std.proofs.lemmas.List.{get_or-take, get_or-drop}
 use Rattle.pmp_core.specs.declared.access.Access.{Access}
 use Rattle.pmp_core.specs.declared.access.Mode.{Mode}
 use Rattle.pmp_core.specs.declared.access.Mode.TheVariants.{U}
 use Rattle.pmp_core.specs.declared.access.Kind.{Kind}
 use Rattle.pmp_core.specs.declared.access.Kind.TheVariants.{Fetch, Load, Store}
+use Rattle.pmp_core.specs.declared.decision.Cause.TheVariants.{Split}
 use Rattle.pmp_core.specs.declared.decision.Decision.{Decision}
 use Rattle.pmp_core.specs.declared.access.TheConstants.{ADDRESS_LIMIT}
 use Rattle.pmp_core.specs.RegisterFile.{RegisterFile}
@@ -20,14 +19,12 @@ use Rattle.pmp_core.specs.Ranges.{decision_of}
 use Rattle.pmp_core.specs.Rights.{allows}
 use Rattle.pmp_core.proofs.Decisions.{decided_by_ranges, one_decision}
 use Rattle.pmp_core.proofs.Legal.{legal_addresses}
-use Rattle.pmp_map.specs.declared.run.Run.{Run}
 use Rattle.pmp_map.specs.declared.search.TheConstants.{PLACES}
-use Rattle.pmp_map.specs.Answers.{decision_by, refusal_by, whole_cause, owned_rights}
+use Rattle.pmp_map.specs.Answers.{decision_by, whole_cause, owned_rights}
 use Rattle.pmp_map.specs.Runs.{map_run}
 use Rattle.pmp_map.proofs.Order.{start_at, start_past, starts_rise, in_run, run_before}
 use Rattle.pmp_map.proofs.Starts.{IsPlaceOf, place_found}
-use Rattle.pmp_map.proofs.LeastOwner.{OwnsOne}
-use Rattle.pmp_map.proofs.Decided.{decided_whole, decided_split}
+use Rattle.pmp_map.proofs.DecidedRuns.{across_runs, decided_whole}
 use Rattle.pmp_map.specs.declared.tables.Tables.{Tables}
 use Rattle.pmp_map.specs.declared.tables.TheConstants.{FEW}
 use Rattle.pmp_map.specs.Answer.{cause_number, fault_number, answer_number}
@@ -76,9 +73,6 @@ row_cause file owner row is =
 pub owned_by_cause : (owner : Option ℕ) (i : ℕ) → cause_number (whole_cause owner) ≡ i → i < 512 → owner ≡ Some i
 owned_by_cause None i is low = absurd (omega arith)
 owned_by_cause (Some j) i is low = ap Some is
-
-cause_of_owner : (owner : Option ℕ) (i : ℕ) → owner ≡ Some i → cause_number (whole_cause owner) ≡ i
-cause_of_owner owner i is = ap (λ (o : Option ℕ). cause_number (whole_cause o)) is
 
 pub unowned_by_cause : (owner : Option ℕ) → IfSome owner (λ i. i < 256) → 256 ≤ cause_number (whole_cause owner)
     → owner ≡ None
@@ -161,71 +155,23 @@ module _ (file : RegisterFile) (tables : Tables) (are : AreTables file tables) w
             ))
       ]
 
-      part : List Run
-      part = slice_range are.list place (last + 1)
-
-      count : length part ≡ last + 1 - place
-      unfolding part
-      count = let within = end.inside in simp (length-take, length-drop) (omega arith)
-
-      part_run : (k : ℕ) → k < length part → map_run part k ≡ map_run are.list (place + k)
-      unfolding part
-      part_run k inside = get_or-take (last + 1 - place) (drop place are.list) k _ (omega (arith, count))
-          ∙ get_or-drop place are.list k _
-
-      module _ (least : ℕ) (is : IsLeastCause tables.rows place (last + 1) least) where
-        -- two neighbours have different owners, so one of them has one
-        low : least < 512
-        low = elim (cases_lt least 512) [
-          | inl lt ↦ lt
-          | inr high ↦
-              let rise = rises in
-              let inside = end.inside in
-              let unowned : (k : ℕ) → place ≤ k → k < last + 1 → owner_at k ≡ None =
-              λ k from to. unowned_by_cause (owner_at k) (are.rows_are k (omega arith)).number
-              (omega (arith, is.each k from to, row_cause_at k (omega arith))) in
-              absurd (are.runs_are.apart place (omega arith)
-              (unowned place (omega arith) (omega arith) ∙ sym (unowned (place + 1) (omega arith) (omega arith))))
-        ]
-
-        owns : OwnsOne ADDRESS_LIMIT part least
-        owns =
-            let inside = end.inside in
-            let one = is.one low in
-            let k = one.0 in
-            let same : place + (k - place) ≡ k = omega (arith, one.1) in
-            let within : k - place < length part = omega (arith, count, one.1, one.2) in (
-              k - place,
-              within,
-              ap (λ (run : Run). run.owner) (part_run (k - place) within) ∙ ap owner_at same
-                  ∙ owned_by_cause (owner_at k) least (sym (row_cause_at k (omega (arith, one.2))) ∙ one.3) low,
-            )
-
-        none_lower : (j : ℕ) → j < least → ¬ (OwnsOne ADDRESS_LIMIT part j)
-        none_lower j below (k, inside, owned) =
-            let within = end.inside in
-            let owned_here : owner_at (place + k) ≡ Some j =
-            sym (ap (λ (run : Run). run.owner) (part_run k inside)) ∙ owned in
-            absurd (omega (
-              arith,
-              cause_of_owner (owner_at (place + k)) j owned_here,
-              row_cause_at (place + k) (omega (arith, count)),
-              is.each (place + k) (omega arith) (omega (arith, count)),
-            ))
-
-        pub refused : 256 + least + 1024 * access_fault_code access.kind
-            ≡ answer_number access (decision_of file access)
-        refused =
-            let rise = rises in
-            let inside = end.inside in
-            ap (answer_number access) (computed access (refusal_by (Some least))
-            (decided_split file access are.list part place last are.runs_are
-            (record {
-              several = rise;
-              inside = inside;
-              first = at.here;
-              last = end.here;
-              count = count;
-              runs_are = part_run;
-            })
-            (Some least) (owns, none_lower)))
+      -- the least cause is the number of the least owner
+      pub refused : (least : ℕ) → IsLeastCause tables.rows place (last + 1) least
+          → 256 + least + 1024 * access_fault_code access.kind ≡ answer_number access (decision_of file access)
+      refused least is =
+          let within = end.inside in
+          let found = across_runs file are.list are.runs_are place last rises within access at.here end.here in
+          let (k, from, to, owned) = found.1.0 in
+          let cause = rw owned at (row_cause_at k (omega arith)) in
+          let small : found.0 < 256 = rw owned at (are.rows_are k (omega arith)).number in
+          let most = is.each k from (omega arith) in
+          let (n, first, end, cause_is) = is.one (omega arith) in
+          let same : least ≡ found.0 = elim (cases_lt least found.0) [
+            | inl lower ↦
+                let owns = owned_by_cause (owner_at n) least (omega (arith, row_cause_at n (omega arith)))
+                (omega arith) in
+                absurd (found.1.1 least lower (n, first, omega arith, owns))
+            | inr le ↦ omega arith
+          ] in
+          rw same (ap (answer_number access)
+          (computed access (record { allowed = false; cause = Split found.0 }) found.2))

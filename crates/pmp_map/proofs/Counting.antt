@@ -1,7 +1,6 @@
 -- The place of a byte among six that lie a stride apart, by counting those whose start is at or below it.
-use Rattle.std.proofs.Common.{◌≡◌, ℕ, ◌+◌, ◌*◌, ◌<◌, ◌≤◌, List, slice_index, inl, inr, arith}
-use Rattle.std.proofs.Math.Nat.{mul-le-mul_left, mul-suc}
-use Rattle.std.proofs.lemmas.Bool.{cases_lt}
+use Rattle.std.proofs.Common.{◌≡◌, ℕ, ◌+◌, ◌*◌, ◌<◌, ◌≤◌, List, slice_index, arith, rules}
+use Rattle.std.proofs.Math.Nat.{mul-le-mul_left}
 use Rattle.pmp_map.specs.declared.search.TheConstants.{PLACES}
 use Rattle.pmp_map.specs.Search.{IsRising, IsBetween}
 
@@ -28,47 +27,17 @@ module _ (starts : List ℕ) (byte low stride : ℕ) (inside : low + 6 * stride 
     pub to : count < n → byte < start_of (count + 1)
 
   starts_rise : (i j : ℕ) → i ≤ j → j ≤ 5 → start_of i ≤ start_of j
-  starts_rise i j ordered few = rising (low + stride * i) (low + stride * j)
-      (omega (arith, mul-le-mul_left stride ordered))
-      (omega (arith, mul-le-mul_left stride few, inside))
+  starts_rise i j ordered few = search (rules, mul-le-mul_left)
 
   none_yet : Reached 0 0
-  none_yet =
-      let same : low + stride * 0 ≡ low = omega arith in
-      record { most = omega arith; from = rw same between.0; to = λ less. absurd (omega arith) }
+  none_yet = search rules
 
   one_more : (n count passed : ℕ) → n < 5 → Reached n count → Passed (start_of (n + 1)) byte passed
       → Reached (n + 1) (count + passed)
-  one_more n count passed few so_far test = elim (cases_lt byte (start_of (n + 1))) [
-    | inl below ↦ let same : count + passed ≡ count = omega (arith, test.below below) in
-        rw same (record {
-          most = omega (arith, so_far.most);
-          from = so_far.from;
-          to = λ less. elim (cases_lt count n) [
-            | inl lt ↦ so_far.to lt
-            | inr le ↦ let last : count ≡ n = omega (arith, so_far.most) in rw last below
-          ];
-        })
-    | inr from ↦ elim (cases_lt count n) [
-      | inl lt ↦ absurd (omega (arith, so_far.to lt, from, starts_rise (count + 1) (n + 1) (omega arith) (omega arith)))
-      | inr le ↦ let next : count + passed ≡ n + 1 = omega (arith, test.from from, so_far.most) in
-          rw next (record { most = omega arith; from = from; to = λ less. absurd (omega arith) })
-    ]
-  ]
+  one_more n count passed few so_far test = search (rules, starts_rise)
 
   all_tested : (count : ℕ) → Reached 5 count → IsBetween starts byte (low + stride * count) stride
-  all_tested count done = (
-    done.from,
-    elim (cases_lt count 5) [
-      | inl lt ↦ let next : low + stride * count + stride ≡ low + stride * (count + 1) = omega (
-        arith,
-        mul-suc stride count,
-      ) in rw next (done.to lt)
-      | inr le ↦ let last : count ≡ 5 = omega (arith, done.most) in
-          let next : low + stride * count + stride ≡ low + 6 * stride = rw last (omega arith) in
-          rw next between.1
-    ],
-  )
+  all_tested count done = search rules
 
   pub counted : (a b c d e : ℕ) → Passed (slice_index starts (low + stride)) byte a
       → Passed (slice_index starts (low + 2 * stride)) byte b → Passed (slice_index starts (low + 3 * stride)) byte c

@@ -1,10 +1,9 @@
 -- How far the owner of a byte goes.
-use Rattle.std.proofs.Common.{◌≡◌, ℕ, ◌+◌, ◌-◌, ◌<◌, ◌≤◌, ◌↔◌, length, Option, Some, None, max, min, arith, inl}
-use Rattle.std.proofs.Common.{inr}
+use Rattle.std.proofs.Common.{◌≡◌, ℕ, ◌+◌, ◌-◌, ◌<◌, ◌≤◌, ◌↔◌, length, Option, Some, None, max, min, arith, inl, inr}
+use Rattle.std.proofs.Common.{rules}
 use Rattle.std.proofs.lemmas.Bool.{cases_lt}
 use Rattle.pmp_core.specs.declared.access.TheConstants.{ADDRESS_LIMIT}
 use Rattle.pmp_core.specs.Decision.{IsLeast, IsOwner}
-use Rattle.pmp_core.specs.Matching.{Matches}
 use Rattle.pmp_core.specs.declared.range.ByteRange.{ByteRange}
 use Rattle.pmp_core.specs.Ranges.{IsInRange, range_of}
 use Rattle.pmp_core.specs.RegisterFile.{HasAddresses, RegisterFile}
@@ -15,20 +14,15 @@ use Rattle.pmp_map.specs.Runs.{IsRunAround}
 
 -- the least of the same numbers
 pub least_alike : (P Q : ℕ → Type 0) (least : Option ℕ) → ((i : ℕ) → P i ↔ Q i) → IsLeast P least → IsLeast Q least
-least_alike P Q None same none = λ i q. none i ((same i).1 q)
-least_alike P Q (Some i) same least = ((same i).0 least.0, λ j below q. least.1 j below ((same j).1 q))
+least_alike P Q least same is = search rules
 
 pub owner_by_entries : (file : RegisterFile) → HasAddresses file → (byte : ℕ) (owner : Option ℕ)
     → IsOwnerIn file byte owner → IsOwner file byte owner
-owner_by_entries file small byte owner =
-    least_alike (λ i. IsInRange (range_of file i) byte) (λ i. Matches file i byte) owner
-    (λ i. let same = matches_range file i byte small in (same.1, same.0))
+owner_by_entries file small byte owner = search (rules, matches_range)
 
 pub owner_by_ranges : (file : RegisterFile) → HasAddresses file → (byte : ℕ) (owner : Option ℕ)
     → IsOwner file byte owner → IsOwnerIn file byte owner
-owner_by_ranges file small byte owner =
-    least_alike (λ i. Matches file i byte) (λ i. IsInRange (range_of file i) byte) owner
-    (λ i. matches_range file i byte small)
+owner_by_ranges file small byte owner = search (rules, least_alike, matches_range)
 
 -- the bytes from `first` up to `end` have this owner
 abbrev pub OwnsBytes : RegisterFile → (first end : ℕ) → Option ℕ → Type 0
@@ -47,14 +41,6 @@ module _ (file : RegisterFile) (first : ℕ) where
     pub bounded : end ≤ ADDRESS_LIMIT
     pub clear : (i byte : ℕ) → i < index → first ≤ byte → byte < end → ¬ (Has i byte)
     pub apart : end < ADDRESS_LIMIT → (i : ℕ) × (i < index) × Has i end
-
-  pub none_swept : first < ADDRESS_LIMIT → Swept 0 ADDRESS_LIMIT
-  none_swept small = record {
-    above = small;
-    bounded = omega arith;
-    clear = λ i byte below. absurd (omega arith);
-    apart = λ less. absurd (omega arith);
-  }
 
   -- one range more, which doesn't have `first`
   pub one_more_swept : (index end next : ℕ) → Swept index end → ¬ (Has index first) → first < next → next ≤ end
@@ -83,13 +69,6 @@ module _ (file : RegisterFile) (byte : ℕ) where
     pub clear : (i other : ℕ) → i < index → first ≤ other → other ≤ byte → ¬ (Has file byte i other)
     pub apart : 0 < first → (i : ℕ) × (i < index) × Has file byte i (first - 1)
 
-  pub none_swept_down : SweptDown 0 0
-  none_swept_down = record {
-    below = omega arith;
-    clear = λ i other below. absurd (omega arith);
-    apart = λ some. absurd (omega arith);
-  }
-
   pub one_more_swept_down : (index first next : ℕ) → SweptDown index first → ¬ (Has file byte index byte)
       → first ≤ next → next ≤ byte
       → ((other : ℕ) → next ≤ other → other ≤ byte → Has file byte index other → Has file byte index byte)
@@ -108,11 +87,6 @@ module _ (file : RegisterFile) (byte : ℕ) where
           (found.0, omega (arith, found.1), moved file byte found.0 (next - 1) (first - 1) kept found.2)
     ];
   }
-
-  -- what ranges before `index` have, one of which has the byte at `at`, isn't that of `index`
-  pub taken_before : (index at : ℕ) → ((i : ℕ) × (i < index) × Has file byte i at)
-      → ¬ (IsOwnerIn file at (Some index))
-  taken_before index at one owned = owned.1 one.0 one.1 one.2
 
   pub taken : (index at : ℕ) → ((i : ℕ) × (i < index) × Has file byte i at) → ¬ (IsOwnerIn file at None)
   taken index at one none = none one.0 one.2
@@ -140,21 +114,11 @@ module _ (file : RegisterFile) (byte : ℕ) where
     -- the byte before isn't the owner's: the owner's range begins here, or a range before it ends
     pub not_before : Has file byte index byte → (low : ℕ) → low ≡ max first (range_of file index).start → 0 < low
         → ¬ (IsOwnerIn file (low - 1) (Some index))
-    not_before has low is_low some owned = elim (cases_lt (range_of file index).start low) [
-      | inl inside ↦
-          let here : low ≡ first = omega (arith, is_low) in
-          taken_before index (low - 1) (rw (← here) at (down.apart (omega arith))) owned
-      | inr begins ↦ let from = owned.0.0 in omega arith
-    ]
+    not_before has low is_low some owned = search rules
 
     pub not_after : Has file byte index byte → (high : ℕ) → high ≡ min end (range_of file index).end
         → high < ADDRESS_LIMIT → ¬ (IsOwnerIn file high (Some index))
-    not_after has high is_high less owned = elim (cases_lt high (range_of file index).end) [
-      | inl inside ↦
-          let here : high ≡ end = omega (arith, is_high) in
-          taken_before index high (rw (← here) at (up.apart (omega arith))) owned
-      | inr ends ↦ let to = owned.0.1 in omega arith
-    ]
+    not_after has high is_high less owned = search rules
 
 -- the range of entry `index`
 module _ (file : RegisterFile) (byte index : ℕ) (range : ByteRange) (is : range ≡ range_of file index)

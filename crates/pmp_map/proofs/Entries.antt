@@ -1,63 +1,48 @@
 -- Owners by entries and by their ranges.
-use Rattle.std.proofs.Common.{◌≡◌, ℕ, ◌+◌, ◌*◌, ◌<◌, ◌≤◌, Bool, List, length, Option, Some, None, sym, ◌∙◌, arith}
-use Rattle.std.proofs.Common.{inl, inr}
+use Rattle.std.proofs.Common.{◌≡◌, ℕ, ◌+◌, ◌*◌, ◌<◌, ◌≤◌, Bool, List, length, Option, arith}
+use Rattle.std.proofs.Common.{rules}
 use Rattle.std.specs.Prelude.{IfSome}
-use Rattle.std.proofs.lemmas.Bool.{cases_lt}
 use Rattle.std.proofs.lemmas.List.{get_or_past}
 use Rattle.std.proofs.lemmas.List.Elements.{All-from_get_or}
 use Rattle.pmp_core.specs.declared.access.TheConstants.{ADDRESS_LIMIT}
 use Rattle.pmp_core.specs.declared.access.Access.{Access}
 use Rattle.pmp_core.specs.declared.decision.Cause.{Cause}
-use Rattle.pmp_core.specs.declared.decision.Cause.TheVariants.{Rule, Split, NoMatch}
-use Rattle.pmp_core.specs.Decision.{IsDecisionBy, IsOwner, Touches}
-use Rattle.pmp_core.specs.RegisterFile.{RegisterFile, HasAddresses, IsLegal, reset_entry}
+use Rattle.pmp_core.specs.Matching.{Matches}
+use Rattle.pmp_core.specs.Decision.{IsDecisionBy, IsOwner}
+use Rattle.pmp_core.specs.RegisterFile.{RegisterFile, HasAddresses, IsLegal}
 use Rattle.pmp_core.specs.Ranges.{IsInRange, decision_of, range_in, range_of, ranges_of}
 use Rattle.pmp_core.proofs.Decisions.{decided_by_ranges}
 use Rattle.pmp_core.proofs.Legal.{legal_addresses}
 use Rattle.pmp_core.proofs.Matches.{range_past}
-use Rattle.pmp_core.proofs.Places.{length-ranges_of, no_range, range_at}
+use Rattle.pmp_core.proofs.Places.{length-ranges_of, range_at}
 use Rattle.pmp_map.specs.declared.run.Run.{Run}
 use Rattle.pmp_map.specs.AnswerLaw.{IsByteCause}
 use Rattle.pmp_map.specs.Runs.{AreRuns, HasOwnersBelow, map_run}
 use Rattle.pmp_map.proofs.CutFacts.{least_alike, owner_by_ranges}
 use Rattle.pmp_map.proofs.FewRuns.{few_runs}
 
--- only an entry that there is owns a byte
+-- only an entry that there is matches a byte, and so owns it
+matched_below : (file : RegisterFile) (i byte : ℕ) → Matches file i byte → i < length file.entries
+matched_below file i byte matched = search (rules, get_or_past)
+
 pub owner_below : (file : RegisterFile) (byte : ℕ) (owner : Option ℕ) → IsOwner file byte owner
     → IfSome owner (λ i. i < length file.entries)
-owner_below file byte None owned = tt
-owner_below file byte (Some i) owned = elim (cases_lt i (length file.entries)) [
-  | inl lt ↦ lt
-  | inr past ↦ let matched = owned.0 in absurd (rw (get_or_past file.entries i reset_entry past) at matched)
-]
+owner_below file byte owner owned = search (rules, matched_below file)
 
 -- ---- a decision's entry
 
 module _ (file : RegisterFile) (access : Access) where
-  touched_below : (i : ℕ) → Touches file access i → i < length file.entries
-  touched_below i touches = elim (cases_lt i (length file.entries)) [
-    | inl lt ↦ lt
-    | inr past ↦ let matched = touches.2 in absurd (rw (get_or_past file.entries i reset_entry past) at matched)
-  ]
-
   byte_cause_by : length file.entries ≤ 256 → (allowed : Bool) (cause : Cause) → IsDecisionBy file access allowed cause
       → IsByteCause cause
-  byte_cause_by few allowed (Rule i) is = omega (arith, touched_below i is.0.0)
-  byte_cause_by few allowed (Split i) is = omega (arith, touched_below i is.0.0)
-  byte_cause_by few allowed NoMatch is = tt
+  byte_cause_by few allowed cause is = search (rules, matched_below file)
 
   pub byte_cause : IsLegal file → IsByteCause (decision_of file access).cause
-  byte_cause legal = byte_cause_by (omega (arith, legal.count, legal.profile.few)) (decision_of file access).allowed
-      (decision_of file access).cause (decided_by_ranges file access (legal_addresses file legal))
+  byte_cause legal = search (rules, byte_cause_by, decided_by_ranges, legal_addresses)
 
 -- ---- few runs
 
 listed : (file : RegisterFile) (i : ℕ) → range_of file i ≡ range_in (ranges_of file) i
-listed file i = elim (cases_lt i (length file.entries)) [
-  | inl inside ↦ sym (range_at file.profile file.entries i inside)
-  | inr past ↦ range_past file i past
-      ∙ sym (get_or_past (ranges_of file) i no_range (omega (arith, length-ranges_of file.profile file.entries)))
-]
+listed file i = search (rules, get_or_past, range_past, length-ranges_of, range_at)
 
 pub few_runs_of_entries : (file : RegisterFile) (runs : List Run) → HasAddresses file → AreRuns file runs
     → length runs ≤ 2 * length file.entries + 1

@@ -1,7 +1,8 @@
 -- Owners change at cuts, the ends of ranges, of which each range has two. So there are few runs.
 use Rattle.std.proofs.Common.{◌≡◌, ◌≢◌, ℕ, zero, suc, ◌+◌, ◌-◌, ◌*◌, ◌<◌, ◌≤◌, ◌⊎◌, cond, List, [], ◌∷◌, length, Option}
-use Rattle.std.proofs.Common.{Some, None, nat_le, refl, ap, arith, add-one, inl, inr}
-use Rattle.std.proofs.lemmas.Bool.{cases_lt, le-leb, lt-leb}
+use Rattle.std.proofs.Common.{Some, None, nat_le, refl, ap, arith, add-one, inl, inr, rules}
+use Rattle.std.proofs.lemmas.Bool.Decides.{nat_tests}
+use Rattle.std.proofs.lemmas.Bool.{cases_lt}
 use Rattle.pmp_core.specs.declared.range.ByteRange.{ByteRange}
 use Rattle.pmp_core.specs.Decision.{IsLeast}
 use Rattle.pmp_core.specs.Ranges.{IsInRange, range_in}
@@ -20,16 +21,10 @@ IsCut range at = (range.start ≡ at) ⊎ (range.end ≡ at)
 
 entered : (range : ByteRange) (byte : ℕ) → ¬ (IsInRange range byte) → IsInRange range (byte + 1)
     → IsCut range (byte + 1)
-entered range byte out inside = elim (cases_lt byte range.start) [
-  | inl before ↦ inl (omega (arith, inside.0))
-  | inr after ↦ absurd (out (after, omega (arith, inside.1)))
-]
+entered range byte out inside = search rules
 
 left : (range : ByteRange) (byte : ℕ) → IsInRange range byte → ¬ (IsInRange range (byte + 1)) → IsCut range (byte + 1)
-left range byte inside out = elim (cases_lt (byte + 1) range.end) [
-  | inl before ↦ absurd (out (omega (arith, inside.0), before))
-  | inr after ↦ inr (omega (arith, inside.1))
-]
+left range byte inside out = search rules
 
 module _ (ranges : List ByteRange) (byte : ℕ) where
   changed : (one other : Option ℕ) → IsOwnerAmong ranges byte one → IsOwnerAmong ranges (byte + 1) other → one ≢ other
@@ -48,7 +43,7 @@ module _ (ranges : List ByteRange) (byte : ℕ) where
 -- ---- how many cuts there are
 
 -- whether the cut is at or below the byte
-passed : (byte cut : ℕ) → ℕ
+abbrev passed : (byte cut : ℕ) → ℕ
 passed byte cut = cond (nat_le cut byte) 1 0
 
 -- how many ends of ranges are
@@ -56,78 +51,24 @@ cuts_passed : (byte : ℕ) → List ByteRange → ℕ
 cuts_passed byte [] = 0
 cuts_passed byte (range ∷ ranges) = passed byte range.start + passed byte range.end + cuts_passed byte ranges
 
-passed_one : (byte cut : ℕ) → cut ≤ byte → passed byte cut ≡ 1
-unfolding passed
-passed_one byte cut below = rw (le-leb cut byte below) refl
-
-passed_none : (byte cut : ℕ) → byte < cut → passed byte cut ≡ 0
-unfolding passed
-passed_none byte cut above = rw (lt-leb cut byte above) refl
-
-passed_rises : (byte later cut : ℕ) → byte ≤ later → (passed byte cut ≤ passed later cut) × (passed later cut ≤ 1)
-passed_rises byte later cut after = elim (cases_lt later cut) [
-  | inl before ↦ (omega (arith, passed_none byte cut (omega arith)), omega (arith, passed_none later cut before))
-  | inr reached ↦ elim (cases_lt byte cut) [
-    | inl before ↦ (omega (arith, passed_none byte cut before), omega (arith, passed_one later cut reached))
-    | inr sooner ↦ (
-      omega (arith, passed_one byte cut sooner, passed_one later cut reached),
-      omega (arith, passed_one later cut reached),
-    )
-  ]
-]
-
 cuts_at_most : (byte : ℕ) (ranges : List ByteRange) → cuts_passed byte ranges ≤ 2 * length ranges
 unfolding cuts_passed
 cuts_at_most byte [] = omega arith
-cuts_at_most byte (range ∷ ranges) =
-    omega (
-      arith,
-      cuts_at_most byte ranges,
-      (passed_rises byte byte range.start (omega arith)).1,
-      (passed_rises byte byte range.end (omega arith)).1,
-    )
+cuts_at_most byte (range ∷ ranges) = grind (arith, nat_tests, cuts_at_most byte ranges)
 
 cuts_rise : (byte later : ℕ) (ranges : List ByteRange) → byte ≤ later
     → cuts_passed byte ranges ≤ cuts_passed later ranges
 unfolding cuts_passed
 cuts_rise byte later [] after = omega arith
-cuts_rise byte later (range ∷ ranges) after =
-    omega (
-      arith,
-      cuts_rise byte later ranges after,
-      (passed_rises byte later range.start after).0,
-      (passed_rises byte later range.end after).0,
-    )
+cuts_rise byte later (range ∷ ranges) after = grind (arith, nat_tests, cuts_rise byte later ranges)
 
 -- one more is passed at a cut
 one_more : (byte later : ℕ) (ranges : List ByteRange) (i : ℕ) → byte < later → IsCut (range_in ranges i) later
     → cuts_passed byte ranges + 1 ≤ cuts_passed later ranges
 unfolding cuts_passed
-one_more byte later [] i after (inl at) = absurd (omega arith)
-one_more byte later [] i after (inr at) = absurd (omega arith)
-one_more byte later (range ∷ ranges) zero after (inl at) =
-    omega (
-      arith,
-      cuts_rise byte later ranges (omega arith),
-      passed_none byte range.start (omega arith),
-      passed_one later range.start (omega arith),
-      (passed_rises byte later range.end (omega arith)).0,
-    )
-one_more byte later (range ∷ ranges) zero after (inr at) =
-    omega (
-      arith,
-      cuts_rise byte later ranges (omega arith),
-      passed_none byte range.end (omega arith),
-      passed_one later range.end (omega arith),
-      (passed_rises byte later range.start (omega arith)).0,
-    )
-one_more byte later (range ∷ ranges) (suc i) after at =
-    omega (
-      arith,
-      one_more byte later ranges i after at,
-      (passed_rises byte later range.start (omega arith)).0,
-      (passed_rises byte later range.end (omega arith)).0,
-    )
+one_more byte later [] i after at = search rules
+one_more byte later (range ∷ ranges) zero after at = grind (arith, nat_tests, cuts_rise byte later ranges)
+one_more byte later (range ∷ ranges) (suc i) after at = grind (arith, nat_tests, one_more byte later ranges i after at)
 
 -- ---- each run but the first begins at a cut
 

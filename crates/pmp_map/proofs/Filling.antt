@@ -1,6 +1,6 @@
 -- Tables that are filled run by run.
 use Rattle.std.proofs.Common.{◌≡◌, ◌≢◌, ℕ, ◌+◌, ◌-◌, ◌<◌, ◌≤◌, List, [], ◌∷◌, ◌++◌, length, slice_index}
-use Rattle.std.proofs.Common.{get_or-set_other, get_or-set_same, length-set, refl, sym, ap, ◌∙◌, arith, inl, inr}
+use Rattle.std.proofs.Common.{get_or-set_other, get_or-set_same, length-set, refl, sym, ap, ◌∙◌, arith, inl, inr, rules}
 use Rattle.std.proofs.Math.ListN.{set}
 use Rattle.std.proofs.lemmas.Bool.{cases_lt}
 use Rattle.pmp_core.specs.declared.access.TheConstants.{ADDRESS_LIMIT}
@@ -21,24 +21,7 @@ use Rattle.pmp_map.proofs.Pushes.{IsNextRun, pushed, last_pushed, length_pushed,
 pub none_swept : (file : RegisterFile) (starts : List ℕ) (rows : List (List ℕ)) (cuts : List Cut)
     → length starts ≡ PLACES → length rows ≡ PLACES → AreUp (IsOwner file) cuts → start_of cuts ≡ 0
     → length cuts ≤ RUNS → IsSweptTo file starts rows cuts 0
-none_swept file starts rows cuts long wide up begins few = record {
-  up = up;
-  list = [];
-  runs_are = record {
-    begins = begins;
-    proper = λ k inside. absurd (omega arith);
-    gapless = λ k inside. absurd (omega arith);
-    owned = λ k byte inside. absurd (omega arith);
-    apart = λ k inside. absurd (omega arith);
-  };
-  apart = λ k last. absurd (omega arith);
-  count = refl;
-  room = omega arith;
-  starts_are = λ k below. absurd (omega arith);
-  rows_are = λ k below. absurd (omega arith);
-  long = long;
-  wide = wide;
-}
+none_swept file starts rows cuts long wide up begins few = search rules
 
 module _ (file : RegisterFile) (starts : List ℕ) (rows : List (List ℕ)) (cut : Cut) (cuts : List Cut) (place : ℕ)
     (swept : IsSweptTo file starts rows (cut ∷ cuts) place) (row : List ℕ) (is : IsRow file cut.owner row) where

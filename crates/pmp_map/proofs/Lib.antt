@@ -6,8 +6,6 @@ pub mod FewRuns
 pub mod Entries
 pub mod Painted
 pub mod Pushes
-pub mod LeastOwner
-pub mod Decided
 pub mod DecidedRuns
 pub mod Starts
 pub mod KeptRights

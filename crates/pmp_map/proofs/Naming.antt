@@ -1,5 +1,5 @@
 -- Numbers name one access.
-use Rattle.std.proofs.Common.{◌≡◌, ◌≢◌, ℕ, zero, suc, ◌+◌, ◌<◌, ◌≤◌, refl, sym, ap, ◌∙◌, subst, arith}
+use Rattle.std.proofs.Common.{◌≡◌, ℕ, ◌+◌, ◌<◌, ◌≤◌, refl, sym, ap, ◌∙◌, subst, arith}
 use Rattle.std.proofs.Math.Bridge.{le_prop}
 use Rattle.pmp_core.specs.declared.access.Access.{Access}
 use Rattle.pmp_core.specs.declared.access.Mode.{Mode}
@@ -80,41 +80,3 @@ named_once one other mode kind start length p q = same_numbers one other
     (mode_once one.mode other.mode (p.mode_is ∙ sym q.mode_is))
     (kind_once one.kind other.kind (p.kind_is ∙ sym q.kind_is))
     (p.start_is ∙ sym q.start_is) (p.length_is ∙ sym q.length_is)
-
--- accesses of the same numbers have the same answer
-pub named_alike : (answer : Access → ℕ) (one other : Access) (mode kind start length : ℕ)
-    → IsNamed one mode kind start length → IsNamed other mode kind start length → answer one ≡ answer other
-named_alike answer one other mode kind start length p q = ap answer (named_once one other mode kind start length p q)
-
--- ---- numbers that an access has
-
-pub mode_with : (n : ℕ) → n ≤ 3 → n ≢ 2 → (mode : Mode) × (mode_number mode ≡ n)
-mode_with zero few other = (U, refl)
-mode_with (suc zero) few other = (S, refl)
-mode_with (suc (suc zero)) few other = absurd (other refl)
-mode_with (suc (suc (suc zero))) few other = (M, refl)
-mode_with (suc (suc (suc (suc n)))) few other = absurd (omega arith)
-
-kind_with : (n : ℕ) → n ≤ 2 → (kind : Kind) × (kind_number kind ≡ n)
-kind_with zero few = (Fetch, refl)
-kind_with (suc zero) few = (Load, refl)
-kind_with (suc (suc zero)) few = (Store, refl)
-kind_with (suc (suc (suc n))) few = absurd (omega arith)
-
-pub named_some : (mode kind start length : ℕ) → mode ≤ 3 → mode ≢ 2 → kind ≤ 2 → length ≢ 0 → length ≤ MAX_LENGTH
-    → start + length ≤ ADDRESS_LIMIT → (access : Access) × IsNamed access mode kind start length
-named_some mode kind start length level other known full few ends =
-    let m = mode_with mode level other in
-    let k = kind_with kind known in
-    let some : 0 < length = omega arith in (
-      record {
-        mode = m.0;
-        kind = k.0;
-        start = start;
-        length = length;
-        not_empty = some;
-        not_long = few;
-        inside = ends;
-      },
-      record { mode_is = m.1; kind_is = k.1; start_is = refl; length_is = refl },
-    )

@@ -1,6 +1,6 @@
 -- Where each byte has one owner, there is one list of runs.
 use Rattle.std.proofs.Common.{◌≡◌, ℕ, zero, suc, ◌+◌, ◌<◌, ◌≤◌, List, length, Option, sym, ap, ◌∙◌, arith, add-one, inl}
-use Rattle.std.proofs.Common.{inr}
+use Rattle.std.proofs.Common.{inr, rules}
 use Rattle.std.proofs.lemmas.Bool.{cases_lt}
 use Rattle.std.proofs.lemmas.List.{get_or_default, same_lists}
 use Rattle.pmp_core.specs.RegisterFile.{RegisterFile}
@@ -12,15 +12,10 @@ use Rattle.pmp_map.specs.declared.run.Run.{Run}
 use Rattle.pmp_map.specs.Runs.{run_at, AreRunsTo, AreRuns}
 use Rattle.pmp_map.proofs.Order.{start_at, start_past, starts_rise, start_below}
 
-abbrev run_of : (first last : ℕ) → Option ℕ → Run
-run_of first last owner = record { first = first; last = last; owner = owner }
-
 -- two runs of the same fields
 same_fields : (run other : Run) → run.first ≡ other.first → run.last ≡ other.last → run.owner ≡ other.owner
     → run ≡ other
-same_fields run other first last owner =
-    ap (λ (n : ℕ). run_of n run.last run.owner) first ∙ ap (λ (n : ℕ). run_of other.first n run.owner) last
-    ∙ ap (run_of other.first other.last) owner
+same_fields run other first last owner = search rules
 
 module _ (to : ℕ) (Owns : ℕ → Option ℕ → Type 0) (once : (byte : ℕ) (one other : Option ℕ) → Owns byte one
     → Owns byte other → one ≡ other) where
@@ -83,10 +78,7 @@ module _ (to : ℕ) (Owns : ℕ → Option ℕ → Type 0) (once : (byte : ℕ) 
     ]
 
   same_length : (one other : List Run) → AreRunsTo to Owns one → AreRunsTo to Owns other → length one ≡ length other
-  same_length one other p q = elim (cases_lt (length one) (length other)) [
-    | inl short ↦ omega (arith, not_longer one other p q (omega arith))
-    | inr long ↦ omega (arith, not_longer other one q p long)
-  ]
+  same_length one other p q = search (rules, not_longer)
 
   one_list : (one other : List Run) → AreRunsTo to Owns one → AreRunsTo to Owns other → one ≡ other
   one_list one other p q =

@@ -1,15 +1,13 @@
 -- How owners answer for their bytes, and what a hold keeps closed.
-use Rattle.std.proofs.Common.{◌≡◌, ◌<◌, ℕ, Bool, true, false, List, Option, Some, None, length, fold, refl, sym}
-use Rattle.std.proofs.Common.{ap, ◌∙◌, arith, get_or}
+use Rattle.std.proofs.Common.{◌≡◌, ◌<◌, ℕ, Bool, true, false, List, Option, Some, None, length, fold, refl, sym, ap}
+use Rattle.std.proofs.Common.{◌∙◌, arith, get_or, rules}
 use Rattle.std.specs.List.{list_all, range_with_len}
 use Rattle.std.proofs.lemmas.Bool.{false≢true}
 use Rattle.std.proofs.lemmas.List.FromFn.{get_or-range_with_len, length-range_with_len}
 use Rattle.std.proofs.lemmas.List.Sums.{AllPass-from_list_all}
 use Rattle.pmp_core.specs.declared.access.Access.{Access}
 use Rattle.pmp_core.specs.declared.access.Kind.{Kind}
-use Rattle.pmp_core.specs.declared.access.Kind.TheVariants.{Fetch, Load, Store}
 use Rattle.pmp_core.specs.declared.access.Mode.{Mode}
-use Rattle.pmp_core.specs.declared.access.Mode.TheVariants.{M, S, U}
 use Rattle.pmp_core.specs.declared.access.TheConstants.{ADDRESS_LIMIT}
 use Rattle.pmp_core.specs.declared.decision.Decision.{Decision}
 use Rattle.pmp_core.specs.declared.event.Event.{Event}
@@ -20,7 +18,7 @@ use Rattle.pmp_core.specs.Matching.{Matches}
 use Rattle.pmp_core.specs.ProtectionLaw.{ProtectedLaw}
 use Rattle.pmp_core.specs.RegisterFile.{RegisterFile, IsLegal, is_frozen}
 use Rattle.pmp_core.specs.RegisterWrite.{step}
-use Rattle.pmp_core.specs.Rights.{allows, machine_default, default_rights_by, has_entries}
+use Rattle.pmp_core.specs.Rights.{allows, default_rights_by, has_entries}
 use Rattle.pmp_core.proofs.Decisions.{one_decision}
 use Rattle.pmp_core.proofs.Sticky.{length-writes}
 use Rattle.pmp_core.proofs.Locks.{lock_law}
@@ -28,7 +26,6 @@ use Rattle.pmp_core.proofs.Sticky.{sticky_law}
 use Rattle.pmp_map.specs.Answers.{decision_by, owned_rights}
 use Rattle.pmp_map.specs.OpenBytes.{IsAnswered, holds}
 use Rattle.pmp_map.specs.OpenBytesLaw.{HeldByteLaw, OneAnswerLaw, OpenByteLaw}
-use Rattle.pmp_map.proofs.Decided.{decided_whole}
 
 -- the access of one byte
 abbrev byte_access : (mode : Mode) (kind : Kind) (byte : ℕ) → byte < ADDRESS_LIMIT → Access
@@ -46,9 +43,7 @@ byte_access mode kind byte inside = record {
 pub decided_by_owner : (file : RegisterFile) (access : Access) (mode : Mode) (kind : Kind) (byte : ℕ) (owner : Option ℕ)
     → IsAccess access mode kind byte 1 → IsOwner file byte owner
     → IsDecision file access (decision_by file owner access)
-decided_by_owner file access mode kind byte owner is owned =
-    decided_whole file access owner (λ other inside.
-    let same : other ≡ byte = omega (arith, is.start_is, is.length_is, inside.0, inside.1) in rw same owned)
+decided_by_owner file access mode kind byte owner is owned = search rules
 
 pub open_byte : OpenByteLaw
 open_byte file byte owner mode kind inside owned =
@@ -68,32 +63,12 @@ answer_by_owner file byte owner allowed mode kind owned (access, decision, is, d
 
 -- ---- holds
 
--- what the default refuses machine mode it still refuses where more of MML and MMWP are set
-fewer_for_machine : (mml mmwp mml_later mmwp_later : Bool) → (mml ≡ true → mml_later ≡ true)
-    → (mmwp ≡ true → mmwp_later ≡ true) → (kind : Kind) → allows (machine_default mml mmwp) kind ≡ false
-    → allows (machine_default mml_later mmwp_later) kind ≡ false
-fewer_for_machine mml mmwp true true up stays Load closed = refl
-fewer_for_machine mml mmwp true true up stays Store closed = refl
-fewer_for_machine mml mmwp true true up stays Fetch closed = refl
-fewer_for_machine mml mmwp false true up stays Load closed = refl
-fewer_for_machine mml mmwp false true up stays Store closed = refl
-fewer_for_machine mml mmwp false true up stays Fetch closed = refl
-fewer_for_machine mml true mml_later false up stays kind closed = absurd (false≢true (stays refl))
-fewer_for_machine true false false false up stays kind closed = absurd (false≢true (up refl))
-fewer_for_machine true false true false up stays kind closed = closed
-fewer_for_machine false false false false up stays kind closed = closed
-fewer_for_machine false false true false up stays Load closed = closed
-fewer_for_machine false false true false up stays Store closed = closed
-fewer_for_machine false false true false up stays Fetch closed = refl
-
+-- what the default refuses it still refuses where more of MML and MMWP are set
 fewer_by_default : (some mml mmwp mml_later mmwp_later : Bool) → (mml ≡ true → mml_later ≡ true)
     → (mmwp ≡ true → mmwp_later ≡ true) → (mode : Mode) (kind : Kind)
     → allows (default_rights_by some mml mmwp mode) kind ≡ false
     → allows (default_rights_by some mml_later mmwp_later mode) kind ≡ false
-fewer_by_default some mml mmwp mml_later mmwp_later up stays M kind closed =
-    fewer_for_machine mml mmwp mml_later mmwp_later up stays kind closed
-fewer_by_default some mml mmwp mml_later mmwp_later up stays S kind closed = closed
-fewer_by_default some mml mmwp mml_later mmwp_later up stays U kind closed = closed
+fewer_by_default some mml mmwp mml_later mmwp_later up stays mode kind closed = search rules
 
 module _ (entry_inside : (file : RegisterFile) (i byte : ℕ) → Matches file i byte → i < length file.entries)
     (file : RegisterFile) (events : List Event) (writes : list_all is_write events ≡ true) (byte : ℕ) where

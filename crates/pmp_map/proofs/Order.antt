@@ -1,6 +1,6 @@
 -- Runs follow one another upwards.
 use Rattle.std.proofs.Common.{◌≡◌, ℕ, zero, suc, ◌+◌, ◌-◌, ◌<◌, ◌≤◌, List, length, Option, ap, arith, inl, inr}
-use Rattle.std.proofs.Common.{add-zero}
+use Rattle.std.proofs.Common.{add-zero, rules}
 use Rattle.std.proofs.lemmas.Bool.{cases_lt}
 use Rattle.std.proofs.lemmas.List.{get_or_past}
 use Rattle.pmp_map.specs.declared.run.Run.{Run}
@@ -36,10 +36,7 @@ module _ (to : ℕ) (Owns : ℕ → Option ℕ → Type 0) (runs : List Run) (ar
   )
 
   pub start_most : (k : ℕ) → start_at to runs k ≤ to
-  start_most k = elim (cases_lt k (length runs)) [
-    | inl inside ↦ omega (arith, start_below k inside)
-    | inr past ↦ omega (arith, start_past to runs k past)
-  ]
+  start_most k = search (rules, start_below, start_past)
 
   pub in_run : (k byte : ℕ) → k < length runs → start_at to runs k ≤ byte → byte < start_at to runs (k + 1)
       → IsInRun (run_at to runs k) byte

@@ -1,8 +1,5 @@
 -- Painting entries from the last to the first.
-use Rattle.std.proofs.Common.{◌≡◌, ◌≢◌, ℕ, ◌+◌, ◌<◌, ◌≤◌, true, false, List, [], ◌∷◌, length}
-use Rattle.std.proofs.Common.{Option, Some, None, refl, sym, arith, inl, inr}
-use Rattle.std.proofs.lemmas.Bool.{cases_lt}
-use Rattle.std.proofs.lemmas.Bool.Decides.{nat_tests}
+use Rattle.std.proofs.Common.{◌≡◌, ℕ, ◌+◌, ◌<◌, ◌≤◌, false, List, [], ◌∷◌, length, Option, Some, None, arith, rules}
 use Rattle.pmp_core.specs.declared.access.TheConstants.{ADDRESS_LIMIT}
 use Rattle.pmp_core.specs.declared.range.ByteRange.{ByteRange}
 use Rattle.pmp_core.specs.Ranges.{IsInRange, range_of}
@@ -11,35 +8,15 @@ use Rattle.pmp_core.specs.RegisterFile.{HasAddresses, RegisterFile}
 use Rattle.pmp_core.proofs.Matches.{range_past}
 use Rattle.pmp_map.proofs.CutFacts.{least_alike, owner_by_entries}
 use Rattle.pmp_map.specs.declared.cuts.Cut.{Cut}
-use Rattle.pmp_map.specs.Painting.{AreApart, AreCuts, AreDown, AreUp, ArePainted, IsApart, IsOwnerFrom, IsStretch, is_from}
+use Rattle.pmp_map.specs.Painting.{AreCuts, AreDown, AreUp, ArePainted, IsApart, IsOwnerFrom, is_from}
 use Rattle.pmp_map.specs.Painting.{owner_of, start_of}
 
 module _ (Owns : ℕ → Option ℕ → Type 0) where
   -- ---- the gap moves
 
-  apart_up : (cut : Cut) (below above : List Cut) → AreApart below (cut ∷ above) → IsApart cut.owner below
-  apart_up cut [] above apart = tt
-  apart_up cut (low ∷ below) above apart = λ same. apart (sym same)
-
-  apart_down : (cut : Cut) (below above : List Cut) → IsApart cut.owner below → AreApart below (cut ∷ above)
-  apart_down cut [] above apart = tt
-  apart_down cut (low ∷ below) above apart = λ same. apart (sym same)
-
   pub moved_up : (cut : Cut) (below above : List Cut) → AreCuts Owns below (cut ∷ above)
       → AreCuts Owns (cut ∷ below) above
-  moved_up cut below above are = record {
-    down = (are.up.0, apart_up cut below above are.apart, are.down);
-    up = are.up.2;
-    apart = are.up.1;
-  }
-
-  pub moved_down : (cut : Cut) (below above : List Cut) → AreCuts Owns (cut ∷ below) above
-      → AreCuts Owns below (cut ∷ above)
-  moved_down cut below above are = record {
-    down = are.down.2;
-    up = (are.down.0, are.apart, are.up);
-    apart = apart_down cut below above are.down.1;
-  }
+  moved_up cut below above are = search rules
 
   -- ---- cuts go up to the end of all bytes
 
@@ -47,40 +24,15 @@ module _ (Owns : ℕ → Option ℕ → Type 0) where
   start_most [] are = omega arith
   start_most (cut ∷ cuts) are = omega (arith, are.0.some, start_most cuts are.2)
 
-  -- fewer bytes below
-  shorter : (cut : Cut) (end less : ℕ) → IsStretch Owns cut end → cut.start < less → less ≤ end → IsStretch Owns cut less
-  shorter cut end less is some below = record {
-    some = some;
-    owned = λ byte from to. is.owned byte from (omega arith);
-  }
-
-  below_of : (byte : ℕ) (cut : Cut) (cuts : List Cut) → is_from byte (cut ∷ cuts) ≡ false → cut.start < byte
-  below_of byte cut cuts none = grind (arith, nat_tests)
-
-  from_of : (byte : ℕ) (cut : Cut) (cuts : List Cut) → is_from byte (cut ∷ cuts) ≡ true → byte ≤ cut.start
-  from_of byte cut cuts is = grind (arith, nat_tests)
-
   pub cut_down : (end less : ℕ) (cuts : List Cut) → AreDown Owns end cuts → less ≤ end → is_from less cuts ≡ false
       → AreDown Owns less cuts
-  cut_down end less [] are below none = omega arith
-  cut_down end less (cut ∷ cuts) are below none =
-      (shorter cut end less are.0 (below_of less cut cuts none) below, are.1, are.2)
+  cut_down end less cuts are below none = search rules
 
   -- a cut more, inside the bytes of the first one below
   pub split : (end : ℕ) (below above : List Cut) → AreCuts Owns below above → 0 < end → end < start_of above
       → is_from end below ≡ false → (let cut : Cut = record { start = end; owner = owner_of below } in
       AreUp Owns (cut ∷ above))
-  split end [] above are some less none = absurd (omega (arith, are.down))
-  split end (cut ∷ below) above are some less none = (
-    record { some = less; owned = λ byte from to. are.down.0.owned byte (omega (arith, below_of end cut below none)) to },
-    are.apart,
-    are.up,
-  )
-
-  -- cuts that are painted over
-  pub dropped : (end first : ℕ) (cut : Cut) (cuts : List Cut) → AreDown Owns end (cut ∷ cuts)
-      → is_from first (cut ∷ cuts) ≡ true → AreDown Owns cut.start cuts × (first ≤ cut.start)
-  dropped end first cut cuts are from = (are.2, from_of first cut cuts from)
+  split end below above are some less none = search rules
 
 module _ (Owns Has : ℕ → Option ℕ → Type 0) where
   pub up_alike : (first : ℕ) (cuts : List Cut)
@@ -88,23 +40,13 @@ module _ (Owns Has : ℕ → Option ℕ → Type 0) where
       → first ≤ start_of cuts → AreUp Owns cuts → AreUp Has cuts
   up_alike first [] alike from are = tt
   up_alike first (cut ∷ cuts) alike from are =
-      let some = are.0.some in
-      let most = start_most Owns cuts are.2 in (
-        record { some = some; owned = λ byte low high. alike byte cut.owner (omega arith) (omega arith) (are.0.owned byte low high) },
-        are.1,
-        up_alike first cuts alike (omega arith) are.2,
-      )
+      search (rules, start_most Owns cuts are.2, up_alike first cuts alike)
 
   pub down_alike : (end : ℕ) (cuts : List Cut)
       → ((byte : ℕ) (owner : Option ℕ) → byte < end → Owns byte owner → Has byte owner)
       → AreDown Owns end cuts → AreDown Has end cuts
   down_alike end [] alike are = are
-  down_alike end (cut ∷ cuts) alike are =
-      let some = are.0.some in (
-        record { some = some; owned = λ byte low high. alike byte cut.owner high (are.0.owned byte low high) },
-        are.1,
-        down_alike cut.start cuts (λ byte owner below. alike byte owner (omega arith)) are.2,
-      )
+  down_alike end (cut ∷ cuts) alike are = search (rules, down_alike cut.start cuts)
 
 -- ---- one entry more
 
@@ -112,61 +54,24 @@ module _ (file : RegisterFile) (i : ℕ) where
   -- an entry whose range doesn't have the byte changes nothing there
   pub owned_alike : (byte : ℕ) (owner : Option ℕ) → ¬ (IsInRange (range_of file i) byte)
       → IsOwnerFrom file (i + 1) byte owner → IsOwnerFrom file i byte owner
-  owned_alike byte None without none = λ j has. elim (cases_lt i j) [
-    | inl after ↦ none j (omega arith, has.1)
-    | inr here ↦ let same : j ≡ i = omega (arith, has.0) in without (rw same at has.1)
-  ]
-  owned_alike byte (Some k) without owned = (
-    (omega (arith, owned.0.0), owned.0.1),
-    λ j below has. elim (cases_lt i j) [
-      | inl after ↦ owned.1 j below (omega arith, has.1)
-      | inr here ↦ let same : j ≡ i = omega (arith, has.0) in without (rw same at has.1)
-    ],
-  )
+  owned_alike byte owner without owned = search rules
 
   owned_here : (byte : ℕ) → IsInRange (range_of file i) byte → IsOwnerFrom file i byte (Some i)
   owned_here byte has = ((omega arith, has), λ j below from. absurd (omega (arith, from.0)))
 
   -- the owners before are others
-  other : (byte : ℕ) (owner : Option ℕ) → IsOwnerFrom file (i + 1) byte owner → Some i ≢ owner
-  other byte None owned same = cc
-  other byte (Some k) owned same = let is : i ≡ k = cc in absurd (omega (arith, owned.0.0))
-
   other_down : (end : ℕ) (cuts : List Cut) → AreDown (IsOwnerFrom file (i + 1)) end cuts → IsApart (Some i) cuts
-  other_down end [] are = tt
-  other_down end (cut ∷ cuts) are = other cut.start cut.owner (are.0.owned cut.start (omega arith) are.0.some)
+  other_down end cuts are = search rules
 
   other_up : (cuts : List Cut) → AreUp (IsOwnerFrom file (i + 1)) cuts → IsApart (Some i) cuts
-  other_up [] are = tt
-  other_up (cut ∷ cuts) are = other cut.start cut.owner (are.0.owned cut.start (omega arith) are.0.some)
+  other_up cuts are = search rules
 
   module _ (range : ByteRange) (is : range ≡ range_of file i) (end : ℕ) (to : end ≤ range.end) (some : range.start < end)
       (all : end < range.end → ADDRESS_LIMIT ≤ end) where
     pub painted : (below above : List Cut) → AreDown (IsOwnerFrom file (i + 1)) range.start below
         → AreUp (IsOwnerFrom file (i + 1)) above → start_of above ≡ end
         → (let cut : Cut = record { start = range.start; owner = Some i } in ArePainted file i (cut ∷ below) above)
-    painted below above down up meets =
-        let before : (byte : ℕ) → byte < range.start → ¬ (IsInRange (range_of file i) byte) =
-        λ byte low has. let from = rw (← is) at has.0 in absurd (omega arith) in
-        let after : (byte : ℕ) → end ≤ byte → byte < ADDRESS_LIMIT → ¬ (IsInRange (range_of file i) byte) =
-        λ byte high inside has. let less = rw (← is) at has.1 in elim (cases_lt end range.end) [
-          | inl lt ↦ absurd (omega (arith, all lt))
-          | inr ge ↦ absurd (omega arith)
-        ] in
-        record {
-          down = (
-            record {
-              some = omega (arith, meets);
-              owned = λ byte from less. owned_here byte (rw (← is) (from, omega (arith, meets)));
-            },
-            other_down range.start below down,
-            down_alike (IsOwnerFrom file (i + 1)) (IsOwnerFrom file i) range.start below
-                (λ byte owner low. owned_alike byte owner (before byte low)) down,
-          );
-          up = up_alike (IsOwnerFrom file (i + 1)) (IsOwnerFrom file i) end above
-              (λ byte owner from inside. owned_alike byte owner (after byte from inside)) (omega (arith, meets)) up;
-          apart = other_up above up;
-        }
+    painted below above down up meets = search (rules, other_down, other_up, down_alike, up_alike, owned_alike, owned_here)
 
   -- an entry without a byte changes nothing
   pub unpainted : (below above : List Cut)
@@ -183,24 +88,13 @@ module _ (file : RegisterFile) (i : ℕ) where
 
 -- before any entry no byte has an owner
 pub blank_owned : (file : RegisterFile) (i byte : ℕ) → length file.entries ≤ i → IsOwnerFrom file i byte None
-blank_owned file i byte past j has =
-    let in_range = rw (range_past file j (omega (arith, has.0))) at has.1 in absurd (omega arith)
+blank_owned file i byte past j has = search (rules, range_past)
 
 pub blank_cuts : (file : RegisterFile) (i : ℕ) → length file.entries ≤ i
     → (let cut : Cut = record { start = 0; owner = None } in ArePainted file i (cut ∷ []) [])
-blank_cuts file i past = record {
-  down = (
-    record { some = omega arith; owned = λ byte from to. blank_owned file i byte past },
-    tt,
-    refl,
-  );
-  up = tt;
-  apart = tt;
-}
+blank_cuts file i past = search (rules, blank_owned)
 
 -- after all entries each byte has its owner
 pub owners_of : (file : RegisterFile) → HasAddresses file → (byte : ℕ) (owner : Option ℕ) → IsOwnerFrom file 0 byte owner
     → IsOwner file byte owner
-owners_of file small byte owner owned = owner_by_entries file small byte owner
-    (least_alike (λ j. (0 ≤ j) × IsInRange (range_of file j) byte) (λ j. IsInRange (range_of file j) byte) owner
-    (λ j. ((λ has. has.1), (λ has. (omega arith, has)))) owned)
+owners_of file small byte owner owned = search (rules, least_alike, owner_by_entries)

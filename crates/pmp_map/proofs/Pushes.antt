@@ -1,6 +1,6 @@
 -- A list of runs with one run more.
-use Rattle.std.proofs.Common.{◌≡◌, ◌≢◌, ℕ, ◌+◌, ◌<◌, ◌≤◌, List, [], ◌∷◌, ◌++◌, length, Option, sym, ap, ◌∙◌}
-use Rattle.std.proofs.Common.{arith, length-append, inl, inr}
+use Rattle.std.proofs.Common.{◌≡◌, ◌≢◌, ℕ, ◌+◌, ◌<◌, ◌≤◌, List, [], ◌∷◌, ◌++◌, length, Option, sym, ◌∙◌, arith}
+use Rattle.std.proofs.Common.{length-append, inl, inr, rules}
 use Rattle.std.proofs.lemmas.Bool.{cases_lt}
 use Rattle.std.proofs.lemmas.List.{get_or_default}
 use Rattle.std.proofs.Math.ListN.{get_or-append}
@@ -20,10 +20,7 @@ module _ (to end : ℕ) (runs : List Run) (run : Run) where
   new_run k here = rw here (get_or-append_seam runs run [] _)
 
   pub old_start : run.first ≡ to → (k : ℕ) → k ≤ length runs → start_at end (runs ++ run ∷ []) k ≡ start_at to runs k
-  old_start begin k inside = elim (cases_lt k (length runs)) [
-    | inl lt ↦ ap (λ (r : Run). r.first) (old_run k lt)
-    | inr le ↦ ap (λ (r : Run). r.first) (new_run k (omega arith)) ∙ begin ∙ sym (start_past to runs k le)
-  ]
+  old_start begin k inside = search (rules, old_run, new_run, start_past)
 
   new_start : (k : ℕ) → length runs < k → start_at end (runs ++ run ∷ []) k ≡ end
   new_start k past = start_past end (runs ++ run ∷ []) k (omega (arith, length_pushed))

@@ -1,21 +1,19 @@
 -- What a mode may do in a whole range.
-use Rattle.std.proofs.Common.{◌≡◌, ◌≢◌, ℕ, List, ◌+◌, ◌-◌, ◌*◌, ◌/◌, ◌%◌, ◌<◌, ◌≤◌, ◌==◌, Bool, true, false, length}
-use Rattle.std.proofs.Common.{slice_index, Option, Some, None, refl, sym, ap, ◌∙◌, arith, inl, inr}
+use Rattle.std.proofs.Common.{◌≡◌, ◌≢◌, ℕ, List, ◌+◌, ◌-◌, ◌/◌, ◌%◌, ◌<◌, ◌≤◌, ◌==◌, length, slice_index, Option, Some}
+use Rattle.std.proofs.Common.{None, refl, sym, ap, ◌∙◌, arith, inl, inr, rules}
 use Rattle.std.proofs.lemmas.Bool.{cases_lt}
 use Rattle.pmp_core.specs.declared.access.Access.{Access}
 use Rattle.pmp_core.specs.declared.access.Mode.{Mode}
 use Rattle.pmp_core.specs.declared.access.Kind.{Kind}
-use Rattle.pmp_core.specs.declared.access.Kind.TheVariants.{Fetch, Load, Store}
 use Rattle.pmp_core.specs.declared.access.TheConstants.{ADDRESS_LIMIT}
 use Rattle.pmp_core.specs.declared.decision.Decision.{Decision}
 use Rattle.pmp_core.specs.declared.perms.Perms.{Perms}
 use Rattle.pmp_core.specs.RegisterFile.{RegisterFile, HasAddresses}
-use Rattle.pmp_core.specs.Configuration.{bit_of}
 use Rattle.pmp_core.specs.Decision.{IsOwner}
 use Rattle.pmp_core.specs.Matching.{Matches}
 use Rattle.pmp_core.specs.Perms.{right_of}
 use Rattle.pmp_core.specs.Ranges.{decision_of}
-use Rattle.pmp_core.specs.Rights.{perms_of, allows, default_rights, rights}
+use Rattle.pmp_core.specs.Rights.{Rights, perms_of, allows, default_rights, rights}
 use Rattle.pmp_core.proofs.Decisions.{CoversBytes, IsFirst, TouchesBytes, decided_by_ranges, least_once, one_decision}
 use Rattle.pmp_core.proofs.Legal.{legal_addresses}
 use Rattle.pmp_map.specs.declared.run.Run.{Run}
@@ -26,37 +24,13 @@ use Rattle.pmp_map.specs.Runs.{AreRuns, IsRunAround, map_run}
 use Rattle.pmp_map.specs.Tables.{AreTables}
 use Rattle.pmp_map.proofs.Order.{start_at, start_most, start_past, in_run}
 use Rattle.pmp_map.proofs.Starts.{IsPlaceOf}
-use Rattle.pmp_map.proofs.Decided.{decided_whole}
+use Rattle.pmp_map.proofs.DecidedRuns.{decided_whole}
 
 -- ---- bits
 
-right_bit : (read write execute : Bool) (kind : Kind)
-    → allows (record { read = read; write = write; execute = execute }) kind
-    ≡ ((bit_of read + 2 * bit_of write + 4 * bit_of execute) / (right_of kind).0 % 2 == 1)
-right_bit true true true Fetch = refl
-right_bit true true true Load = refl
-right_bit true true true Store = refl
-right_bit true true false Fetch = refl
-right_bit true true false Load = refl
-right_bit true true false Store = refl
-right_bit true false true Fetch = refl
-right_bit true false true Load = refl
-right_bit true false true Store = refl
-right_bit true false false Fetch = refl
-right_bit true false false Load = refl
-right_bit true false false Store = refl
-right_bit false true true Fetch = refl
-right_bit false true true Load = refl
-right_bit false true true Store = refl
-right_bit false true false Fetch = refl
-right_bit false true false Load = refl
-right_bit false true false Store = refl
-right_bit false false true Fetch = refl
-right_bit false false true Load = refl
-right_bit false false true Store = refl
-right_bit false false false Fetch = refl
-right_bit false false false Load = refl
-right_bit false false false Store = refl
+right_bit : (rights : Rights) (kind : Kind)
+    → allows rights kind ≡ ((perms_of rights).0 / (right_of kind).0 % 2 == 1)
+right_bit rights kind = search rules
 
 -- ---- by the owners of bytes
 
@@ -79,7 +53,7 @@ module _ (file : RegisterFile) (addresses : HasAddresses file) (mode : Mode) (st
         (decided_by_ranges file access addresses) in
         sym (ap (λ (d : Decision). d.allowed) decided)
         ∙ ap (λ (m : Mode). allows (owned_rights file owner m) access.kind) mode_is
-        ∙ right_bit rights.read rights.write rights.execute access.kind
+        ∙ right_bit rights access.kind
         ∙ ap (λ (n : ℕ). n / (right_of access.kind).0 % 2 == 1) (sym is)
 
     -- it has no other owner
@@ -102,11 +76,7 @@ module _ (file : RegisterFile) (addresses : HasAddresses file) (mode : Mode) (st
         (same_owner file start owner other first (all start (omega arith) (omega arith)))
 
     pub rights_of_two : AreRangeRights file mode start size None
-    rights_of_two = record {
-      owned = λ other all. absurd (two_owners other all);
-      mixed = λ none. refl;
-      accesses = λ perms is. absurd cc;
-    }
+    rights_of_two = search (rules, two_owners)
 
 -- ---- by what decides
 

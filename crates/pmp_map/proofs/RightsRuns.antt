@@ -1,30 +1,22 @@
 -- Ranges of bytes with the same rights in two register files, while they are found.
-use Rattle.std.proofs.Common.{◌≡◌, ◌∙◌, sym, refl, ap, ap₂, ℕ, ◌+◌, ◌≤◌, List, [], ◌∷◌, ◌++◌, arith, inl, inr}
+use Rattle.std.proofs.Common.{◌≡◌, ◌∙◌, sym, refl, ap₂, ℕ, ◌+◌, ◌≤◌, List, [], ◌∷◌, ◌++◌, arith, inl, inr, rules}
 use Rattle.std.proofs.lemmas.Bool.{cases_lt}
 use Rattle.pmp_core.specs.declared.access.TheConstants.{ADDRESS_LIMIT}
 use Rattle.pmp_core.specs.RegisterFile.{RegisterFile}
-use Rattle.pmp_core.specs.Matching.{Matches}
 use Rattle.pmp_core.proofs.Decisions.{least_once}
 use Rattle.pmp_map.specs.declared.mode_rights.ModeRights.{ModeRights}
 use Rattle.pmp_map.specs.declared.rights_run.RightsRun.{RightsRun}
-use Rattle.pmp_map.specs.Answers.{rights_by}
 use Rattle.pmp_map.specs.RightsRuns.{AreRightsRunsFrom, HasRights, HasRightsOf, IsRightsRun}
 
 -- a byte has one set of rights in a file
 once : (file : RegisterFile) (byte : ℕ) (one other : ModeRights) → HasRights file byte one → HasRights file byte other
     → one ≡ other
-once file byte one other here there =
-    here.2 ∙ ap (rights_by file) (least_once (λ i. Matches file i byte) here.0 there.0 here.1 there.1)
-    ∙ sym there.2
+once file byte one other here there = search (rules, least_once)
 
 -- two runs of the same fields
 same_fields : (one other : RightsRun) → one.first ≡ other.first → one.last ≡ other.last → one.old ≡ other.old
     → one.new ≡ other.new → one ≡ other
-same_fields one other first last old new =
-    ap (λ (n : ℕ). record one { first = n }) first
-    ∙ ap (λ (n : ℕ). record one { first = other.first; last = n }) last
-    ∙ ap (λ (r : ModeRights). record one { first = other.first; last = other.last; old = r }) old
-    ∙ ap (λ (r : ModeRights). record other { new = r }) new
+same_fields one other first last old new = search rules
 
 module _ (old new : RegisterFile) where
   -- each byte of the run has its rights
@@ -34,8 +26,7 @@ module _ (old new : RegisterFile) where
   -- where two runs share a byte, they have the same rights
   pub same_rights : (byte : ℕ) (one other : RightsRun) → HasRightsOf old new one byte → HasRightsOf old new other byte
       → (one.old ≡ other.old) × (one.new ≡ other.new)
-  same_rights byte one other here there =
-      (once old byte one.old other.old here.0 there.0, once new byte one.new other.new here.1 there.1)
+  same_rights byte one other here there = search (rules, once)
 
   -- a run grows by the bytes behind it that have the same rights
   pub grown : (run next : RightsRun) → HasRightsTo run → HasRightsTo next → next.first ≡ run.last + 1

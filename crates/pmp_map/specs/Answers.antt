@@ -1,10 +1,10 @@
 -- What an access is answered by the owners of its bytes (Volume II, 3.7.1.3).
-use Rattle.std.specs.Prelude.{ℕ, false, Option, Some, None}
+use Rattle.std.specs.Prelude.{ℕ, Option, Some, None}
 use Rattle.pmp_core.specs.declared.access.Access.{Access}
 use Rattle.pmp_core.specs.declared.access.Mode.{Mode}
 use Rattle.pmp_core.specs.declared.access.Mode.TheVariants.{M, S, U}
 use Rattle.pmp_core.specs.declared.decision.Cause.{Cause}
-use Rattle.pmp_core.specs.declared.decision.Cause.TheVariants.{Rule, Split, NoMatch}
+use Rattle.pmp_core.specs.declared.decision.Cause.TheVariants.{Rule, NoMatch}
 use Rattle.pmp_core.specs.declared.decision.Decision.{Decision}
 use Rattle.pmp_core.specs.declared.perms.Perms.{Perms}
 use Rattle.pmp_core.specs.RegisterFile.{RegisterFile}
@@ -21,21 +21,12 @@ abbrev pub whole_cause : Option ℕ → Cause
 whole_cause None = NoMatch
 whole_cause (Some i) = Rule i
 
--- the cause where it matches some of them, and not all
-abbrev pub split_cause : Option ℕ → Cause
-split_cause None = NoMatch
-split_cause (Some i) = Split i
-
 -- the decision where all bytes of the access have this owner
 abbrev pub decision_by : RegisterFile → Option ℕ → Access → Decision
 decision_by file owner access = record {
   allowed = allows (owned_rights file owner access.mode) access.kind;
   cause = whole_cause owner;
 }
-
--- the decision where the bytes have several owners, of which this is the least
-abbrev pub refusal_by : Option ℕ → Decision
-refusal_by owner = record { allowed = false; cause = split_cause owner }
 
 -- what a file lets machine mode do where this entry owns, or none, and what the other two modes, whose rights are equal
 abbrev pub rights_by : RegisterFile → Option ℕ → ModeRights

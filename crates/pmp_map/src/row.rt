@@ -5,15 +5,24 @@ ghost use Rattle.pmp_core.specs.declared.access.Mode.{Mode};
 ghost use Rattle.pmp_core.specs.RegisterFile.{RegisterFile};
 ghost use Rattle.pmp_core.specs.Rights.{perms_of};
 ghost use Rattle.pmp_map.specs.Answers.{owned_rights};
-ghost use Rattle.pmp_map.specs.Request.{mode_number};
+ghost use Rattle.pmp_map.specs.Columns.{column_of};
 ghost use Rattle.pmp_map.specs.Rows.{IsRow, owned_answer};
 
 use crate::answer::{NO_CAUSE, number_by};
 use crate::mode_rights::{ModeRights, whole_cause};
-use pmp_core::{Kind, Perms, Registers};
+use pmp_core::{Kind, Mode, Perms, Registers};
 
 /// An answer for each mode and kind: at 4 times the mode's level, and the kind's number. There is no level 2.
 pub type Row = [u16; 16];
+
+/// Where a row has the answer for the mode and the kind.
+#[inline(always)]
+pub fn column_of(mode: Mode, kind: Kind) -> usize
+    ensures column { result ≡ column_of mode kind }
+    ensures inside { result < 16 }
+{
+    4 * mode as usize + kind as usize
+}
 
 /// The answer to an access of this kind, whose bytes have this owner, and whose mode has these rights.
 fn owned_answer(owner: Option<u8>, rights: Perms, kind: Kind) -> u16
@@ -62,17 +71,15 @@ pub fn row_owner(row: &Row) -> Option<u8>
     if cause < 256 { Some(cause as u8) } else { None }
 }
 
-/// What a row allows the mode of this level.
+/// What a row allows the mode.
 #[inline(always)]
-pub fn row_rights(row: &Row, mode: u32) -> Perms
-    requires { mode < 4 }
-    ensures { (file : RegisterFile) (owner : Option ℕ) (named : Mode) → IsRow file owner row.now
-        → mode_number named ≡ mode → result ≡ perms_of (owned_rights file owner named) }
+pub fn row_rights(row: &Row, mode: Mode) -> Perms
+    ensures { (file : RegisterFile) (owner : Option ℕ) → IsRow file owner row.now
+        → result ≡ perms_of (owned_rights file owner mode) }
 {
-    let fetch = (4 * mode) as usize;
     Perms::of(
-        row[fetch + 1] < 1024,
-        row[fetch + 2] < 1024,
-        row[fetch] < 1024,
+        row[column_of(mode, Kind::Load)] < 1024,
+        row[column_of(mode, Kind::Store)] < 1024,
+        row[column_of(mode, Kind::Fetch)] < 1024,
     )
 }

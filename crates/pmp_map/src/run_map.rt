@@ -8,7 +8,6 @@ ghost use Rattle.pmp_map.specs.RangeRights.{AreRangeRights};
 ghost use Rattle.pmp_map.specs.Runs.{AreRuns, HasOwnersBelow};
 
 use crate::answer::decision;
-use crate::request::{Request, mode_number};
 use crate::run::{RUNS, Run};
 use crate::tables::Tables;
 use arrayvec::ArrayVec;
@@ -76,7 +75,7 @@ impl RunMap {
         ensures by_bytes { IsDecision file.now access.now result }
         ensures computed { result ≡ decision_of file.now access.now }
     {
-        decision(self.tables.answer(&Request::of(access)))
+        decision(self.tables.answer(access))
     }
 
     /// What the mode may do in the whole range of `length` bytes from this byte address on, as a page, or none where no
@@ -86,6 +85,6 @@ impl RunMap {
         requires inside { start + length ≤ ADDRESS_LIMIT }
         ensures { AreRangeRights self.now mode start length result }
     {
-        self.tables.rights(mode_number(mode), start, length)
+        self.tables.rights(mode, start, length)
     }
 }

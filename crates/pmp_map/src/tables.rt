@@ -1,8 +1,6 @@
 //! The map as tables: where each run begins, and what it answers.
 
 ghost use Rattle.std.specs.Prelude.{◌≡◌, ◌+◌, ◌<◌, ◌≤◌, IfSome, ℕ, Option, length, slice_index};
-ghost use Rattle.pmp_core.specs.declared.access.Access.{Access};
-ghost use Rattle.pmp_core.specs.declared.access.Mode.{Mode};
 ghost use Rattle.pmp_core.specs.declared.access.TheConstants.{ADDRESS_LIMIT};
 ghost use Rattle.pmp_core.specs.Ranges.{decision_of};
 ghost use Rattle.pmp_core.specs.RegisterFile.{RegisterFile};
@@ -10,19 +8,17 @@ ghost use Rattle.pmp_map.specs.declared.search.TheConstants.{PLACES};
 ghost use Rattle.pmp_map.specs.Answer.{answer_number};
 ghost use Rattle.pmp_map.specs.Causes.{IsLeastCause};
 ghost use Rattle.pmp_map.specs.RangeRights.{AreRangeRights};
-ghost use Rattle.pmp_map.specs.Request.{IsNamed, kind_number, mode_number};
 ghost use Rattle.pmp_map.specs.Rows.{IsRow};
 ghost use Rattle.pmp_map.specs.Runs.{AreRuns, IsRunAround, map_run};
 ghost use Rattle.pmp_map.specs.Tables.{AreTables, IsFound};
 
-use crate::answer::{no_access, split_number};
+use crate::answer::split_number;
 use crate::painting::cuts_of;
-use crate::request::{Request, kind_of};
-use crate::row::{Row, row_of, row_owner, row_rights};
+use crate::row::{Row, column_of, row_of, row_owner, row_rights};
 use crate::run::{RUNS, Run};
 use crate::search::{PLACES, place_among_six, place_of};
 use arrayvec::ArrayVec;
-use pmp_core::{ADDRESS_LIMIT, Perms, Registers};
+use pmp_core::{ADDRESS_LIMIT, Access, Mode, Perms, Registers};
 
 /// Tables with no more runs than this are searched by one count.
 const FEW: u64 = 6;
@@ -117,50 +113,40 @@ impl Tables {
         }
     }
 
-    /// The answer to an access of this kind that begins in the run at this place and leaves it: rare, and out of the
-    /// way of the others.
+    /// The answer to an access that begins in the run at this place and leaves it: rare, and out of the way of the others.
     #[cold]
     #[inline(never)]
-    fn answer_straddling(&self, place: usize, kind: u32, last_byte: u64) -> u16
-        requires { place + 1 < PLACES }
-        ensures { (file : RegisterFile) (access : Access) → AreTables file self.now
-            → IsFound self.now access.start place
-            → slice_index self.now.starts (place + 1) < access.start + access.length
-            → kind_number access.kind ≡ kind → access.start + access.length ≡ last_byte + 1
-            → result ≡ answer_number access (decision_of file access) }
+    fn answer_straddling(&self, place: usize, access: &Access) -> u16
+        requires place { place + 1 < PLACES }
+        requires found { IsFound self.now access.now.start place }
+        requires long { slice_index self.now.starts (place + 1) < access.now.start + access.now.length }
+        ensures { (file : RegisterFile) → AreTables file self.now
+            → result ≡ answer_number access.now (decision_of file access.now) }
     {
-        let last = self.place_near(place + 1, last_byte);
-        let least = least_cause(&self.rows, place, last + 1);
-        match kind_of(kind) {
-            Some(kind) => split_number(kind, least),
-            None => no_access(kind),
-        }
+        let last = self.place_near(place + 1, access.start + access.length - 1);
+        split_number(access.kind, least_cause(&self.rows, place, last + 1))
     }
 
     /// The number that answers an access.
     #[inline(always)]
-    pub fn answer(&self, request: &Request) -> u16
-        ensures { (file : RegisterFile) (access : Access) → AreTables file self.now
-            → IsNamed access request.now.mode request.now.kind request.now.start request.now.length
-            → result ≡ answer_number access (decision_of file access) }
+    pub fn answer(&self, access: &Access) -> u16
+        ensures { (file : RegisterFile) → AreTables file self.now
+            → result ≡ answer_number access.now (decision_of file access.now) }
     {
-        let place = self.place_of(request.start);
-        let end = request.start + request.length;
-        if end <= self.starts[place + 1] {
-            self.rows[place][(4 * request.mode + request.kind) as usize]
+        let place = self.place_of(access.start);
+        if access.start + access.length <= self.starts[place + 1] {
+            self.rows[place][column_of(access.mode, access.kind)]
         } else {
-            self.answer_straddling(place, request.kind, end - 1)
+            self.answer_straddling(place, access)
         }
     }
 
-    /// What the mode of this level may do in the whole range, or none where no one owner has all of its bytes.
+    /// What the mode may do in the whole range, or none where no one owner has all of its bytes.
     #[inline(always)]
-    pub fn rights(&self, mode: u32, start: u64, length: u64) -> Option<Perms>
-        requires level { mode < 4 }
+    pub fn rights(&self, mode: Mode, start: u64, length: u64) -> Option<Perms>
         requires full { 0 < length }
         requires inside { start + length ≤ ADDRESS_LIMIT }
-        ensures { (file : RegisterFile) (named : Mode) → AreTables file self.now → mode_number named ≡ mode
-            → AreRangeRights file named start length result }
+        ensures { (file : RegisterFile) → AreTables file self.now → AreRangeRights file mode start length result }
     {
         let place = self.place_of(start);
         if start + length <= self.starts[place + 1] {

@@ -1,4 +1,4 @@
-use Rattle.std.proofs.Common.{◌≡◌, ◌+◌, sym, subst, ◌∙◌, arith}
+use Rattle.std.proofs.Common.{◌≡◌, ◌+◌, rules}
 use Rattle.pmp_core.specs.declared.decision.Cause.{Cause}
 use Rattle.pmp_core.specs.RegisterFile.{HasAddresses}
 use Rattle.pmp_core.proofs.Decisions.{IsCause, cause_is}
@@ -13,9 +13,7 @@ module _ (c : After-cause) where
 
   decided : (cause : Cause) → c.cause.result ≡ cause
       → IsCause c.args.registers.now c.args.start (c.args.start + c.args.length) cause
-  decided cause is = subst (IsCause c.args.registers.now c.args.start (c.args.start + c.args.length))
-      (sym c.cause.ensures.cause ∙ is)
-      (cause_is c.args.registers.now c.args.start (c.args.start + c.args.length) (omega (arith, c.requires.full)) small)
+  decided cause is = search (rules, cause_is, small)
 
 pub returns-in-Rule : goal.returns-in-Rule
 returns-in-Rule c =

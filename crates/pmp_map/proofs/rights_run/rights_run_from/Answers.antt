@@ -33,12 +33,3 @@ loop-run-preserved c =
           (λ byte from to. next.ensures.rights byte (omega (arith, from, next.ensures.begins)) to)
           next.ensures.begins same.0 same.1,
     )
-
-pub returns-clause-longest : goal.returns-clause-longest
-returns-clause-longest c =
-    record {
-      proper = omega (arith, c.loop-run.invariant.0, c.loop-run.invariant.1);
-      below = c.loop-run.invariant.2;
-      rights = c.loop-run.invariant.3;
-      longest = λ inside here. absurd (omega (arith, inside, c.loop-run-test.false));
-    }

@@ -1,4 +1,4 @@
-use Rattle.std.proofs.Common.{◌≡◌, ◌+◌, ◌*◌, Bool, refl, ◌∙◌, arith}
+use Rattle.std.proofs.Common.{◌≡◌, Bool, refl, ◌∙◌}
 use Rattle.pmp_core.specs.declared.access.Kind.TheVariants.{Fetch, Load, Store}
 use Rattle.pmp_core.specs.Rights.{Rights, perms_of}
 use Rattle.pmp_map.specs.Answers.{owned_rights}
@@ -11,7 +11,8 @@ same_perms : (read write execute : Bool) (rights : Rights) → read ≡ rights.r
 same_perms read write execute rights r w x = rw (r, w, x) refl
 
 pub returns : goal.returns
-returns c = λ file owner named is mode_is.
-    let low = low_where_allowed file owner c.args.row.now is named in
-    c.of.ensures ∙ same_perms _ _ _ (owned_rights file owner named) (low Load (4 * c.args.mode + 1) (omega arith))
-    (low Store (4 * c.args.mode + 2) (omega arith)) (low Fetch (4 * c.args.mode) (omega arith))
+returns c = λ file owner is.
+    let mode = c.args.mode in
+    let low = low_where_allowed file owner c.args.row.now is mode in
+    c.of.ensures ∙ same_perms _ _ _ (owned_rights file owner mode) (low Load _ c.column_of.ensures.column)
+    (low Store _ c.column_of-2.ensures.column) (low Fetch _ c.column_of-3.ensures.column)

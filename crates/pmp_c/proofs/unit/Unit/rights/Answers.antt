@@ -4,6 +4,6 @@ use Rattle.pmp_c.specs.Unit.{file_of_unit}
 use Rattle.pmp_c.proofs.unit.Unit.rights.Goals as goal
 
 pub returns-then-is_built : goal.returns-then-is_built
-returns-then-is_built c = λ named range is_unit.
-    c.rights.ensures (file_of_unit c.args.self.now) named
-    (is_unit (ltb-true _ _ (sym c.is_built.ensures ∙ c.if-is_built.true))) range
+returns-then-is_built c = λ is_unit.
+    c.rights.ensures (file_of_unit c.args.self.now)
+    (is_unit (ltb-true _ _ (sym c.is_built.ensures ∙ c.if-is_built.true)))

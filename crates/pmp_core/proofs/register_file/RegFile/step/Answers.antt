@@ -11,6 +11,6 @@ returns-in-Write-clause-legal c = restored_legal c.write.new.self
 pub returns-in-Write-clause-entries : goal.returns-in-Write-clause-entries
 returns-in-Write-clause-entries c =
     let length_of = λ (f : RegisterFile). length f.entries in
-    ap length_of c.write.ensures.written
+    ap length_of c.write.ensures.stored.file
     ∙ length-written (restored_file c.self.inside.numbers) c.in-Write.csr c.in-Write.value
     ∙ ap length_of c.self.view_is

@@ -1,6 +1,5 @@
-use Rattle.std.proofs.Common.{◌≡◌, ◌<◌, true, length, ap, sym, ◌∙◌, arith}
+use Rattle.std.proofs.Common.{◌≡◌, ◌<◌, true, length, sym, ◌∙◌, arith}
 use Rattle.std.proofs.lemmas.List.Folds.{list_any_at}
-use Rattle.pmp_core.specs.Configuration.{Configuration}
 use Rattle.pmp_core.specs.Entry.{Entry}
 use Rattle.pmp_core.specs.RegisterFile.{reset_entry, entry_at}
 use Rattle.pmp_core.proofs.Places.{none_any}
@@ -12,7 +11,7 @@ returns-then-is_locked c =
     let i = c.loop-index.index in
     let inside : i < length entries = omega (arith, c.loop-index-test.true, c.count-index-end.ensures.count) in
     let locked : (entry_at entries i).configuration.locked ≡ true =
-    ap (λ (k : Configuration). k.locked) (sym c.configuration.ensures) ∙ sym c.is_locked.ensures ∙ c.if-is_locked.true in
+    sym c.raw.ensures.locked ∙ sym c.is_locked.ensures ∙ c.if-is_locked.true in
     sym (list_any_at (λ (e : Entry). e.configuration.locked) entries i reset_entry inside locked)
 
 pub returns : goal.returns

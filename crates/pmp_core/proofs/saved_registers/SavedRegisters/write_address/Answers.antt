@@ -1,4 +1,4 @@
-use Rattle.std.proofs.Common.{◌≡◌, ℕ, ◌<◌, ◌%◌, false, length, sym, ap, ◌∙◌, arith}
+use Rattle.std.proofs.Common.{◌≡◌, ℕ, ◌<◌, ◌%◌, ◌^◌, false, length, sym, ap, ◌∙◌, arith}
 use Rattle.pmp_core.specs.Hart.{word_addresses}
 use Rattle.pmp_core.specs.RegisterFile.{RegisterFile, entry_at}
 use Rattle.pmp_core.specs.RegisterWrite.{is_address_frozen}
@@ -30,22 +30,18 @@ kept : (c : After-address) → c.args.value % c.word_addresses.result
 kept c = ap (λ (n : ℕ). c.args.value % n) (c.word_addresses.ensures ∙ ap word_addresses (c.hart.ensures
     ∙ ap (λ (f : RegisterFile). f.profile) c.with-registers.ensures ∙ profile_in c.args.self.now))
 
-pub returns-clause-written : goal.returns-clause-written
-returns-clause-written c =
-    let a = (goal.at.returns-clause-written c).After-address in
-    rw c.from-index.ensures (address_restored c.args.self.now c.args.register c.args.value _ (inside a) (free a) (kept a)
-    (omega arith))
-
-pub returns-clause-canonical : goal.returns-clause-canonical
-returns-clause-canonical c =
-    let a = (goal.at.returns-clause-canonical c).After-address in
-    rw c.from-index.ensures (address_canonical c.args.self.now c.args.register c.args.value _ (inside a) (free a) (kept a)
-    (omega arith) (omega arith))
-
-pub returns-clause-changed : goal.returns-clause-changed
-returns-clause-changed c = λ _.
-    let a = (goal.at.returns-clause-changed c).After-address in
-    rw c.from-index.ensures (address_changed c.args.self.now c.args.register c.args.value _ (inside a) (free a) (kept a)
-    (omega arith) (λ same. c.if-address.false (c.address.ensures.kept
-    ∙ ap (λ (f : RegisterFile). (entry_at f.entries c.from-index.result).address) c.with-registers.ensures
-    ∙ ap (λ (i : ℕ). (entry_at (file a).entries i).address) c.from-index.ensures ∙ same)))
+pub returns : goal.returns
+returns c =
+    let a = (goal.at.returns c).After-address in
+    let saved = c.args.self.now in
+    let i = c.args.register in
+    let fits : c.args.value < 2 ^ 64 = omega (arith, c.ranges.value) in
+    rw c.from-index.ensures (record {
+      file = address_restored saved i c.args.value _ (inside a) (free a) (kept a) (omega arith);
+      canonical = address_canonical saved i c.args.value _ (inside a) (free a) (kept a) (omega arith) (omega arith);
+      same = λ e. absurd cc;
+      changed = λ _. address_changed saved i c.args.value _ (inside a) (free a) (kept a) (omega arith)
+          (λ same. c.if-address.false (c.address.ensures.kept
+          ∙ ap (λ (f : RegisterFile). (entry_at f.entries c.from-index.result).address) c.with-registers.ensures
+          ∙ ap (λ (n : ℕ). (entry_at (file a).entries n).address) c.from-index.ensures ∙ same));
+    })

@@ -1,11 +1,11 @@
-use Rattle.std.proofs.Common.{◌≡◌, ◌≢◌, ◌+◌, ◌*◌, ◌≤◌, length, min, sym, ap, ◌∙◌, arith}
+use Rattle.std.proofs.Common.{◌≡◌, ◌≢◌, ◌+◌, ◌*◌, ◌≤◌, length, min, refl, sym, ap, ◌∙◌, arith}
 use Rattle.pmp_core.specs.declared.csr.Csr.TheVariants.{Cfg}
 use Rattle.pmp_core.specs.RegisterFile.{RegisterFile}
 use Rattle.pmp_core.specs.RegisterValue.{configuration_word, register_value}
 use Rattle.pmp_core.specs.RegisterWrite.{configurations_written, written}
 use Rattle.pmp_core.specs.SavedRegisters.{restored_file}
 use Rattle.pmp_core.proofs.Writes.{configurations_canonical, configurations_restored, even_value, even_where}
-use Rattle.pmp_core.proofs.Writes.{reads_same, written_more, written_none}
+use Rattle.pmp_core.proofs.Writes.{reads_same}
 use Rattle.pmp_core.proofs.saved_registers.SavedRegisters.write_configurations.Goals as goal
 use Rattle.pmp_core.proofs.saved_registers.SavedRegisters.write_configurations.Goals.{After-read}
 
@@ -16,18 +16,15 @@ read_is : (c : After-read) → c.read.result ≡ register_value (file c) (Cfg c.
 read_is c = c.read.ensures
     ∙ ap (λ (f : RegisterFile). register_value f (Cfg c.args.register)) c.with-registers.ensures
 
-pub returns-then-word-read-clause-written : goal.returns-then-word-read-clause-written
-returns-then-word-read-clause-written c =
-    let r = (goal.at.returns-then-word-read-clause-written c).After-read in
-    reads_same (file r) c.args.register c.args.value (sym c.requires.word ∙ c.if-word-read.true ∙ read_is r)
-
-pub loop-index-init : goal.loop-index-init
-loop-index-init c = written_none c.args.self.now _ _ (omega arith)
-
-pub loop-index-preserved : goal.loop-index-preserved
-loop-index-preserved c = written_more c.args.self.now c.loop-index.self _ _ c.loop-index.index
-    c.loop-index.auto.index (omega (arith, c.loop-index-test.true, c.min-end.ensures))
-    (omega (arith, c.loop-index-test.true, c.min-end.ensures, c.count.ensures.most)) c.loop-index.invariant
+pub returns-then-word-read : goal.returns-then-word-read
+returns-then-word-read c =
+    let r = (goal.at.returns-then-word-read c).After-read in
+    record {
+      file = reads_same (file r) c.args.register c.args.value (sym c.requires.word ∙ c.if-word-read.true ∙ read_is r);
+      canonical = λ canonical. canonical;
+      same = λ _. refl;
+      changed = λ e. absurd cc;
+    }
 
 pub returns : goal.returns
 returns c =
@@ -47,7 +44,7 @@ returns c =
     let is = configurations_restored c.args.self.now loop.self q c.args.value c.args.word loop.index even
     word all done in
     record {
-      written = is;
+      file = is;
       canonical = configurations_canonical c.args.self.now loop.self q c.args.value c.args.word loop.index
           even word all done (omega arith);
       same = λ e. absurd cc;

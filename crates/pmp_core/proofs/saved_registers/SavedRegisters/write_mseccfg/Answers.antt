@@ -81,7 +81,7 @@ returns c =
       | else-from_value w ↦ w.self-is ∙ sym canonical
     ] in
     record {
-      written = restored;
+      file = restored;
       canonical = λ canonical. ap saved_registers restored ∙ sym (saved c.if-from_value.self (as_saved canonical));
       same = λ never. absurd cc;
       changed = λ _ same. differs e (ap (λ (f : RegisterFile). f.mseccfg) (sym restored ∙ same));

@@ -1,4 +1,4 @@
-use Rattle.std.proofs.Common.{◌≡◌, subst, ap, ◌∙◌}
+use Rattle.std.proofs.Common.{◌≡◌, subst, ◌∙◌, rules}
 use Rattle.pmp_core.specs.Decision.{IsDecision}
 use Rattle.pmp_core.specs.Ranges.{decision_of}
 use Rattle.pmp_core.specs.RegisterFile.{RegisterFile}
@@ -15,7 +15,7 @@ module _ (c : After-decision) where
   decided : c.decision.result ≡ decision_of file c.args.access.now
   decided = c.decision.ensures c.args.access.now (decision_of file c.args.access.now)
       (byte_cause file c.args.access.now c.self.invariant.tables_are.legal)
-      (c.answer.ensures file c.args.access.now c.self.invariant.tables_are c.of.ensures)
+      (c.answer.ensures file c.self.invariant.tables_are)
 
   same : file ≡ c.args.file.now
   same = c.self.view_is ∙ c.requires
@@ -27,6 +27,4 @@ returns-clause-by_bytes c =
     (decided_by_ranges (file a) c.args.access.now (legal_addresses (file a) c.self.invariant.tables_are.legal)))
 
 pub returns-clause-computed : goal.returns-clause-computed
-returns-clause-computed c =
-    let a = (goal.at.returns-clause-computed c).After-decision in
-    decided a ∙ ap (λ (f : RegisterFile). decision_of f c.args.access.now) (same a)
+returns-clause-computed c = search (rules, decided, same)

@@ -1,5 +1,5 @@
-use Rattle.std.proofs.Common.{◌≡◌, ◌≢◌, ◌<◌, [], length, refl, arith, inl, inr, rules}
-use Rattle.std.proofs.Common.{get_or-set_other, get_or-set_same}
+use Rattle.std.proofs.Common.{◌≡◌, ◌≢◌, ◌<◌, [], length, refl, arith, inl, inr, get_or-set_other, get_or-set_same}
+use Rattle.std.proofs.Common.{rules}
 use Rattle.std.proofs.lemmas.Bool.{cases_lt}
 use Rattle.pmp_core.specs.declared.access.TheConstants.{ADDRESS_LIMIT}
 use Rattle.pmp_map.proofs.Entries.{owner_below}
@@ -7,7 +7,7 @@ use Rattle.pmp_map.proofs.Filling.{none_swept, one_more, padded_swept, swept_tab
 use Rattle.pmp_map.proofs.tables.Tables.fill.Goals as goal
 
 pub loop-cut-init : goal.loop-cut-init
-loop-cut-init c = none_swept _ _ _ _ (search rules) (search rules) c.cuts_of-cuts.ensures.cuts c.cuts_of-cuts.ensures.begins c.cuts_of-cuts.ensures.few
+loop-cut-init c = search (rules, none_swept)
 
 pub row_by-requires-clause-owner : goal.row_by-requires-clause-owner
 row_by-requires-clause-owner c =
@@ -17,8 +17,7 @@ row_by-requires-clause-owner c =
     (swept.up.0.owned c.in-Some.cut.start (omega arith) some)
 
 pub loop-cut-preserved : goal.loop-cut-preserved
-loop-cut-preserved c = one_more c.args.registers.now c.loop-cut.self.starts c.loop-cut.self.rows c.in-Some.cut
-    c.pop.new.self c.loop-cut.runs (rw c.in-Some.ensures at c.loop-cut.invariant) c.row_by.result c.row_by.ensures
+loop-cut-preserved c = search (rules, one_more)
 
 pub loop-place-preserved : goal.loop-place-preserved
 loop-place-preserved c =

@@ -17,15 +17,15 @@ at c file are =
     c.place_of-place.ensures.found
 
 pub returns-then-start-length : goal.returns-then-start-length
-returns-then-start-length c = λ file named are mode_is.
+returns-then-start-length c = λ file are.
     let place = c.place_of-place.result in
     let here = at (goal.at.returns-then-start-length c).After-place_of-place file are in
-    rw (c.row_rights.ensures file (map_run are.list place).owner named (are.rows_are place here.inside) mode_is)
-    (whole_rights_at file c.args.self.now are c.args.start place here named c.args.length c.requires.full c.requires.inside
+    rw (c.row_rights.ensures file (map_run are.list place).owner (are.rows_are place here.inside))
+    (whole_rights_at file c.args.self.now are c.args.start place here c.args.mode c.args.length c.requires.full c.requires.inside
     c.if-start-length.true)
 
 pub returns-else-start-length : goal.returns-else-start-length
-returns-else-start-length c = λ file named are mode_is.
+returns-else-start-length c = λ file are.
     mixed_rights file c.args.self.now are c.args.start c.place_of-place.result
-    (at (goal.at.returns-else-start-length c).After-place_of-place file are) named c.args.length c.requires.full
+    (at (goal.at.returns-else-start-length c).After-place_of-place file are) c.args.mode c.args.length c.requires.full
     c.requires.inside c.if-start-length.false
