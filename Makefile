@@ -104,11 +104,11 @@ bench: bench-decide bench-threads bench-limits bench-audit bench-page
 
 bench-decide: library
 	@mkdir -p bench/out
-	@bench/qemu/fetch bench/out/qemu || echo "QEMU's source can't be fetched, so it isn't timed"
-	@for entries in 16 64; do bench/decide $$entries || exit 1; done
+	@bench/qemu/fetch bench/out/qemu-10 trixie || echo "QEMU 10's source can't be fetched, so it isn't timed"
+	@bench/decide
 
 bench-threads: stress
-	gcc -O2 -std=c11 -Wall -Wextra -pthread bench/threads.c -o bench/out/threads
+	gcc -O2 -std=c11 -Wall -Wextra -pthread bench/threads.c bench/spike_like.c -o bench/out/threads
 	$(STRESS) bench
 	bench/out/threads
 
@@ -120,7 +120,7 @@ bench-limits: stress
 
 bench-audit: build
 	@mkdir -p bench/out
-	gcc -O2 -std=c11 -Wall -Wextra bench/audit.c -o bench/out/audit
+	gcc -O2 -std=c11 -Wall -Wextra bench/audit.c bench/spike_like.c -o bench/out/audit
 	bench/out/audit $(PROGRAM)
 
 bench-page: page

@@ -1,11 +1,13 @@
 /* Times `pmp audit` on a trace of the most bytes, with and without checkers, and then `pmp audit --long` on one of 1 GiB
-   by one, two and four jobs, each beside a plain C audit of the same files. */
+   by one, two and four jobs, each beside an audit of the same files in plain C, by a Spike-like unit. */
 #define _GNU_SOURCE
-#include "plain_unit.h"
+#include "regions.h"
+#include "spike_like.h"
 #include <fcntl.h>
 #include <inttypes.h>
 #include <stdio.h>
 #include <stdlib.h>
+#include <string.h>
 #include <sys/resource.h>
 #include <sys/stat.h>
 #include <sys/wait.h>
@@ -151,22 +153,26 @@ static void add_answer(size_t row, unsigned answer, uint8_t kind) {
     *report_end++ = '\n';
 }
 
+static unsigned answer_to(const struct spike_like *unit, const struct request *it) {
+    return spike_like_decide(unit, it->mode, it->kind, it->start, it->length);
+}
+
 static void plain_audit(void) {
     static struct publication publications[PUBLICATIONS + 1];
     size_t size, row = 0, done = 0;
-    struct unit unit;
+    struct spike_like unit;
     read_publications(read_all(SCRIPT, &size), publications);
     char *text = read_all(TRACE, &size), *end = text + size;
     /* No row of a report is longer than twice its row of the trace. */
     report = report_end = checked(malloc(2 * size), "malloc");
-    reset(&unit);
+    spike_like_reset(&unit, 16);
     for (char *at = strchr(text, '\n') + 1; at < end;) {
         uint64_t after = read_number(&at);
         struct request request = read_access(&at);
         for (; done < after; done++)
             for (size_t i = 0; i < publications[done].count; i++)
-                write_register(&unit, &publications[done].writes[i]);
-        add_answer(++row, decide(&unit, &request), request.kind);
+                spike_like_write(&unit, publications[done].writes[i].number, publications[done].writes[i].value);
+        add_answer(++row, answer_to(&unit, &request), request.kind);
     }
     FILE *file = checked(fopen(PLAIN_REPORT, "w"), PLAIN_REPORT);
     fwrite(report, 1, report_end - report, file);

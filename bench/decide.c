@@ -1,81 +1,152 @@
-/* Times the proved unit beside a plain C unit of as many entries, and beside QEMU's where it is linked, over the same
-   writes and accesses. */
+/* decide ROUNDS: times the library, the Spike-like unit, and QEMU's where it is linked, on the same writes and requests.
+   In each round all of them take turns. A line for each row and peer has the table, the row, the peer, how many calls a
+   round has, and the fewest nanoseconds of a call. */
 #define _POSIX_C_SOURCE 199309L
 #include "requests.h"
-#include "tilvenka_pmp.h"
 #include <stdio.h>
 #include <stdlib.h>
 #include <time.h>
 
-enum { BUILDS = 1000, ROUNDS = 60, SMALL_FILES = 3000 };
+enum { BUILDS = 1000, SMALL_FILES = 6000, MAX_PEERS = 4 };
 
-/* The peers. */
+extern const struct peer tilvenka_map, tilvenka_registers, spike_like, qemu;
 
-static tilvenka_pmp_unit unit;
+#ifdef HAS_QEMU
+#define QEMU &qemu,
+#else
+#define QEMU
+#endif
 
-static void prepare_library(const struct write *writes, size_t count) {
-    tilvenka_pmp_reset(&unit, ENTRIES);
-    for (size_t i = 0; i < count; i++)
-        tilvenka_pmp_write(&unit, writes[i].number, writes[i].value);
-    tilvenka_pmp_build(&unit);
-}
+static const struct peer *const all[] = {&tilvenka_map, &tilvenka_registers, &spike_like, QEMU NULL};
+static const struct peer *const exact[] = {&tilvenka_map, &tilvenka_registers, &spike_like, NULL};
+static const struct peer *const writers[] = {&tilvenka_registers, &spike_like, QEMU NULL};
+static const struct peer *const builders[] = {&tilvenka_map, NULL};
 
-/* The number that the peers answer by, of the library's. */
-static unsigned number_of_library(unsigned answer) {
-    if (tilvenka_pmp_is_no_access(answer))
-        return NO_ACCESS;
-    return answer % TILVENKA_PMP_FAULT + (tilvenka_pmp_is_allowed(answer) ? ALLOWED : 0);
-}
-
-static inline unsigned answer_of_library(struct request request) {
-    return tilvenka_pmp_decide(&unit, request.mode, request.kind, request.start, request.length);
-}
-
-static inline unsigned answer_by_registers(struct request request) {
-    return tilvenka_pmp_decide_by_registers(&unit, request.mode, request.kind, request.start, request.length);
-}
-
-static inline unsigned rights_of_page(struct request request) {
-    return tilvenka_pmp_rights(&unit, request.mode, request.start & ~UINT64_C(4095), 4096);
-}
-
-ASK_BY(ask_library, answer_of_library)
-ASK_BY(ask_registers, answer_by_registers)
-ASK_BY(ask_rights, rights_of_page)
-
-static struct unit plain;
-
-static void prepare_plain(const struct write *writes, size_t count) {
-    reset(&plain);
-    for (size_t i = 0; i < count; i++)
-        write_register(&plain, &writes[i]);
-}
-
-static inline unsigned answer_of_plain(struct request request) {
-    return decide(&plain, &request);
-}
-
-ASK_BY(ask_plain, answer_of_plain)
-
-static unsigned number_of_plain(unsigned answer) {
-    return answer;
-}
-
-static const struct peer library = {"tilvenka", number_of_library, prepare_library, NULL, ask_library};
-static const struct peer registers = {"registers", number_of_library, prepare_library, NULL, ask_registers};
-static const struct peer library_fill = {"tilvenka", NULL, prepare_library, NULL, ask_rights};
-static const struct peer plain_c = {"plain C", number_of_plain, prepare_plain, NULL, ask_plain};
-
-/* QEMU's unit, and QEMU's names over the library: linked where QEMU's source could be fetched. */
-extern const struct peer qemu __attribute__((weak)), qemu_fill __attribute__((weak));
-extern const struct peer shim __attribute__((weak)), shim_fill __attribute__((weak));
-
-static const struct peer *const ALL[] = {&library, &registers, &plain_c, &qemu, &shim};
-enum { LIBRARY = 0, PLAIN_C = 2, QEMU = 3, PEERS = sizeof ALL / sizeof *ALL };
-
-/* The runs. */
-
+static unsigned rounds;
+static enum pace pace;
 static uint16_t answers[2][COUNT];
+static uint64_t values[WRITES];
+
+/* What a row times. */
+
+struct work {
+    const char *table;
+    const struct peer *const *peers;
+    /* One round, over all requests or over the last of the writes. Those before are made before it. */
+    void (*run)(const struct peer *peer, uint16_t *answers);
+    size_t last_writes;
+    size_t calls;
+};
+
+static void run_decisions(const struct peer *peer, uint16_t *told) {
+    peer->decide(requests, request_count, told, pace);
+}
+
+static void run_fills(const struct peer *peer, uint16_t *told) {
+    peer->fill(requests, request_count, told, FREE);
+}
+
+static void run_switches(const struct peer *peer, uint16_t *told) {
+    const struct write *next = writes + write_count - SWITCHES * SWITCH_WRITES;
+    for (size_t i = 0; i < SWITCHES; i++) {
+        peer->change(next + i * SWITCH_WRITES, SWITCH_WRITES);
+        peer->fill(requests + i * PAGES, PAGES, told + i * PAGES, FREE);
+    }
+}
+
+static void run_writes(const struct peer *peer, uint16_t *told) {
+    (void)told;
+    peer->write(writes + write_count - WRITES, WRITES);
+}
+
+static void run_reads(const struct peer *peer, uint16_t *told) {
+    (void)told;
+    peer->read(writes + write_count - WRITES, WRITES, values);
+}
+
+static void run_builds(const struct peer *peer, uint16_t *told) {
+    (void)told;
+    peer->build(BUILDS);
+}
+
+static const struct work decisions = {"asking", all, run_decisions, 0, COUNT};
+static const struct work fills = {"asking", all, run_fills, 0, COUNT};
+static const struct work switches = {"asking", all, run_switches, SWITCHES * SWITCH_WRITES, SWITCHES};
+static const struct work changes = {"registers", writers, run_writes, WRITES, WRITES};
+static const struct work reads = {"registers", writers, run_reads, WRITES, WRITES};
+static const struct work builds = {"maps", builders, run_builds, 0, BUILDS};
+
+/* Comparing. */
+
+static void prepare_for(const struct work *work, const struct peer *peer) {
+    peer->prepare(writes, write_count - work->last_writes);
+}
+
+static void stop(const char *name, const struct peer *peer, const char *what, size_t number, unsigned long long told,
+                 unsigned long long wanted) {
+    fprintf(stderr, "%s: %s has %llu for %s %zu, and %s %llu\n", name, peer->name, told, what, number, all[0]->name,
+            wanted);
+    exit(1);
+}
+
+/* A decision of a peer that tells no entry is what is allowed. */
+static bool is_same(const struct work *work, const struct peer *peer, unsigned told, unsigned wanted) {
+    if (work != &decisions)
+        return told == wanted;
+    wanted = all[0]->number_of(wanted);
+    return peer->number_of ? peer->number_of(told) == wanted : (told != 0) == (wanted >= ALLOWED);
+}
+
+/* Stops where a peer answers otherwise than the library by its map. */
+static void compare_answers(const char *name, const struct work *work, const struct peer *const *peers) {
+    prepare_for(work, all[0]);
+    work->run(all[0], answers[0]);
+    for (; *peers != NULL; peers++) {
+        prepare_for(work, *peers);
+        work->run(*peers, answers[1]);
+        for (size_t i = 0; i < request_count; i++)
+            if (!is_same(work, *peers, answers[1][i], answers[0][i]))
+                stop(name, *peers, "request", i, answers[1][i], answers[0][i]);
+    }
+}
+
+/* All registers of a unit, as writes that read them. */
+static size_t list_registers(struct write *list) {
+    size_t count = 0;
+    for (unsigned first = 0; first < ENTRIES; first += 8)
+        list[count++].number = PMPCFG0 + first / 4;
+    for (unsigned entry = 0; entry < ENTRIES; entry++)
+        list[count++].number = PMPADDR0 + entry;
+    list[count++].number = MSECCFG;
+    return count;
+}
+
+static void compare_registers(const char *name) {
+    struct write list[2 * ENTRIES];
+    uint64_t wanted[2 * ENTRIES], told[2 * ENTRIES];
+    size_t count = list_registers(list);
+    tilvenka_registers.prepare(writes, write_count);
+    spike_like.prepare(writes, write_count);
+    tilvenka_registers.read(list, count, wanted);
+    spike_like.read(list, count, told);
+    for (size_t i = 0; i < count; i++)
+        if (told[i] != wanted[i])
+            stop(name, &spike_like, "register", list[i].number, told[i], wanted[i]);
+}
+
+/* QEMU's isn't compared here, since its rules are others at the edges. */
+static void compare_small_files(void) {
+    for (unsigned i = 0; i < SMALL_FILES; i++) {
+        set_small_file(i % 2 == 0 ? 1 : 1024);
+        compare_answers("small files", &decisions, exact);
+        compare_answers("small files", &fills, exact);
+        compare_registers("small files");
+    }
+    fprintf(stderr, "%d decisions and as many rights of %d small random files agree, and all registers\n",
+            SMALL_FILES * SMALL_COUNT, SMALL_FILES);
+}
+
+/* Timing. */
 
 static double nanoseconds(void) {
     struct timespec time;
@@ -83,229 +154,119 @@ static double nanoseconds(void) {
     return 1e9 * time.tv_sec + time.tv_nsec;
 }
 
-static double time_of(const struct peer *peer, enum pace pace, uint16_t *told) {
+/* Not inlined, since instructions are counted in the function of this name. */
+__attribute__((noinline)) void run_round(const struct work *work, const struct peer *peer) {
+    work->run(peer, answers[1]);
+    __asm__ volatile("" ::: "memory");
+}
+
+static double time_of(const struct work *work, const struct peer *peer) {
+    prepare_for(work, peer);
     double before = nanoseconds();
-    peer->ask(requests, request_count, told, pace);
+    run_round(work, peer);
     return nanoseconds() - before;
 }
 
-/* Stops where the peer answers otherwise than the plain unit. One that tells no entry says what is allowed. */
-static void compare(const struct peer *peer, const char *name) {
-    plain_c.ask(requests, request_count, answers[0], FREE);
-    peer->ask(requests, request_count, answers[1], FREE);
-    for (size_t i = 0; i < request_count; i++) {
-        unsigned wanted = answers[0][i], told = answers[1][i];
-        bool is_same = peer->number_of ? peer->number_of(told) == wanted : (told != 0) == (wanted >= ALLOWED);
-        if (!is_same) {
-            fprintf(stderr, "%s: %s answers %u to number %zu, and plain C %u\n", name, peer->name, told, i, wanted);
-            exit(1);
+static void measure(const char *name, const struct work *work) {
+    double best[MAX_PEERS] = {0};
+    if (work->peers == all)
+        compare_answers(name, work, all);
+    else
+        compare_registers(name);
+    for (unsigned round = 0; round < rounds; round++) {
+        for (unsigned i = 0; work->peers[i] != NULL; i++) {
+            double time = time_of(work, work->peers[i]);
+            best[i] = round == 0 || time < best[i] ? time : best[i];
         }
     }
+    for (unsigned i = 0; work->peers[i] != NULL; i++)
+        printf("%s\t%s\t%s\t%zu\t%.2f\n", work->table, name, work->peers[i]->name, work->calls, best[i] / work->calls);
 }
 
-static double best_of(const struct peer *peer, enum pace pace) {
-    double best = 1e18;
-    for (unsigned round = 0; round < ROUNDS; round++) {
-        double time = time_of(peer, pace, answers[1]);
-        if (time < best)
-            best = time;
-    }
-    return best / request_count;
-}
+/* The rows. */
 
-static void print_row(const char *name, const double *times, unsigned count) {
-    printf("%-36s", name);
-    for (unsigned i = 0; i < count; i++) {
-        if (times[i] > 0)
-            printf(" %9.1f", times[i]);
-        else
-            printf(" %9s", "-");
-    }
-    printf("\n");
-}
-
-/* Times of all peers, and what the library takes of the plain unit's and of QEMU's time. */
-static void measure(const char *name, enum pace pace) {
-    double times[PEERS + 2] = {0};
-    prepare_plain(writes, write_count);
-    for (unsigned i = 0; i < PEERS; i++) {
-        if (ALL[i] == NULL)
-            continue;
-        ALL[i]->prepare(writes, write_count);
-        compare(ALL[i], name);
-        times[i] = best_of(ALL[i], pace);
-    }
-    times[PEERS] = times[LIBRARY] / times[PLAIN_C];
-    times[PEERS + 1] = times[QEMU] > 0 ? times[LIBRARY] / times[QEMU] : 0;
-    print_row(name, times, PEERS + 2);
-}
-
-static void measure_both(const char *name) {
-    char in_turn[64];
-    measure(name, FREE);
-    snprintf(in_turn, sizeof in_turn, "%s, in turn", name);
-    measure(in_turn, IN_TURN);
-}
-
-static void print_head(const char *what) {
-    printf("%2u entries, %-24s %9s %9s %9s %9s %9s %9s %9s\n", ENTRIES, what, "tilvenka", "registers", "plain C",
-            "QEMU", "shim", "/plain C", "/QEMU");
-}
-
-static void compare_small_files(void) {
-    static const struct peer *const exact[] = {&library, &registers};
-    for (unsigned count = 0; count < SMALL_FILES; count++) {
-        set_small_file();
-        prepare_plain(writes, write_count);
-        for (unsigned i = 0; i < sizeof exact / sizeof *exact; i++) {
-            exact[i]->prepare(writes, write_count);
-            compare(exact[i], "small files");
-        }
-    }
-    printf("%d answers over small random files agree\n\n", SMALL_FILES * SMALL_COUNT);
+static void measure_in_turn(const char *name) {
+    pace = IN_TURN;
+    measure(name, &decisions);
+    pace = FREE;
 }
 
 static void measure_decisions(void) {
-    print_head("ns a decision");
-    set_regions(ENTRIES);
-    set_loads(ENTRIES, 0);
-    measure_both("a region each");
-    mix_modes_and_kinds();
-    measure_both("every mode and kind");
+    set_opensbi();
+    set_kernel_loads();
+    measure("OpenSBI's boot", &decisions);
     set_regions(1);
     set_loads(1, 0);
-    measure_both("one region");
+    measure("one region", &decisions);
     set_regions(ENTRIES);
+    set_loads(ENTRIES, 0);
+    measure("a region each", &decisions);
+    measure_in_turn("the same, in turn");
+    mix_modes_and_kinds();
+    measure_in_turn("every mode and kind, in turn");
     set_loads(ENTRIES, 0x2000);
-    measure_both("no match");
+    measure("no match", &decisions);
     set_loads(ENTRIES, 0);
     for (size_t i = 0; i < COUNT; i++)
         requests[i].start = (requests[i].start & ~UINT64_C(4095)) + 4092;
-    measure_both("across a region's end");
+    measure("across a region's end", &decisions);
     set_comb();
     set_words();
-    measure_both("one word of the comb");
+    measure("one word of the comb", &decisions);
     set_long_words();
-    measure_both("across words of the comb");
+    measure("across words of the comb", &decisions);
 }
 
-/* The rights of a page, which a TLB asks for where it takes the page in. */
 static void measure_fills(void) {
-    const struct peer *const fillers[] = {&library_fill, &qemu_fill, &shim_fill};
-    printf("\n%2u entries, %-24s %9s %9s %9s\n", ENTRIES, "ns a page's rights", "tilvenka", "QEMU", "shim");
+    set_opensbi();
+    set_kernel_loads();
+    measure("rights of a page, OpenSBI's boot", &fills);
     set_regions(ENTRIES);
     set_loads(ENTRIES, 0);
-    double times[3] = {0};
-    for (unsigned i = 0; i < 3; i++) {
-        if (fillers[i] == NULL)
-            continue;
-        fillers[i]->prepare(writes, write_count);
-        times[i] = best_of(fillers[i], FREE);
-    }
-    print_row("a region each", times, 3);
+    measure("rights of a page, a region each", &fills);
+    set_switches(PAGES);
+    measure("a switch, 8 on", &switches);
+    set_switches(ENTRIES);
+    measure("a switch, all on", &switches);
 }
 
-/* The time of one call, which goes over the last WRITES of the writes, in a unit with all before them. */
-static double time_of_writes(void (*run)(const struct write *, size_t), void (*prepare)(const struct write *, size_t)) {
-    double best = 1e18;
-    if (run == NULL)
-        return 0;
-    for (unsigned round = 0; round < ROUNDS; round++) {
-        prepare(writes, write_count - WRITES);
-        double before = nanoseconds();
-        run(writes + write_count - WRITES, WRITES);
-        double time = nanoseconds() - before;
-        if (time < best)
-            best = time;
-    }
-    return best / WRITES;
-}
-
-static volatile uint64_t sink;
-
-static void write_library(const struct write *some, size_t count) {
-    for (size_t i = 0; i < count; i++)
-        tilvenka_pmp_write(&unit, some[i].number, some[i].value);
-}
-
-static void write_and_ask(const struct write *some, size_t count) {
-    for (size_t i = 0; i < count; i++) {
-        tilvenka_pmp_write(&unit, some[i].number, some[i].value);
-        sink = tilvenka_pmp_rights(&unit, TILVENKA_PMP_USER, region(i % ENTRIES), 4096);
-    }
-}
-
-static void write_and_build(const struct write *some, size_t count) {
-    for (size_t i = 0; i < count; i++) {
-        tilvenka_pmp_write(&unit, some[i].number, some[i].value);
-        tilvenka_pmp_build(&unit);
-    }
-}
-
-static void read_library(const struct write *some, size_t count) {
-    uint64_t value = 0;
-    for (size_t i = 0; i < count; i++) {
-        tilvenka_pmp_read(&unit, some[i].number, &value);
-        sink = value;
-    }
-}
-
-static void write_plain(const struct write *some, size_t count) {
-    for (size_t i = 0; i < count; i++)
-        write_register(&plain, &some[i]);
-}
-
-static void measure_write(const char *name) {
-    const double times[6] = {
-        time_of_writes(write_library, prepare_library),
-        time_of_writes(write_and_ask, prepare_library),
-        time_of_writes(write_and_build, prepare_library),
-        time_of_writes(read_library, prepare_library),
-        time_of_writes(write_plain, prepare_plain),
-        &qemu != NULL ? time_of_writes(qemu.write, qemu.prepare) : 0,
-    };
-    print_row(name, times, 6);
-}
-
-static void measure_build(const char *name) {
-    double best = 1e18;
-    prepare_library(writes, write_count);
-    for (unsigned round = 0; round < ROUNDS; round++) {
-        double before = nanoseconds();
-        for (unsigned i = 0; i < BUILDS; i++) {
-            unit.map.runs = 0;
-            tilvenka_pmp_build(&unit);
-        }
-        double time = nanoseconds() - before;
-        if (time < best)
-            best = time;
-    }
-    printf("%-36s %9.0f\n", name, best / BUILDS);
-}
-
-static void measure_writes(void) {
-    printf("\n%2u entries, %-24s %9s %9s %9s %9s %9s %9s\n", ENTRIES, "ns a write", "tilvenka", "+ rights", "+ build",
-           "a read", "plain C", "QEMU");
+static void measure_registers(void) {
     set_address_writes();
-    measure_write("pmpaddr");
+    measure("write of `pmpaddr`", &changes);
+    measure("read of `pmpaddr`", &reads);
     set_configuration_writes(0x1d);
-    measure_write("pmpcfg");
+    measure("write of `pmpcfg`", &changes);
+    measure("read of `pmpcfg`", &reads);
     set_configuration_writes(0x1f);
-    measure_write("pmpcfg, mostly with reserved bytes");
-    printf("\n%2u entries, %-24s %9s\n", ENTRIES, "ns a map", "build");
-    write_count = 0;
-    measure_build("no region");
-    set_regions(ENTRIES);
-    measure_build("a region each");
-    set_comb();
-    measure_build("the comb");
-    printf("\n");
+    measure("write of `pmpcfg`, mostly not stored as written", &changes);
+    set_policy_writes();
+    measure("write of `mseccfg`, unchanged", &changes);
 }
 
-int main(void) {
+static void measure_builds(void) {
+    write_count = 0;
+    measure("nothing on", &builds);
+    set_opensbi();
+    measure("OpenSBI's boot", &builds);
+    set_regions(16);
+    measure("16 regions", &builds);
+    set_comb();
+    measure("the comb", &builds);
+    if (ENTRIES == 64) {
+        set_regions(64);
+        measure("64 regions", &builds);
+    }
+}
+
+int main(int count, char **words) {
+    if (count != 2 || (rounds = atoi(words[1])) == 0) {
+        fprintf(stderr, "usage: decide ROUNDS\n");
+        return 2;
+    }
     compare_small_files();
     measure_decisions();
     measure_fills();
-    measure_writes();
+    measure_registers();
+    measure_builds();
     return 0;
 }

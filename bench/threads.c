@@ -1,59 +1,62 @@
-/* Times decisions by threads that share a plain C unit behind a lock, without and beside a thread that writes to it. */
+/* Times decisions by threads that share a Spike-like unit behind a lock, without and beside a thread that writes to it. */
 #define _GNU_SOURCE
-#include "plain_unit.h"
+#include "regions.h"
+#include "spike_like.h"
 #include <pthread.h>
 #include <stdio.h>
 #include <stdlib.h>
 #include <time.h>
 
-enum { DECISIONS = 500000, WRITES = 200000, ROUNDS = 15, MAX_THREADS = 4 };
+enum { ENTRIES = 16, DECISIONS = 500000, WRITES = 200000, ROUNDS = 15, MAX_THREADS = 4 };
 
 /* The unit, on cache lines of its own, behind one of the locks. */
-static _Alignas(64) struct unit unit;
+static _Alignas(64) struct spike_like unit;
 static _Alignas(64) pthread_rwlock_t rwlock = PTHREAD_RWLOCK_INITIALIZER;
 static _Alignas(64) pthread_mutex_t mutex = PTHREAD_MUTEX_INITIALIZER;
 static _Alignas(64) unsigned deciding;
 static pthread_barrier_t begin;
 
-static const struct write again = {PMPADDR0, UINT64_C(0x200001ff)};
-
 static void set_regions(void) {
-    reset(&unit);
+    spike_like_reset(&unit, ENTRIES);
     for (unsigned entry = 0; entry < ENTRIES; entry++)
-        write_register(&unit, &(struct write){PMPADDR0 + entry, napot_of_page(region(entry))});
-    write_register(&unit, &(struct write){PMPCFG0, UINT64_C(0x1b1b1b1b1b1b1b1b)});
-    write_register(&unit, &(struct write){PMPCFG2, UINT64_C(0x1b1b1b1b1b1b1b1b)});
+        spike_like_write(&unit, PMPADDR0 + entry, napot_of_page(region(entry)));
+    for (unsigned first = 0; first < ENTRIES; first += 8)
+        spike_like_write(&unit, PMPCFG0 + first / 4, UINT64_C(0x1b1b1b1b1b1b1b1b));
 }
 
 /* The locks. */
 
-static unsigned decide_unlocked(const struct request *request) {
-    return decide(&unit, request);
+static unsigned decide(const struct request *it) {
+    return spike_like_decide(&unit, it->mode, it->kind, it->start, it->length);
 }
 
 static unsigned decide_by_rwlock(const struct request *request) {
     pthread_rwlock_rdlock(&rwlock);
-    unsigned answer = decide(&unit, request);
+    unsigned answer = decide(request);
     pthread_rwlock_unlock(&rwlock);
     return answer;
 }
 
+static void write_again(void) {
+    spike_like_write(&unit, PMPADDR0, napot_of_page(region(0)));
+}
+
 static void write_by_rwlock(void) {
     pthread_rwlock_wrlock(&rwlock);
-    write_register(&unit, &again);
+    write_again();
     pthread_rwlock_unlock(&rwlock);
 }
 
 static unsigned decide_by_mutex(const struct request *request) {
     pthread_mutex_lock(&mutex);
-    unsigned answer = decide(&unit, request);
+    unsigned answer = decide(request);
     pthread_mutex_unlock(&mutex);
     return answer;
 }
 
 static void write_by_mutex(void) {
     pthread_mutex_lock(&mutex);
-    write_register(&unit, &again);
+    write_again();
     pthread_mutex_unlock(&mutex);
 }
 
@@ -192,7 +195,7 @@ static double best_write_alone(const struct lock *lock) {
 
 int main(void) {
     set_regions();
-    printf("plain C: a decision with no lock %.1f ns\n", best_alone(decide_unlocked));
+    printf("Spike-like: a decision with no lock %.1f ns\n", best_alone(decide));
     for (unsigned i = 0; i < sizeof locks / sizeof *locks; i++) {
         const struct lock *lock = &locks[i];
         printf("%s: a decision on one thread %.1f ns, a write %.1f ns\n", lock->name, best_alone(lock->decide),

@@ -1,7 +1,6 @@
 -- What a policy asks of a byte is answered by its owner.
-use Rattle.std.proofs.Common.{◌≡◌, ℕ, ◌+◌, ◌<◌, Bool, true, false, not, length, Option, None, refl, sym, ap}
+use Rattle.std.proofs.Common.{◌≡◌, ℕ, ◌<◌, Bool, true, false, not, Option, refl, sym, ap}
 use Rattle.std.proofs.Common.{subst, ◌∙◌, inl, inr}
-use Rattle.std.specs.List.{list_all, range_with_len}
 use Rattle.std.proofs.lemmas.Bool.{and_from, and_parts, false≢true, not-false, not-true, or_cases, or_left, or_right}
 use Rattle.pmp_core.specs.declared.access.Kind.{Kind}
 use Rattle.pmp_core.specs.declared.access.Kind.TheVariants.{Fetch, Load, Store}
@@ -10,7 +9,7 @@ use Rattle.pmp_core.specs.declared.access.Mode.TheVariants.{M, S, U}
 use Rattle.pmp_core.specs.declared.access.TheConstants.{ADDRESS_LIMIT}
 use Rattle.pmp_core.specs.Decision.{IsOwner}
 use Rattle.pmp_core.specs.Matching.{Matches}
-use Rattle.pmp_core.specs.RegisterFile.{RegisterFile, is_frozen, is_held}
+use Rattle.pmp_core.specs.RegisterFile.{RegisterFile}
 use Rattle.pmp_core.proofs.Decisions.{least_once}
 use Rattle.pmp_map.specs.Answers.{owned_rights}
 use Rattle.pmp_map.specs.OpenBytes.{IsAnswered, holds}
@@ -101,7 +100,3 @@ module _ (file : RegisterFile) (row : PolicyRow) (byte : ℕ) (owner : Option �
   pub no_by_owner : (asked : Question) → is_yes asked file owner row ≡ false → ¬ (IsYes asked file row byte)
   no_by_owner question.IsBroken answer found = false≢true (sym answer ∙ finds_found (is_broken_by row.demand) found)
   no_by_owner question.IsLoose answer free = free (owner, owned, not-false _ answer)
-
--- where all entries up to the last are frozen, all are
-pub all_up_to : (file : RegisterFile) (last : ℕ) → last + 1 ≡ length file.entries → is_held file last ≡ holds file None
-all_up_to file last count = ap (λ (n : ℕ). list_all (is_frozen file) (range_with_len 0 n)) count

@@ -7,6 +7,7 @@ use pmp_core::laws::{law_one_decision, law_one_span, law_protected};
 use pmp_map::laws::law_one_list_of_rights_runs;
 
 /// Rows have one list of decisions that are each the manual's, however they are come by.
+#[tactic(auto, using(crate::proofs::OneReport::one_list_of_decisions))]
 pub fn law_one_list_of_decisions()
     ensures { OneListOfDecisionsLaw }
 {
@@ -26,6 +27,7 @@ pub fn law_one_policy_answer()
 {}
 
 /// Two scripts have one list of differences.
+#[tactic(auto, using(crate::proofs::OneDifference::one_difference))]
 pub fn law_one_difference()
     ensures { OneDifferenceLaw }
 {

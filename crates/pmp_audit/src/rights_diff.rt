@@ -9,7 +9,7 @@ use crate::answer::write_answer;
 use crate::asked_count::asked_count;
 use crate::fault::{AuditFault, Side};
 use crate::replay::Replay;
-use pmp_core::{ADDRESS_LIMIT, RegFile};
+use pmp_core::{ADDRESS_LIMIT, RegFile, Registers};
 use pmp_map::rights_run_from;
 use pmp_text::{EventLog, GrowingLog, Only, Sink, read_script, write_change};
 use std::alloc::{AllocError, Global};
@@ -61,15 +61,15 @@ pub fn append_diff<L: EventLog, S: Sink>(
 {
     let old_file = file_on(log, Side::Old, old, old_after)?;
     let new_file = file_on(log, Side::New, new, new_after)?;
-    let rows = write_differences(out, &old_file, &new_file, only)?;
+    let rows = write_differences(out, &old_file.registers(), &new_file.registers(), only)?;
     Ok(rows)
 }
 
 /// Appends a row for each of the longest ranges where the files differ as is asked, and answers how many these are.
 fn write_differences<S: Sink>(
     out: &mut S,
-    old: &RegFile,
-    new: &RegFile,
+    old: &Registers<'_>,
+    new: &Registers<'_>,
     only: Option<Only>,
 ) -> Result<u64, AllocError>
     ensures { IfOk result (IsAppended (ChangesSay old.now new.now only) (S.text out.old) (S.text out.new)) }

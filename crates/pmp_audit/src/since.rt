@@ -38,12 +38,13 @@ fn count_in(since: &mut [Since], file: &RegFile, are_writes: bool, done: u64)
     ensures held { (i : ℕ) → i < length file.now.entries → (slice_index_or since.new i no_since).held
         ≡ since_after (slice_index_or since.old i no_since).held (is_held file.now i) are_writes done }
 {
+    let registers = file.registers();
     for entry in 0..file.entries() {
         let place = usize::from(entry);
         let before = since[place];
         since[place] = Since {
             frozen: since_after(before.frozen, file.is_locked(entry), are_writes, done),
-            held: since_after(before.held, file.is_held(entry), are_writes, done),
+            held: since_after(before.held, registers.is_held(place), are_writes, done),
         };
     }
 }

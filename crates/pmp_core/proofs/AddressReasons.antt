@@ -1,10 +1,11 @@
 -- An address register is stored as written exactly where there is no reason.
-use Rattle.std.proofs.Common.{◌≡◌, ℕ, ◌-◌, ◌/◌, ◌%◌, ◌<◌, ◌≤◌, Bool, true, false, cond, not, ◌&&◌, ◌==◌, nat_lt, List}
+use borrow.Author.Tests.{tests}
+use Rattle.std.proofs.Common.{rules, ◌≡◌, ℕ, ◌-◌, ◌/◌, ◌%◌, ◌<◌, ◌≤◌, Bool, true, false, cond, not, ◌&&◌, ◌==◌, nat_lt, List}
 use Rattle.std.proofs.Common.{length, refl, sym, ap, ◌∙◌, inl, inr, arith, length-set, get_or-set_same}
 use Rattle.std.proofs.Math.ListN.{set}
 use Rattle.std.proofs.Math.Nat.{mod-lt, mod-eq_of_lt, div-eq_of_lt, lt-mul-div-succ}
 use Rattle.pmp_core.proofs.Legal.{zero_fits}
-use Rattle.std.proofs.lemmas.Bool.{cases_lt, cases_eq, cases_Bool, not-false, and_left, and_right, or_parts}
+use Rattle.std.proofs.lemmas.Bool.{cases_lt, cases_eq, cases_Bool, not-false, and_left, and_right}
 use Rattle.std.proofs.lemmas.Bool.{eqb-true, eq-eqb, ne_eqb, lt-ltb, le-ltb}
 use Rattle.std.proofs.lemmas.List.{get_or_past}
 use Rattle.pmp_core.specs.declared.csr.Csr.TheVariants.{Addr}
@@ -134,29 +135,8 @@ module _ (file : RegisterFile) (legal : IsLegal file) (i value : ℕ) where
       | inl inside ↦ rw (lt-ltb i (length file.entries) inside) (and_right _ false refl)
     ]
 
-    -- where the address is frozen, the value changes no entry
-    unchanged_at : (k : ℕ) → is_address_frozen file i ≡ true → is_changed file (Addr i) value k ≡ false
-    unchanged_at k frozen = elim (cases_eq i k) [
-      | inl here ↦ rw (← here) (changed_here ∙ not_same value now (sym same ∙ reads_frozen frozen))
-      | inr other ↦ rw (ne_eqb i k other) refl
-    ]
-
-    -- where it isn't, the entry isn't frozen and isn't the low end of a frozen range
-    free_at : (k : ℕ) → is_address_frozen file i ≡ false
-        → (changes_frozen file (Addr i) value k ≡ false) × (is_low_end file (Addr i) value k ≡ false)
-    free_at k free = elim (cases_eq i k) [
-      | inl here ↦ rw (← here) (
-        and_left (is_frozen file i) _ (or_parts (is_frozen file i) _ free).0,
-        and_left (not (is_frozen file i) && is_address_frozen file i) _ (and_right _ (is_address_frozen file i) free),
-      )
-      | inr other ↦ rw (ne_eqb i k other) (and_right _ false refl, and_right _ false refl)
-    ]
-
     fine : (k : ℕ) → (changes_frozen file (Addr i) value k ≡ false) × (is_low_end file (Addr i) value k ≡ false)
-    fine k = elim (cases_Bool (is_address_frozen file i)) [
-      | inl frozen ↦ (and_right _ _ (unchanged_at k frozen), and_right _ _ (unchanged_at k frozen))
-      | inr free ↦ free_at k free
-    ]
+    fine k = search (rules, tests)
 
     coarse : (k : ℕ) → k < length file.entries → is_too_fine file (Addr i) value k ≡ false
     coarse k inside = elim (cases_eq i k) [

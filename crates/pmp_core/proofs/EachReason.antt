@@ -1,5 +1,6 @@
 -- The reasons for a write, one by one.
-use Rattle.std.proofs.Common.{◌==◌, ◌≡◌, ℕ, zero, suc, ◌+◌, ◌-◌, ◌<◌, ◌≤◌, Bool, true, false, cond, List, [], ◌∷◌, length}
+use borrow.Author.Tests.{tests}
+use Rattle.std.proofs.Common.{rules, ◌==◌, ◌≡◌, ℕ, zero, suc, ◌+◌, ◌-◌, ◌<◌, ◌≤◌, Bool, true, false, cond, List, [], ◌∷◌, length}
 use Rattle.std.proofs.Common.{get_or, refl, sym, ◌∙◌, inl, inr, arith}
 use Rattle.std.specs.List.{range_with_len, list_any, filter}
 use Rattle.std.proofs.lemmas.Bool.{false≢true, false_from_ne_true, or_from, cases_Bool, cases_lt, and_right}
@@ -125,11 +126,6 @@ pub record HasNone (file : RegisterFile) (csr : Csr) (value : ℕ) : Type 0 wher
   pub bypass : is_reason Bypass file csr value ≡ false
   pub grain : is_reason Grain file csr value ≡ false
 
-none_all : (p : WriteReason → Bool) → p Absent ≡ false → p Bits ≡ false → p Frozen ≡ false → p Tor ≡ false
-    → p Reserved ≡ false → p Lockdown ≡ false → p Sticky ≡ false → p Bypass ≡ false → p Grain ≡ false
-    → filter p all_reasons ≡ []
-none_all p a b c d e f g h i = rw (a, b, c, d, e, f, g, h, i) refl
-
 pub has_none : (file : RegisterFile) (csr : Csr) (value : ℕ) → write_reasons file csr value ≡ []
     → HasNone file csr value
 has_none file csr value none =
@@ -149,6 +145,4 @@ has_none file csr value none =
 
 pub no_reasons : (file : RegisterFile) (csr : Csr) (value : ℕ) → HasNone file csr value
     → write_reasons file csr value ≡ []
-no_reasons file csr value h =
-    none_all (λ reason. is_reason reason file csr value) h.absent h.bits h.frozen h.tor h.reserved h.lockdown h.sticky
-    h.bypass h.grain
+no_reasons file csr value h = search (rules, tests)

@@ -1,17 +1,15 @@
 -- Harts as numbers.
-use Rattle.std.proofs.Common.{◌≡◌, ℕ, ◌+◌, ◌*◌, ◌/◌, ◌%◌, ◌^◌, ◌≤◌, Bool, true, false, ◌==◌, ◌||◌, nat_lt, cond, Option, Some, None}
+use borrow.Author.Tests.{tests}
+use Rattle.std.proofs.Common.{rules, ◌≡◌, ℕ, ◌+◌, ◌*◌, ◌/◌, ◌%◌, ◌^◌, ◌≤◌, true, ◌==◌, Option, Some, None}
 use Rattle.std.specs.Option.{is_none}
-use Rattle.std.proofs.lemmas.Bool.Decides.{nat_tests}
 use Rattle.pmp_core.specs.declared.hart.HartFault.{HartFault}
-use Rattle.pmp_core.specs.declared.hart.HartFault.TheVariants.{Entries, Grain, AddressBits}
 use Rattle.std.proofs.Common.{refl, sym, ap, ◌∙◌, inl, inr, arith}
-use Rattle.std.proofs.lemmas.Bool.{cases_Bool, cases_eq, and_parts, or_cases, eqb-true, eq-eqb, ne_eqb, le-ltb}
+use Rattle.std.proofs.lemmas.Bool.{cases_Bool, and_parts, or_cases, eqb-true, eq-eqb, ne_eqb}
 use Rattle.pmp_core.specs.Configuration.{bit_of}
 use Rattle.pmp_core.specs.Hart.{Profile, IsProfile, hart_fault, profile_with, profile_of}
 use Rattle.pmp_core.specs.declared.size.Size.{Size}
 use Rattle.pmp_core.specs.declared.size.Size.TheVariants.{Sixteen, SixtyFour}
-use Rattle.pmp_core.specs.SavedRegisters.{is_usual, hart_number, spelled_hart, spells_hart, saved_hart}
-use Rattle.pmp_core.proofs.StoredBytes.{bit_back, bit_le}
+use Rattle.pmp_core.specs.SavedRegisters.{is_usual, hart_number, spelled_hart, saved_hart}
 
 pub usual : (n : ℕ) → n ≤ 64 → IsProfile (profile_with n)
 usual n few = record { few = few; fine = omega arith; wide = omega arith; narrow = omega arith }
@@ -23,31 +21,10 @@ is_profile_of SixtyFour = usual 64 (omega arith)
 -- ---- whether there is a hart
 
 lawful : (profile : Profile) → hart_fault profile ≡ None → IsProfile profile
-lawful profile h = by_tests (nat_lt 64 profile.entries) (nat_lt 10 profile.grain) (nat_lt profile.address_bits 34)
-    (nat_lt 56 profile.address_bits) refl refl refl refl h
-  where
-    by_tests : (many coarse narrow wide : Bool) → nat_lt 64 profile.entries ≡ many → nat_lt 10 profile.grain ≡ coarse
-        → nat_lt profile.address_bits 34 ≡ narrow → nat_lt 56 profile.address_bits ≡ wide
-        → cond many (Some Entries) (cond coarse (Some Grain) (cond (narrow || wide) (Some AddressBits) None)) ≡ None
-        → IsProfile profile
-    by_tests true coarse narrow wide m c n w e = absurd cc
-    by_tests false true narrow wide m c n w e = absurd cc
-    by_tests false false true wide m c n w e = absurd cc
-    by_tests false false false true m c n w e = absurd cc
-    by_tests false false false false m c n w e = record {
-      few = grind (arith, nat_tests);
-      fine = grind (arith, nat_tests);
-      wide = grind (arith, nat_tests);
-      narrow = grind (arith, nat_tests);
-    }
+lawful profile h = search (rules, tests)
 
 pub no_fault : (profile : Profile) → IsProfile profile → hart_fault profile ≡ None
-no_fault profile is = rw (
-  le-ltb 64 profile.entries is.few,
-  le-ltb 10 profile.grain is.fine,
-  le-ltb profile.address_bits 34 is.wide,
-  le-ltb 56 profile.address_bits is.narrow,
-) refl
+no_fault profile is = search (rules, tests)
 
 -- ---- every number stands for a hart
 
@@ -55,18 +32,9 @@ none_is : (fault : Option HartFault) → is_none fault ≡ true → fault ≡ No
 none_is None h = refl
 none_is (Some f) h = absurd cc
 
-spelled_is : (number : ℕ) → spells_hart number ≡ true → IsProfile (spelled_hart number)
-spelled_is number h = lawful (spelled_hart number) (none_is _ (and_parts _ _ h).1)
-
 pub is_hart : (number : ℕ) → IsProfile (saved_hart number)
 unfolding saved_hart
-is_hart number = elim (cases_Bool (spells_hart number)) [
-  | inl spells ↦ rw spells (spelled_is number spells)
-  | inr other ↦ rw other (elim (cases_eq number 64) [
-    | inl many ↦ rw (eq-eqb number 64 many) (usual 64 (omega arith))
-    | inr few ↦ rw (ne_eqb number 64 few) (usual 16 (omega arith))
-  ])
-]
+is_hart number = search (rules, tests)
 
 pub saved_16 : saved_hart 16 ≡ profile_with 16
 unfolding saved_hart
@@ -89,9 +57,7 @@ saved_spelled number marked none = rw (eq-eqb (number / 2 ^ 32) 1 marked, none) 
 pub saved_faulty : (number : ℕ) (fault : HartFault) → number / 2 ^ 32 ≡ 1
     → hart_fault (spelled_hart number) ≡ Some fault → saved_hart number ≡ profile_with 16
 unfolding saved_hart
-saved_faulty number fault marked some =
-    let few : number ≡ 64 → ⊥ = λ same. absurd (omega arith) in
-    rw (eq-eqb (number / 2 ^ 32) 1 marked, some, ne_eqb number 64 few) refl
+saved_faulty number fault marked some = search (rules, tests)
 
 -- ---- and each hart has one
 
@@ -121,10 +87,7 @@ module _ (profile : Profile) (is : IsProfile profile) where
   spelled_back : saved_hart (profile.entries + 2 ^ 8 * profile.address_bits + 2 ^ 16 * bit_of profile.has_smepmp
       + 2 ^ 24 * profile.grain + 2 ^ 32) ≡ profile
   unfolding saved_hart
-  spelled_back =
-      let parts = parts_back profile.entries profile.grain profile.address_bits (bit_of profile.has_smepmp) is.few is.fine
-      is.narrow (bit_le profile.has_smepmp) in
-      rw (parts.0, parts.1, parts.2, parts.3, parts.4, bit_back profile.has_smepmp, no_fault profile is) refl
+  spelled_back = search (rules, tests)
 
   pub number_back : saved_hart (hart_number profile) ≡ profile
   unfolding hart_number

@@ -1,11 +1,12 @@
 -- Every step keeps a register file legal, its hart, and as many entries as it has.
-use Rattle.std.proofs.Common.{◌≡◌, ℕ, ◌-◌, ◌*◌, ◌%◌, ◌<◌, ◌≤◌, Bool, true, false, cond, not, ◌&&◌, ◌==◌, ◌^◌, sym, ap}
+use borrow.Author.Tests.{tests}
+use Rattle.std.proofs.Common.{rules, ◌≡◌, ℕ, ◌-◌, ◌*◌, ◌%◌, ◌<◌, ◌≤◌, Bool, true, false, cond, ◌^◌, sym, ap}
 use Rattle.std.proofs.Common.{List, [], ◌∷◌, fold, length, replicate, slice_index, refl, inl, inr, arith, ◌∙◌}
 use Rattle.std.proofs.Common.{length-set}
 use Rattle.std.proofs.Common.{get_or-set_other, get_or-set_same}
 use Rattle.std.specs.Int.{w64, to_le_bytes}
 use Rattle.std.proofs.Math.ListN.{set}
-use Rattle.std.proofs.lemmas.Bool.{cases_lt, cases_eq, cond_both, or_parts}
+use Rattle.std.proofs.lemmas.Bool.{cases_lt, cases_eq, cond_both}
 use Rattle.std.proofs.lemmas.List.{get_or_past, get_or-replicate, length-replicate}
 use Rattle.std.proofs.lemmas.List.FromFn.{length-map-range_with_len, get_or-map-range_with_len}
 use Rattle.pmp_core.specs.declared.csr.Csr.{Csr}
@@ -16,15 +17,14 @@ use Rattle.pmp_core.specs.declared.event.Event.TheVariants.{Write, Reset}
 use Rattle.std.proofs.Math.Nat.{mod-lt}
 use Rattle.std.proofs.Math.Pow.{pow_pos, pow_mono}
 use Rattle.pmp_core.specs.Hart.{Profile, IsProfile, word_addresses}
-use Rattle.pmp_core.specs.Mseccfg.{mseccfg_written}
-use Rattle.pmp_core.specs.Configuration.{Configuration, configuration_of, is_reserved}
+use Rattle.pmp_core.specs.Configuration.{Configuration, is_reserved}
 use Rattle.pmp_core.specs.RegisterFile.{RegisterFile, reset_entry, reset_mseccfg, reset_file, entry_at}
 use Rattle.pmp_core.specs.RegisterFile.{HasAddresses, IsLegal}
 use Rattle.pmp_core.specs.ReachableLaw.{LegalLaw}
 use Rattle.pmp_core.specs.Grain.{selectable}
-use Rattle.pmp_core.specs.RegisterWrite.{admitted, without_reserved, stored_over, stored, holds_byte_of, configured}
-use Rattle.pmp_core.specs.RegisterWrite.{is_address_frozen, is_any_locked, written, step}
-use Rattle.pmp_core.proofs.Grains.{selectable_again, selectable_other, selectable_reserved}
+use Rattle.pmp_core.specs.RegisterWrite.{without_reserved, stored_over, stored, holds_byte_of, configured}
+use Rattle.pmp_core.specs.RegisterWrite.{is_address_frozen, written, step}
+use Rattle.pmp_core.proofs.Grains.{selectable_other}
 
 -- ---- reset
 
@@ -61,31 +61,16 @@ legal_addresses file legal = (
 
 -- a reserved combination isn't stored without lockdown
 unreserved : (c : Configuration) → is_reserved (without_reserved c) ≡ false
-unreserved c = by_test (is_reserved c) refl
-  where
-    by_test : (reserved : Bool) → is_reserved c ≡ reserved → is_reserved (without_reserved c) ≡ false
-    by_test true e = rw e refl
-    by_test false e = rw e e
+unreserved c = search (rules, tests)
 
 pub stored_unreserved : (grain : ℕ) (rlb : Bool) (old : Configuration) (byte : ℕ) → is_reserved old ≡ false
     → is_reserved (stored_over grain false rlb old byte) ≡ false
-stored_unreserved grain rlb old byte h =
-    let new = without_reserved (configuration_of byte) in
-    elim (old.locked && not rlb) as (λ kept. is_reserved (cond kept old (selectable grain new)) ≡ false) [
-      | true ↦ h
-      | false ↦ selectable_reserved grain new ∙ unreserved (configuration_of byte)
-    ]
+stored_unreserved grain rlb old byte h = search (rules, tests)
 
 -- nor NA4 where it can't be chosen
 pub stored_chosen : (grain : ℕ) (mml rlb : Bool) (old : Configuration) (byte : ℕ) → selectable grain old ≡ old
     → selectable grain (stored_over grain mml rlb old byte) ≡ stored_over grain mml rlb old byte
-stored_chosen grain mml rlb old byte h =
-    let new = admitted mml rlb old (configuration_of byte) in
-    elim (old.locked && not rlb) as (λ kept. selectable grain (cond kept old (selectable grain new))
-    ≡ cond kept old (selectable grain new)) [
-      | true ↦ h
-      | false ↦ selectable_again grain new
-    ]
+stored_chosen grain mml rlb old byte h = search (rules, tests)
 
 -- ---- a write, entry by entry
 
@@ -177,12 +162,7 @@ module _ (file : RegisterFile) (legal : IsLegal file) where
   was_off : (csr : Csr) (value : ℕ) → (written file csr value).mseccfg.mml ≡ false → file.mseccfg.mml ≡ false
   was_off (Cfg q) value off = off
   was_off (Addr j) value off = off
-  was_off Mseccfg value off =
-      let new = mseccfg_written file.mseccfg (is_any_locked file.entries) value in
-      elim file.profile.has_smepmp as (λ has. (cond has new file.mseccfg).mml ≡ false → file.mseccfg.mml ≡ false) [
-        | true ↦ λ h. (or_parts file.mseccfg.mml (value % 2 == 1) h).0
-        | false ↦ λ h. h
-      ] off
+  was_off Mseccfg value off = search (rules, tests)
 
   -- a hart without Smepmp has no mseccfg, whatever is written
   still_plain : (csr : Csr) (value : ℕ) → file.profile.has_smepmp ≡ false

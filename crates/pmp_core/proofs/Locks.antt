@@ -1,11 +1,10 @@
 -- A frozen entry stays as it is, write by write.
-use Rattle.std.proofs.Common.{◌≡◌, ◌≢◌, ◌↔◌, ℕ, zero, suc, ◌<◌, true, false, cond, not, ◌||◌, List, [], ◌∷◌}
-use Rattle.std.proofs.Common.{length, fold, slice_index, ◌-◌, ◌*◌, ◌/◌, ◌%◌, ◌==◌, refl, sym, ap, ◌∙◌, inl}
-use Rattle.std.proofs.Common.{inr, arith, get_or-set_other}
+use borrow.Author.Tests.{tests}
+use Rattle.std.proofs.Common.{rules, ◌≡◌, ◌≢◌, ◌↔◌, ℕ, zero, suc, ◌<◌, true, false, cond, not, ◌||◌, List, [], ◌∷◌}
+use Rattle.std.proofs.Common.{length, fold, ◌/◌, ◌%◌, ◌==◌, refl, ap, ◌∙◌, inl}
+use Rattle.std.proofs.Common.{inr, arith}
 use Rattle.std.specs.List.{list_all}
-use Rattle.std.specs.Int.{w64, to_le_bytes}
-use Rattle.std.proofs.Math.ListN.{set}
-use Rattle.std.proofs.lemmas.Bool.{and_parts, and_right, cases_lt, cases_eq, false≢true, not-true, or_right}
+use Rattle.std.proofs.lemmas.Bool.{and_parts, and_right, cases_lt, false≢true, not-true}
 use Rattle.std.proofs.lemmas.List.{get_or_past}
 use Rattle.std.proofs.lemmas.List.Folds.{list_any_at}
 use Rattle.pmp_core.specs.declared.configuration.AddressMatching.{AddressMatching}
@@ -15,11 +14,10 @@ use Rattle.pmp_core.specs.declared.csr.Csr.TheVariants.{Cfg, Addr, Mseccfg}
 use Rattle.pmp_core.specs.Entry.{Entry}
 use Rattle.pmp_core.specs.declared.event.Event.{Event}
 use Rattle.pmp_core.specs.declared.event.Event.TheVariants.{Write, Reset}
-use Rattle.pmp_core.specs.Hart.{word_addresses}
 use Rattle.pmp_core.specs.Mseccfg.{mseccfg_written}
 use Rattle.pmp_core.specs.RegisterFile.{RegisterFile, reset_entry, entry_at, is_frozen}
 use Rattle.pmp_core.specs.Matching.{low_address, MatchesBy, Matches}
-use Rattle.pmp_core.specs.RegisterWrite.{stored, holds_byte_of, configured, is_tor, is_address_frozen, address_written}
+use Rattle.pmp_core.specs.RegisterWrite.{configured, is_tor, is_address_frozen, address_written}
 use Rattle.pmp_core.specs.RegisterWrite.{is_any_locked, written, step}
 use Rattle.pmp_core.specs.LockLaw.{LockLaw}
 use Rattle.pmp_core.specs.Histories.{is_write}
@@ -37,25 +35,12 @@ pub record Held (before after : RegisterFile) (i : ℕ) : Type 0 where
 
 pub configured_address : (file : RegisterFile) (q value k : ℕ)
     → (configured file q value k).address ≡ (entry_at file.entries k).address
-configured_address file q value k =
-    let entry = entry_at file.entries k in
-    let new = stored file k (slice_index (to_le_bytes w64 value) (k - 4 * q)) in
-    elim (holds_byte_of q k) as (λ held. (cond held (record entry { configuration = new }) entry).address
-    ≡ entry.address) [ true ↦ refl | false ↦ refl ]
+configured_address file q value k = search (rules, tests)
 
 -- a write to another address register
 pub other_address : (file : RegisterFile) (j value k : ℕ) → k ≢ j
     → entry_at (address_written file j value) k ≡ entry_at file.entries k
-other_address file j value k other =
-    let new = set file.entries j (record (entry_at file.entries j) { address = value % word_addresses file.profile }) in
-    elim (is_address_frozen file j) as (λ kept. entry_at (cond kept file.entries new) k ≡ entry_at file.entries k) [
-      | true ↦ refl
-      | false ↦ rw get_or-set_other refl
-    ]
-
-frozen_address : (file : RegisterFile) (j value k : ℕ) → is_address_frozen file j ≡ true
-    → entry_at (address_written file j value) k ≡ entry_at file.entries k
-frozen_address file j value k kept = rw kept refl
+other_address file j value k other = search (rules, tests)
 
 pub low_kept : (before after : List Entry) (i : ℕ)
     → ((k : ℕ) → suc k ≡ i → (entry_at after k).address ≡ (entry_at before k).address)
@@ -77,15 +62,7 @@ module _ (file : RegisterFile) (i : ℕ) (frozen : is_frozen file i ≡ true) wh
   ]
 
   configured_frozen : (q value : ℕ) → configured file q value i ≡ entry_at file.entries i
-  configured_frozen q value =
-      let entry = entry_at file.entries i in
-      let new = stored file i (slice_index (to_le_bytes w64 value) (i - 4 * q)) in
-      let kept : new ≡ entry.configuration = rw frozen refl in
-      elim (holds_byte_of q i) as (λ held. cond held (record entry { configuration = new }) entry ≡ entry) [
-        | true ↦
-            rw kept refl
-        | false ↦ refl
-      ]
+  configured_frozen q value = search (rules, tests)
 
   -- a write to a configuration register leaves every address
   low_configured : (k q value : ℕ) → k < length file.entries
@@ -96,25 +73,8 @@ module _ (file : RegisterFile) (i : ℕ) (frozen : is_frozen file i ≡ true) wh
   own_address : is_address_frozen file i ≡ true
   own_address = rw frozen refl
 
-  low_kept_frozen : (k : ℕ) → suc k ≡ i → is_tor (entry_at file.entries i).configuration.matching ≡ true
-      → is_address_frozen file k ≡ true
-  low_kept_frozen k above tor = or_right (is_frozen file k) _ (rw above (rw (frozen, tor) refl))
-
   after_address : (j value : ℕ) → Held file (record file { entries = address_written file j value }) i
-  after_address j value = record {
-    entry = elim (cases_eq i j) [
-      | inl same ↦ frozen_address file j value i (rw same at own_address)
-      | inr other ↦ other_address file j value i other
-    ];
-    low = λ tor. low_kept file.entries (address_written file j value) i
-        (λ k above. ap (λ (entry : Entry). entry.address)
-        (elim (cases_eq k j) [
-          | inl same ↦ frozen_address file j value k (rw same at (low_kept_frozen k above tor))
-          | inr other ↦ other_address file j value k other
-        ]));
-    bypass = no_bypass;
-    hart = refl;
-  }
+  after_address j value = search (rules, tests)
 
   after_write : (csr : Csr) (value : ℕ) → Held file (written file csr value) i
   after_write (Cfg q) value = record {
@@ -176,12 +136,7 @@ same_bytes grain Napot low other address byte same h = h
 
 held_bytes : (before after : RegisterFile) (i byte : ℕ) → Held before after i
     → Matches after i byte ↔ Matches before i byte
-held_bytes before after i byte held =
-    let entry = entry_at before.entries i in
-    rw (held.entry, held.hart) (
-      same_bytes before.profile.grain entry.configuration.matching _ _ entry.address byte held.low,
-      same_bytes before.profile.grain entry.configuration.matching _ _ entry.address byte (λ tor. sym (held.low tor)),
-    )
+held_bytes before after i byte held = search (rules, tests)
 
 pub lock_law : LockLaw
 lock_law file i events frozen writes =

@@ -1,7 +1,8 @@
 -- mseccfg is stored as written exactly where there is no reason.
-use Rattle.std.proofs.Common.{◌≡◌, ℕ, zero, suc, ◌+◌, ◌*◌, ◌/◌, ◌%◌, ◌<◌, Bool, true, false, not}
+use borrow.Author.Tests.{tests}
+use Rattle.std.proofs.Common.{rules, ◌≡◌, ℕ, zero, suc, ◌+◌, ◌*◌, ◌/◌, ◌%◌, ◌<◌, Bool, true, false, not}
 use Rattle.std.proofs.Common.{◌&&◌, ◌||◌, ◌==◌, refl, sym, ap, ◌∙◌, inl, inr, arith}
-use Rattle.std.proofs.lemmas.Bool.{cases_Bool, not-false, and_right, or_parts, or_from, eqb-true}
+use Rattle.std.proofs.lemmas.Bool.{cases_Bool, and_right, or_from}
 use Rattle.pmp_core.specs.declared.csr.Csr.TheVariants.{Mseccfg}
 use Rattle.pmp_core.specs.declared.write_reasons.WriteReason.TheVariants.{Frozen, Tor, Reserved, Lockdown, Grain}
 use Rattle.pmp_core.specs.Configuration.{bit_of}
@@ -11,7 +12,7 @@ use Rattle.pmp_core.specs.RegisterFile.{RegisterFile, reset_mseccfg, is_frozen, 
 use Rattle.pmp_core.specs.RegisterValue.{register_value}
 use Rattle.pmp_core.specs.RegisterWrite.{is_any_locked, written}
 use Rattle.pmp_core.proofs.EachReason.{none_at_entries, HasNone}
-use Rattle.pmp_core.proofs.StoredBytes.{and_true, bit_back, not_same}
+use Rattle.pmp_core.proofs.StoredBytes.{not_same}
 
 bit_is : (r : ℕ) → r < 2 → bit_of (r == 1) ≡ r
 bit_is zero low = refl
@@ -42,32 +43,13 @@ has_risen true any true h = refl
 has_risen false false true h = refl
 has_risen false true true h = absurd cc
 
-three_bits : (value : ℕ) → value / 8 ≡ 0
-    → bit_of (value % 2 == 1) + 2 * bit_of (value / 2 % 2 == 1) + 4 * bit_of (value / 4 % 2 == 1) ≡ value
-three_bits value few = rw (
-  bit_is (value % 2) (omega arith),
-  bit_is (value / 2 % 2) (omega arith),
-  bit_is (value / 4 % 2) (omega arith),
-) (omega arith)
-
--- the bits of a number that is made of three
-one_of_three : (a b c : ℕ) → a < 2 → b < 2 → c < 2 → ((a + 2 * b + 4 * c) % 2 ≡ a)
-    × ((a + 2 * b + 4 * c) / 2 % 2 ≡ b) × ((a + 2 * b + 4 * c) / 4 % 2 ≡ c) × ((a + 2 * b + 4 * c) / 8 ≡ 0)
-one_of_three a b c ha hb hc = (omega arith, omega arith, omega arith, omega arith)
-
 bit_low : (b : Bool) → bit_of b < 2
 bit_low true = omega arith
 bit_low false = omega arith
 
 bits_of_value : (a b c : Bool) (value : ℕ) → bit_of a + 2 * bit_of b + 4 * bit_of c ≡ value
     → (a ≡ (value % 2 == 1)) × (b ≡ (value / 2 % 2 == 1)) × (c ≡ (value / 4 % 2 == 1)) × (value / 8 ≡ 0)
-bits_of_value a b c value same =
-    let each = one_of_three (bit_of a) (bit_of b) (bit_of c) (bit_low a) (bit_low b) (bit_low c) in (
-      sym (bit_back a) ∙ ap (λ (n : ℕ). n == 1) (sym each.0) ∙ ap (λ (n : ℕ). n % 2 == 1) same,
-      sym (bit_back b) ∙ ap (λ (n : ℕ). n == 1) (sym each.1) ∙ ap (λ (n : ℕ). n / 2 % 2 == 1) same,
-      sym (bit_back c) ∙ ap (λ (n : ℕ). n == 1) (sym each.2) ∙ ap (λ (n : ℕ). n / 4 % 2 == 1) same,
-      sym (ap (λ (n : ℕ). n / 8) same) ∙ each.3,
-    )
+bits_of_value a b c value same = search (rules, tests)
 
 module _ (file : RegisterFile) (legal : IsLegal file) (value : ℕ) where
   abbrev new : MseccfgFields
@@ -80,21 +62,8 @@ module _ (file : RegisterFile) (legal : IsLegal file) (value : ℕ) where
   left_plain : file.profile.has_smepmp ≡ false → (written file Mseccfg value).mseccfg ≡ reset_mseccfg
   left_plain has = rw has (legal.plain has)
 
-  stored_there : file.profile.has_smepmp ≡ true → HasNone file Mseccfg value → mseccfg_value new ≡ value
-  stored_there has none =
-      let sticky = or_parts _ _ none.sticky in
-      rw (
-        stays file.mseccfg.mml (value % 2 == 1) sticky.0,
-        stays file.mseccfg.mmwp (value / 2 % 2 == 1) sticky.1,
-        rises file.mseccfg.rlb (is_any_locked file.entries) (value / 4 % 2 == 1) (rw has at none.bypass),
-      ) (three_bits value (eqb-true _ 0 (not-false _ (rw has at none.bits))))
-
   pub mseccfg_stored : HasNone file Mseccfg value → register_value (written file Mseccfg value) Mseccfg ≡ value
-  mseccfg_stored none = elim (cases_Bool file.profile.has_smepmp) [
-    | inl has ↦ ap mseccfg_value (left has) ∙ stored_there has none
-    | inr has ↦ ap mseccfg_value (left_plain has)
-        ∙ sym (eqb-true value 0 (not-false _ (and_true _ (rw has at none.absent))))
-  ]
+  mseccfg_stored none = search (rules, tests)
 
   reasonless_there : file.profile.has_smepmp ≡ true → mseccfg_value new ≡ value → HasNone file Mseccfg value
   reasonless_there has same =

@@ -1,5 +1,6 @@
 -- Frozen entries decide as they did.
-use Rattle.std.proofs.Common.{◌≡◌, ◌↔◌, ℕ, ◌≤◌, Bool, true, false, List, Some, fold, refl, sym, ap, subst, ◌∙◌, arith}
+use borrow.Author.Tests.{tests}
+use Rattle.std.proofs.Common.{rules, ◌≡◌, ◌↔◌, ℕ, ◌≤◌, Bool, true, false, List, Some, fold, refl, sym, ap, subst, ◌∙◌, arith}
 use Rattle.std.specs.List.{list_all}
 use Rattle.std.specs.Prelude.{IsTrue}
 use Rattle.std.proofs.lemmas.Bool.{false≢true}
@@ -60,9 +61,7 @@ module _ (one other : RegisterFile) (i : ℕ) (same : Agree one other i) (mml : 
       let same = one_decider one access decided.0 k decided.2 decider in let less = decided.1 in omega arith
 
   same_rights : (k : ℕ) → k ≤ i → rights other k access.mode ≡ rights one k access.mode
-  same_rights k less =
-      ap (λ (m : Bool). rule_rights m (entry_at other.entries k).configuration access.mode) mml
-      ∙ ap (λ (c : Configuration). rule_rights one.mseccfg.mml c access.mode) (same.configuration k less)
+  same_rights k less = search (rules, tests)
 
   decided_alike : (allowed : Bool) (cause : Cause) → IsDecisionBy one access allowed cause
       → IsDecisionBy other access allowed cause

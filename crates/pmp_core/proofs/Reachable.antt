@@ -1,5 +1,6 @@
 -- Writes that give a legal register file from reset: bypass on, addresses, configurations, and then its mseccfg.
-use Rattle.std.proofs.Common.{◌≡◌, ℕ, zero, suc, ◌+◌, ◌-◌, ◌*◌, ◌/◌, ◌%◌, ◌<◌, ◌≤◌, Bool, true, false}
+use borrow.Author.Tests.{tests}
+use Rattle.std.proofs.Common.{rules, ◌≡◌, ℕ, zero, suc, ◌+◌, ◌-◌, ◌*◌, ◌/◌, ◌%◌, ◌<◌, ◌≤◌, Bool, true, false}
 use Rattle.std.proofs.Common.{cond, replicate}
 use Rattle.std.proofs.Math.Nat.{mod-eq_of_lt}
 use Rattle.std.proofs.Common.{List, [], ◌∷◌, ◌++◌, length, map, fold, slice_index, refl, sym, ap, ◌∙◌, inl, inr, arith}
@@ -20,7 +21,7 @@ use Rattle.pmp_core.specs.Mseccfg.{mseccfg_value, mseccfg_written}
 use Rattle.pmp_core.specs.RegisterFile.{RegisterFile, entry_at, reset_entry, reset_mseccfg, reset_file, IsLegal}
 use Rattle.pmp_core.specs.RegisterValue.{configuration_word}
 use Rattle.pmp_core.specs.RegisterWrite.{admitted, configured, holds_byte_of, is_address_frozen, is_any_locked}
-use Rattle.pmp_core.specs.RegisterWrite.{security_written, step, written}
+use Rattle.pmp_core.specs.RegisterWrite.{step, written}
 use Rattle.pmp_core.specs.Histories.{replay}
 use Rattle.pmp_core.specs.ReachableLaw.{ReachableLaw}
 use Rattle.pmp_core.proofs.Configuring.{configured_at}
@@ -28,7 +29,6 @@ use Rattle.pmp_core.proofs.Legal.{reset_at, configured_place, length-written}
 use Rattle.pmp_core.proofs.Locks.{other_address}
 use Rattle.pmp_core.proofs.Others.{entry_kept}
 use Rattle.pmp_core.proofs.Places.{entries_by, none_any}
-use Rattle.pmp_core.proofs.Saved.{stored_as_is}
 use Rattle.pmp_core.proofs.Sizes.{own_address_written}
 use Rattle.pmp_core.proofs.StoredBytes.{byte_plain, configuration_back}
 use Rattle.pmp_core.proofs.WordBytes.{word_gives}
@@ -70,15 +70,7 @@ module _ (file : RegisterFile) (legal : IsLegal file) where
   -- where a legal configuration is stored over an unlocked one
   stored_open : (c : Configuration) → (file.mseccfg.mml ≡ false → is_reserved c ≡ false)
       → admitted open_fields.mml open_fields.rlb reset_entry.configuration c ≡ c
-  stored_open c unreserved = by_test file.profile.has_smepmp refl
-    where
-      by_test : (has : Bool) → file.profile.has_smepmp ≡ has
-          → (let fields = cond has wanted reset_mseccfg in
-          admitted fields.mml fields.rlb reset_entry.configuration c ≡ c)
-      by_test true e = stored_as_is file.mseccfg.mml reset_entry.configuration c unreserved
-      by_test false e =
-          stored_as_is false reset_entry.configuration c (λ off. unreserved (ap (λ (m : MseccfgFields). m.mml)
-          (legal.plain e)))
+  stored_open c unreserved = search (rules, tests)
 
   abbrev addressed_entry : ℕ → Entry
   addressed_entry i = record reset_entry { address = (entry_at file.entries i).address }
@@ -225,17 +217,7 @@ module _ (file : RegisterFile) (legal : IsLegal file) where
 
   final : (now : RegisterFile) → now.profile ≡ file.profile → now.mseccfg ≡ open_fields → now.entries ≡ file.entries
       → written now Mseccfg (mseccfg_value file.mseccfg) ≡ file
-  final now hart fields entries =
-      let any = is_any_locked now.entries in
-      let value = mseccfg_value file.mseccfg in
-      let set : security_written now value ≡ file.mseccfg = rw (hart, fields) (by_test any file.profile.has_smepmp refl) in
-      rw (set, entries, hart) refl
-    where
-      by_test : (any has : Bool) → file.profile.has_smepmp ≡ has
-          → cond has (mseccfg_written (cond has wanted reset_mseccfg) any (mseccfg_value file.mseccfg))
-          (cond has wanted reset_mseccfg) ≡ file.mseccfg
-      by_test any true e = settled file.mseccfg.mml file.mseccfg.mmwp file.mseccfg.rlb any
-      by_test any false e = sym (legal.plain e)
+  final now hart fields entries = search (rules, tests)
 
   abbrev after_opening : RegisterFile
   after_opening = written (reset_file file.profile) Mseccfg (mseccfg_value wanted)

@@ -1,14 +1,11 @@
 -- Writes to the first n entries leave files of n entries and of more that are alike, event by event.
-use Rattle.std.proofs.Common.{◌≡◌, ◌≢◌, ◌↔◌, ℕ, suc, ◌-◌, ◌*◌, ◌%◌, ◌<◌, ◌≤◌, ◌==◌, nat_lt, Bool, true, false, cond, ◌||◌}
+use borrow.Author.Tests.{tests}
+use Rattle.std.proofs.Common.{rules, ◌≡◌, ◌≢◌, ◌↔◌, ℕ, suc, ◌%◌, ◌<◌, ◌≤◌, Bool, true, false, cond, ◌||◌}
 use Rattle.std.proofs.Common.{List, [], ◌∷◌, fold, length, get_or, refl, sym, ap, ◌∙◌, inl, inr}
-use Rattle.std.proofs.Common.{arith, get_or-set_same}
-use Rattle.std.specs.List.{list_all, list_any, range_with_len}
-use Rattle.std.proofs.Math.ListN.{set}
-use Rattle.std.proofs.lemmas.Bool.{and_parts, cases_Bool, cases_lt, cases_eq, eqb-true, lt-ltb, le-ltb, ltb-true}
-use Rattle.std.proofs.lemmas.Bool.Decides.{nat_tests}
+use Rattle.std.proofs.Common.{arith}
+use Rattle.std.specs.List.{list_all, list_any}
+use Rattle.std.proofs.lemmas.Bool.{and_parts, cases_Bool, cases_lt, cases_eq, lt-ltb, ltb-true}
 use Rattle.std.proofs.lemmas.List.{get_or_past, length-replicate}
-use Rattle.std.proofs.lemmas.List.FromFn.{get_or-range_with_len, length-range_with_len}
-use Rattle.std.proofs.lemmas.List.Sums.{AllPass-from_list_all}
 use Rattle.pmp_core.specs.declared.access.Access.{Access}
 use Rattle.pmp_core.specs.declared.csr.Csr.{Csr}
 use Rattle.pmp_core.specs.declared.csr.Csr.TheVariants.{Cfg, Addr, Mseccfg}
@@ -88,14 +85,7 @@ zero_over_reset grain true true = selectable_other grain reset_entry.configurati
 
 module _ (n q value : ℕ) (named : writes_first n (Write (Cfg q) value) ≡ true) where
   zero_byte : (i : ℕ) → n ≤ i → holds_byte_of q i ≡ true → byte_for q value i ≡ 0
-  zero_byte i past holds =
-      let near : i - 4 * q < 8 = grind (arith, nat_tests) in
-      let low : 4 * q ≤ i = grind (arith, nat_tests) in
-      let places = range_with_len (4 * q) 8 in
-      let at : get_or places (i - 4 * q) 0 ≡ i = omega (arith, get_or-range_with_len (4 * q) 8 (i - 4 * q) 0 near) in
-      let here = AllPass-from_list_all (λ (k : ℕ). nat_lt k n || byte_for q value k == 0) places named (i - 4 * q) 0
-      (omega (arith, length-range_with_len (4 * q) 8)) in
-      eqb-true (byte_for q value i) 0 (rw (at, le-ltb i n past) at here)
+  zero_byte i past holds = search (rules, tests)
 
   rest_configured : (file : RegisterFile) (i : ℕ) → n ≤ i → entry_at file.entries i ≡ reset_entry
       → configured file q value i ≡ reset_entry
@@ -129,14 +119,7 @@ pub own_address_written : (file : RegisterFile) (j value : ℕ) → j < length f
     ≡ cond (is_address_frozen file j) (entry_at file.entries j) (record (entry_at file.entries j) {
       address = value % word_addresses file.profile;
     })
-own_address_written file j value inside =
-    let new : Entry = record (entry_at file.entries j) { address = value % word_addresses file.profile } in
-    elim (is_address_frozen file j) as
-    (λ frozen. entry_at (cond frozen file.entries (set file.entries j new)) j
-    ≡ cond frozen (entry_at file.entries j) new) [
-      | true ↦ refl
-      | false ↦ rw get_or-set_same refl
-    ]
+own_address_written file j value inside = search (rules, tests)
 
 any_alike : {X : Type 0} (p : X → Bool) (d : X) → p d ≡ false → (xs ys : List X)
     → ((i : ℕ) → get_or xs i d ≡ get_or ys i d) → list_any p xs ≡ list_any p ys

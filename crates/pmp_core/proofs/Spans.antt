@@ -1,10 +1,8 @@
 -- The bytes that an entry matches are those of its span, and of no other.
-use Rattle.std.proofs.Common.{◌≡◌, ◌↔◌, ℕ, ◌≤◌, min, ltb, true, false, Some, None, refl, ap, ◌∙◌, inl, inr, arith}
-use Rattle.std.proofs.lemmas.Bool.{cases_lt}
-use Rattle.std.proofs.lemmas.Bool.Decides.{nat_tests}
+use borrow.Author.Tests.{tests}
+use Rattle.std.proofs.Common.{rules, ◌≡◌, ◌↔◌, ℕ, ◌≤◌, Some, None, refl, ap, arith}
 use Rattle.pmp_core.specs.declared.range.ByteRange.{ByteRange}
 use Rattle.pmp_core.specs.declared.span.Span.{Span}
-use Rattle.pmp_core.specs.declared.access.TheConstants.{ADDRESS_LIMIT}
 use Rattle.pmp_core.specs.RegisterFile.{RegisterFile, HasAddresses}
 use Rattle.pmp_core.specs.Matching.{Matches}
 use Rattle.pmp_core.specs.Ranges.{IsInRange, range_of}
@@ -15,9 +13,7 @@ use Rattle.pmp_core.proofs.Matches.{matches_range}
 -- ---- one span
 
 same_span : (one other : Span) → one.first ≡ other.first → one.last ≡ other.last → one ≡ other
-same_span one other first last =
-    ap (λ (n : ℕ). record { first = n; last = one.last }) first
-    ∙ ap (λ (n : ℕ). record { first = other.first; last = n }) last
+same_span one other first last = search (rules, tests)
 
 -- all bytes of the one are in the other
 inside : (file : RegisterFile) (i : ℕ) (one other : Span) → IsSpan file i (Some one)
@@ -44,23 +40,7 @@ one_span file i (Some one) (Some other) p q =
 
 span_by : (file : RegisterFile) (i : ℕ) (range : ByteRange)
     → ((byte : ℕ) → Matches file i byte ↔ IsInRange range byte) → IsSpan file i (span_in range)
-span_by file i range matched =
-    let end = min range.end ADDRESS_LIMIT in
-    elim (cases_lt range.start end) [
-      | inl some ↦
-          let test : ltb range.start end ≡ true = grind (arith, nat_tests) in
-          rw test (
-            omega arith,
-            omega arith,
-            λ byte small. (
-              λ m. let h = (matched byte).0 m in (h.0, omega arith),
-              λ h. (matched byte).1 (h.0, omega arith),
-            ),
-          )
-      | inr none ↦
-          let test : ltb range.start end ≡ false = grind (arith, nat_tests) in
-          rw test (λ byte small m. let h = (matched byte).0 m in omega arith)
-    ]
+span_by file i range matched = search (rules, tests)
 
 pub is_span : (file : RegisterFile) (i : ℕ) → HasAddresses file → IsSpan file i (span_of file i)
 unfolding span_of

@@ -1,5 +1,6 @@
 -- What writes alone can't take back.
-use Rattle.std.proofs.Common.{◌≡◌, ℕ, suc, Bool, true, false, cond, List, [], ◌∷◌, length, fold, refl, ap, sym, ◌∙◌}
+use borrow.Author.Tests.{tests}
+use Rattle.std.proofs.Common.{rules, ◌≡◌, ℕ, suc, Bool, true, false, cond, List, [], ◌∷◌, length, fold, refl, ap, ◌∙◌}
 use Rattle.std.proofs.Common.{inl, inr}
 use Rattle.std.specs.List.{list_all}
 use Rattle.std.proofs.lemmas.Bool.{and_parts, false≢true, or_cases, or_left, or_right}
@@ -19,7 +20,6 @@ use Rattle.pmp_core.specs.RegisterWrite.{is_any_locked, is_tor, step, written}
 use Rattle.pmp_core.specs.Rights.{allows, default_rights_by, for_mode, has_entries, nothing}
 use Rattle.pmp_core.specs.Histories.{is_write}
 use Rattle.pmp_core.specs.StickyLaw.{StickyLaw, FrozenAddressLaw}
-use Rattle.pmp_core.proofs.Grains.{read_finest}
 use Rattle.pmp_core.proofs.Legal.{length-written}
 use Rattle.pmp_core.proofs.Locks.{still_frozen, held_on}
 
@@ -95,10 +95,7 @@ read_alike before after i hart entry = rw (hart, entry) refl
 read_kept : (before after : RegisterFile) (i : ℕ) → after.profile ≡ before.profile → before.profile.grain ≡ 0
     → (entry_at after.entries i).address ≡ (entry_at before.entries i).address
     → register_value after (Addr i) ≡ register_value before (Addr i)
-read_kept before after i hart finest kept =
-    rw (hart, finest) (read_finest (entry_at after.entries i).configuration.matching (entry_at after.entries i).address
-    ∙ kept
-    ∙ sym (read_finest (entry_at before.entries i).configuration.matching (entry_at before.entries i).address))
+read_kept before after i hart finest kept = search (rules, tests)
 
 pub frozen_address_law : FrozenAddressLaw
 frozen_address_law file i events frozen writes =

@@ -1,7 +1,8 @@
 -- When a byte is stored as written.
-use Rattle.std.proofs.Common.{◌≡◌, ℕ, ◌+◌, ◌*◌, ◌/◌, ◌%◌, ◌<◌, ◌≤◌, Bool, true, false, cond, not, ◌&&◌, ◌==◌}
-use Rattle.std.proofs.Common.{nat_lt, refl, subst, sym, ap, ◌∙◌, inl, inr, arith}
-use Rattle.std.proofs.lemmas.Bool.{agree_below_at, and_right, cases_Bool, false≢true, not-true, not-false, eqb-true, eq-eqb, lt-ltb, and_parts}
+use borrow.Author.Tests.{tests}
+use Rattle.std.proofs.Common.{rules, ◌≡◌, ℕ, ◌+◌, ◌*◌, ◌/◌, ◌%◌, ◌<◌, ◌≤◌, Bool, true, false, cond, not, ◌&&◌, ◌==◌}
+use Rattle.std.proofs.Common.{nat_lt, refl, sym, ap, ◌∙◌, arith}
+use Rattle.std.proofs.lemmas.Bool.{agree_below_at, false≢true, not-true, not-false, eqb-true, eq-eqb, and_parts}
 use Rattle.pmp_core.specs.declared.configuration.AddressMatching.{AddressMatching}
 use Rattle.pmp_core.specs.declared.configuration.AddressMatching.TheVariants.{Off, Tor, Na4, Napot}
 use Rattle.pmp_core.specs.Configuration.{Configuration, configuration_of, byte_of, bit_of, field_of, matching_of, is_reserved}
@@ -55,21 +56,7 @@ matching_back Na4 = refl
 matching_back Napot = refl
 
 pub configuration_back : (c : Configuration) → configuration_of (byte_of c) ≡ c
-configuration_back c =
-    let parts = parts_back (bit_of c.locked) (field_of c.matching) (bit_of c.execute) (bit_of c.write) (bit_of c.read)
-    (bit_le c.locked) (field_le c.matching) (bit_le c.execute) (bit_le c.write) (bit_le c.read) in
-    rw (
-      parts.0,
-      parts.1,
-      parts.2,
-      parts.3,
-      parts.4,
-      bit_back c.locked,
-      matching_back c.matching,
-      bit_back c.execute,
-      bit_back c.write,
-      bit_back c.read,
-    ) refl
+configuration_back c = search (rules, tests)
 
 read_back : (byte : ℕ) → byte < 256 → (byte_of (configuration_of byte) == byte) ≡ is_plain byte
 read_back byte small =
@@ -78,9 +65,7 @@ read_back byte small =
 read_unreserved : (byte : ℕ) → byte < 256
     → (byte_of (without_reserved (configuration_of byte)) == byte)
     ≡ (is_plain byte && not (is_reserved (configuration_of byte)))
-read_unreserved byte small =
-    agree_below_at (λ b. byte_of (without_reserved (configuration_of b)) == b)
-    (λ b. is_plain b && not (is_reserved (configuration_of b))) 256 byte refl small
+read_unreserved byte small = search (rules, tests)
 
 -- nothing keeps the byte from being stored over an entry's configuration
 pub record IsTaken (grain : ℕ) (frozen mml rlb : Bool) (old : Configuration) (byte : ℕ) : Type 0 where
@@ -98,19 +83,10 @@ left_of grain frozen mml rlb old byte = cond frozen old (selectable grain (admit
 chosen : (grain : ℕ) (c : Configuration) → (nat_lt 0 grain && is_na4 c.matching) ≡ false → selectable grain c ≡ c
 chosen grain c so = rw so refl
 
-never_na4 : (grain : ℕ) (c : Configuration) → (nat_lt 0 grain && is_na4 (selectable grain c).matching) ≡ false
-never_na4 grain c = elim (cases_Bool (nat_lt 0 grain && is_na4 c.matching)) [
-  | inl coarse ↦ rw coarse (and_right (nat_lt 0 grain) false refl)
-  | inr so ↦ rw so so
-]
-
 -- so a byte that is read back from it didn't choose NA4 in vain
 reads_chosen : (grain : ℕ) (c : Configuration) (byte : ℕ) → byte_of (selectable grain c) ≡ byte
     → (nat_lt 0 grain && is_na4 (configuration_of byte).matching) ≡ false
-reads_chosen grain c byte same =
-    let back : configuration_of byte ≡ selectable grain c =
-    ap configuration_of (sym same) ∙ configuration_back (selectable grain c) in
-    subst (λ (k : Configuration). (nat_lt 0 grain && is_na4 k.matching) ≡ false) (sym back) (never_na4 grain c)
+reads_chosen grain c byte same = search (rules, tests)
 
 -- nor was it changed on its way
 reads_all : (grain : ℕ) (c : Configuration) (byte : ℕ)
@@ -120,12 +96,7 @@ reads_all grain c byte whole same =
     ap byte_of (sym (whole (reads_chosen grain c byte same))) ∙ same
 
 unreserved_matching : (c : Configuration) → (without_reserved c).matching ≡ c.matching
-unreserved_matching c = elim (is_reserved c) as
-    (λ (reserved : Bool). (cond reserved (record c { read = false; write = false; execute = false }) c).matching
-    ≡ c.matching) [
-      | true ↦ refl
-      | false ↦ refl
-    ]
+unreserved_matching c = search (rules, tests)
 
 chosen_unreserved : (grain : ℕ) (c : Configuration) → (nat_lt 0 grain && is_na4 c.matching) ≡ false
     → selectable grain (without_reserved c) ≡ without_reserved c
@@ -152,23 +123,9 @@ taken grain false true true old byte small h =
 taken grain false true false old byte small h = rw h.unbarred
     (ap byte_of (chosen grain (configuration_of byte) h.coarse) ∙ eqb-true _ byte (read_back byte small ∙ h.plain))
 
--- a barred rule is a locked one, and no byte of an entry that isn't locked
-barred_is_high : (byte : ℕ) → byte < 256 → (is_barred_byte byte && nat_lt byte 128) ≡ false
-barred_is_high byte small =
-    agree_below_at (λ b. is_barred_byte b && nat_lt b 128) (λ b. false) 256 byte refl small
-
-parts_low : (f x w r : ℕ) → f ≤ 3 → x ≤ 1 → w ≤ 1 → r ≤ 1 → 128 * 0 + 8 * f + 4 * x + 2 * w + r < 128
-parts_low f x w r hf hx hw hr = omega arith
-
-unlocked_low : (c : Configuration) → c.locked ≡ false → byte_of c < 128
-unlocked_low c free = rw free (parts_low (field_of c.matching) (bit_of c.execute) (bit_of c.write) (bit_of c.read)
-    (field_le c.matching) (bit_le c.execute) (bit_le c.write) (bit_le c.read))
-
 not_barred : (old : Configuration) (byte : ℕ) → byte < 256 → old.locked ≡ false → byte_of old ≡ byte
     → is_barred_byte byte ≡ false
-not_barred old byte small free same =
-    let low : nat_lt byte 128 ≡ true = lt-ltb byte 128 (rw same at (unlocked_low old free)) in
-    and_true (is_barred_byte byte) (rw low at (barred_is_high byte small))
+not_barred old byte small free same = search (rules, tests)
 
 pub stored_as_taken : (grain : ℕ) (frozen mml rlb : Bool) (old : Configuration) (byte : ℕ) → byte < 256
     → frozen ≡ (old.locked && not rlb) → byte_of (left_of grain frozen mml rlb old byte) ≡ byte
@@ -206,11 +163,7 @@ stored_as_taken grain false true false old byte small is h = by_test (is_barred_
     free = and_true old.locked (sym is)
 
     selected_locked : (selectable grain old).locked ≡ old.locked
-    selected_locked = elim (nat_lt 0 grain && is_na4 old.matching) as
-        (λ (coarse : Bool). (cond coarse (record old { matching = Off }) old).locked ≡ old.locked) [
-          | true ↦ refl
-          | false ↦ refl
-        ]
+    selected_locked = search (rules, tests)
 
     by_test : (barred : Bool) → is_barred_byte byte ≡ barred
         → byte_of (selectable grain (cond barred old (configuration_of byte))) ≡ byte

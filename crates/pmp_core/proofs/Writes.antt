@@ -1,10 +1,11 @@
 -- Numbers that a write leaves.
-use Rattle.std.proofs.Common.{◌≡◌, ◌≢◌, ℕ, ◌+◌, ◌-◌, ◌*◌, ◌%◌, ◌<◌, ◌≤◌, Bool, true, false, List, length, slice_index}
+use borrow.Author.Tests.{tests}
+use Rattle.std.proofs.Common.{rules, ◌≡◌, ◌≢◌, ℕ, ◌+◌, ◌-◌, ◌*◌, ◌%◌, ◌<◌, ◌≤◌, true, false, List, length, slice_index}
 use Rattle.std.proofs.Common.{min, subst, get_or-set_other, get_or-set_same, length-set, refl, sym, ap, ◌∙◌, arith, inl, inr}
 use Rattle.std.proofs.Math.ListN.{set}
 use Rattle.std.proofs.Math.Nat.{mod-lt, mod-eq_of_lt}
 use Rattle.std.specs.Int.{w64, to_le_bytes}
-use Rattle.std.proofs.lemmas.Bool.{cases_lt, cases_eq, ne_eqb}
+use Rattle.std.proofs.lemmas.Bool.{cases_lt, cases_eq}
 use Rattle.std.proofs.lemmas.List.FromFn.{fill_by_all, get_or-map-range_with_len}
 use Rattle.pmp_core.specs.declared.csr.Csr.TheVariants.{Cfg, Addr}
 use Rattle.pmp_core.specs.Entry.{Entry}
@@ -12,12 +13,11 @@ use Rattle.pmp_core.specs.declared.event.Event.TheVariants.{Write}
 use Rattle.pmp_core.specs.declared.mseccfg.MseccfgFields.{MseccfgFields}
 use Rattle.pmp_core.specs.declared.saved_registers.SavedRegisters.{SavedRegisters}
 use Rattle.pmp_core.specs.Configuration.{Configuration, byte_of, configuration_of}
-use Rattle.pmp_core.specs.Grain.{selectable}
 use Rattle.pmp_core.specs.Hart.{Profile, word_addresses}
 use Rattle.pmp_core.specs.Mseccfg.{mseccfg_fields, mseccfg_value}
-use Rattle.pmp_core.specs.RegisterFile.{RegisterFile, IsLegal, entry_at, reset_entry}
+use Rattle.pmp_core.specs.RegisterFile.{RegisterFile, IsLegal, entry_at}
 use Rattle.pmp_core.specs.RegisterValue.{configuration_word, register_value}
-use Rattle.pmp_core.specs.RegisterWrite.{admitted, configured, configurations_written, is_address_frozen, stored}
+use Rattle.pmp_core.specs.RegisterWrite.{configured, configurations_written, is_address_frozen, stored}
 use Rattle.pmp_core.specs.RegisterWrite.{written}
 use Rattle.pmp_core.specs.SavedRegisters.{fields_in, hart_in, hart_number, restored_entry, restored_file, saved_hart}
 use Rattle.pmp_core.specs.SavedRegisters.{saved_registers}
@@ -26,7 +26,7 @@ use Rattle.pmp_core.proofs.Legal.{configured_place, length-written, step_legal, 
 use Rattle.pmp_core.proofs.Locks.{configured_address, other_address}
 use Rattle.pmp_core.proofs.Places.{entries_by}
 use Rattle.pmp_core.proofs.Restored.{entry_in, entry_past, file_is, few_in, length_in, mseccfg_in, profile_in}
-use Rattle.pmp_core.proofs.Saved.{fields_back, restored_legal, stored_as_is}
+use Rattle.pmp_core.proofs.Saved.{fields_back, restored_legal}
 use Rattle.pmp_core.proofs.StoredBytes.{byte_plain, configuration_back}
 use Rattle.pmp_core.proofs.WordBytes.{byte, word_gives}
 
@@ -81,19 +81,7 @@ module _ (new : SavedRegisters) (file : RegisterFile) (legal : IsLegal file) (ha
   pub entry_by : (k : ℕ) → slice_index new.configurations k ≡ byte_of (entry_at file.entries k).configuration
       → slice_index new.addresses k % word_addresses (hart_in new) ≡ (entry_at file.entries k).address
       → restored_entry new k ≡ entry_at file.entries k
-  entry_by k byte address =
-      let c = (entry_at file.entries k).configuration in
-      let kept = slice_index new.addresses k % word_addresses (hart_in new) in
-      let with : Configuration → ℕ → Entry = λ d a. record { configuration = d; address = a } in
-      let by : Profile → MseccfgFields → Configuration → Entry = λ p m d.
-      with (selectable p.grain (admitted m.mml true reset_entry.configuration d)) kept in
-      ap (by (hart_in new) (fields_in new)) (ap configuration_of byte ∙ configuration_back c)
-      ∙ ap (λ (p : Profile). by p (fields_in new) c) hart
-      ∙ ap (λ (m : MseccfgFields). by file.profile m c) fields
-      ∙ ap (λ (d : Configuration). with (selectable file.profile.grain d) kept)
-      (stored_as_is file.mseccfg.mml reset_entry.configuration c (λ off. legal.unreserved off k))
-      ∙ ap (λ (d : Configuration). with d kept) (legal.chosen k)
-      ∙ ap (with c) address
+  entry_by k byte address = search (rules, tests)
 
 -- the same numbers stand for the same entry
 pub same_entry : (old new : SavedRegisters) → new.entries ≡ old.entries → new.mseccfg ≡ old.mseccfg → (k : ℕ)
@@ -168,10 +156,7 @@ even_value file q even = rw even refl
 module _ (file : RegisterFile) (q value : ℕ) where
   -- an odd register holds nothing
   pub even_where : register_value (written file (Cfg q) value) (Cfg q) ≢ register_value file (Cfg q) → q % 2 ≡ 0
-  even_where differs = elim (cases_eq (q % 2) 0) [
-    | inl even ↦ even
-    | inr odd ↦ absurd (differs (rw (ne_eqb (q % 2) 0 odd) refl))
-  ]
+  even_where differs = search (rules, tests)
 
   pub reads_same : register_value (written file (Cfg q) value) (Cfg q) ≡ register_value file (Cfg q)
       → file ≡ written file (Cfg q) value
@@ -193,40 +178,6 @@ pub record AreWrittenTo (old new : SavedRegisters) (bytes : List ℕ) (first ind
   pub len : length new.configurations ≡ 64
   pub done : (k : ℕ) → first ≤ k → k < index → slice_index new.configurations k ≡ slice_index bytes (k - first)
   pub rest : (k : ℕ) → (first ≤ k → index ≤ k) → slice_index new.configurations k ≡ slice_index old.configurations k
-
-pub written_none : (old : SavedRegisters) (bytes : List ℕ) (first : ℕ) → length old.configurations ≡ 64
-    → AreWrittenTo old old bytes first first
-written_none old bytes first len = record {
-  addresses = refl;
-  mseccfg = refl;
-  number = refl;
-  most = omega arith;
-  len = len;
-  done = λ k low high. absurd (omega arith);
-  rest = λ k outside. refl;
-}
-
-pub written_more : (old new : SavedRegisters) (bytes : List ℕ) (first index : ℕ) → first ≤ index → index < first + 8
-    → index < 64 → AreWrittenTo old new bytes first index
-    → AreWrittenTo old (record new {
-      configurations = set new.configurations index (slice_index bytes (index - first));
-    }) bytes first (index + 1)
-written_more old new bytes first index from near inside so_far =
-    let within : index < length new.configurations = omega (arith, so_far.len) in
-    record {
-      addresses = so_far.addresses;
-      mseccfg = so_far.mseccfg;
-      number = so_far.number;
-      most = omega arith;
-      len = simp length-set so_far.len;
-      done = λ k low high. elim (cases_eq k index) [
-        | inl here ↦ rw (here, get_or-set_same) refl
-        | inr other ↦ rw get_or-set_other (so_far.done k low (omega arith))
-      ];
-      rest = λ k outside.
-          let other : k ≢ index = λ same. absurd (omega (arith, outside (omega arith))) in
-          rw get_or-set_other (so_far.rest k (λ low. omega (arith, outside low)));
-    }
 
 module _ (old new : SavedRegisters) (q value word end : ℕ) (even : q % 2 ≡ 0)
     (is : configuration_word (configurations_written (restored_file old) q value) (4 * q) ≡ word)
@@ -392,14 +343,7 @@ module _ (old : SavedRegisters) (new : MseccfgFields) (value : ℕ) (is : value 
 
   -- as long as MML stays, a byte stands for the same
   mseccfg_entry : new.mml ≡ (fields_in old).mml → (k : ℕ) → restored_entry with_mseccfg k ≡ restored_entry old k
-  mseccfg_entry same k =
-      let mml : (fields_in with_mseccfg).mml ≡ (fields_in old).mml =
-      ap (λ (m : MseccfgFields). m.mml) fields_read ∙ same in
-      ap (λ (b : Bool). let e : Entry = record {
-        configuration = selectable (hart_in old).grain (admitted b true reset_entry.configuration
-            (configuration_of (slice_index old.configurations k)));
-        address = slice_index old.addresses k % word_addresses (hart_in old);
-      } in e) mml
+  mseccfg_entry same k = search (rules, tests)
 
   pub mseccfg_restored : new.mml ≡ (fields_in old).mml
       → restored_file with_mseccfg ≡ record (restored_file old) { mseccfg = new }
@@ -412,6 +356,4 @@ pub mseccfg_saved : (file : RegisterFile) (new : MseccfgFields) (value : ℕ) �
     → (let numbers : SavedRegisters = record (saved_registers file) { mseccfg = value } in
     numbers ≡ saved_registers (record file { mseccfg = new }))
 unfolding saved_registers
-mseccfg_saved file new value is = ap (λ (m : ℕ). let s : SavedRegisters = record (saved_registers file) {
-  mseccfg = m;
-} in s) is
+mseccfg_saved file new value is = search (rules, tests)

@@ -115,32 +115,23 @@ impl<'a> Registers<'a> {
             rlb: new.rlb && (old.rlb || !self.is_any_locked()),
         }
     }
-
-    /// What the register reads once the value is written to it.
-    #[inline(always)]
-    fn value_after(&self, csr: Csr, value: u64) -> u64
-        ensures { result ≡ register_value (written self.now csr value) csr }
-    {
-        match csr {
-            Csr::Cfg(register) => self.configurations_after(register, value),
-            Csr::Addr(register) => self.address_after(register, value),
-            Csr::Mseccfg => self.fields_after(value).value(),
-        }
-    }
 }
 
 impl SavedRegisters {
-    /// Writes a configuration register, which then reads this word, and returns whether that changed it.
+    /// Writes a configuration register.
     #[inline(always)]
-    fn write_configurations(&mut self, hart: Hart, register: u8, value: u64, word: u64) -> bool
-        requires hart { hart ≡ hart_in self.old }
-        requires word { let csr = Csr.Cfg register in
-            word ≡ register_value (written (restored_file self.old) csr value) csr }
-        ensures { IsStored self.old self.new (Csr.Cfg register) value result }
+    fn write_configurations(&mut self, hart: Hart, register: u8, value: u64) -> Written
+        requires { hart ≡ hart_in self.old }
+        ensures { IsWritten self.old self.new (Csr.Cfg register) value result }
     {
         let registers = Registers::with(self, hart);
+        let word = registers.configurations_after(register, value);
+        let reasons = registers.reasons_where(Csr::Cfg(register), value, word);
         if word == registers.read(Csr::Cfg(register)) {
-            return false;
+            return Written {
+                is_changed: false,
+                reasons,
+            };
         }
         let first = 4 * usize::from(register);
         let end = registers.count().min(first + ENTRIES_PER_CFG);
@@ -148,45 +139,67 @@ impl SavedRegisters {
         for index in first..end {
             self.configurations[index] = bytes[index - first];
         }
-        true
+        Written {
+            is_changed: true,
+            reasons,
+        }
     }
 
-    /// Writes an address register, and returns whether that changed it.
+    /// Writes an address register.
     #[inline(always)]
-    fn write_address(&mut self, hart: Hart, register: u8, value: u64) -> bool
+    fn write_address(&mut self, hart: Hart, register: u8, value: u64) -> Written
         requires { hart ≡ hart_in self.old }
-        ensures { IsStored self.old self.new (Csr.Addr register) value result }
+        ensures { IsWritten self.old self.new (Csr.Addr register) value result }
     {
         let registers = Registers::with(self, hart);
+        let reads = registers.address_after(register, value);
+        let reasons = registers.reasons_where(Csr::Addr(register), value, reads);
         let index = usize::from(register);
         if index >= registers.count() || registers.is_address_frozen(index) {
-            return false;
+            return Written {
+                is_changed: false,
+                reasons,
+            };
         }
         let address = value % registers.hart().word_addresses();
         if registers.address(index) == address {
-            return false;
+            return Written {
+                is_changed: false,
+                reasons,
+            };
         }
         self.addresses[index] = address;
-        true
+        Written {
+            is_changed: true,
+            reasons,
+        }
     }
 
-    /// Writes `mseccfg`, which then reads this, and returns whether that changed it. Once MML is set a byte may stand
-    /// for other rights, so each becomes the one that is stored.
+    /// Writes `mseccfg`. Once MML is set a byte may stand for other rights, so each becomes the one that is stored.
     #[inline(always)]
-    fn write_mseccfg(&mut self, hart: Hart, value: u64, reads: u64) -> bool
-        requires hart { hart ≡ hart_in self.old }
-        requires reads { reads ≡ register_value (written (restored_file self.old) Csr.Mseccfg value) Csr.Mseccfg }
-        ensures { IsStored self.old self.new Csr.Mseccfg value result }
+    fn write_mseccfg(&mut self, hart: Hart, value: u64) -> Written
+        requires { hart ≡ hart_in self.old }
+        ensures { IsWritten self.old self.new Csr.Mseccfg value result }
     {
-        let old = Registers::with(self, hart).fields();
+        let registers = Registers::with(self, hart);
+        let old = registers.fields();
+        let new = registers.fields_after(value);
+        let reads = new.value();
+        let reasons = registers.reasons_where(Csr::Mseccfg, value, reads);
         if reads == old.value() {
-            return false;
+            return Written {
+                is_changed: false,
+                reasons,
+            };
         }
-        if MseccfgFields::from_value(reads).mml && !old.mml {
+        if new.mml && !old.mml {
             *self = self.canonical();
         }
         self.mseccfg = reads;
-        true
+        Written {
+            is_changed: true,
+            reasons,
+        }
     }
 
     /// Writes a register of this hart, which is known where this is inlined.
@@ -195,23 +208,16 @@ impl SavedRegisters {
         requires { hart ≡ hart_in self.old }
         ensures { IsWritten self.old self.new csr value result }
     {
-        let registers = Registers::with(self, hart);
-        let reads = registers.value_after(csr, value);
-        let reasons = registers.reasons_where(csr, value, reads);
-        let is_changed = match csr {
-            Csr::Cfg(register) => self.write_configurations(hart, register, value, reads),
+        match csr {
+            Csr::Cfg(register) => self.write_configurations(hart, register, value),
             Csr::Addr(register) => self.write_address(hart, register, value),
-            Csr::Mseccfg => self.write_mseccfg(hart, value, reads),
-        };
-        Written {
-            is_changed,
-            reasons,
+            Csr::Mseccfg => self.write_mseccfg(hart, value),
         }
     }
 
     /// The same, compiled for a standard hart and for any.
-    #[inline(always)]
-    fn write_here(&mut self, csr: Csr, value: u64) -> Written
+    #[inline(never)]
+    fn write_apart(&mut self, csr: Csr, value: u64) -> Written
         ensures { IsWritten self.old self.new csr value result }
     {
         match Hart::standard(self.entries) {
@@ -220,20 +226,13 @@ impl SavedRegisters {
         }
     }
 
-    #[inline(never)]
-    fn write_apart(&mut self, csr: Csr, value: u64) -> Written
-        ensures { IsWritten self.old self.new csr value result }
-    {
-        self.write_here(csr, value)
-    }
-
-    /// Writes a register. An address register is written in place, which takes little room.
+    /// Writes a register. An address register of a standard hart is written in place, which takes little room.
     #[inline]
     pub fn write(&mut self, csr: Csr, value: u64) -> Written
         ensures { IsWritten self.old self.new csr value result }
     {
-        match csr {
-            Csr::Addr(_) => self.write_here(csr, value),
+        match (csr, Hart::standard(self.entries)) {
+            (Csr::Addr(register), Some(hart)) => self.write_address(hart, register, value),
             _ => self.write_apart(csr, value),
         }
     }

@@ -115,13 +115,23 @@ impl<'a> Registers<'a> {
         admitted.selectable(self.hart)
     }
 
+    /// The entry's configuration, but for a reserved combination of R and W, which it keeps.
+    #[inline(always)]
+    fn raw(&self, index: usize) -> Configuration
+        requires { index < length self.now.entries }
+        ensures locked { result.locked ≡ (entry_at self.now.entries index).configuration.locked }
+        ensures matching { result.matching ≡ (entry_at self.now.entries index).configuration.matching }
+    {
+        Configuration::from_byte(self.numbers.configurations[index]).selectable(self.hart)
+    }
+
     /// How the entry's address register is read.
     #[inline(always)]
     pub fn matching(&self, index: usize) -> AddressMatching
         requires { index < length self.now.entries }
         ensures { result ≡ (entry_at self.now.entries index).configuration.matching }
     {
-        self.configuration(index).matching()
+        self.raw(index).matching()
     }
 
     /// The word address that the entry's register keeps. What it reads has zeros or ones below the grain, by the
@@ -191,22 +201,13 @@ impl<'a> Registers<'a> {
         }
     }
 
-    /// Whether the entry's lock bit is set, which no rule about the other bits changes.
-    #[inline(always)]
-    fn is_locked(&self, index: usize) -> bool
-        requires { index < length self.now.entries }
-        ensures { result ≡ (entry_at self.now.entries index).configuration.locked }
-    {
-        Configuration::from_byte(self.numbers.configurations[index]).is_locked()
-    }
-
     /// Whether the entry is frozen: its lock bit is set and rule-locking bypass is off.
     #[inline(always)]
     pub(crate) fn is_frozen(&self, index: usize) -> bool
         requires { index < length self.now.entries }
         ensures { result ≡ is_frozen self.now index }
     {
-        self.is_locked(index) && !self.fields().rlb
+        self.raw(index).is_locked() && !self.fields().rlb
     }
 
     /// Whether the entry and all before it are frozen. Then no write changes what they refuse, nor what they allow while
@@ -226,7 +227,7 @@ impl<'a> Registers<'a> {
     {
         if self.is_frozen(index) {
             Lock::Frozen
-        } else if self.is_locked(index) {
+        } else if self.raw(index).is_locked() {
             Lock::Bypassed
         } else {
             Lock::Open
@@ -252,7 +253,7 @@ impl<'a> Registers<'a> {
         ensures { result ≡ is_any_locked self.now.entries }
     {
         for index in 0..self.count() {
-            if self.is_locked(index) {
+            if self.raw(index).is_locked() {
                 return true;
             }
         }

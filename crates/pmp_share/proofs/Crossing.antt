@@ -6,13 +6,11 @@ use Rattle.std.specs.contracts.impls.GlobalAllocator.TheImpl as heap
 use Rattle.core.proofs.Crossing as core
 use Rattle.pmp_core.specs.contracts.register_file.RegFile as file
 use Rattle.pmp_core.specs.contracts.register_file.RegFile.TheInside as file_inside
-use Rattle.pmp_core.specs.contracts.entry.Entry as entry
-use Rattle.pmp_core.specs.contracts.range.ByteRange as range
-use Rattle.pmp_core.specs.contracts.mseccfg.MseccfgFields as mseccfg
-use Rattle.pmp_map.specs.contracts.answers.Answers as answers
+use Rattle.pmp_core.specs.contracts.saved_registers.SavedRegisters as saved
 use Rattle.pmp_map.specs.contracts.run.Run as run
 use Rattle.pmp_map.specs.contracts.run_map.RunMap as run_map
 use Rattle.pmp_map.specs.contracts.run_map.RunMap.TheInside as map_inside
+use Rattle.pmp_map.specs.contracts.tables.Tables as tables
 use Rattle.pmp_share.specs.contracts.journal.Journal as journal
 use Rattle.pmp_share.specs.contracts.version.Version as version
 use Rattle.pmp_share.specs.contracts.digest.Digest as digest
@@ -35,32 +33,20 @@ use Rattle.pmp_share.specs.contracts.knowledge.Known as known
 use Rattle.pmp_share.specs.contracts.rule.OneHistory as one_history
 use Rattle.left_right.proofs.reader.Reader.TheSendSync as reader
 
-entry_send : IsSend (entry.the_field).row
-entry_send = search (crosses, sendable) depth 14
-
-range_send : IsSend (range.the_field).row
-range_send = search (crosses, sendable) depth 14
-
-mseccfg_send : IsSend (mseccfg.the_field).row
-mseccfg_send = search (crosses, sendable) depth 14
+saved_send : IsSend (saved.the_field).row
+saved_send = search (crosses, sendable) depth 14
 
 file_fields_send : IsSend file_inside.the_row
-file_fields_send = search (entry_send, range_send, mseccfg_send, crosses, sendable) depth 14
+file_fields_send = search (saved_send, crosses, sendable) depth 14
 
 pub file_send : IsSend (file.the_field).row
 file_send = search (file_fields_send, sendable) depth 14
 
-entry_sync : IsSync (entry.the_field).row
-entry_sync = search (crosses, sendable) depth 14
-
-range_sync : IsSync (range.the_field).row
-range_sync = search (crosses, sendable) depth 14
-
-mseccfg_sync : IsSync (mseccfg.the_field).row
-mseccfg_sync = search (crosses, sendable) depth 14
+saved_sync : IsSync (saved.the_field).row
+saved_sync = search (crosses, sendable) depth 14
 
 file_fields_sync : IsSync file_inside.the_row
-file_fields_sync = search (entry_sync, range_sync, mseccfg_sync, crosses, sendable) depth 14
+file_fields_sync = search (saved_sync, crosses, sendable) depth 14
 
 file_sync : IsSync (file.the_field).row
 file_sync = search (file_fields_sync, sendable) depth 14
@@ -71,16 +57,13 @@ journal_sync = search (crosses, sendable) depth 14
 run_sync : IsSync run.the_row
 run_sync = search (crosses, sendable) depth 14
 
-answers_sync : IsSync answers.the_row
-answers_sync = search (crosses, sendable) depth 14
+tables_sync : IsSync (tables.the_field).row
+tables_sync = search (crosses, sendable) depth 14
 
 map_inside_sync : IsSync map_inside.the_row
 map_inside_sync = declared_sync map_inside.the_type (
   search (core.crosses, sendable) depth 12,
-  (
-    search (run_sync, crosses, sendable) depth 12,
-    (search sendable depth 12, (search (answers_sync, sendable) depth 12, tt)),
-  ),
+  (as_row_sync tables.the_field tables_sync, (search (run_sync, crosses, sendable) depth 12, tt)),
 )
 
 map_sync : IsSync (run_map.the_field).row

@@ -15,10 +15,10 @@ use Rattle.logbook.proofs.tokens.Seen.TheSendSync as seen
 use Rattle.logbook.proofs.word.Word.TheSendSync as word
 use Rattle.pmp_core.specs.contracts.event.Event as event
 use Rattle.pmp_core.specs.contracts.register_file.RegFile as file
-use Rattle.pmp_map.specs.contracts.answers.Answers as answers
 use Rattle.pmp_map.specs.contracts.run.Run as run
 use Rattle.pmp_map.specs.contracts.run_map.RunMap as run_map
 use Rattle.pmp_map.specs.contracts.run_map.RunMap.TheInside as map_inside
+use Rattle.pmp_map.specs.contracts.tables.Tables as tables
 use Rattle.pmp_share.specs.contracts.batch.Batch as batch
 use Rattle.pmp_share.specs.contracts.batch.Batch.TheInside as batch_inside
 use Rattle.pmp_share.specs.contracts.bell.Bell as bell
@@ -59,16 +59,13 @@ journal_field_send = search (crosses, sendable) depth 14
 run_send : IsSend run.the_row
 run_send = search (crosses, sendable) depth 14
 
-answers_send : IsSend answers.the_row
-answers_send = search (crosses, sendable) depth 14
+tables_send : IsSend (tables.the_field).row
+tables_send = search (crosses, sendable) depth 14
 
 map_inside_send : IsSend map_inside.the_row
 map_inside_send = declared_send map_inside.the_type (
   search (core.crosses, sendable) depth 12,
-  (
-    search (run_send, crosses, sendable) depth 12,
-    (search sendable depth 12, (search (answers_send, sendable) depth 12, tt)),
-  ),
+  (as_row_send tables.the_field tables_send, (search (run_send, crosses, sendable) depth 12, tt)),
 )
 
 map_send : IsSend (run_map.the_field).row

@@ -74,10 +74,11 @@ impl Digest {
     }
 
     /// The addresses of the register file have no more than 54 bits. It does nothing.
+    #[tactic(auto, using(pmp_core::proofs::Legal::legal_addresses))]
     pub fn has_addresses(&self)
         ensures { HasAddresses (file_from self.now.base self.now.list) }
     {
-        let _ranges = self.file.ranges();
+        let _registers = self.file.registers();
     }
 
     /// How many events they hold.
@@ -113,6 +114,6 @@ impl Decider for Digest {
     }
 
     fn rights(&self, mode: Mode, start: u64, length: u64) -> Option<Perms> {
-        rights_in(&self.file, mode, start, length)
+        rights_in(&self.file.registers(), mode, start, length)
     }
 }

@@ -5,6 +5,7 @@ ghost use Rattle.pmp_share.specs.Laws.{SameEventsLaw, CutLaw, FurtherEventsLaw, 
 use pmp_core::laws::law_frozen;
 
 /// Batches that begin with others, and hold as many events, hold the same events: only empty batches were added.
+#[tactic(auto, using(crate::proofs::LookFacts::same_events_law))]
 pub fn law_same_events()
     ensures { SameEventsLaw }
 {}
@@ -15,6 +16,7 @@ pub fn law_journal_cut()
 {}
 
 /// Where batches begin with others, their register file is that of the others after the further events.
+#[tactic(auto, using(crate::proofs::LaterLooks::further_events_law))]
 pub fn law_further_events()
     ensures { FurtherEventsLaw }
 {}

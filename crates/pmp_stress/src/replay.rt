@@ -94,7 +94,7 @@ fn is_so(file: &RegFile, access: &Access, said: Said) -> bool {
     match said {
         Said::Decision(decision) => file.decide(access) == decision,
         Said::Rights(rights) => {
-            rights_in(file, access.mode, access.start, access.length) == rights
+            rights_in(&file.registers(), access.mode, access.start, access.length) == rights
         }
         Said::Register(value) => file.read(Csr::Cfg(0)) == value,
         Said::Nothing => true,

@@ -7,7 +7,7 @@ use Rattle.pmp_core.specs.declared.access.Kind.{Kind}
 use Rattle.pmp_core.specs.declared.access.Kind.TheVariants.{Fetch, Load, Store}
 use Rattle.pmp_core.specs.declared.perms.Perms.{Perms}
 use Rattle.pmp_core.specs.Perms.{right_of}
-use Rattle.pmp_map.specs.declared.rights_run.ModeRights.{ModeRights}
+use Rattle.pmp_map.specs.declared.mode_rights.ModeRights.{ModeRights}
 use Rattle.pmp_map.specs.declared.rights_run.RightsRun.{RightsRun}
 use Rattle.pmp_text.specs.declared.lines.changes.Change.{Change}
 use Rattle.pmp_text.specs.declared.lines.changes.Change.TheVariants.{More, Less, Both}

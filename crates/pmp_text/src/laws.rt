@@ -22,6 +22,7 @@ pub fn law_script_size()
 {}
 
 /// Each publication of a script has as many lines as events.
+#[tactic(auto, using(crate::proofs::EventLines::event_lines))]
 pub fn law_event_lines()
     ensures { EventLinesLaw }
 {}
@@ -34,6 +35,7 @@ pub fn law_least_row_fault()
 
 /// The rows of a trace without a fault ask for no more publications than there are, and none for fewer than the row
 /// before.
+#[tactic(auto, using(crate::proofs::LeastRows::trace_in_order))]
 pub fn law_rows_in_order()
     ensures { RowOrderLaw }
 {}
@@ -45,12 +47,14 @@ pub fn law_least_policy_fault()
 {}
 
 /// A register's name as dumps write it is read as that register.
+#[tactic(auto, using(crate::proofs::RegisterNames::read_back))]
 pub fn law_names_read_back()
     ensures { NamesReadBackLaw }
 {}
 
 /// A script of version 1 means what it means where that version is the only one: the same fault, else the same
 /// publications, in a unit of sixteen entries, and with every trace the same report.
+#[tactic(auto, using(crate::proofs::Versions::version_one))]
 pub fn law_version_one()
     ensures { VersionOneLaw }
 {}

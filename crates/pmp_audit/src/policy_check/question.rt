@@ -1,13 +1,15 @@
 //! What a row of a policy asks of the bytes of one owner.
 
-ghost use Rattle.std.specs.Prelude.{◌≡◌, ◌<◌, IfSome, None, length};
+ghost use Rattle.std.specs.Prelude.{◌≡◌, ◌<◌, ℕ, IfSome, None, Option, length};
+ghost use Rattle.pmp_core.specs.RegisterFile.{RegisterFile};
 ghost use Rattle.pmp_core.specs.Rights.{Rights, perms_of};
+ghost use Rattle.pmp_map.specs.Answers.{rights_by};
 ghost use Rattle.pmp_map.specs.OpenBytes.{holds};
 ghost use Rattle.pmp_audit.specs.PolicyCheck.{is_broken_by};
 ghost use Rattle.pmp_audit.specs.PolicyQuestions.{finds_in, finds_kind, finds_mode, finds_owned, is_yes};
 
-use pmp_core::{Kind, Mode, Perms, RegFile};
-use pmp_map::owned_rights;
+use pmp_core::{Kind, Mode, Perms, Registers};
+use pmp_map::ModeRights;
 use pmp_text::{Demand, Kinds, PolicyRow};
 
 /// What a row of a policy asks of a byte of its range.
@@ -35,42 +37,44 @@ fn finds_in(allowed: bool, rights: Perms, kinds: Kinds) -> bool
         || finds_kind(allowed, rights, kinds, Kind::Store)
 }
 
-/// Whether the mode is one of the row's, and the owner's bytes are open to it by one of the row's kinds, or closed.
-fn finds_mode(allowed: bool, file: &RegFile, owner: Option<u8>, row: &PolicyRow, mode: Mode) -> bool
-    requires { IfSome owner (λ entry. entry < length file.now.entries) }
-    ensures { result ≡ finds_mode allowed file.now owner row.now mode }
+/// Whether the mode is one of the row's, and bytes of these rights are open to it by one of the row's kinds, or closed.
+#[tactic(auto, using(pmp_map::proofs::KeptRights::rights_kept))]
+fn finds_mode(allowed: bool, rights: &ModeRights, row: &PolicyRow, mode: Mode) -> bool
+    ensures { (file : RegisterFile) (owner : Option ℕ) → rights.now ≡ rights_by file owner
+        → result ≡ finds_mode allowed file owner row.now mode }
 {
-    row.modes.has(mode) && finds_in(allowed, owned_rights(file, owner, mode), row.kinds)
+    row.modes.has(mode) && finds_in(allowed, rights.of(mode), row.kinds)
 }
 
 /// Whether the owner's bytes are open to one of the row's modes by one of its kinds, or closed.
-fn finds_owned(allowed: bool, file: &RegFile, owner: Option<u8>, row: &PolicyRow) -> bool
-    requires { IfSome owner (λ entry. entry < length file.now.entries) }
-    ensures { result ≡ finds_owned allowed file.now owner row.now }
+fn finds_owned(allowed: bool, registers: &Registers<'_>, owner: Option<u8>, row: &PolicyRow) -> bool
+    requires { IfSome owner (λ entry. entry < length registers.now.entries) }
+    ensures { result ≡ finds_owned allowed registers.now owner row.now }
 {
-    finds_mode(allowed, file, owner, row, Mode::M)
-        || finds_mode(allowed, file, owner, row, Mode::S)
-        || finds_mode(allowed, file, owner, row, Mode::U)
+    let rights = ModeRights::of_owner(registers, owner);
+    finds_mode(allowed, &rights, row, Mode::M)
+        || finds_mode(allowed, &rights, row, Mode::S)
+        || finds_mode(allowed, &rights, row, Mode::U)
 }
 
 /// Whether all entries are frozen.
-fn are_all_frozen(file: &RegFile) -> bool
-    ensures { result ≡ holds file.now None }
+fn are_all_frozen(registers: &Registers<'_>) -> bool
+    ensures { result ≡ holds registers.now None }
 {
-    match file.entries().checked_sub(1) {
-        Some(last) => file.is_held(last),
+    match registers.count().checked_sub(1) {
+        Some(last) => registers.is_held(last),
         None => true,
     }
 }
 
 /// Whether the owner is held: it is frozen with all entries before it, or where there is none, all entries are.
-fn is_held(file: &RegFile, owner: Option<u8>) -> bool
-    requires { IfSome owner (λ entry. entry < length file.now.entries) }
-    ensures { result ≡ holds file.now owner }
+fn is_held(registers: &Registers<'_>, owner: Option<u8>) -> bool
+    requires { IfSome owner (λ entry. entry < length registers.now.entries) }
+    ensures { result ≡ holds registers.now owner }
 {
     match owner {
-        Some(entry) => file.is_held(entry),
-        None => are_all_frozen(file),
+        Some(entry) => registers.is_held(usize::from(entry)),
+        None => are_all_frozen(registers),
     }
 }
 
@@ -83,13 +87,13 @@ fn is_broken_by(demand: Demand) -> bool
 
 impl Question {
     /// The answer for the bytes of this owner.
-    pub fn is_yes(self, file: &RegFile, owner: Option<u8>, row: &PolicyRow) -> bool
-        requires { IfSome owner (λ entry. entry < length file.now.entries) }
-        ensures { result ≡ is_yes self file.now owner row.now }
+    pub fn is_yes(self, registers: &Registers<'_>, owner: Option<u8>, row: &PolicyRow) -> bool
+        requires { IfSome owner (λ entry. entry < length registers.now.entries) }
+        ensures { result ≡ is_yes self registers.now owner row.now }
     {
         match self {
-            Question::IsBroken => finds_owned(is_broken_by(row.demand), file, owner, row),
-            Question::IsLoose => !is_held(file, owner),
+            Question::IsBroken => finds_owned(is_broken_by(row.demand), registers, owner, row),
+            Question::IsLoose => !is_held(registers, owner),
         }
     }
 }

@@ -8,7 +8,7 @@ ghost use Rattle.pmp_audit.specs.PolicyQuestions.{IsYes};
 use crate::policy_check::question::Question;
 use crate::policy_check::steps::Steps;
 use pmp_core::RegFile;
-use pmp_map::{Run, run_from};
+use pmp_map::{Run, run_around};
 use pmp_text::{Breach, Demand, PolicyRow};
 
 /// The first run of the row's range of which the answer is yes, from the first such byte on and as far as the range
@@ -16,13 +16,15 @@ use pmp_text::{Breach, Demand, PolicyRow};
 fn first_run(file: &RegFile, row: &PolicyRow, question: Question) -> Option<Run>
     ensures { IsFirstOf file.now (IsYes question file.now row.now) row.now result }
 {
+    let registers = file.registers();
     let mut first = row.first;
     while first <= row.last {
-        let run = run_from(file, first);
-        if question.is_yes(file, run.owner, row) {
+        let run = run_around(&registers, first);
+        if question.is_yes(&registers, run.owner, row) {
             return Some(Run {
+                first,
                 last: run.last.min(row.last),
-                ..run
+                owner: run.owner,
             });
         }
         first = run.last + 1;

@@ -5,7 +5,7 @@ ghost use Rattle.pmp_text.specs.Changes.{asked_change, asked_row, change_by, cha
 ghost use Rattle.pmp_text.specs.Changes.{goes_beyond, has_beyond, has_row, is_asked};
 
 use crate::lines::hexadecimal::{ADDRESS_DIGITS, Hex};
-use crate::lines::marks::Marks;
+use crate::lines::marks::ModeMarks;
 use crate::lines::{NoMemory, append_line};
 use crate::sink::Sink;
 use pmp_core::{Kind, Perms};
@@ -89,17 +89,10 @@ fn append_change<S: Sink>(out: &mut S, run: &RightsRun, change: Change) -> Resul
 {
     let first = Hex::<ADDRESS_DIGITS>::new(run.first);
     let last = Hex::<ADDRESS_DIGITS>::new(run.last);
-    let old_machine = Marks(run.old.machine);
-    let old_others = Marks(run.old.others);
-    let new_machine = Marks(run.new.machine);
-    let new_others = Marks(run.new.others);
+    let old = ModeMarks(run.old);
+    let new = ModeMarks(run.new);
     let change = change_word(change);
-    append_line(
-        out,
-        format_args!(
-            "{first},{last},{old_machine},{old_others},{new_machine},{new_others},{change}\n"
-        ),
-    )
+    append_line(out, format_args!("{first},{last},{old},{new},{change}\n"))
 }
 
 /// Appends the row of a run where the files differ as is asked, `FIRST,LAST,MOLD,SUOLD,MNEW,SUNEW,CHANGE` and LF: the

@@ -13,7 +13,7 @@ use crate::lines::hexadecimal::{Hex, VALUE_DIGITS};
 use crate::lines::{NoMemory, append_line};
 use crate::names::RegisterName;
 use crate::sink::Sink;
-use pmp_core::{Csr, Event, RegFile, WriteReason};
+use pmp_core::{Csr, Event, RegFile, Registers, WriteReason};
 use std::alloc::AllocError;
 
 /// Where an event stands in a script.
@@ -99,16 +99,16 @@ fn write_reading<S: Sink>(
 /// Appends the reasons why the register doesn't read the value, parted by one space.
 fn write_reason_words<S: Sink>(
     out: &mut S,
-    file: &RegFile,
+    registers: &Registers<'_>,
     csr: Csr,
     value: u64,
 ) -> Result<(), AllocError>
-    ensures ok { OnOk result (S.text out.new ≡ S.text out.old ++ reasons_text file.now csr value) }
+    ensures ok { OnOk result (S.text out.new ≡ S.text out.old ++ reasons_text registers.now csr value) }
     ensures err { OnErr result (StartsWith (S.text out.new) (S.text out.old)) }
 {
     let mut is_first = true;
     for reason in WriteReason::ALL {
-        if file.is_reason(reason, csr, value) {
+        if registers.is_reason(reason, csr, value) {
             let space = space_unless(is_first);
             let word = reason_word(reason);
             append_line(out, format_args!("{space}{word}"))?;
@@ -121,16 +121,16 @@ fn write_reason_words<S: Sink>(
 /// Appends the entries that turn the value away, parted by one space.
 fn write_entry_numbers<S: Sink>(
     out: &mut S,
-    file: &RegFile,
+    registers: &Registers<'_>,
     csr: Csr,
     value: u64,
 ) -> Result<(), AllocError>
-    ensures ok { OnOk result (S.text out.new ≡ S.text out.old ++ entries_text file.now csr value) }
+    ensures ok { OnOk result (S.text out.new ≡ S.text out.old ++ entries_text registers.now csr value) }
     ensures err { OnErr result (StartsWith (S.text out.new) (S.text out.old)) }
 {
     let mut is_first = true;
-    for entry in 0..file.entries() {
-        if file.has_reason(entry, csr, value) {
+    for entry in 0..registers.count() {
+        if registers.has_reason(csr, value, entry) {
             let space = space_unless(is_first);
             append_line(out, format_args!("{space}{entry}"))?;
             is_first = false;
@@ -140,15 +140,20 @@ fn write_entry_numbers<S: Sink>(
 }
 
 /// Appends the reasons and then the entries, each after a comma, and LF.
-fn write_lists<S: Sink>(out: &mut S, file: &RegFile, csr: Csr, value: u64) -> Result<(), AllocError>
+fn write_lists<S: Sink>(
+    out: &mut S,
+    registers: &Registers<'_>,
+    csr: Csr,
+    value: u64,
+) -> Result<(), AllocError>
     ensures ok { OnOk result (S.text out.new ≡ S.text out.old
-        ++ fields_after (reasons_text file.now csr value ∷ entries_text file.now csr value ∷ [])) }
+        ++ fields_after (reasons_text registers.now csr value ∷ entries_text registers.now csr value ∷ [])) }
     ensures err { OnErr result (StartsWith (S.text out.new) (S.text out.old)) }
 {
     append_line(out, ",")?;
-    write_reason_words(out, file, csr, value)?;
+    write_reason_words(out, registers, csr, value)?;
     append_line(out, ",")?;
-    write_entry_numbers(out, file, csr, value)?;
+    write_entry_numbers(out, registers, csr, value)?;
     append_line(out, "\n")
 }
 
@@ -167,7 +172,7 @@ fn write_fields<S: Sink>(
 {
     write_value(out, csr, value)?;
     write_reading(out, file, next, csr, value)?;
-    write_lists(out, file, csr, value)
+    write_lists(out, &file.registers(), csr, value)
 }
 
 /// Appends the number of the event, a comma, that of its publication, a comma and that of its line.

@@ -4,14 +4,14 @@ ghost use Rattle.std.specs.Prelude.{◌≡◌, ◌<◌, ◌≤◌, ◌++◌, Lis
 ghost use Rattle.std.specs.Io.{StartsWith};
 ghost use Rattle.pmp_core.specs.Span.{IsSpan, span_of};
 ghost use Rattle.pmp_text.specs.EntryRows.{IsEntryText, address_text, entry_row, lock_text, matching_text, span_text};
-ghost use Rattle.pmp_text.specs.Steps.Marks.{perms_text};
 
 use crate::lines::hexadecimal::{ADDRESS_DIGITS, Hex};
-use crate::lines::marks::Marks;
+use crate::lines::marks::ModeMarks;
 use crate::lines::since::Since;
 use crate::lines::{NoMemory, append_line};
 use crate::sink::Sink;
-use pmp_core::{AddressMatching, Lock, Mode, Perms, RegFile, Span};
+use pmp_core::{AddressMatching, Lock, RegFile, Registers, Span};
+use pmp_map::ModeRights;
 use std::alloc::AllocError;
 use std::fmt;
 
@@ -31,23 +31,6 @@ impl fmt::Display for Ends {
             }
             None => write!(f, "-,-"),
         }
-    }
-}
-
-/// What a rule gives machine mode, and what it gives the other two.
-#[derive(Clone, Copy)]
-struct Rule {
-    machine: Perms,
-    others: Perms,
-}
-
-impl fmt::Display for Rule {
-    ghost output = { λ rule. Some (perms_text rule.machine ++ (codes "," ++ perms_text rule.others)) };
-
-    fn fmt<W: fmt::Write>(&self, f: &mut fmt::Formatter<W>) -> fmt::Result {
-        let machine = Marks(self.machine);
-        let others = Marks(self.others);
-        write!(f, "{machine},{others}")
     }
 }
 
@@ -87,31 +70,30 @@ fn matching_word(matching: AddressMatching) -> &'static str
     }
 }
 
+#[tactic(auto, unfolding(crate::specs::EntryRows::entry_row), using(crate::proofs::RunLines::text_of_perms))]
 fn write_entry<S: Sink>(
     out: &mut S,
-    file: &RegFile,
+    registers: &Registers<'_>,
     entry: u8,
     since: Since,
 ) -> Result<(), AllocError>
-    requires { entry < length file.now.entries }
-    ensures span { IsSpan file.now entry (span_of file.now entry) }
+    requires { entry < length registers.now.entries }
+    ensures span { IsSpan registers.now entry (span_of registers.now entry) }
     ensures ok { OnOk result (S.text out.new
-        ≡ S.text out.old ++ entry_row file.now entry (span_of file.now entry) since) }
+        ≡ S.text out.old ++ entry_row registers.now entry (span_of registers.now entry) since) }
     ensures err { OnErr result (S.text out.new ≡ S.text out.old) }
 {
-    let matching = matching_word(file.matching(entry));
-    let ends = Ends(file.span(entry));
-    let rule = Rule {
-        machine: file.rights(entry, Mode::M),
-        others: file.rights(entry, Mode::U),
-    };
+    let index = usize::from(entry);
+    let matching = matching_word(registers.matching(index));
+    let ends = Ends(registers.span(index));
+    let rights = ModeMarks(ModeRights::of_owner(registers, Some(entry)));
     let locks = Locks {
-        entry: file.lock(entry),
-        is_address_frozen: file.is_address_frozen(entry),
+        entry: registers.lock(index),
+        is_address_frozen: registers.is_address_frozen(index),
     };
     append_line(
         out,
-        format_args!("{entry},{matching},{ends},{rule},{locks},{since}\n"),
+        format_args!("{entry},{matching},{ends},{rights},{locks},{since}\n"),
     )
 }
 
@@ -121,8 +103,9 @@ fn write_all<S: Sink>(out: &mut S, file: &RegFile, since: &[Since]) -> Result<()
         ((text : List ℕ) × IsEntryText file.now since.now text × (S.text out.new ≡ S.text out.old ++ text)) }
     ensures err { OnErr result (StartsWith (S.text out.new) (S.text out.old)) }
 {
+    let registers = file.registers();
     for entry in 0..file.entries() {
-        write_entry(out, file, entry, since[usize::from(entry)])?;
+        write_entry(out, &registers, entry, since[usize::from(entry)])?;
     }
     Ok(())
 }

@@ -1,9 +1,10 @@
 //! Rights as three characters.
 
-ghost use Rattle.std.specs.Prelude.{◌≡◌, Some, codes, if◌then◌else◌};
+ghost use Rattle.std.specs.Prelude.{◌≡◌, ◌++◌, Some, codes, if◌then◌else◌};
 ghost use Rattle.pmp_text.specs.Steps.Marks.{perms_text};
 
 use pmp_core::{Kind, Perms};
+use pmp_map::ModeRights;
 use std::fmt;
 
 /// A letter where a right is given, and else a dash.
@@ -25,5 +26,19 @@ impl fmt::Display for Marks {
         let write = mark(self.0.allows(Kind::Store), "w");
         let execute = mark(self.0.allows(Kind::Fetch), "x");
         write!(f, "{read}{write}{execute}")
+    }
+}
+
+/// The marks of machine mode, a comma and those of the other two.
+#[derive(Clone, Copy)]
+pub struct ModeMarks(pub ModeRights);
+
+impl fmt::Display for ModeMarks {
+    ghost output = { λ marks. Some (perms_text marks.0.machine ++ (codes "," ++ perms_text marks.0.others)) };
+
+    fn fmt<W: fmt::Write>(&self, f: &mut fmt::Formatter<W>) -> fmt::Result {
+        let machine = Marks(self.0.machine);
+        let others = Marks(self.0.others);
+        write!(f, "{machine},{others}")
     }
 }

@@ -13,8 +13,8 @@ use crate::lines::hexadecimal::{ADDRESS_DIGITS, Hex};
 use crate::lines::marks::Marks;
 use crate::lines::{NoMemory, append_line};
 use crate::sink::Sink;
-use pmp_core::{ADDRESS_LIMIT, Csr, Mode, RegFile};
-use pmp_map::{RUNS, Run, RunMap, owned_rights};
+use pmp_core::{ADDRESS_LIMIT, Csr, RegFile};
+use pmp_map::{ModeRights, RUNS, Run, RunMap};
 use std::alloc::AllocError;
 use std::fmt;
 
@@ -177,7 +177,7 @@ fn lock_sign(file: &RegFile, owner: Option<u8>) -> &'static str
     ensures { result.now ≡ lock_sign file.now owner }
 {
     match owner {
-        Some(entry) if file.is_held(entry) => HELD,
+        Some(entry) if file.registers().is_held(usize::from(entry)) => HELD,
         Some(entry) if file.is_locked(entry) => FROZEN,
         _ => "",
     }
@@ -295,8 +295,9 @@ fn write_band<S: Sink>(
     ensures err { OnErr result (StartsWith (S.text out.new) (S.text out.old)) }
 {
     let top = BAND * place;
-    let machine = Marks(owned_rights(file, run.owner, Mode::M));
-    let others = Marks(owned_rights(file, run.owner, Mode::U));
+    let rights = ModeRights::of_owner(&file.registers(), run.owner);
+    let machine = Marks(rights.machine);
+    let others = Marks(rights.others);
     append_line(
         out,
         format_args!(

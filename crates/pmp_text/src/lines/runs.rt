@@ -5,11 +5,11 @@ ghost use Rattle.std.specs.Io.{StartsWith};
 ghost use Rattle.pmp_text.specs.RunLines.{IsMapText, owner_text, run_line};
 
 use crate::lines::hexadecimal::{ADDRESS_DIGITS, Hex};
-use crate::lines::marks::Marks;
+use crate::lines::marks::ModeMarks;
 use crate::lines::{NoMemory, append_line};
 use crate::sink::Sink;
-use pmp_core::{Mode, RegFile};
-use pmp_map::{Run, RunMap, owned_rights};
+use pmp_core::{RegFile, Registers};
+use pmp_map::{ModeRights, Run, RunMap};
 use std::alloc::AllocError;
 use std::fmt;
 
@@ -29,20 +29,16 @@ impl fmt::Display for Owner {
 }
 
 #[tactic(auto, unfolding(crate::specs::RunLines::run_line), using(crate::proofs::RunLines::text_of_perms))]
-fn write_run<S: Sink>(out: &mut S, file: &RegFile, run: &Run) -> Result<(), AllocError>
-    requires { IfSome run.now.owner (λ entry. entry < length file.now.entries) }
-    ensures ok { OnOk result (S.text out.new ≡ S.text out.old ++ run_line file.now run.now) }
+fn write_run<S: Sink>(out: &mut S, registers: &Registers<'_>, run: &Run) -> Result<(), AllocError>
+    requires { IfSome run.now.owner (λ entry. entry < length registers.now.entries) }
+    ensures ok { OnOk result (S.text out.new ≡ S.text out.old ++ run_line registers.now run.now) }
     ensures err { OnErr result (S.text out.new ≡ S.text out.old) }
 {
     let first = Hex::<ADDRESS_DIGITS>::new(run.first);
     let last = Hex::<ADDRESS_DIGITS>::new(run.last);
     let owner = Owner(run.owner);
-    let machine = Marks(owned_rights(file, run.owner, Mode::M));
-    let others = Marks(owned_rights(file, run.owner, Mode::U));
-    append_line(
-        out,
-        format_args!("{first},{last},{owner},{machine},{others}\n"),
-    )
+    let rights = ModeMarks(ModeRights::of_owner(registers, run.owner));
+    append_line(out, format_args!("{first},{last},{owner},{rights}\n"))
 }
 
 fn write_all<S: Sink>(out: &mut S, file: &RegFile, map: &RunMap) -> Result<(), AllocError>
@@ -50,8 +46,9 @@ fn write_all<S: Sink>(out: &mut S, file: &RegFile, map: &RunMap) -> Result<(), A
     ensures ok { OnOk result ((text : List ℕ) × IsMapText file.now text × (S.text out.new ≡ S.text out.old ++ text)) }
     ensures err { OnErr result (StartsWith (S.text out.new) (S.text out.old)) }
 {
+    let registers = file.registers();
     for run in map.runs() {
-        write_run(out, file, run)?;
+        write_run(out, &registers, run)?;
     }
     Ok(())
 }

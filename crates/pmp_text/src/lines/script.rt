@@ -51,8 +51,10 @@ fn write_configurations<S: Sink>(out: &mut S, file: &RegFile) -> Result<(), NoMe
 }
 
 fn write_addresses<S: Sink>(out: &mut S, file: &RegFile) -> Result<(), NoMemory> {
+    let registers = file.registers();
     for entry in 0..file.entries() {
-        write_set(out, Csr::Addr(entry), file.kept_address(entry))?;
+        let address = registers.address(usize::from(entry));
+        write_set(out, Csr::Addr(entry), address)?;
     }
     Ok(())
 }

@@ -61,7 +61,9 @@ fn kept_value(file: &RegFile, register: Csr) -> u64
     ensures { result ≡ kept_value file.now register }
 {
     match register {
-        Csr::Addr(number) if number < file.entries() => file.kept_address(number),
+        Csr::Addr(number) if number < file.entries() => {
+            file.registers().address(usize::from(number))
+        }
         Csr::Addr(_) => 0,
         _ => file.read(register),
     }

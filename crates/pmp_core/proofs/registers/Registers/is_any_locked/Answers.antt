@@ -11,7 +11,7 @@ returns-then-is_locked c =
     let i = c.loop-index.index in
     let inside : i < length entries = omega (arith, c.loop-index-test.true, c.count-index-end.ensures.count) in
     let locked : (entry_at entries i).configuration.locked ≡ true =
-    sym c.is_locked.ensures ∙ c.if-is_locked.true in
+    sym c.raw.ensures.locked ∙ sym c.is_locked.ensures ∙ c.if-is_locked.true in
     sym (list_any_at (λ (e : Entry). e.configuration.locked) entries i reset_entry inside locked)
 
 pub returns : goal.returns

@@ -1,9 +1,11 @@
-use Rattle.std.proofs.Common.{◌≡◌, ℕ, ◌<◌, ◌%◌, ◌^◌, false, length, sym, ap, ◌∙◌, arith}
+use Rattle.std.proofs.Common.{◌≡◌, ℕ, ◌<◌, ◌%◌, false, length, sym, ap, ◌∙◌, arith}
 use Rattle.pmp_core.specs.Hart.{word_addresses}
 use Rattle.pmp_core.specs.RegisterFile.{RegisterFile, entry_at}
 use Rattle.pmp_core.specs.RegisterWrite.{is_address_frozen}
 use Rattle.pmp_core.specs.SavedRegisters.{hart_in, restored_file}
 use Rattle.pmp_core.proofs.Restored.{profile_in}
+use Rattle.pmp_core.specs.declared.csr.Csr.TheVariants.{Addr}
+use Rattle.pmp_core.specs.WriteReasons.{reasons_of}
 use Rattle.pmp_core.proofs.Writes.{address_canonical, address_changed, address_restored}
 use Rattle.pmp_core.proofs.saved_registers.SavedRegisters.write_address.Goals as goal
 use Rattle.pmp_core.proofs.saved_registers.SavedRegisters.write_address.Goals.{After-address}
@@ -30,18 +32,24 @@ kept : (c : After-address) → c.args.value % c.word_addresses.result
 kept c = ap (λ (n : ℕ). c.args.value % n) (c.word_addresses.ensures ∙ ap word_addresses (c.hart.ensures
     ∙ ap (λ (f : RegisterFile). f.profile) c.with-registers.ensures ∙ profile_in c.args.self.now))
 
+because : (c : After-address) → c.reasons_where-reasons.result ≡ reasons_of (file c) (Addr c.args.register) c.args.value
+because c = c.reasons_where-reasons.ensures
+    ∙ ap (λ (f : RegisterFile). reasons_of f (Addr c.args.register) c.args.value) c.with-registers.ensures
+
 pub returns : goal.returns
 returns c =
     let a = (goal.at.returns c).After-address in
     let saved = c.args.self.now in
     let i = c.args.register in
-    let fits : c.args.value < 2 ^ 64 = omega (arith, c.ranges.value) in
     rw c.from-index.ensures (record {
-      file = address_restored saved i c.args.value _ (inside a) (free a) (kept a) (omega arith);
-      canonical = address_canonical saved i c.args.value _ (inside a) (free a) (kept a) (omega arith) (omega arith);
-      same = λ e. absurd cc;
-      changed = λ _. address_changed saved i c.args.value _ (inside a) (free a) (kept a) (omega arith)
-          (λ same. c.if-address.false (c.address.ensures.kept
-          ∙ ap (λ (f : RegisterFile). (entry_at f.entries c.from-index.result).address) c.with-registers.ensures
-          ∙ ap (λ (n : ℕ). (entry_at (file a).entries n).address) c.from-index.ensures ∙ same));
+      stored = record {
+        file = address_restored saved i c.args.value _ (inside a) (free a) (kept a) (omega arith);
+        canonical = address_canonical saved i c.args.value _ (inside a) (free a) (kept a) (omega arith) (omega arith);
+        same = λ e. absurd cc;
+        changed = λ _. address_changed saved i c.args.value _ (inside a) (free a) (kept a) (omega arith)
+            (λ same. c.if-address.false (c.address.ensures.kept
+            ∙ ap (λ (f : RegisterFile). (entry_at f.entries c.from-index.result).address) c.with-registers.ensures
+            ∙ ap (λ (n : ℕ). (entry_at (file a).entries n).address) c.from-index.ensures ∙ same));
+      };
+      reasons = because a;
     })

@@ -4,6 +4,7 @@ use Rattle.pmp_core.specs.RegisterFile.{RegisterFile}
 use Rattle.pmp_core.specs.RegisterValue.{configuration_word, register_value}
 use Rattle.pmp_core.specs.RegisterWrite.{configurations_written, written}
 use Rattle.pmp_core.specs.SavedRegisters.{restored_file}
+use Rattle.pmp_core.specs.WriteReasons.{reasons_of}
 use Rattle.pmp_core.proofs.Writes.{configurations_canonical, configurations_restored, even_value, even_where}
 use Rattle.pmp_core.proofs.Writes.{reads_same}
 use Rattle.pmp_core.proofs.saved_registers.SavedRegisters.write_configurations.Goals as goal
@@ -16,14 +17,28 @@ read_is : (c : After-read) → c.read.result ≡ register_value (file c) (Cfg c.
 read_is c = c.read.ensures
     ∙ ap (λ (f : RegisterFile). register_value f (Cfg c.args.register)) c.with-registers.ensures
 
+-- the word is what the register reads after the write
+word_is : (c : After-read) → c.configurations_after-word.result
+    ≡ register_value (written (file c) (Cfg c.args.register) c.args.value) (Cfg c.args.register)
+word_is c = c.configurations_after-word.ensures
+    ∙ ap (λ (f : RegisterFile). register_value (written f (Cfg c.args.register) c.args.value) (Cfg c.args.register))
+    c.with-registers.ensures
+
+because : (c : After-read) → c.reasons_where-reasons.result ≡ reasons_of (file c) (Cfg c.args.register) c.args.value
+because c = c.reasons_where-reasons.ensures
+    ∙ ap (λ (f : RegisterFile). reasons_of f (Cfg c.args.register) c.args.value) c.with-registers.ensures
+
 pub returns-then-word-read : goal.returns-then-word-read
 returns-then-word-read c =
     let r = (goal.at.returns-then-word-read c).After-read in
     record {
-      file = reads_same (file r) c.args.register c.args.value (sym c.requires.word ∙ c.if-word-read.true ∙ read_is r);
-      canonical = λ canonical. canonical;
-      same = λ _. refl;
-      changed = λ e. absurd cc;
+      stored = record {
+        file = reads_same (file r) c.args.register c.args.value (sym (word_is r) ∙ c.if-word-read.true ∙ read_is r);
+        canonical = λ canonical. canonical;
+        same = λ _. refl;
+        changed = λ e. absurd cc;
+      };
+      reasons = because r;
     }
 
 pub returns : goal.returns
@@ -32,21 +47,24 @@ returns c =
     let q = c.args.register in
     let loop = c.loop-index in
     let differs : register_value (written (file r) (Cfg q) c.args.value) (Cfg q) ≢ register_value (file r) (Cfg q) =
-    λ same. c.if-word-read.false (c.requires.word ∙ same ∙ sym (read_is r)) in
+    λ same. c.if-word-read.false (word_is r ∙ same ∙ sym (read_is r)) in
     let even = even_where (file r) q c.args.value differs in
-    let word : configuration_word (configurations_written (file r) q c.args.value) (4 * q) ≡ c.args.word =
-    sym (even_value (written (file r) (Cfg q) c.args.value) q even) ∙ sym c.requires.word in
+    let word : configuration_word (configurations_written (file r) q c.args.value) (4 * q) ≡ c.configurations_after-word.result =
+    sym (even_value (written (file r) (Cfg q) c.args.value) q even) ∙ sym (word_is r) in
     let count : c.count.result ≡ length (file r).entries =
     c.count.ensures.count ∙ ap (λ (f : RegisterFile). length f.entries) c.with-registers.ensures in
     let all : min (length (file r).entries) (4 * q + 8) ≤ loop.index =
     omega (arith, count, c.min-end.ensures, c.from-first.ensures, c.loop-index-test.false) in
     let done = rw (c.to_le_bytes-bytes.ensures, c.from-first.ensures) at loop.invariant in
-    let is = configurations_restored c.args.self.now loop.self q c.args.value c.args.word loop.index even
+    let is = configurations_restored c.args.self.now loop.self q c.args.value c.configurations_after-word.result loop.index even
     word all done in
     record {
-      file = is;
-      canonical = configurations_canonical c.args.self.now loop.self q c.args.value c.args.word loop.index
-          even word all done (omega arith);
-      same = λ e. absurd cc;
-      changed = λ _ same. differs (ap (λ (f : RegisterFile). register_value f (Cfg q)) (sym is ∙ same));
+      stored = record {
+        file = is;
+        canonical = configurations_canonical c.args.self.now loop.self q c.args.value
+            c.configurations_after-word.result loop.index even word all done (omega arith);
+        same = λ e. absurd cc;
+        changed = λ _ same. differs (ap (λ (f : RegisterFile). register_value f (Cfg q)) (sym is ∙ same));
+      };
+      reasons = because r;
     }

@@ -5,21 +5,22 @@ use Rattle.pmp_core.specs.declared.event.Event.TheVariants.{Write}
 use Rattle.pmp_core.specs.declared.mseccfg.MseccfgFields.{MseccfgFields}
 use Rattle.pmp_core.specs.declared.saved_registers.SavedRegisters.{SavedRegisters}
 use Rattle.pmp_core.specs.Hart.{Profile}
-use Rattle.pmp_core.specs.Mseccfg.{mseccfg_fields, mseccfg_value}
+use Rattle.pmp_core.specs.Mseccfg.{mseccfg_value}
 use Rattle.pmp_core.specs.RegisterFile.{RegisterFile}
 use Rattle.pmp_core.specs.RegisterWrite.{security_written, written}
 use Rattle.pmp_core.specs.SavedRegisters.{restored_file, saved_registers}
+use Rattle.pmp_core.specs.WriteReasons.{reasons_of}
 use Rattle.pmp_core.proofs.Legal.{step_legal}
 use Rattle.pmp_core.proofs.Restored.{mseccfg_in, profile_in}
-use Rattle.pmp_core.proofs.Saved.{fields_back, restored_legal, restored_saved}
+use Rattle.pmp_core.proofs.Saved.{restored_legal, restored_saved}
 use Rattle.pmp_core.proofs.Writes.{mseccfg_restored, mseccfg_saved}
 use Rattle.pmp_core.proofs.saved_registers.SavedRegisters.write_mseccfg.Goals as goal
 use Rattle.pmp_core.proofs.saved_registers.SavedRegisters.write_mseccfg.Goals.{Else-reads-value}
 use Rattle.pmp_core.proofs.saved_registers.SavedRegisters.write_mseccfg.Goals.{
-  then-from_value+then-not-old,
-  else-from_value,
-  else-from_value-via-then-from_value+else-not-old,
-  else-from_value-via-else-from_value,
+  then-new+then-not-old,
+  else-new,
+  else-new-via-then-new+else-not-old,
+  else-new-via-else-new,
 }
 
 module _ (c : Else-reads-value) where
@@ -30,10 +31,16 @@ module _ (c : Else-reads-value) where
   wanted = security_written file c.args.value
 
   old_is : c.fields-old.result ≡ file.mseccfg
-  old_is = c.fields-old.ensures ∙ ap (λ (f : RegisterFile). f.mseccfg) c.with.ensures
+  old_is = c.fields-old.ensures ∙ ap (λ (f : RegisterFile). f.mseccfg) c.with-registers.ensures
+
+  new_is : c.fields_after-new.result ≡ wanted
+  new_is = c.fields_after-new.ensures ∙ ap (λ (f : RegisterFile). security_written f c.args.value) c.with-registers.ensures
+
+  reads_is : c.value-reads.result ≡ mseccfg_value wanted
+  reads_is = c.value-reads.ensures ∙ ap mseccfg_value new_is
 
   differs : wanted ≢ file.mseccfg
-  differs same = c.if-reads-value.false (c.requires.reads ∙ ap mseccfg_value (same ∙ sym old_is) ∙ sym c.value.ensures)
+  differs same = c.if-reads-value.false (reads_is ∙ ap mseccfg_value (same ∙ sym old_is) ∙ sym c.value.ensures)
 
   -- the hart has mseccfg
   has : file.profile.has_smepmp ≡ true
@@ -56,33 +63,35 @@ returns c =
     let before = c.args.self.now in
     let after = written (file e) Mseccfg c.args.value in
     let mml : MseccfgFields → Bool = λ m. m.mml in
-    let with : SavedRegisters → SavedRegisters = λ s. record s { mseccfg = c.args.reads } in
-    let new_is : c.from_value.result ≡ wanted e = c.from_value.ensures ∙ ap mseccfg_fields c.requires.reads
-    ∙ fields_back (wanted e).mml (wanted e).mmwp (wanted e).rlb in
+    let with : SavedRegisters → SavedRegisters = λ s. record s { mseccfg = c.value-reads.result } in
     let saved : (s : SavedRegisters) → s ≡ saved_registers (file e) → with s ≡ saved_registers after =
-    λ s same. ap with same ∙ mseccfg_saved (file e) (wanted e) c.args.reads c.requires.reads in
-    let restored : restored_file (with c.if-from_value.self) ≡ after = elim c.if-from_value.branch [
-      | then-from_value+then-not-old w ↦ ap restored_file (saved c.if-from_value.self (w.self-is ∙ w.canonical.ensures.saved))
+    λ s same. ap with same ∙ mseccfg_saved (file e) (wanted e) c.value-reads.result (reads_is e) in
+    let restored : restored_file (with c.if-new.self) ≡ after = elim c.if-new.branch [
+      | then-new+then-not-old w ↦ ap restored_file (saved c.if-new.self (w.self-is ∙ w.canonical.ensures.saved))
           ∙ restored_saved after (step_legal (file e) (restored_legal before) (Write Mseccfg c.args.value))
-      | else-from_value w ↦ ap (λ (s : SavedRegisters). restored_file (with s)) w.self-is
-          ∙ mseccfg_restored before (wanted e) c.args.reads c.requires.reads
+      | else-new w ↦ ap (λ (s : SavedRegisters). restored_file (with s)) w.self-is
+          ∙ mseccfg_restored before (wanted e) c.value-reads.result (reads_is e)
           (ap (λ (p : Profile). p.has_smepmp) (sym (profile_in before)) ∙ has e)
-          (elim w.else-from_value.branch [
-            | else-from_value-via-then-from_value+else-not-old v ↦ ap mml (sym new_is) ∙ v.if-from_value.true
+          (elim w.else-new.branch [
+            | else-new-via-then-new+else-not-old v ↦ ap mml (sym (new_is e)) ∙ v.if-new.true
                 ∙ sym (not-false _ v.if-not-old.false) ∙ ap mml (old_is e ∙ mseccfg_in before)
-            | else-from_value-via-else-from_value v ↦
-                let off = ap mml (sym new_is) ∙ v.if-from_value.false in
+            | else-new-via-else-new v ↦
+                let off = ap mml (sym (new_is e)) ∙ v.if-new.false in
                 off ∙ sym (stays (file e) c.args.value (has e) off) ∙ ap mml (mseccfg_in before)
           ])
     ] in
-    let as_saved : saved_registers (file e) ≡ before → c.if-from_value.self ≡ saved_registers (file e) = λ canonical.
-    elim c.if-from_value.branch [
-      | then-from_value+then-not-old w ↦ w.self-is ∙ w.canonical.ensures.saved
-      | else-from_value w ↦ w.self-is ∙ sym canonical
+    let as_saved : saved_registers (file e) ≡ before → c.if-new.self ≡ saved_registers (file e) = λ canonical.
+    elim c.if-new.branch [
+      | then-new+then-not-old w ↦ w.self-is ∙ w.canonical.ensures.saved
+      | else-new w ↦ w.self-is ∙ sym canonical
     ] in
     record {
-      file = restored;
-      canonical = λ canonical. ap saved_registers restored ∙ sym (saved c.if-from_value.self (as_saved canonical));
-      same = λ never. absurd cc;
-      changed = λ _ same. differs e (ap (λ (f : RegisterFile). f.mseccfg) (sym restored ∙ same));
+      stored = record {
+        file = restored;
+        canonical = λ canonical. ap saved_registers restored ∙ sym (saved c.if-new.self (as_saved canonical));
+        same = λ never. absurd cc;
+        changed = λ _ same. differs e (ap (λ (f : RegisterFile). f.mseccfg) (sym restored ∙ same));
+      };
+      reasons = c.reasons_where-reasons.ensures
+          ∙ ap (λ (f : RegisterFile). reasons_of f Mseccfg c.args.value) c.with-registers.ensures;
     }

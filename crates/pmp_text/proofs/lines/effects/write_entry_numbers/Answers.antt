@@ -12,7 +12,7 @@ pub loop-entry-preserved : goal.loop-entry-preserved
 loop-entry-preserved g c =
     let loop = c.loop-entry in
     let before = (g.S.Sink.text c.args.out.now) in
-    let test : ℕ → Bool = has_reason c.args.file.now c.args.csr c.args.value in
+    let test : ℕ → Bool = has_reason c.args.registers.now c.args.csr c.args.value in
     let entry = loop.entry-counter in
     let done = range_with_len 0 entry in
     rw (range_more entry) (elim c.if-has_reason.branch [

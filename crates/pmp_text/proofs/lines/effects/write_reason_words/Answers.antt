@@ -15,7 +15,7 @@ pub loop-reason-preserved : goal.loop-reason-preserved
 loop-reason-preserved g c =
     let loop = c.loop-reason in
     let before = (g.S.Sink.text c.args.out.now) in
-    let test : WriteReason → Bool = λ reason. is_reason reason c.args.file.now c.args.csr c.args.value in
+    let test : WriteReason → Bool = λ reason. is_reason reason c.args.registers.now c.args.csr c.args.value in
     let done = take loop.reason-index all_reasons in
     let item = get_or all_reasons loop.reason-index Absent in
     rw (take_more all_reasons loop.reason-index Absent c.loop-reason-test.true) (elim c.if-is_reason.branch [

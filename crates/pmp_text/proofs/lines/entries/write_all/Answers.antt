@@ -14,13 +14,14 @@ pub loop-entry-preserved : goal.loop-entry-preserved
 loop-entry-preserved g c =
     let file = c.args.file.now in
     let since = c.args.since.now in
+    let is = c.registers-registers.ensures.same in
     record {
       spans = below_more (λ i. IsSpan file i (span_of file i)) c.loop-entry.entry
-          c.loop-entry.invariant.spans c.write_entry.ensures.span;
+          c.loop-entry.invariant.spans (rw is at c.write_entry.ensures.span);
       rows = rows_grow
           (λ i. entry_row file i (span_of file i) (slice_index_or since i no_since))
           (g.S.Sink.text c.args.out.now) (g.S.Sink.text c.loop-entry.out) _ c.loop-entry.entry
-          (rw c.from.ensures at c.in_ok-write_entry.ensures.ok) c.loop-entry.invariant.rows;
+          (rw (c.from.ensures, is) at c.in_ok-write_entry.ensures.ok) c.loop-entry.invariant.rows;
     }
 
 pub returns-clause-ok : goal.returns-clause-ok

@@ -15,11 +15,13 @@ unfolding band
 returns-clause-ok g c =
     let file = c.args.file.now in
     let run = c.args.run.now in
-    let machine = perms_text c.owned_rights.result in
-    let others = perms_text c.owned_rights-2.result in
+    let rights = c.of_owner-rights.result in
+    let rights_are = rw c.registers.ensures.same at c.of_owner-rights.ensures in
+    let machine = perms_text rights.machine in
+    let others = perms_text rights.others in
     let sign = c.lock_sign.result.now in
-    let machine_is = ap perms_text c.owned_rights.ensures ∙ text_of_perms (owned_rights file run.owner M) in
-    let others_is = ap perms_text c.owned_rights-2.ensures ∙ text_of_perms (owned_rights file run.owner U) in
+    let machine_is = ap (λ r. perms_text r.machine) rights_are ∙ text_of_perms (owned_rights file run.owner M) in
+    let others_is = ap (λ r. perms_text r.others) rights_are ∙ text_of_perms (owned_rights file run.owner U) in
     let band_is =
     ap (λ (m : List ℕ). drawn_band c.args.place run m others sign) machine_is
     ∙ ap (λ (o : List ℕ). drawn_band c.args.place run (rights_text (owned_rights file run.owner M)) o sign) others_is

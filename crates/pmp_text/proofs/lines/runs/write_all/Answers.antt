@@ -20,7 +20,7 @@ loop-run-preserved g c =
     let before = (g.S.Sink.text c.args.out.now) in
     let i = c.loop-run.run-index in
     let runs = c.runs-run-items.result.now in
-    c.in_ok-write_run.ensures.ok ∙ ap (λ (l : List ℕ). l ++ line (get_or runs i none)) c.loop-run.invariant
+    rw c.registers-registers.ensures.same at c.in_ok-write_run.ensures.ok ∙ ap (λ (l : List ℕ). l ++ line (get_or runs i none)) c.loop-run.invariant
     ∙ flat_map_more line before (take i runs) (get_or runs i none)
     ∙ ap (λ written. before ++ flat_map line written) (sym (take_more runs i none c.loop-run-test.true))
 
