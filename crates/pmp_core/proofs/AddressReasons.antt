@@ -135,15 +135,6 @@ module _ (file : RegisterFile) (legal : IsLegal file) (i value : ℕ) where
       | inl inside ↦ rw (lt-ltb i (length file.entries) inside) (and_right _ false refl)
     ]
 
-    -- where the address is frozen, the value changes no entry
-    unchanged_at : (k : ℕ) → is_address_frozen file i ≡ true → is_changed file (Addr i) value k ≡ false
-    unchanged_at k frozen = search (rules, tests)
-
-    -- where it isn't, the entry isn't frozen and isn't the low end of a frozen range
-    free_at : (k : ℕ) → is_address_frozen file i ≡ false
-        → (changes_frozen file (Addr i) value k ≡ false) × (is_low_end file (Addr i) value k ≡ false)
-    free_at k free = search (rules, tests)
-
     fine : (k : ℕ) → (changes_frozen file (Addr i) value k ≡ false) × (is_low_end file (Addr i) value k ≡ false)
     fine k = search (rules, tests)
 

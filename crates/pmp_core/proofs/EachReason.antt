@@ -126,11 +126,6 @@ pub record HasNone (file : RegisterFile) (csr : Csr) (value : ℕ) : Type 0 wher
   pub bypass : is_reason Bypass file csr value ≡ false
   pub grain : is_reason Grain file csr value ≡ false
 
-none_all : (p : WriteReason → Bool) → p Absent ≡ false → p Bits ≡ false → p Frozen ≡ false → p Tor ≡ false
-    → p Reserved ≡ false → p Lockdown ≡ false → p Sticky ≡ false → p Bypass ≡ false → p Grain ≡ false
-    → filter p all_reasons ≡ []
-none_all p a b c d e f g h i = rw (a, b, c, d, e, f, g, h, i) refl
-
 pub has_none : (file : RegisterFile) (csr : Csr) (value : ℕ) → write_reasons file csr value ≡ []
     → HasNone file csr value
 has_none file csr value none =

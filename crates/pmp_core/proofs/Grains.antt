@@ -1,6 +1,5 @@
 -- Addresses by the grain.
-use borrow.Author.Tests.{tests}
-use Rattle.std.proofs.Common.{rules, ◌≡◌, ℕ, ◌+◌, ◌-◌, ◌*◌, ◌/◌, ◌^◌, ◌<◌, ◌≤◌, false, nat_lt}
+use Rattle.std.proofs.Common.{◌≡◌, ℕ, ◌+◌, ◌-◌, ◌*◌, ◌/◌, ◌^◌, ◌<◌, ◌≤◌, false, nat_lt}
 use Rattle.std.proofs.Common.{refl, sym, ap, ◌∙◌, arith}
 use Rattle.std.proofs.Math.Nat.{div-eq_of_lt, div-lt_iff_lt-mul, div-mul-le_self, mul-add-div_right, mul-div_cancel}
 use Rattle.std.proofs.Math.Nat.{mul-le-mul_right}
@@ -10,7 +9,7 @@ use Rattle.std.proofs.lemmas.Nat.{pow-add}
 use Rattle.pmp_core.specs.declared.configuration.AddressMatching.{AddressMatching}
 use Rattle.pmp_core.specs.declared.configuration.AddressMatching.TheVariants.{Off, Tor, Na4, Napot}
 use Rattle.pmp_core.specs.declared.register_write.TheConstants.{WORD_ADDRESSES}
-use Rattle.pmp_core.specs.Configuration.{Configuration, is_reserved}
+use Rattle.pmp_core.specs.Configuration.{Configuration}
 use Rattle.pmp_core.specs.Grain.{is_na4, napot_address, read_address, selectable, tor_address}
 
 -- ---- addresses
@@ -67,12 +66,6 @@ read_finest Na4 address = refl
 read_finest Napot address = omega arith
 
 -- ---- configurations
-
-pub selectable_again : (grain : ℕ) (c : Configuration) → selectable grain (selectable grain c) ≡ selectable grain c
-selectable_again grain c = search (rules, tests)
-
-pub selectable_reserved : (grain : ℕ) (c : Configuration) → is_reserved (selectable grain c) ≡ is_reserved c
-selectable_reserved grain c = search (rules, tests)
 
 -- a mode other than NA4 can be chosen
 pub selectable_other : (grain : ℕ) (c : Configuration) → is_na4 c.matching ≡ false → selectable grain c ≡ c

@@ -9,7 +9,7 @@ use Rattle.pmp_core.specs.Configuration.{bit_of}
 use Rattle.pmp_core.specs.Hart.{Profile, IsProfile, hart_fault, profile_with, profile_of}
 use Rattle.pmp_core.specs.declared.size.Size.{Size}
 use Rattle.pmp_core.specs.declared.size.Size.TheVariants.{Sixteen, SixtyFour}
-use Rattle.pmp_core.specs.SavedRegisters.{is_usual, hart_number, spelled_hart, spells_hart, saved_hart}
+use Rattle.pmp_core.specs.SavedRegisters.{is_usual, hart_number, spelled_hart, saved_hart}
 
 pub usual : (n : ℕ) → n ≤ 64 → IsProfile (profile_with n)
 usual n few = record { few = few; fine = omega arith; wide = omega arith; narrow = omega arith }
@@ -31,9 +31,6 @@ no_fault profile is = search (rules, tests)
 none_is : (fault : Option HartFault) → is_none fault ≡ true → fault ≡ None
 none_is None h = refl
 none_is (Some f) h = absurd cc
-
-spelled_is : (number : ℕ) → spells_hart number ≡ true → IsProfile (spelled_hart number)
-spelled_is number h = lawful (spelled_hart number) (none_is _ (and_parts _ _ h).1)
 
 pub is_hart : (number : ℕ) → IsProfile (saved_hart number)
 unfolding saved_hart

@@ -4,7 +4,7 @@ use Rattle.std.proofs.Common.{rules, ◌≡◌, ◌≢◌, ◌↔◌, ℕ, zero,
 use Rattle.std.proofs.Common.{length, fold, ◌/◌, ◌%◌, ◌==◌, refl, ap, ◌∙◌, inl}
 use Rattle.std.proofs.Common.{inr, arith}
 use Rattle.std.specs.List.{list_all}
-use Rattle.std.proofs.lemmas.Bool.{and_parts, and_right, cases_lt, false≢true, not-true, or_right}
+use Rattle.std.proofs.lemmas.Bool.{and_parts, and_right, cases_lt, false≢true, not-true}
 use Rattle.std.proofs.lemmas.List.{get_or_past}
 use Rattle.std.proofs.lemmas.List.Folds.{list_any_at}
 use Rattle.pmp_core.specs.declared.configuration.AddressMatching.{AddressMatching}
@@ -42,10 +42,6 @@ pub other_address : (file : RegisterFile) (j value k : ℕ) → k ≢ j
     → entry_at (address_written file j value) k ≡ entry_at file.entries k
 other_address file j value k other = search (rules, tests)
 
-frozen_address : (file : RegisterFile) (j value k : ℕ) → is_address_frozen file j ≡ true
-    → entry_at (address_written file j value) k ≡ entry_at file.entries k
-frozen_address file j value k kept = rw kept refl
-
 pub low_kept : (before after : List Entry) (i : ℕ)
     → ((k : ℕ) → suc k ≡ i → (entry_at after k).address ≡ (entry_at before k).address)
     → low_address after i ≡ low_address before i
@@ -76,10 +72,6 @@ module _ (file : RegisterFile) (i : ℕ) (frozen : is_frozen file i ≡ true) wh
   -- its own address register is kept, and the one before it where the entry is the top of a range
   own_address : is_address_frozen file i ≡ true
   own_address = rw frozen refl
-
-  low_kept_frozen : (k : ℕ) → suc k ≡ i → is_tor (entry_at file.entries i).configuration.matching ≡ true
-      → is_address_frozen file k ≡ true
-  low_kept_frozen k above tor = or_right (is_frozen file k) _ (rw above (rw (frozen, tor) refl))
 
   after_address : (j value : ℕ) → Held file (record file { entries = address_written file j value }) i
   after_address j value = search (rules, tests)

@@ -43,15 +43,6 @@ has_risen true any true h = refl
 has_risen false false true h = refl
 has_risen false true true h = absurd cc
 
-three_bits : (value : ℕ) → value / 8 ≡ 0
-    → bit_of (value % 2 == 1) + 2 * bit_of (value / 2 % 2 == 1) + 4 * bit_of (value / 4 % 2 == 1) ≡ value
-three_bits value few = search (rules, tests)
-
--- the bits of a number that is made of three
-one_of_three : (a b c : ℕ) → a < 2 → b < 2 → c < 2 → ((a + 2 * b + 4 * c) % 2 ≡ a)
-    × ((a + 2 * b + 4 * c) / 2 % 2 ≡ b) × ((a + 2 * b + 4 * c) / 4 % 2 ≡ c) × ((a + 2 * b + 4 * c) / 8 ≡ 0)
-one_of_three a b c ha hb hc = (omega arith, omega arith, omega arith, omega arith)
-
 bit_low : (b : Bool) → bit_of b < 2
 bit_low true = omega arith
 bit_low false = omega arith
@@ -70,9 +61,6 @@ module _ (file : RegisterFile) (legal : IsLegal file) (value : ℕ) where
 
   left_plain : file.profile.has_smepmp ≡ false → (written file Mseccfg value).mseccfg ≡ reset_mseccfg
   left_plain has = rw has (legal.plain has)
-
-  stored_there : file.profile.has_smepmp ≡ true → HasNone file Mseccfg value → mseccfg_value new ≡ value
-  stored_there has none = search (rules, tests)
 
   pub mseccfg_stored : HasNone file Mseccfg value → register_value (written file Mseccfg value) Mseccfg ≡ value
   mseccfg_stored none = search (rules, tests)

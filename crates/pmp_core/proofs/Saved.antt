@@ -12,7 +12,7 @@ use Rattle.pmp_core.specs.declared.saved_registers.SavedRegisters.{SavedRegister
 use Rattle.pmp_core.specs.Configuration.{Configuration, byte_of, is_reserved}
 use Rattle.pmp_core.specs.Mseccfg.{mseccfg_value, mseccfg_fields}
 use Rattle.pmp_core.specs.RegisterFile.{RegisterFile, reset_entry, reset_mseccfg, reset_file, entry_at}
-use Rattle.pmp_core.specs.RegisterFile.{HasAddresses, IsLegal}
+use Rattle.pmp_core.specs.RegisterFile.{IsLegal}
 use Rattle.pmp_core.specs.Grain.{selectable}
 use Rattle.pmp_core.specs.RegisterWrite.{admitted}
 use Rattle.pmp_core.specs.Hart.{Profile, profile_with, word_addresses}
@@ -21,7 +21,7 @@ use Rattle.pmp_core.specs.SavedRegisters.{restored_file, zero_registers}
 use Rattle.pmp_core.specs.SavedLaw.{SavedLaw}
 use Rattle.pmp_core.proofs.HartNumbers.{is_hart, number_back}
 use Rattle.pmp_core.proofs.Grains.{selectable_other}
-use Rattle.pmp_core.proofs.Legal.{reset_at, stored_chosen, stored_unreserved, zero_fits, legal_addresses}
+use Rattle.pmp_core.proofs.Legal.{reset_at, stored_chosen, stored_unreserved, zero_fits}
 use Rattle.pmp_core.proofs.Places.{entries_by}
 use Rattle.pmp_core.proofs.StoredBytes.{configuration_back}
 
@@ -92,9 +92,6 @@ module _ (saved : SavedRegisters) where
         chosen = restored_chosen n;
         plain = no_fields;
       }
-
-pub restored_addresses : (saved : SavedRegisters) → HasAddresses (restored_file saved)
-restored_addresses saved = legal_addresses (restored_file saved) (restored_legal saved)
 
 pub restored_zero : restored_file zero_registers ≡ reset_file (profile_with 16)
 unfolding restored_file saved_hart

@@ -83,9 +83,6 @@ left_of grain frozen mml rlb old byte = cond frozen old (selectable grain (admit
 chosen : (grain : ℕ) (c : Configuration) → (nat_lt 0 grain && is_na4 c.matching) ≡ false → selectable grain c ≡ c
 chosen grain c so = rw so refl
 
-never_na4 : (grain : ℕ) (c : Configuration) → (nat_lt 0 grain && is_na4 (selectable grain c).matching) ≡ false
-never_na4 grain c = search (rules, tests)
-
 -- so a byte that is read back from it didn't choose NA4 in vain
 reads_chosen : (grain : ℕ) (c : Configuration) (byte : ℕ) → byte_of (selectable grain c) ≡ byte
     → (nat_lt 0 grain && is_na4 (configuration_of byte).matching) ≡ false
@@ -125,18 +122,6 @@ taken grain false true true old byte small h =
     ap byte_of (chosen grain (configuration_of byte) h.coarse) ∙ eqb-true _ byte (read_back byte small ∙ h.plain)
 taken grain false true false old byte small h = rw h.unbarred
     (ap byte_of (chosen grain (configuration_of byte) h.coarse) ∙ eqb-true _ byte (read_back byte small ∙ h.plain))
-
--- a barred rule is a locked one, and no byte of an entry that isn't locked
-barred_is_high : (byte : ℕ) → byte < 256 → (is_barred_byte byte && nat_lt byte 128) ≡ false
-barred_is_high byte small =
-    agree_below_at (λ b. is_barred_byte b && nat_lt b 128) (λ b. false) 256 byte refl small
-
-parts_low : (f x w r : ℕ) → f ≤ 3 → x ≤ 1 → w ≤ 1 → r ≤ 1 → 128 * 0 + 8 * f + 4 * x + 2 * w + r < 128
-parts_low f x w r hf hx hw hr = omega arith
-
-unlocked_low : (c : Configuration) → c.locked ≡ false → byte_of c < 128
-unlocked_low c free = rw free (parts_low (field_of c.matching) (bit_of c.execute) (bit_of c.write) (bit_of c.read)
-    (field_le c.matching) (bit_le c.execute) (bit_le c.write) (bit_le c.read))
 
 not_barred : (old : Configuration) (byte : ℕ) → byte < 256 → old.locked ≡ false → byte_of old ≡ byte
     → is_barred_byte byte ≡ false

@@ -179,17 +179,6 @@ pub record AreWrittenTo (old new : SavedRegisters) (bytes : List ℕ) (first ind
   pub done : (k : ℕ) → first ≤ k → k < index → slice_index new.configurations k ≡ slice_index bytes (k - first)
   pub rest : (k : ℕ) → (first ≤ k → index ≤ k) → slice_index new.configurations k ≡ slice_index old.configurations k
 
-pub written_none : (old : SavedRegisters) (bytes : List ℕ) (first : ℕ) → length old.configurations ≡ 64
-    → AreWrittenTo old old bytes first first
-written_none old bytes first len = search (rules, tests)
-
-pub written_more : (old new : SavedRegisters) (bytes : List ℕ) (first index : ℕ) → first ≤ index → index < first + 8
-    → index < 64 → AreWrittenTo old new bytes first index
-    → AreWrittenTo old (record new {
-      configurations = set new.configurations index (slice_index bytes (index - first));
-    }) bytes first (index + 1)
-written_more old new bytes first index from near inside so_far = search (rules, tests)
-
 module _ (old new : SavedRegisters) (q value word end : ℕ) (even : q % 2 ≡ 0)
     (is : configuration_word (configurations_written (restored_file old) q value) (4 * q) ≡ word)
     (all : min (length (restored_file old).entries) (4 * q + 8) ≤ end)
