@@ -1,15 +1,14 @@
 //! Cuts, where bytes of another owner begin, one upon the other.
 
-ghost use Rattle.std.specs.Prelude.{◌≡◌, ◌<◌, ◌≤◌, [], ◌∷◌, MatchOption, length};
+ghost use Rattle.std.specs.Prelude.{◌≡◌, ◌<◌, ◌≤◌, [], ◌∷◌, MatchOption, false, length};
 ghost use Rattle.pmp_map.specs.Painting.{is_below, is_from, owner_of, start_of};
 
 use crate::run::RUNS;
-use arrayvec::ArrayVec;
 use pmp_core::ADDRESS_LIMIT;
 use std::marker::Model;
 
 /// Where bytes of another owner begin.
-#[derive(Clone, Copy, Debug, Default, PartialEq, Eq)]
+#[derive(Clone, Copy, Debug, PartialEq, Eq)]
 pub struct Cut {
     /// The byte address of the first of them.
     pub start: u64,
@@ -19,24 +18,33 @@ pub struct Cut {
 /// Some of the cuts of all bytes, side by side. A contract sees the list, with the last that was pushed first.
 #[derive(Drop)]
 pub struct Cuts {
-    cuts: ArrayVec<Cut, RUNS>,
+    cuts: [Cut; RUNS],
+    count: usize,
 }
 
 impl Model for Cuts {
-    ghost use Rattle.std.specs.Prelude.{List, reverse};
+    ghost use Rattle.std.specs.Prelude.{List, reverse, take, ◌≤◌};
     ghost use Rattle.pmp_map.specs.declared.cuts.Cut.{Cut};
+    ghost use Rattle.pmp_map.specs.declared.run.TheConstants.{RUNS};
 
     ghost Value = { List Cut };
 
-    ghost view = { λ c. reverse c.cuts.items };
+    ghost view = { λ c. reverse (take c.count c.cuts) };
+
+    ghost invariant = { λ c. c.count ≤ RUNS };
 }
 
 impl Cuts {
     pub fn new() -> Cuts
         ensures { result ≡ [] }
     {
+        let blank = Cut {
+            start: 0,
+            owner: None,
+        };
         Cuts {
-            cuts: ArrayVec::new(),
+            cuts: [blank; RUNS],
+            count: 0,
         }
     }
 
@@ -44,22 +52,42 @@ impl Cuts {
         requires { length self.old < RUNS }
         ensures { self.new ≡ cut ∷ self.old }
     {
-        self.cuts.push(cut);
+        self.cuts[self.count] = cut;
+        self.count += 1;
     }
 
-    pub fn pop(&mut self) -> Option<Cut>
-        ensures { MatchOption result ((self.old ≡ []) × (self.new ≡ [])) (λ cut. self.old ≡ cut ∷ self.new) }
+    /// Takes the first away, if there is one and it begins at the byte or above.
+    pub fn pop_from(&mut self, byte: u64) -> Option<Cut>
+        ensures { MatchOption result ((is_from byte self.old ≡ false) × (self.new ≡ self.old))
+            (λ cut. (self.old ≡ cut ∷ self.new) × (byte ≤ cut.start)) }
     {
-        self.cuts.pop()
+        if self.count == 0 || self.cuts[self.count - 1].start < byte {
+            return None;
+        }
+        self.count -= 1;
+        Some(self.cuts[self.count])
+    }
+
+    /// Takes the first away, if there is one and it begins below the byte.
+    pub fn pop_below(&mut self, byte: u64) -> Option<Cut>
+        ensures { MatchOption result ((is_below byte self.old ≡ false) × (self.new ≡ self.old))
+            (λ cut. (self.old ≡ cut ∷ self.new) × (cut.start < byte)) }
+    {
+        if self.count == 0 || self.cuts[self.count - 1].start >= byte {
+            return None;
+        }
+        self.count -= 1;
+        Some(self.cuts[self.count])
     }
 
     /// Where the first begins; where there is none, the end of all bytes.
     pub fn start(&self) -> u64
         ensures { result ≡ start_of self.now }
     {
-        match self.cuts.last() {
-            Some(cut) => cut.start,
-            None => ADDRESS_LIMIT,
+        if self.count == 0 {
+            ADDRESS_LIMIT
+        } else {
+            self.cuts[self.count - 1].start
         }
     }
 
@@ -67,29 +95,10 @@ impl Cuts {
     pub fn owner(&self) -> Option<u8>
         ensures { result ≡ owner_of self.now }
     {
-        match self.cuts.last() {
-            Some(cut) => cut.owner,
-            None => None,
-        }
-    }
-
-    /// Whether there is one and the first begins below the byte.
-    pub fn is_below(&self, byte: u64) -> bool
-        ensures { result ≡ is_below byte self.now }
-    {
-        match self.cuts.last() {
-            Some(cut) => cut.start < byte,
-            None => false,
-        }
-    }
-
-    /// Whether there is one and the first begins at the byte or above.
-    pub fn is_from(&self, byte: u64) -> bool
-        ensures { result ≡ is_from byte self.now }
-    {
-        match self.cuts.last() {
-            Some(cut) => cut.start >= byte,
-            None => false,
+        if self.count == 0 {
+            None
+        } else {
+            self.cuts[self.count - 1].owner
         }
     }
 }

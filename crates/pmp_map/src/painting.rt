@@ -28,15 +28,15 @@ impl Canvas {
             → ArePainted file i result.below result.above }
         ensures count { length result.below + length result.above ≡ 1 }
     {
-        let mut below = Cuts::new();
-        below.push(Cut {
+        let mut canvas = Canvas {
+            below: Cuts::new(),
+            above: Cuts::new(),
+        };
+        canvas.below.push(Cut {
             start: 0,
             owner: None,
         });
-        Canvas {
-            below,
-            above: Cuts::new(),
-        }
+        canvas
     }
 
     /// Moves the gap to the byte: the cuts that begin below it are below, and all others above.
@@ -50,15 +50,11 @@ impl Canvas {
         ensures count { length self.new.below + length self.new.above
             ≡ length self.old.below + length self.old.above }
     {
-        while self.above.is_below(byte) {
-            if let Some(cut) = self.above.pop() {
-                self.below.push(cut);
-            }
+        while let Some(cut) = self.above.pop_below(byte) {
+            self.below.push(cut);
         }
-        while self.below.is_from(byte) {
-            if let Some(cut) = self.below.pop() {
-                self.above.push(cut);
-            }
+        while let Some(cut) = self.below.pop_from(byte) {
+            self.above.push(cut);
         }
     }
 
@@ -80,9 +76,7 @@ impl Canvas {
             let owner = self.below.owner();
             self.above.push(Cut { start: end, owner });
         }
-        while self.below.is_from(range.start) {
-            self.below.pop();
-        }
+        while let Some(_cut) = self.below.pop_from(range.start) {}
         self.below.push(Cut {
             start: range.start,
             owner: Some(entry),

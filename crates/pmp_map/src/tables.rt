@@ -76,7 +76,7 @@ impl Tables {
         let mut cuts = cuts_of(registers);
         let unowned = row_of(registers, None);
         let mut runs = 0;
-        while let Some(cut) = cuts.pop() {
+        while let Some(cut) = cuts.pop_from(0) {
             self.starts[runs] = cut.start;
             self.rows[runs] = row_by(registers, &unowned, cut.owner);
             runs += 1;

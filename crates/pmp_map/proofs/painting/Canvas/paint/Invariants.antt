@@ -5,8 +5,8 @@ use Rattle.pmp_map.specs.Painting.{AreDown, AreUp, ArePainted, IsOwnerFrom, star
 use Rattle.pmp_map.proofs.painting.Canvas.paint.Given as goal
 
 -- the cuts below are those of the bytes up to somewhere at the range's start or above
-abbrev pub invariant-loop-self : goal.invariant-loop-self
-invariant-loop-self l = record {
+abbrev pub invariant-loop-cut : goal.invariant-loop-cut
+invariant-loop-cut l = record {
   down : (file : RegisterFile) → l.range ≡ range_of file l.entry
       → ArePainted file (l.entry + 1) l.fn.self.below l.fn.self.above
       → (top : ℕ) × (l.range.start ≤ top) × AreDown (IsOwnerFrom file (l.entry + 1)) top l.self.below;
@@ -17,5 +17,5 @@ invariant-loop-self l = record {
   count : length l.self.below + length l.self.above ≤ length l.fn.self.below + length l.fn.self.above + 1;
 }
 
-abbrev pub decreases-loop-self : goal.decreases-loop-self
-decreases-loop-self l = length l.self.below
+abbrev pub decreases-loop-cut : goal.decreases-loop-cut
+decreases-loop-cut l = length l.self.below

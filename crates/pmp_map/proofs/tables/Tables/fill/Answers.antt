@@ -11,7 +11,7 @@ loop-cut-init c = search (rules, none_swept)
 
 pub row_by-requires-clause-owner : goal.row_by-requires-clause-owner
 row_by-requires-clause-owner c =
-    let swept = rw c.in-Some.ensures at c.loop-cut.invariant in
+    let swept = rw c.in-Some.ensures.0 at c.loop-cut.invariant in
     let some = swept.up.0.some in
     owner_below c.args.registers.now c.in-Some.cut.start c.in-Some.cut.owner
     (swept.up.0.owned c.in-Some.cut.start (omega arith) some)
