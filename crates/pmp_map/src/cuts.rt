@@ -35,18 +35,13 @@ impl Model for Cuts {
 }
 
 impl Cuts {
-    pub fn new() -> Cuts
-        ensures { result ≡ [] }
-    {
-        let blank = Cut {
+    pub const EMPTY: Cuts = Cuts {
+        cuts: [Cut {
             start: 0,
             owner: None,
-        };
-        Cuts {
-            cuts: [blank; RUNS],
-            count: 0,
-        }
-    }
+        }; RUNS],
+        count: 0,
+    };
 
     pub fn push(&mut self, cut: Cut)
         requires { length self.old < RUNS }

@@ -29,8 +29,8 @@ impl Canvas {
         ensures count { length result.below + length result.above ≡ 1 }
     {
         let mut canvas = Canvas {
-            below: Cuts::new(),
-            above: Cuts::new(),
+            below: Cuts::EMPTY,
+            above: Cuts::EMPTY,
         };
         canvas.below.push(Cut {
             start: 0,
