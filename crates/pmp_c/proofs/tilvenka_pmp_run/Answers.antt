@@ -16,7 +16,7 @@ returns-in-Some-clause-run c = λ named mode_is small is_unit.
     let same : c.in-Some.mode ≡ named = mode_once c.in-Some.mode named (c.in-Some.ensures.some ∙ sym mode_is) in
     let rights : c.rights.result ≡ Some (perms_of (owned_rights file run.owner named)) = rw (← same)
     ((c.rights.ensures is_unit).owned run.owner (λ byte from to.
-        let here : byte ≡ c.args.address = omega arith in rw here (around.owned c.args.address around.here))) in
+    let here : byte ≡ c.args.address = omega arith in rw here (around.owned c.args.address around.here))) in
     let number = ap rights_number rights in
     record {
       owner = run.owner;
