@@ -22,11 +22,10 @@ use Rattle.pmp_core.proofs.Legal.{legal_addresses}
 use Rattle.pmp_map.specs.declared.search.TheConstants.{PLACES}
 use Rattle.pmp_map.specs.Answers.{decision_by, whole_cause, owned_rights}
 use Rattle.pmp_map.specs.Runs.{map_run}
-use Rattle.pmp_map.proofs.Order.{start_at, start_past, starts_rise, in_run, run_before}
+use Rattle.pmp_map.proofs.Order.{start_at, starts_rise, in_run, run_before}
 use Rattle.pmp_map.proofs.Starts.{IsPlaceOf, place_found}
 use Rattle.pmp_map.proofs.DecidedRuns.{across_runs, decided_whole}
 use Rattle.pmp_map.specs.declared.tables.Tables.{Tables}
-use Rattle.pmp_map.specs.declared.tables.TheConstants.{FEW}
 use Rattle.pmp_map.specs.Answer.{cause_number, fault_number, answer_number}
 use Rattle.pmp_map.specs.Causes.{cause_at, IsLeastCause}
 use Rattle.pmp_map.specs.Columns.{column_of}
@@ -85,11 +84,7 @@ module _ (file : RegisterFile) (tables : Tables) (are : AreTables file tables) w
   pub run_found : (byte place : ℕ) → byte < ADDRESS_LIMIT → place + 1 < PLACES → IsFound tables byte place
       → IsPlaceOf are.list byte place
   run_found byte place small places is_found = place_found file are.list tables.starts are.runs_are are.few
-      are.starts_are tables.runs byte place are.count small places (λ within. is_found within (λ few. omega (
-        arith,
-        are.starts_are FEW (omega arith),
-        start_past ADDRESS_LIMIT are.list FEW (omega (arith, are.count)),
-      )))
+      are.starts_are tables.runs byte place are.count small places is_found
 
   abbrev pub owner_at : ℕ → Option ℕ
   owner_at k = (map_run are.list k).owner

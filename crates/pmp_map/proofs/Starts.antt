@@ -6,7 +6,7 @@ use Rattle.pmp_core.specs.declared.access.TheConstants.{ADDRESS_LIMIT}
 use Rattle.pmp_core.specs.Decision.{IsOwner}
 use Rattle.pmp_map.specs.declared.run.Run.{Run}
 use Rattle.pmp_map.specs.declared.run.TheConstants.{RUNS}
-use Rattle.pmp_map.specs.declared.search.TheConstants.{PLACES, SHORT}
+use Rattle.pmp_map.specs.declared.search.TheConstants.{PLACES, SHORT, FEW}
 use Rattle.pmp_map.specs.Runs.{IsInRun, map_run, AreRuns}
 use Rattle.pmp_map.specs.Search.{AreStarts, IsRising, IsBetween, IsWithin}
 use Rattle.pmp_map.proofs.Order.{start_past, start_most, starts_rise, in_run}
@@ -42,6 +42,7 @@ module _ (file : RegisterFile) (runs : List Run) (starts : List ℕ) (are : AreR
       below_past byte (PLACES - 1) small (omega arith) (omega arith),
     );
     short = λ short. below_past byte SHORT small (omega arith) short;
+    few = λ few. below_past byte FEW small (omega arith) few;
   }
 
   found : (byte place : ℕ) → byte < ADDRESS_LIMIT → place + 1 < PLACES → IsBetween starts byte place 1

@@ -1,7 +1,7 @@
 -- Tables of where runs begin, and the place of a byte in them.
 use Rattle.std.specs.Prelude.{◌≡◌, ℕ, ◌+◌, ◌-◌, ◌<◌, ◌≤◌, List, slice_index}
 use Rattle.pmp_map.specs.declared.run.Run.{Run}
-use Rattle.pmp_map.specs.declared.search.TheConstants.{PLACES, SHORT}
+use Rattle.pmp_map.specs.declared.search.TheConstants.{PLACES, SHORT, FEW}
 use Rattle.pmp_map.specs.Runs.{map_run}
 
 -- where each run begins; past the last, the end of all bytes
@@ -21,3 +21,4 @@ pub record IsWithin (starts : List ℕ) (runs byte : ℕ) : Type 0 where
   pub rising : IsRising starts
   pub whole : IsBetween starts byte 0 (PLACES - 1)
   pub short : runs ≤ SHORT → byte < slice_index starts SHORT
+  pub few : runs ≤ FEW → byte < slice_index starts FEW

@@ -10,7 +10,6 @@ use Rattle.pmp_map.specs.Painting.{AreUp, IsApart, start_of}
 use Rattle.pmp_map.specs.Runs.{map_run, run_at, AreRuns, AreRunsTo}
 use Rattle.pmp_map.specs.Search.{AreStarts, IsWithin, IsBetween}
 use Rattle.pmp_map.specs.declared.tables.Tables.{Tables}
-use Rattle.pmp_map.specs.declared.tables.TheConstants.{FEW}
 use Rattle.pmp_map.specs.Rows.{IsRow, row_at}
 
 -- each run has the row of its owner
@@ -41,14 +40,9 @@ pub record AreTables (file : RegisterFile) (tables : Tables) : Type 0 where
   pub starts_are : AreStarts list tables.starts
   pub rows_are : AreRows file list tables.rows
 
--- where there are few runs, the byte lies below the start after them
-abbrev pub IsBelowFew : Tables → (byte : ℕ) → Type 0
-IsBelowFew tables byte = tables.runs ≤ FEW → byte < slice_index tables.starts FEW
-
 -- the place is that of the byte, as a search finds it
 abbrev pub IsFound : Tables → (byte place : ℕ) → Type 0
-IsFound tables byte place = IsWithin tables.starts tables.runs byte → IsBelowFew tables byte
-    → IsBetween tables.starts byte place 1
+IsFound tables byte place = IsWithin tables.starts tables.runs byte → IsBetween tables.starts byte place 1
 
 -- the tables are those of the register file, and the list has their runs
 pub record IsMapOf (file : RegisterFile) (tables : Tables) (runs : List Run) : Type 0 where

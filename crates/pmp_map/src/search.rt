@@ -10,6 +10,9 @@ pub const PLACES: usize = 6 * 6 * 6 + 1;
 /// Tables with no more runs than this are searched by two counts in place of three.
 pub const SHORT: usize = 36;
 
+/// Tables with no more runs than this are searched by one count.
+pub const FEW: usize = 6;
+
 /// One where the start is at or below the byte, and else zero.
 #[inline(always)]
 fn passed(start: u64, byte: u64) -> usize
@@ -37,9 +40,9 @@ fn count_from(starts: &[u64; PLACES], low: usize, stride: usize, byte: u64) -> u
 }
 
 /// The place of the byte in a table of where so many runs begin: that of the run that has it. Any table and any number
-/// have a place, before the last. Counts tests in place of branching on them; the one branch is the same at every
-/// look-up of a map.
-#[inline]
+/// have a place, before the last. Counts tests in place of branching on them; the branches are the same at every look-up
+/// of a map.
+#[inline(always)]
 pub fn place_of(starts: &[u64; PLACES], runs: usize, byte: u64) -> usize
     ensures inside { result + 1 < PLACES }
     ensures between { IsWithin starts.now runs byte → IsBetween starts.now byte result 1 }
@@ -49,15 +52,10 @@ pub fn place_of(starts: &[u64; PLACES], runs: usize, byte: u64) -> usize
     } else {
         0
     };
-    let near = count_from(starts, far, 6, byte);
+    let near = if runs > FEW {
+        count_from(starts, far, 6, byte)
+    } else {
+        far
+    };
     count_from(starts, near, 1, byte)
-}
-
-/// The same place, where the byte lies below the seventh start.
-#[inline(always)]
-pub fn place_among_six(starts: &[u64; PLACES], byte: u64) -> usize
-    ensures inside { result + 1 < PLACES }
-    ensures between { IsRising starts.now → IsBetween starts.now byte 0 6 → IsBetween starts.now byte result 1 }
-{
-    count_from(starts, 0, 1, byte)
 }

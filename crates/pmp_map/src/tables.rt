@@ -16,12 +16,9 @@ use crate::answer::split_number;
 use crate::painting::cuts_of;
 use crate::row::{Row, column_of, row_of, row_owner, row_rights};
 use crate::run::{RUNS, Run};
-use crate::search::{PLACES, place_among_six, place_of};
+use crate::search::{PLACES, place_of};
 use arrayvec::ArrayVec;
 use pmp_core::{ADDRESS_LIMIT, Access, Mode, Perms, Registers};
-
-/// Tables with no more runs than this are searched by one count.
-const FEW: u64 = 6;
 
 /// Where each run of a register file's map begins, and what it answers.
 #[repr(C)]
@@ -87,32 +84,6 @@ impl Tables {
         }
     }
 
-    /// The place of the run that has the byte.
-    #[inline(always)]
-    fn place_of(&self, byte: u64) -> usize
-        ensures inside { result + 1 < PLACES }
-        ensures found { IsFound self.now byte result }
-    {
-        if self.runs <= FEW {
-            place_among_six(&self.starts, byte)
-        } else {
-            place_of(&self.starts, self.runs as usize, byte)
-        }
-    }
-
-    /// The same place, found sooner where it is `near`.
-    #[inline(always)]
-    fn place_near(&self, near: usize, byte: u64) -> usize
-        ensures inside { result + 1 < PLACES }
-        ensures found { IsFound self.now byte result }
-    {
-        if near < PLACES - 1 && self.starts[near] <= byte && byte < self.starts[near + 1] {
-            near
-        } else {
-            self.place_of(byte)
-        }
-    }
-
     /// The answer to an access that begins in the run at this place and leaves it: rare, and out of the way of the others.
     #[cold]
     #[inline(never)]
@@ -123,7 +94,11 @@ impl Tables {
         ensures { (file : RegisterFile) → AreTables file self.now
             → result ≡ answer_number access.now (decision_of file access.now) }
     {
-        let last = self.place_near(place + 1, access.start + access.length - 1);
+        let last = place_of(
+            &self.starts,
+            self.runs as usize,
+            access.start + access.length - 1,
+        );
         split_number(access.kind, least_cause(&self.rows, place, last + 1))
     }
 
@@ -133,7 +108,7 @@ impl Tables {
         ensures { (file : RegisterFile) → AreTables file self.now
             → result ≡ answer_number access.now (decision_of file access.now) }
     {
-        let place = self.place_of(access.start);
+        let place = place_of(&self.starts, self.runs as usize, access.start);
         if access.start + access.length <= self.starts[place + 1] {
             self.rows[place][column_of(access.mode, access.kind)]
         } else {
@@ -148,7 +123,7 @@ impl Tables {
         requires inside { start + length ≤ ADDRESS_LIMIT }
         ensures { (file : RegisterFile) → AreTables file self.now → AreRangeRights file mode start length result }
     {
-        let place = self.place_of(start);
+        let place = place_of(&self.starts, self.runs as usize, start);
         if start + length <= self.starts[place + 1] {
             Some(row_rights(&self.rows[place], mode))
         } else {
@@ -186,6 +161,6 @@ impl Tables {
         requires { byte < ADDRESS_LIMIT }
         ensures { (file : RegisterFile) → AreTables file self.now → IsRunAround file byte result }
     {
-        self.run_at(self.place_of(byte))
+        self.run_at(place_of(&self.starts, self.runs as usize, byte))
     }
 }

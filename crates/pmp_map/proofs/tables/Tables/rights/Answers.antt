@@ -14,7 +14,7 @@ at c file are =
     let full = c.requires.full in
     let ends = c.requires.inside in
     run_found file c.args.self.now are c.args.start c.place_of-place.result (omega arith) c.place_of-place.ensures.inside
-    c.place_of-place.ensures.found
+    c.place_of-place.ensures.between
 
 pub returns-then-start-length : goal.returns-then-start-length
 returns-then-start-length c = λ file are.
