@@ -43,6 +43,12 @@ impl Cuts {
         count: 0,
     };
 
+    /// The one of all bytes, which nobody owns.
+    pub const BLANK: Cuts = Cuts {
+        count: 1,
+        ..Cuts::EMPTY
+    };
+
     pub fn push(&mut self, cut: Cut)
         requires { length self.old < RUNS }
         ensures { self.new ≡ cut ∷ self.old }

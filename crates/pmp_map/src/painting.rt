@@ -23,21 +23,10 @@ struct Canvas {
 
 impl Canvas {
     /// All bytes without an owner.
-    fn blank() -> Canvas
-        ensures painted { (file : RegisterFile) (i : ℕ) → length file.entries ≤ i
-            → ArePainted file i result.below result.above }
-        ensures count { length result.below + length result.above ≡ 1 }
-    {
-        let mut canvas = Canvas {
-            below: Cuts::EMPTY,
-            above: Cuts::EMPTY,
-        };
-        canvas.below.push(Cut {
-            start: 0,
-            owner: None,
-        });
-        canvas
-    }
+    const BLANK: Canvas = Canvas {
+        below: Cuts::BLANK,
+        above: Cuts::EMPTY,
+    };
 
     /// Moves the gap to the byte: the cuts that begin below it are below, and all others above.
     fn part_at(&mut self, byte: u64)
@@ -91,7 +80,7 @@ pub fn cuts_of(registers: &Registers<'_>) -> Cuts
     ensures few { length result ≤ RUNS }
     ensures legal { IsLegal registers.now }
 {
-    let mut canvas = Canvas::blank();
+    let mut canvas = Canvas::BLANK;
     let mut index = registers.count();
     while index > 0 {
         index -= 1;
