@@ -1,7 +1,7 @@
 -- What the numbers of a unit stand for.
 use Rattle.std.specs.Prelude.{◌≡◌, ◌≢◌, ◌<◌}
 use Rattle.pmp_core.specs.RegisterFile.{RegisterFile}
-use Rattle.pmp_core.specs.SavedRegisters.{restored_file}
+use Rattle.pmp_core.specs.SavedRegisters.{restored_file, saved_registers}
 use Rattle.pmp_c.specs.declared.unit.Unit.{Unit}
 use Rattle.pmp_map.specs.Tables.{AreTables}
 
@@ -12,6 +12,20 @@ file_of_unit unit = restored_file unit.registers
 -- the map, where it is built, is that of the registers
 abbrev pub IsUnit : Unit → Type 0
 IsUnit unit = 0 < unit.map.runs → AreTables (file_of_unit unit) unit.map
+
+-- the registers are those that the file is saved as, and the map isn't built
+pub record IsSetTo (file : RegisterFile) (unit : Unit) : Type 0 where
+  pub stands : file_of_unit unit ≡ file
+  pub registers : unit.registers ≡ saved_registers file
+  pub unbuilt : unit.map.runs ≡ 0
+  pub order : IsUnit unit
+
+-- the map is built, over the same registers; where it was, all is as before
+pub record IsBuilt (old new : Unit) : Type 0 where
+  pub registers : new.registers ≡ old.registers
+  pub order : IsUnit old → IsUnit new
+  pub built : 0 < new.map.runs
+  pub kept : 0 < old.map.runs → new ≡ old
 
 -- the registers stand for another file, and the map isn't built
 pub record IsChanged (old new : Unit) : Type 0 where

@@ -4,9 +4,8 @@
 //! contracts cite are in `specs/` and in those of `pmp_core`.
 //!
 //! An access is named by its mode (0 user, 1 supervisor, 3 machine), its kind (0 fetch, 1 load, 2 store), the byte
-//! address of its first byte, and its length in bytes. An answer is the number of the cause (`i` for the rule of entry
-//! `i`, 256 + `i` for a split by entry `i`, 512 where no entry matches), and 1,024 times the exception code of a
-//! refusal. The cause of numbers that name no access is 1,023.
+//! address of its first byte, and its length in bytes. An answer is a number as `pmp_map` has it, whose cause is 1,023
+//! where numbers name no access.
 #![tactic(auto)]
 
 ghost use Rattle.std.specs.Prelude.{◌≡◌, ◌<◌, ◌≤◌, ◌↔◌, ◌⊎◌, Err, IsTrue, MatchResult};
@@ -23,14 +22,12 @@ ghost use Rattle.pmp_map.specs.Request.{IsNamed, mode_number};
 ghost use Rattle.pmp_c.specs.RangeRights.{IsRangeOf, IsRightsNumber, no_range};
 ghost use Rattle.pmp_c.specs.RunAnswer.{IsRunAnswer};
 ghost use Rattle.pmp_c.specs.Status.{status_number, IsWriteAnswer};
-ghost use Rattle.pmp_c.specs.Unit.{file_of_unit, IsUnit};
+ghost use Rattle.pmp_c.specs.Unit.{file_of_unit, IsBuilt, IsSetTo, IsUnit};
 
-mod rights;
-mod status;
+mod numbers;
 mod unit;
 
-use crate::rights::{NO_RANGE, rights_number};
-use crate::status::{CHANGED, REASONS, TAKEN, csr_of, refusal_status};
+use crate::numbers::{CHANGED, NO_RANGE, REASONS, TAKEN, csr_of, refusal_status, rights_number};
 use pmp_core::{ADDRESS_LIMIT, Hart, SavedRegisters};
 use pmp_map::{NO_CAUSE, access_of, cause_number, mode_of, no_access, whole_cause};
 pub use unit::Unit;
@@ -39,10 +36,7 @@ pub use unit::Unit;
 /// bit 32 set may spell another, and every other number is one of sixteen (Volume II, 3.7.1). All registers are zero.
 #[unsafe(no_mangle)]
 pub extern "C" fn tilvenka_pmp_reset(unit: &mut Unit, entries: u64)
-    ensures file { file_of_unit unit.new ≡ reset_file (saved_hart entries) }
-    ensures registers { unit.new.registers ≡ saved_registers (reset_file (saved_hart entries)) }
-    ensures unbuilt { unit.new.map.runs ≡ 0 }
-    ensures unit { IsUnit unit.new }
+    ensures { IsSetTo (reset_file (saved_hart entries)) unit.new }
 {
     unit.set_registers(SavedRegisters::reset_on(Hart::from_number(entries)));
 }
@@ -90,10 +84,7 @@ pub extern "C" fn tilvenka_pmp_read(unit: &Unit, csr: u32, value: &mut u64) -> u
 /// Builds the map, by which decisions are faster, where it isn't built.
 #[unsafe(no_mangle)]
 pub extern "C" fn tilvenka_pmp_build(unit: &mut Unit)
-    ensures registers { unit.new.registers ≡ unit.old.registers }
-    ensures unit { IsUnit unit.old → IsUnit unit.new }
-    ensures built { 0 < unit.new.map.runs }
-    ensures kept { 0 < unit.old.map.runs → unit.new ≡ unit.old }
+    ensures { IsBuilt unit.old unit.new }
 {
     unit.build();
 }
@@ -200,10 +191,7 @@ pub extern "C" fn tilvenka_pmp_save(unit: &Unit, registers: &mut SavedRegisters)
 /// Sets the registers: every choice of numbers stands for a unit. The map is then to be built again.
 #[unsafe(no_mangle)]
 pub extern "C" fn tilvenka_pmp_restore(unit: &mut Unit, registers: &SavedRegisters)
-    ensures file { file_of_unit unit.new ≡ restored_file registers.now }
-    ensures registers { unit.new.registers ≡ saved_registers (restored_file registers.now) }
-    ensures unbuilt { unit.new.map.runs ≡ 0 }
-    ensures unit { IsUnit unit.new }
+    ensures { IsSetTo (restored_file registers.now) unit.new }
 {
     unit.set_registers(registers.canonical());
 }

@@ -9,7 +9,7 @@ ghost use Rattle.pmp_core.specs.WriteReasons.{reasons_of};
 ghost use Rattle.pmp_map.specs.Answer.{answer_number};
 ghost use Rattle.pmp_map.specs.RangeRights.{AreRangeRights};
 ghost use Rattle.pmp_map.specs.Runs.{IsRunAround};
-ghost use Rattle.pmp_c.specs.Unit.{file_of_unit, IsUnit, IsChanged};
+ghost use Rattle.pmp_c.specs.Unit.{file_of_unit, IsBuilt, IsChanged, IsUnit};
 
 use pmp_core::{Access, Csr, Mode, Perms, Registers, SavedRegisters, Written};
 use pmp_map::{Run, Tables, answer_number, rights_in, run_around};
@@ -53,10 +53,7 @@ impl Unit {
 
     /// Builds the map, where it isn't built.
     pub fn build(&mut self)
-        ensures registers { self.new.registers ≡ self.old.registers }
-        ensures unit { IsUnit self.old → IsUnit self.new }
-        ensures built { 0 < self.new.map.runs }
-        ensures kept { 0 < self.old.map.runs → self.new ≡ self.old }
+        ensures { IsBuilt self.old self.new }
     {
         if self.map.runs == 0 {
             self.map.fill(&Registers::of(&self.registers));

@@ -1,10 +1,11 @@
-//! Register numbers, and what is said of them.
+//! The numbers that calls take and answer.
 
 ghost use Rattle.std.specs.Prelude.{◌≡◌, Err};
 ghost use Rattle.pmp_core.specs.Csr.{numbered};
+ghost use Rattle.pmp_c.specs.RangeRights.{rights_number};
 ghost use Rattle.pmp_c.specs.Status.{status_number};
 
-use pmp_core::{Csr, CsrFault};
+use pmp_core::{Csr, CsrFault, Perms};
 
 /// The status of a call that took the register's number.
 pub const TAKEN: u32 = 0;
@@ -32,5 +33,22 @@ pub fn csr_of(number: u32) -> Result<Csr, CsrFault>
     match u16::try_from(number) {
         Ok(short) => Csr::from_number(short),
         Err(_) => Err(CsrFault::NotPmp),
+    }
+}
+
+/// The rights in a range of whose bytes no one owner has all.
+const MIXED: u32 = 8;
+
+/// The rights where the numbers name no range.
+pub const NO_RANGE: u32 = 16;
+
+/// R is 1, W is 2, X is 4.
+#[inline(always)]
+pub fn rights_number(rights: Option<Perms>) -> u32
+    ensures { result ≡ rights_number rights }
+{
+    match rights {
+        Some(perms) => u32::from(perms.number()),
+        None => MIXED,
     }
 }
