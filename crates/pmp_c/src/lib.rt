@@ -28,7 +28,7 @@ mod numbers;
 mod unit;
 
 use crate::numbers::{CHANGED, NO_RANGE, REASONS, TAKEN, csr_of, refusal_status, rights_number};
-use pmp_core::{ADDRESS_LIMIT, Hart, SavedRegisters};
+use pmp_core::{ADDRESS_LIMIT, Hart, Registers, SavedRegisters};
 use pmp_map::{NO_CAUSE, access_of, cause_number, mode_of, no_access, whole_cause};
 pub use unit::Unit;
 
@@ -38,7 +38,8 @@ pub use unit::Unit;
 pub extern "C" fn tilvenka_pmp_reset(unit: &mut Unit, entries: u64)
     ensures { IsSetTo (reset_file (saved_hart entries)) unit.new }
 {
-    unit.set_registers(SavedRegisters::reset_on(Hart::from_number(entries)));
+    unit.registers = SavedRegisters::reset_on(Hart::from_number(entries));
+    unit.map.runs = 0;
 }
 
 /// Writes a register (Volume II, 3.7.1 and Smepmp), by its CSR number. Answers 1 for an odd `pmpcfg` and 2 for what is
@@ -52,9 +53,10 @@ pub extern "C" fn tilvenka_pmp_write(unit: &mut Unit, csr: u32, value: u64) -> u
 {
     match csr_of(csr) {
         Ok(csr) => {
-            let written = unit.write(csr, value);
+            let written = unit.registers.write(csr, value);
             let reasons = REASONS * u32::from(written.reasons.bits());
             if written.is_changed {
+                unit.map.runs = 0;
                 CHANGED + reasons
             } else {
                 TAKEN + reasons
@@ -86,7 +88,9 @@ pub extern "C" fn tilvenka_pmp_read(unit: &Unit, csr: u32, value: &mut u64) -> u
 pub extern "C" fn tilvenka_pmp_build(unit: &mut Unit)
     ensures { IsBuilt unit.old unit.new }
 {
-    unit.build();
+    if unit.map.runs == 0 {
+        unit.map.fill(&Registers::of(&unit.registers));
+    }
 }
 
 /// Whether the map is built.
@@ -94,7 +98,7 @@ pub extern "C" fn tilvenka_pmp_build(unit: &mut Unit)
 pub extern "C" fn tilvenka_pmp_is_built(unit: &Unit) -> bool
     ensures { IsTrue result ↔ 0 < unit.now.map.runs }
 {
-    unit.is_built()
+    unit.map.runs > 0
 }
 
 /// Decides an access (Volume II, 3.7.1.3), by the map where it is built.
@@ -193,5 +197,6 @@ pub extern "C" fn tilvenka_pmp_save(unit: &Unit, registers: &mut SavedRegisters)
 pub extern "C" fn tilvenka_pmp_restore(unit: &mut Unit, registers: &SavedRegisters)
     ensures { IsSetTo (restored_file registers.now) unit.new }
 {
-    unit.set_registers(registers.canonical());
+    unit.registers = registers.canonical();
+    unit.map.runs = 0;
 }

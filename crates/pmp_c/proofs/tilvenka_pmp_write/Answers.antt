@@ -1,4 +1,4 @@
-use Rattle.std.proofs.Common.{◌≡◌, ◌↔◌, ℕ, ◌+◌, ◌*◌, ◌/◌, ◌^◌, ◌<◌, sym, ap, ◌∙◌, arith}
+use Rattle.std.proofs.Common.{◌≡◌, ◌↔◌, ℕ, ◌+◌, ◌*◌, ◌/◌, ◌^◌, ◌<◌, sym, ap, ◌∙◌, arith, refl}
 use Rattle.pmp_core.specs.declared.csr.Csr.{Csr}
 use Rattle.pmp_core.specs.declared.saved_registers.SavedRegisters.{SavedRegisters}
 use Rattle.pmp_core.specs.declared.write_reasons.Reasons.{Reasons}
@@ -36,16 +36,16 @@ returns-then-written c =
     let fits : c.args.value < 2 ^ 64 = omega (arith, c.ranges.value) in
     let bits = c.from-reasons.ensures ∙ c.bits.ensures ∙ ap (λ (r : Reasons). r.0) write.ensures.reasons in
     rw (← c.in-Ok.ensures) (record {
-      file = write.ensures.written;
-      order = write.ensures.unit;
-      canonical = write.ensures.canonical;
+      file = write.ensures.stored.file;
+      order = λ _ some. absurd (omega (arith, some));
+      canonical = write.ensures.stored.canonical;
       low = omega arith;
       same = λ e. absurd (omega arith);
-      changed = λ e. write.ensures.changed c.if-written.true;
+      changed = λ e. record { file = write.ensures.stored.changed c.if-written.true; unbuilt = refl };
       reasons = reasons_part c.args.unit.now.registers _ c.in-Ok.csr c.args.value 4 c.from-reasons.result
-          fits (omega arith) bits write.ensures.written;
+          fits (omega arith) bits write.ensures.stored.file;
       stored = stored_part c.args.unit.now.registers _ c.in-Ok.csr c.args.value 4 c.from-reasons.result
-          fits (omega arith) bits write.ensures.written;
+          fits (omega arith) bits write.ensures.stored.file;
     })
 
 pub returns-else-written : goal.returns-else-written
@@ -54,14 +54,14 @@ returns-else-written c =
     let fits : c.args.value < 2 ^ 64 = omega (arith, c.ranges.value) in
     let bits = c.from-reasons.ensures ∙ c.bits.ensures ∙ ap (λ (r : Reasons). r.0) write.ensures.reasons in
     rw (← c.in-Ok.ensures) (record {
-      file = write.ensures.written;
-      order = write.ensures.unit;
-      canonical = write.ensures.canonical;
+      file = write.ensures.stored.file;
+      order = λ is. rw (write.ensures.stored.same c.if-written.false) is;
+      canonical = write.ensures.stored.canonical;
       low = omega arith;
-      same = λ e. write.ensures.same c.if-written.false;
+      same = λ e. rw (write.ensures.stored.same c.if-written.false) refl;
       changed = λ e. absurd (omega arith);
       reasons = reasons_part c.args.unit.now.registers _ c.in-Ok.csr c.args.value 0 c.from-reasons.result
-          fits (omega arith) bits write.ensures.written;
+          fits (omega arith) bits write.ensures.stored.file;
       stored = stored_part c.args.unit.now.registers _ c.in-Ok.csr c.args.value 0 c.from-reasons.result
-          fits (omega arith) bits write.ensures.written;
+          fits (omega arith) bits write.ensures.stored.file;
     })

@@ -1,9 +1,7 @@
-use Rattle.std.proofs.Common.{sym, ◌∙◌}
-use Rattle.std.proofs.lemmas.Bool.{ltb-true}
+use Rattle.std.proofs.Common.{arith}
 use Rattle.pmp_c.specs.Unit.{file_of_unit}
 use Rattle.pmp_c.proofs.unit.Unit.rights.Goals as goal
 
-pub returns-then-is_built : goal.returns-then-is_built
-returns-then-is_built c = λ is_unit.
-    c.rights.ensures (file_of_unit c.args.self.now)
-    (is_unit (ltb-true _ _ (sym c.is_built.ensures ∙ c.if-is_built.true)))
+pub returns-then-self-gt0 : goal.returns-then-self-gt0
+returns-then-self-gt0 c = λ is_unit.
+    c.rights.ensures (file_of_unit c.args.self.now) (is_unit (omega (arith, c.if-self-gt0.true)))
