@@ -1,5 +1,7 @@
 -- The place of a byte among six that lie a stride apart, by counting those whose start is at or below it.
-use Rattle.std.proofs.Common.{◌≡◌, ℕ, ◌+◌, ◌*◌, ◌<◌, ◌≤◌, List, slice_index, arith, rules}
+use borrow.Author.Tests.{tests}
+use mir.Val.{bool_byte}
+use Rattle.std.proofs.Common.{nat_le, ◌≡◌, ℕ, ◌+◌, ◌*◌, ◌<◌, ◌≤◌, List, slice_index, arith, rules}
 use Rattle.std.proofs.Math.Nat.{mul-le-mul_left}
 use Rattle.pmp_map.specs.declared.search.TheConstants.{PLACES}
 use Rattle.pmp_map.specs.Search.{IsRising, IsBetween}
@@ -9,6 +11,9 @@ pub record Passed (start byte passed : ℕ) : Type 0 where
   pub most : passed ≤ 1
   pub from : start ≤ byte → passed ≡ 1
   pub below : byte < start → passed ≡ 0
+
+pub passed_is : (start byte passed : ℕ) → passed ≡ bool_byte (nat_le start byte) → Passed start byte passed
+passed_is start byte passed is = search (rules, tests)
 
 -- the place that five tests give
 pub counted_inside : (low stride count places : ℕ) → count ≤ 5 → low + 6 * stride < places

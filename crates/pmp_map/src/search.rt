@@ -13,16 +13,6 @@ pub const SHORT: usize = 36;
 /// Tables with no more runs than this are searched by one count.
 pub const FEW: usize = 6;
 
-/// One where the start is at or below the byte, and else zero.
-#[inline(always)]
-fn passed(start: u64, byte: u64) -> usize
-    ensures most { result ≤ 1 }
-    ensures from { start ≤ byte → result ≡ 1 }
-    ensures below { byte < start → result ≡ 0 }
-{
-    usize::from(start <= byte)
-}
-
 /// The place of the byte among the six from `low` on that lie `stride` apart: counts the starts at or below it.
 #[inline(always)]
 fn count_from(starts: &[u64; PLACES], low: usize, stride: usize, byte: u64) -> usize
@@ -31,11 +21,11 @@ fn count_from(starts: &[u64; PLACES], low: usize, stride: usize, byte: u64) -> u
     ensures between { IsRising starts.now → IsBetween starts.now byte low (6 * stride)
         → IsBetween starts.now byte result stride }
 {
-    let count = passed(starts[low + stride], byte)
-        + passed(starts[low + 2 * stride], byte)
-        + passed(starts[low + 3 * stride], byte)
-        + passed(starts[low + 4 * stride], byte)
-        + passed(starts[low + 5 * stride], byte);
+    let count = usize::from(starts[low + stride] <= byte)
+        + usize::from(starts[low + 2 * stride] <= byte)
+        + usize::from(starts[low + 3 * stride] <= byte)
+        + usize::from(starts[low + 4 * stride] <= byte)
+        + usize::from(starts[low + 5 * stride] <= byte);
     low + stride * count
 }
 
