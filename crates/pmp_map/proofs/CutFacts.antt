@@ -1,4 +1,5 @@
 -- How far the owner of a byte goes.
+use Rattle.std.proofs.lemmas.Grind.{common_steps}
 use Rattle.std.proofs.Common.{◌≡◌, ℕ, ◌+◌, ◌-◌, ◌<◌, ◌≤◌, ◌↔◌, length, Option, Some, None, max, min, arith, inl, inr}
 use Rattle.std.proofs.Common.{rules}
 use Rattle.std.proofs.lemmas.Bool.{cases_lt}
@@ -135,6 +136,47 @@ module _ (file : RegisterFile) (byte index : ℕ) (range : ByteRange) (is : rang
         → (high < end → IsInRange range high) → Swept file byte (index + 1) high
     swept_above above bounded clear reached = one_more_swept file byte index end high up
         (rw is at without) above bounded (rw is at clear) (rw is at reached)
+
+  -- the bytes round the byte without the range, which lies below it, above it, or has no byte
+  pub record Narrowed (low high : ℕ) : Type 0 where
+    pub below : SweptDown file byte (index + 1) low
+    pub above : Swept file byte (index + 1) high
+
+  module _ (without : ¬ (IsInRange range byte)) where
+    pub past : (low : ℕ) → range.start < range.end → range.end ≤ byte → low ≡ max first range.end → Narrowed low end
+    past low some under is =
+        let bounded : first ≤ low = grind (arith, common_steps) in
+        let beyond : range.end ≤ low = grind (arith, common_steps) in
+        let least : low ≤ byte = grind (arith, common_steps, down.below) in
+        record {
+          below = swept_below low end without bounded least (λ other from to has. absurd (omega (arith, has.1)))
+              (λ less. let here : low ≡ range.end = grind (arith, common_steps) in (omega arith, omega arith));
+          above = swept_above low end without up.above (omega arith)
+              (λ other from to has. absurd (omega (arith, has.1))) (λ less. absurd (omega arith));
+        }
+
+    pub before : (high : ℕ) → range.start < range.end → byte < range.end → high ≡ min end range.start
+        → Narrowed first high
+    before high some over is =
+        let starts : byte < range.start = search (rules, without) in
+        let bounded : high ≤ end = grind (arith, common_steps) in
+        let least : high ≤ range.start = grind (arith, common_steps) in
+        let above : byte < high = grind (arith, common_steps, up.above) in
+        record {
+          below = swept_below first high without (omega arith) down.below
+              (λ other from to has. absurd (omega (arith, has.0))) (λ less. absurd (omega arith));
+          above = swept_above first high without above bounded
+              (λ other from to has. absurd (omega (arith, has.0)))
+              (λ less. let here : high ≡ range.start = grind (arith, common_steps) in (omega arith, omega arith));
+        }
+
+    pub none : range.end ≤ range.start → Narrowed first end
+    none empty = record {
+      below = swept_below first end without (omega arith) down.below
+          (λ other from to has. absurd (omega (arith, has.0, has.1))) (λ less. absurd (omega arith));
+      above = swept_above first end without up.above (omega arith)
+          (λ other from to has. absurd (omega (arith, has.0, has.1))) (λ less. absurd (omega arith));
+    }
 
   pub found_around : HasAddresses file → (run : Run) → run.owner ≡ Some index → IsInRange range byte
       → run.first ≡ max first range.start → run.last ≡ min end range.end - 1 → IsRunAround file byte run

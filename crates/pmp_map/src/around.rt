@@ -6,36 +6,7 @@ ghost use Rattle.pmp_core.specs.Ranges.{IsInRange};
 ghost use Rattle.pmp_map.specs.Runs.{IsRunAround};
 
 use crate::run::Run;
-use pmp_core::{ADDRESS_LIMIT, ByteRange, Registers};
-
-/// The lower of `end` and where the range starts, if that is above `byte` and the range has a byte.
-fn cut_above(range: &ByteRange, byte: u64, end: u64) -> u64
-    ensures bounded { result ≤ end }
-    ensures above { byte < end → byte < result }
-    ensures clear { (other : ℕ) → byte ≤ other → other < result → IsInRange range.now other → IsInRange range.now byte }
-    ensures reached { result < end → IsInRange range.now result }
-{
-    if byte < range.start && range.start < range.end {
-        end.min(range.start)
-    } else {
-        end
-    }
-}
-
-/// The higher of `first` and where the range ends, if that is at or below `byte` and the range has a byte.
-fn cut_below(range: &ByteRange, byte: u64, first: u64) -> u64
-    requires { first ≤ byte }
-    ensures bounded { first ≤ result }
-    ensures below { result ≤ byte }
-    ensures clear { (other : ℕ) → result ≤ other → other ≤ byte → IsInRange range.now other → IsInRange range.now byte }
-    ensures reached { first < result → IsInRange range.now (result - 1) }
-{
-    if range.start < range.end && range.end <= byte {
-        first.max(range.end)
-    } else {
-        first
-    }
-}
+use pmp_core::{ADDRESS_LIMIT, Registers};
 
 /// All bytes round this one that have its owner: between the changes of owner before and after it. For a few bytes of a
 /// register file this is less work than its map.
@@ -55,8 +26,11 @@ pub fn run_around(registers: &Registers<'_>, byte: u64) -> Run
                 owner: Some(index as u8),
             };
         }
-        first = cut_below(&range, byte, first);
-        end = cut_above(&range, byte, end);
+        if range.start < range.end && range.end <= byte {
+            first = first.max(range.end);
+        } else if range.start < range.end {
+            end = end.min(range.start);
+        }
     }
     Run {
         first,
