@@ -94,11 +94,12 @@ impl Tables {
         ensures { (file : RegisterFile) → AreTables file self.now
             → result ≡ answer_number access.now (decision_of file access.now) }
     {
-        let last = place_of(
-            &self.starts,
-            self.runs as usize,
-            access.start + access.length - 1,
-        );
+        let byte = access.start + access.length - 1;
+        let last = if place + 2 < PLACES && byte < self.starts[place + 2] {
+            place + 1
+        } else {
+            place_of(&self.starts, self.runs as usize, byte)
+        };
         split_number(access.kind, least_cause(&self.rows, place, last + 1))
     }
 
