@@ -18,7 +18,6 @@ use Rattle.pmp_share.specs.contracts.digest.Digest.TheInside as digest_inside
 use Rattle.pmp_share.specs.contracts.reader_state.ReaderState as reader_state
 use Rattle.pmp_share.specs.contracts.reader_state.ReaderState.TheInside as reader_state_inside
 use Rattle.pmp_share.specs.contracts.held_lists.HeldLists as held
-use Rattle.pmp_share.specs.contracts.bell.Listener as listener
 use Rattle.pmp_share.specs.contracts.checker.Checker as checker
 use Rattle.pmp_share.specs.contracts.checker.Checker.TheInside as checker_inside
 use Rattle.pmp_share.specs.contracts.notice.Notice as notice
@@ -86,7 +85,10 @@ digest_inside_send = declared_send digest_inside.the_type (
   as_row_send file.the_field file_send,
   (
     search (as_row_send, sendable) depth 6,
-    (search (as_row_send, sendable) depth 6, (search (core.crosses, sendable) depth 12, tt)),
+    (
+      search (as_row_send, sendable) depth 6,
+      (seen.the_send _ _ _ law.ghosts, (search (core.crosses, sendable) depth 12, tt)),
+    ),
   ),
 )
 
@@ -105,17 +107,14 @@ reader_state_inside_send : IsSend reader_state_inside.the_row
 reader_state_inside_send = declared_send reader_state_inside.the_type (
   as_row_send (reader_of.the_field version.the_row (option.the_row known.the_row) one_history.the_row global.the_row
       rule.ghosts heap.ghosts) reader_send,
-  (search (digest_send, crosses, sendable) depth 12, (seen.the_send _ _ _ law.ghosts, tt)),
+  (search (digest_send, crosses, sendable) depth 12, tt),
 )
 
 reader_state_send : IsSend reader_state.the_row
 reader_state_send = search (reader_state_inside_send, sendable) depth 6
 
-listener_send : IsSend listener.the_row
-listener_send = search (crosses, sendable) depth 14
-
 checker_inside_send : IsSend checker_inside.the_row
-checker_inside_send = declared_send checker_inside.the_type (reader_state_send, (held_send, (listener_send, tt)))
+checker_inside_send = declared_send checker_inside.the_type (reader_state_send, (held_send, tt))
 
 pub checker_send : IsSend checker.the_row
 checker_send = search (checker_inside_send, sendable) depth 6

@@ -21,7 +21,7 @@ use Rattle.pmp_map.specs.contracts.run_map.RunMap.TheInside as map_inside
 use Rattle.pmp_map.specs.contracts.tables.Tables as tables
 use Rattle.pmp_share.specs.contracts.batch.Batch as batch
 use Rattle.pmp_share.specs.contracts.batch.Batch.TheInside as batch_inside
-use Rattle.pmp_share.specs.contracts.bell.Bell as bell
+use Rattle.pmp_share.specs.contracts.ending.Ending as ending
 use Rattle.pmp_share.specs.contracts.history.LawRuleLinkedListEventU64.TheImpl as law
 use Rattle.pmp_share.specs.contracts.journal.Journal as journal
 use Rattle.pmp_share.specs.contracts.knowledge.Known as known
@@ -104,24 +104,24 @@ writer_state_inside_send = search (writer_send, recorder_send, crosses, sendable
 writer_state_send : IsSend writer_state.the_row
 writer_state_send = search (writer_state_inside_send, sendable) depth 6
 
-bell_send : IsSend bell.the_row
-bell_send = search (crosses, sendable) depth 14
-
 publisher_inside_send : IsSend publisher_inside.the_row
 publisher_inside_send = declared_send publisher_inside.the_type (
   writer_state_send,
   (
     journal_send,
-    (search (as_row_send, sendable) depth 6, (search (as_row_send, sendable) depth 6, (bell_send, tt))),
+    (search (as_row_send, sendable) depth 6, (search (as_row_send, sendable) depth 6, tt)),
   ),
 )
 
 pub publisher_send : IsSend publisher.the_row
 publisher_send = search (publisher_inside_send, sendable) depth 6
 
+ending_send : (R : RattleType) → IsSend R → IsSend (ending.the_row R)
+ending_send R runtime_send = declared_send (ending.the_type R) (as_row_send (row_field R) runtime_send, tt)
+
 guard_inside_send : (R : RattleType) → IsSend R → IsSend (guard_inside.the_row R)
 guard_inside_send R runtime_send = declared_send (guard_inside.the_type R)
-    (as_row_send (row_field R) runtime_send, (publisher_send, tt))
+    (search (ending_send R runtime_send, sendable) depth 6, (publisher_send, tt))
 
 pub guard_send : (R : RattleType) → IsSend R → IsSend (guard.the_row R)
 guard_send R runtime_send = search (guard_inside_send R runtime_send, sendable) depth 6

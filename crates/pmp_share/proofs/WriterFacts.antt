@@ -6,7 +6,8 @@ use Rattle.pmp_share.specs.declared.logged_batch.LoggedBatch.{LoggedBatch}
 use Rattle.pmp_share.specs.declared.version_state.VersionState.{VersionState}
 use Rattle.pmp_share.specs.declared.version.Version.{Version}
 use Rattle.pmp_share.specs.declared.knowledge.Known.{Known}
-use Rattle.pmp_share.specs.Rule.{known, known_of}
+use Rattle.pmp_share.specs.Known.{known}
+use Rattle.pmp_share.specs.Rule.{known_of}
 use Rattle.pmp_share.specs.WriterStates.{state_of, after, IsWriterState}
 use Rattle.pmp_share.specs.Tokens.{unit_with}
 use Rattle.pmp_share.specs.Versions.{applied}

@@ -1,15 +1,15 @@
--- What batches come to.
+-- What is kept of what is known.
 use Rattle.std.specs.Prelude.{◌≡◌, ℕ, length}
+use Rattle.logbook.specs.Pages.{Book}
 use Rattle.pmp_core.specs.RegisterFile.{RegisterFile}
-use Rattle.pmp_share.specs.Batches.{Batches, event_count, file_from}
+use Rattle.pmp_share.specs.declared.knowledge.Known.{Known}
+use Rattle.pmp_share.specs.Batches.{Batches, event_count}
+use Rattle.pmp_share.specs.Known.{file_of}
 
--- batches, and the register file that the first of them found
-pub record Digested : Type 0 where
-  pub base : RegisterFile
-  pub list : Batches
-
--- the file that they give, how many events they hold, and how many they are
-pub record IsDigest (base file : RegisterFile) (events count : ℕ) (batches : Batches) : Type 0 where
-  pub replayed : file ≡ file_from base batches
-  pub events_is : events ≡ event_count batches
-  pub count_is : count ≡ length batches
+-- the file that the batches give, how many events they hold, how many they are, and the history up to them
+pub record IsDigest (known : Known) (file : RegisterFile) (events count : ℕ) (book : Book) (log : Batches) : Type 0 where
+  pub replayed : file ≡ file_of known
+  pub events_is : events ≡ event_count known.list
+  pub count_is : count ≡ length known.list
+  pub book_is : book ≡ known.unit.book
+  pub log_is : log ≡ known.list

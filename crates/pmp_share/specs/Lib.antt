@@ -2,7 +2,9 @@
 pub mod Batches
 pub mod Object
 pub mod Tokens
+pub mod Known
 pub mod Looks
+pub mod Openings
 pub mod Room
 pub mod Journals
 pub mod NoticeRings

@@ -2,23 +2,15 @@
 use Rattle.std.specs.Prelude.{◌≡◌, ℕ, List, Option, Some, None}
 use mathlib.Core.Option.{some}
 use lib.ListN.{get_elem?}
-use Rattle.pmp_core.specs.RegisterFile.{RegisterFile}
 use Rattle.pmp_share.specs.declared.knowledge.Known.{Known}
 use Rattle.pmp_share.specs.declared.version.Version.{Version}
-use Rattle.pmp_share.specs.Batches.{Batches, StartsWith}
+use Rattle.pmp_share.specs.Batches.{StartsWith}
+use Rattle.pmp_share.specs.Known.{known}
 use Rattle.pmp_share.specs.Tokens.{UnitId, unit_with}
-
--- this beginning of this unit's history
-abbrev pub known : UnitId → Batches → Known
-known unit list = record { list = list; unit = unit }
-
--- the register file that the version's unit began with
-abbrev pub base_of : Version → RegisterFile
-base_of version = version.base.value
 
 -- whose version it is
 abbrev pub unit_of : Version → UnitId
-unit_of version = unit_with version.history.book (base_of version)
+unit_of version = unit_with version.history.book version.base.value
 
 -- all that a version has
 abbrev pub known_of : Version → Known

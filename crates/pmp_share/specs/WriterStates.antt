@@ -5,7 +5,8 @@ use Rattle.pmp_share.specs.declared.version_state.VersionState.{VersionState}
 use Rattle.pmp_share.specs.declared.version.Version.{Version}
 use Rattle.pmp_share.specs.declared.knowledge.Known.{Known}
 use Rattle.pmp_share.specs.Batches.{Batches, StartsWith}
-use Rattle.pmp_share.specs.Rule.{known, unit_of}
+use Rattle.pmp_share.specs.Known.{known}
+use Rattle.pmp_share.specs.Rule.{unit_of}
 use Rattle.pmp_share.specs.Tokens.{UnitId}
 use Rattle.pmp_share.specs.Versions.{applied}
 

@@ -8,20 +8,18 @@ ghost use Rattle.pmp_core.specs.Ranges.{decision_of};
 ghost use Rattle.pmp_core.specs.RegisterValue.{register_value};
 ghost use Rattle.pmp_map.specs.RangeRights.{AreRangeRights};
 ghost use Rattle.pmp_share.specs.declared.fault.ShareFault.TheVariants.{Full};
-ghost use Rattle.pmp_share.specs.declared.group.TheConstants.{GROUP_ACCESSES};
-ghost use Rattle.pmp_share.specs.Batches.{event_count, file_from};
-ghost use Rattle.pmp_share.specs.Looks.{latest, Looked, KeepsBound, LearnsBound};
+ghost use Rattle.pmp_share.specs.declared.question.TheConstants.{GROUP_ACCESSES};
+ghost use Rattle.pmp_share.specs.Batches.{event_count};
+ghost use Rattle.pmp_share.specs.Looks.{count_at, file_at, latest, seen, IsLook, LearnsBound};
 ghost use Rattle.pmp_share.specs.Object.{Decides};
 
-use crate::bell::Listener;
 use crate::fault::ShareFault;
-use crate::group::GROUP_ACCESSES;
 use crate::held_lists::HeldLists;
 use crate::journal::Journal;
 use crate::notice::Notice;
+use crate::question::{Count, GROUP_ACCESSES, Group, Question, Range, WholeJournal};
 use crate::reader_state::ReaderState;
 use arrayvec::ArrayVec;
-use pmp_core::laws::law_decided_by_ranges;
 use pmp_core::{Access, Csr, Decision, Mode, Perms};
 use std::marker::Model;
 
@@ -38,7 +36,6 @@ pub struct Moved {
 pub struct Checker {
     state: ReaderState,
     held: HeldLists,
-    listener: Listener,
 }
 
 impl Model for Checker {
@@ -54,15 +51,11 @@ impl Model for Checker {
 
 impl Checker {
     /// A checker that holds what is known there.
-    pub(crate) fn new(state: ReaderState, listener: Listener) -> Checker
+    pub(crate) fn new(state: ReaderState) -> Checker
         ensures { result ≡ record { unit = state.unit; held = state.list ∷ [] } }
     {
         let held = HeldLists::alone(state.digest());
-        Checker {
-            state,
-            held,
-            listener,
-        }
+        Checker { state, held }
     }
 
     /// Takes in a notice of its own unit. From now on it decides in nothing less.
@@ -70,44 +63,48 @@ impl Checker {
         requires unit { notice.unit ≡ self.old.unit }
         ensures unit { self.new.unit ≡ self.old.unit }
         ensures held { self.new.held ≡ self.old.held ++ notice.told ∷ [] }
-        ensures reached { (event_count (latest self.old.held) ≤ event_count (latest self.new.held))
-            × (event_count notice.told ≤ event_count (latest self.new.held)) }
+        ensures reached { (count_at self.old ≤ count_at self.new) × (event_count notice.told ≤ count_at self.new) }
         ensures bound { LearnsBound self.old.held notice.told self.new.held }
     {
         let state = notice.into_state();
         self.held = self.held.with(state.digest());
-        if self.state.is_before(&state) {
+        if self.state.digest().is_before(state.digest()) {
             self.state = state;
         }
     }
 
-    /// Decides an access in what is published, and answers how many events that is. It waits for nobody.
-    pub fn decide(&mut self, access: &Access) -> (Decision, u64)
-        ensures unit { self.new.unit ≡ self.old.unit }
-        ensures looked { Looked self.old.held self.new.held }
-        ensures decided { Decides self.new.unit.base (latest self.new.held) access.now result.0 }
-        ensures computed { result.0 ≡ decision_of (file_from self.new.unit.base (latest self.new.held)) access.now }
-        ensures count { result.1 ≡ event_count (latest self.new.held) }
-        ensures bound { KeepsBound self.old.held self.new.held }
+    /// Looks: what is published answers, or where no entrance is given what it knows. It waits for nobody, takes no memory
+    /// of its own, and returns how many events the answer is in.
+    #[inline]
+    fn look<Q: Question>(&mut self, question: &Q) -> (Q::Answer, u64)
+        requires { Q.is_sound question.now }
+        ensures look { IsLook self.old self.new result.1 }
+        ensures answered { Q.answers question.now (seen self.new) result.0 }
     {
-        let answer = self.state.look(access);
+        let answer = self.state.look(question);
         self.held = HeldLists::alone(self.state.digest());
         answer
     }
 
+    /// Decides an access in what is published, and returns how many events that is. It waits for nobody.
+    pub fn decide(&mut self, access: &Access) -> (Decision, u64)
+        ensures look { IsLook self.old self.new result.1 }
+        ensures decided { Decides self.new.unit.base (latest self.new.held) access.now result.0 }
+        ensures computed { result.0 ≡ decision_of (file_at self.new) access.now }
+    {
+        self.look(access)
+    }
+
     /// Decides an access in what is published, if that is just `len` events. It waits for nobody.
     pub fn decide_at(&mut self, len: u64, access: &Access) -> Result<Decision, Moved>
-        requires reached { len ≤ event_count (latest self.old.held) }
-        ensures unit { self.new.unit ≡ self.old.unit }
-        ensures looked { Looked self.old.held self.new.held }
-        ensures at_len { OnOk result ((event_count (latest self.new.held) ≡ len)
+        requires reached { len ≤ count_at self.old }
+        ensures look { IsLook self.old self.new (count_at self.new) }
+        ensures at_len { OnOk result ((count_at self.new ≡ len)
             × (joined (latest self.new.held) ≡ joined (latest self.old.held))) }
         ensures decided { IfOk result (λ decision.
             Decides self.new.unit.base (latest self.new.held) access.now decision) }
-        ensures computed { IfOk result (λ decision.
-            decision ≡ decision_of (file_from self.new.unit.base (latest self.new.held)) access.now) }
-        ensures moved { IfErr result (λ moved. (moved.seen ≡ event_count (latest self.new.held)) × (len < moved.seen)) }
-        ensures bound { KeepsBound self.old.held self.new.held }
+        ensures computed { IfOk result (λ decision. decision ≡ decision_of (file_at self.new) access.now) }
+        ensures moved { IfErr result (λ moved. (moved.seen ≡ count_at self.new) × (len < moved.seen)) }
     {
         let (decision, seen) = self.decide(access);
         if seen != len {
@@ -116,25 +113,16 @@ impl Checker {
         Ok(decision)
     }
 
-    /// Decides a group of accesses in what is published, all in the same batches, and answers the decisions in the
-    /// order of the accesses, and how many events that is. It waits for nobody and takes no memory. An emulator takes
-    /// a group for the elements of a vector access, between which no publication may come.
+    /// Decides a group of accesses in what is published, all in the same batches. Returns the decisions in the order of
+    /// the accesses, and how many events that is. It waits for nobody and takes no memory. An emulator takes a group for
+    /// the elements of a vector access, between which no publication may come.
     pub fn decide_group(&mut self, accesses: &[Access]) -> (ArrayVec<Decision, GROUP_ACCESSES>, u64)
         requires { length accesses.now ≤ GROUP_ACCESSES }
-        ensures unit { self.new.unit ≡ self.old.unit }
-        ensures looked { Looked self.old.held self.new.held }
+        ensures look { IsLook self.old self.new result.1 }
         ensures decided { AllZip (Decides self.new.unit.base (latest self.new.held)) accesses.now result.0.items }
-        ensures computed { result.0.items
-            ≡ map (decision_of (file_from self.new.unit.base (latest self.new.held))) accesses.now }
-        ensures count { result.1 ≡ event_count (latest self.new.held) }
-        ensures bound { KeepsBound self.old.held self.new.held }
+        ensures computed { result.0.items ≡ map (decision_of (file_at self.new)) accesses.now }
     {
-        law_decided_by_ranges();
-        let decided = self.state.look_at_group(accesses);
-        let digest = self.state.digest();
-        digest.has_addresses();
-        self.held = HeldLists::alone(digest);
-        decided
+        self.look(&Group { accesses })
     }
 
     /// What the mode may do in the whole range of `length` bytes from byte address `start` on, as a page, in what is
@@ -143,67 +131,40 @@ impl Checker {
     pub fn rights(&mut self, mode: Mode, start: u64, length: u64) -> (Option<Perms>, u64)
         requires full { 0 < length }
         requires inside { start + length ≤ ADDRESS_LIMIT }
-        ensures unit { self.new.unit ≡ self.old.unit }
-        ensures looked { Looked self.old.held self.new.held }
-        ensures rights { AreRangeRights (file_from self.new.unit.base (latest self.new.held))
-            mode start length result.0 }
-        ensures count { result.1 ≡ event_count (latest self.new.held) }
-        ensures bound { KeepsBound self.old.held self.new.held }
+        ensures look { IsLook self.old self.new result.1 }
+        ensures rights { AreRangeRights (file_at self.new) mode start length result.0 }
     {
-        let answer = self.state.look_at_range(mode, start, length);
-        self.held = HeldLists::alone(self.state.digest());
-        answer
+        self.look(&Range {
+            mode,
+            start,
+            length,
+        })
     }
 
-    /// Looks where something was published since the last time.
-    #[inline]
-    fn keep_up(&mut self)
-        ensures unit { self.new.unit ≡ self.old.unit }
-        ensures looked { Looked self.old.held self.new.held }
-        ensures bound { KeepsBound self.old.held self.new.held }
-    {
-        self.listener.keep_up(&mut self.state);
-        self.held = HeldLists::alone(self.state.digest());
-    }
-
-    /// How many events the list has that it looks at. If that isn't the count of a TLB, flush the TLB. It waits for
-    /// nobody and takes no memory; where nothing was published since the last call it reads one word that threads
-    /// share, and enters nothing.
+    /// How many events are published. If that isn't the count of a TLB, flush the TLB. It waits for nobody and takes no
+    /// memory.
     pub fn count(&mut self) -> u64
-        ensures unit { self.new.unit ≡ self.old.unit }
-        ensures looked { Looked self.old.held self.new.held }
-        ensures count { result ≡ event_count (latest self.new.held) }
-        ensures bound { KeepsBound self.old.held self.new.held }
+        ensures look { IsLook self.old self.new result }
     {
-        self.keep_up();
-        self.state.digest().events()
+        self.look(&Count).1
     }
 
     /// What the register reads in what is published, and how many events that is. It waits for nobody and takes no
     /// memory.
     pub fn read(&mut self, csr: Csr) -> (u64, u64)
-        ensures unit { self.new.unit ≡ self.old.unit }
-        ensures looked { Looked self.old.held self.new.held }
-        ensures value { result.0 ≡ register_value (file_from self.new.unit.base (latest self.new.held)) csr }
-        ensures count { result.1 ≡ event_count (latest self.new.held) }
-        ensures bound { KeepsBound self.old.held self.new.held }
+        ensures look { IsLook self.old self.new result.1 }
+        ensures value { result.0 ≡ register_value (file_at self.new) csr }
     {
-        self.keep_up();
-        let digest = self.state.digest();
-        (digest.read(csr), digest.events())
+        self.look(&csr)
     }
 
-    /// A copy of what is published, which waits for nobody. It answers `Memory` where memory is refused, and `NoPlace`
-    /// where no entrance is given, as after the end of the publisher.
+    /// A copy of what is published. `NoPlace` where no entrance is given, as after the publisher's end, and `Memory`
+    /// where memory is refused.
     pub fn copy_journal(&mut self) -> Result<Journal, ShareFault>
-        ensures unit { self.new.unit ≡ self.old.unit }
-        ensures looked { Looked self.old.held self.new.held }
+        ensures look { IsLook self.old self.new (count_at self.new) }
         ensures copied { IfOk result (λ journal. journal ≡ latest self.new.held) }
         ensures refused { IfErr result (λ fault. ¬ (fault ≡ Full)) }
-        ensures bound { KeepsBound self.old.held self.new.held }
     {
-        let copied = self.state.copy_journal();
-        self.held = HeldLists::alone(self.state.digest());
-        copied
+        self.look(&WholeJournal).0
     }
 }

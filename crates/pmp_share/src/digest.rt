@@ -1,52 +1,56 @@
-//! What a list of batches comes to.
+//! What is kept of the batches that a checker or a notice knows.
 
-ghost use Rattle.std.specs.Prelude.{◌≡◌, length};
-ghost use Rattle.pmp_core.specs.RegisterFile.{HasAddresses};
-ghost use Rattle.pmp_core.specs.RegisterValue.{register_value};
-ghost use Rattle.pmp_share.specs.Batches.{event_count, file_from};
+ghost use Rattle.std.specs.Prelude.{◌≡◌, length, MatchBool};
+ghost use Rattle.pmp_share.specs.Batches.{StartsWith};
+ghost use Rattle.pmp_share.specs.Known.{file_of};
 ghost use Rattle.pmp_share.specs.Looks.{is_as_late};
-ghost use Rattle.pmp_share.specs.Rule.{base_of};
+ghost use Rattle.pmp_share.specs.Rule.{known_of};
 
 use crate::decider::Decider;
+use crate::fault::ShareFault;
+use crate::history::History;
+use crate::journal::Journal;
 use crate::version::Version;
 use pmp_core::{Access, Csr, Decision, Mode, Perms, RegFile};
 use pmp_map::rights_in;
 use std::marker::Model;
 use std::snapshot::Snapshot;
 
-/// The register file that batches give, and how many they are. A contract sees the batches, and what the first of them
-/// found.
+/// The register file that batches give, how many events they hold and how many they are. A contract sees the batches,
+/// and of which unit they are.
 #[derive(Drop)]
 pub struct Digest {
     file: RegFile,
     events: u64,
     batches: usize,
+    history: History,
     of: Snapshot<Version>,
 }
 
 impl Model for Digest {
-    ghost use Rattle.pmp_share.specs.Digests.{Digested, IsDigest};
+    ghost use Rattle.pmp_share.specs.declared.knowledge.Known.{Known};
+    ghost use Rattle.pmp_share.specs.Digests.{IsDigest};
+    ghost use Rattle.pmp_share.specs.Rule.{known_of};
 
-    ghost Value = { Digested };
+    ghost Value = { Known };
 
-    ghost view = { λ digest. record { base = digest.of.value.base.value; list = digest.of.value.journal } };
+    ghost view = { λ digest. known_of digest.of.value };
 
-    ghost invariant = { λ digest.
-        IsDigest digest.of.value.base.value digest.file digest.events digest.batches digest.of.value.journal };
+    ghost invariant = { λ digest. IsDigest (known_of digest.of.value) digest.file digest.events digest.batches
+        digest.history.book digest.history.log };
 }
 
 impl Digest {
-    ghost use Rattle.std.specs.Prelude.{◌≡◌};
-
-    /// The digest of a version's batches.
+    /// The digest of a version's batches, which its history has.
     pub fn of(version: &Version) -> Digest
-        ensures { result ≡ record { base = base_of version.now; list = version.now.journal } }
+        requires noted { version.now.history.log ≡ version.now.journal }
+        ensures { result ≡ known_of version.now }
     {
-        let journal = version.journal();
         Digest {
             file: *version.file(),
-            events: journal.event_count(),
-            batches: journal.batches(),
+            events: version.events(),
+            batches: version.batches(),
+            history: version.history(),
             of: Snapshot::of(version),
         }
     }
@@ -55,37 +59,16 @@ impl Digest {
     #[cold]
     #[inline(never)]
     pub fn refresh(&mut self, version: &Version)
-        ensures { self.new ≡ record { base = base_of version.now; list = version.now.journal } }
+        requires noted { version.now.history.log ≡ version.now.journal }
+        ensures { self.new ≡ known_of version.now }
     {
         *self = Digest::of(version);
     }
 
     pub fn file(&self) -> RegFile
-        ensures { result ≡ file_from self.now.base self.now.list }
+        ensures { result ≡ file_of self.now }
     {
         self.file
-    }
-
-    /// The value of a register.
-    pub fn read(&self, csr: Csr) -> u64
-        ensures { result ≡ register_value (file_from self.now.base self.now.list) csr }
-    {
-        self.file.read(csr)
-    }
-
-    /// The addresses of the register file have no more than 54 bits. It does nothing.
-    #[tactic(auto, using(pmp_core::proofs::Legal::legal_addresses))]
-    pub fn has_addresses(&self)
-        ensures { HasAddresses (file_from self.now.base self.now.list) }
-    {
-        let _registers = self.file.registers();
-    }
-
-    /// How many events they hold.
-    pub fn events(&self) -> u64
-        ensures { result ≡ event_count self.now.list }
-    {
-        self.events
     }
 
     /// How many batches there are.
@@ -96,18 +79,29 @@ impl Digest {
     }
 
     /// Whether the other's batches hold more events, or as many in no fewer batches.
-    pub fn is_as_late(&self, other: &Digest) -> bool
+    fn is_as_late(&self, other: &Digest) -> bool
         ensures { result ≡ is_as_late self.now.list other.now.list }
     {
         self.events < other.events || (self.events == other.events && self.batches <= other.batches)
     }
+
+    /// The same of batches of one unit. Then these are a prefix of the other's, and otherwise the other's are one of
+    /// these.
+    pub fn is_before(&self, other: &Digest) -> bool
+        requires unit { other.now.unit ≡ self.now.unit }
+        ensures late { result ≡ is_as_late self.now.list other.now.list }
+        ensures begins { MatchBool result (StartsWith other.now.list self.now.list)
+            (StartsWith self.now.list other.now.list) }
+    {
+        let mut both = self.history.again();
+        both.learn(&other.history);
+        self.is_as_late(other)
+    }
 }
 
-/// It decides without a map.
+/// It answers by the register file, without a map.
 impl Decider for Digest {
-    ghost use Rattle.pmp_share.specs.Batches.{file_from};
-
-    ghost file = { λ digest. file_from digest.base digest.list };
+    ghost known = { λ digest. digest };
 
     fn decide(&self, access: &Access) -> Decision {
         self.file.decide(access)
@@ -115,5 +109,17 @@ impl Decider for Digest {
 
     fn rights(&self, mode: Mode, start: u64, length: u64) -> Option<Perms> {
         rights_in(&self.file.registers(), mode, start, length)
+    }
+
+    fn read(&self, csr: Csr) -> u64 {
+        self.file.read(csr)
+    }
+
+    fn events(&self) -> u64 {
+        self.events
+    }
+
+    fn copy_journal(&self) -> Result<Journal, ShareFault> {
+        Err(ShareFault::NoPlace)
     }
 }

@@ -2,7 +2,7 @@
 
 ghost use Rattle.std.specs.Prelude.{◌≡◌};
 ghost use Rattle.pmp_share.specs.Batches.{StartsWith};
-ghost use Rattle.pmp_share.specs.Rule.{base_of, known_of};
+ghost use Rattle.pmp_share.specs.Rule.{known_of};
 
 use crate::digest::Digest;
 use crate::reader_state::{ReaderState, UnitReading};
@@ -10,7 +10,7 @@ use crate::version::Version;
 use std::marker::Model;
 
 /// A reader that has entered the published version, all of whose batches it knows from now on, and the digest of what
-/// it knew before. A contract sees the batches, and whose history they begin.
+/// it knew before. A contract sees the batches, and of which unit they are.
 pub struct Entrance {
     reading: UnitReading,
     digest: Box<Digest>,
@@ -38,7 +38,7 @@ impl Entrance {
     pub fn new(reading: UnitReading, digest: Box<Digest>) -> Entrance
         requires seat { view reading.place ≡ Some (known_of reading.part.value) }
         requires noted { reading.part.value.history.log ≡ reading.part.value.journal }
-        requires base { digest.value.base ≡ base_of reading.part.value }
+        requires unit { digest.value.unit ≡ (known_of reading.part.value).unit }
         requires begins { StartsWith reading.part.value.journal digest.value.list }
         ensures { result ≡ known_of reading.part.value }
     {
@@ -62,10 +62,9 @@ impl Entrance {
             mut digest,
         } = self;
         let version = reading.get();
-        if digest.batches() != version.journal().batches() {
+        if digest.batches() != version.batches() {
             digest.refresh(version);
         }
-        let history = version.history();
-        ReaderState::new(reading.leave(), digest, history)
+        ReaderState::new(reading.leave(), digest)
     }
 }

@@ -6,13 +6,12 @@
 #![tactic(auto)]
 
 mod batch;
-mod bell;
 mod checker;
 mod decider;
 mod digest;
+mod ending;
 mod entrance;
 mod fault;
-mod group;
 mod growth;
 mod handing;
 mod held_lists;
@@ -26,6 +25,7 @@ mod notice_ring;
 mod opening;
 mod publisher;
 mod publisher_guard;
+mod question;
 mod reader_state;
 mod recorder;
 mod room;
@@ -37,11 +37,11 @@ mod writer_state;
 pub use batch::{Batch, BatchFull};
 pub use checker::{Checker, Moved};
 pub use fault::ShareFault;
-pub use group::GROUP_ACCESSES;
 pub use journal::Journal;
 pub use notice::Notice;
 pub use notice_ring::{NoticeReceiver, NoticeSender};
 pub use opening::{CHECKERS, start, start_from, start_of, start_on};
 pub use publisher::Publisher;
 pub use publisher_guard::PublisherGuard;
+pub use question::GROUP_ACCESSES;
 pub use room::HISTORY_LIMIT;

@@ -3,6 +3,7 @@
 ghost use Rattle.std.specs.Prelude.{◌≡◌};
 ghost use Rattle.pmp_share.specs.Batches.{event_count, file_from};
 
+use crate::decider::Decider;
 use crate::reader_state::ReaderState;
 use pmp_core::RegFile;
 use std::marker::Model;

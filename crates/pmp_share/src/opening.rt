@@ -8,7 +8,7 @@ ghost use Rattle.pmp_core.specs.Hart.{profile_of};
 ghost use Rattle.pmp_core.specs.declared.size.Size.TheVariants.{Sixteen};
 ghost use Rattle.pmp_share.specs.declared.fault.ShareFault.TheVariants.{Full};
 ghost use Rattle.pmp_share.specs.declared.opening.TheConstants.{CHECKERS};
-ghost use Rattle.pmp_share.specs.Object.{no_batches};
+ghost use Rattle.pmp_share.specs.Openings.{Started};
 
 use crate::checker::Checker;
 use crate::fault::ShareFault;
@@ -45,11 +45,7 @@ fn start_with<R: Wait>(
     base: &RegFile,
     k: u8,
 ) -> Result<(Publisher, Vec<Checker>), ShareFault>
-    ensures publisher { IfOk result (λ started. (started.0.published ≡ no_batches) × (started.0.pending ≡ [])
-        × (started.0.tried ≡ 0)) }
-    ensures checkers { IfOk result (λ started. started.1.items
-        ≡ replicate k (record { unit = started.0.unit; held = no_batches ∷ [] })) }
-    ensures base { IfOk result (λ started. started.0.unit.base ≡ base.now) }
+    ensures started { IfOk result (λ unit. Started base.now k unit.0 unit.1.items) }
     ensures refused { IfErr result (λ fault. ¬ (fault ≡ Full)) }
 {
     let mut publisher = Publisher::open(rt, alloc, base)?;
@@ -72,11 +68,7 @@ pub fn start_from<R: Wait>(
     k: u8,
 ) -> Result<(Publisher, Vec<Checker>), ShareFault>
     requires { (1 ≤ k) × (k ≤ CHECKERS) }
-    ensures publisher { IfOk result (λ started. (started.0.published ≡ no_batches) × (started.0.pending ≡ [])
-        × (started.0.tried ≡ 0)) }
-    ensures checkers { IfOk result (λ started. started.1.items
-        ≡ replicate k (record { unit = started.0.unit; held = no_batches ∷ [] })) }
-    ensures base { IfOk result (λ started. started.0.unit.base ≡ restored_file saved.now) }
+    ensures started { IfOk result (λ unit. Started (restored_file saved.now) k unit.0 unit.1.items) }
     ensures refused { IfErr result (λ fault. ¬ (fault ≡ Full)) }
 {
     start_with(rt, alloc, &RegFile::restore(saved), k)
@@ -90,11 +82,7 @@ pub fn start_on<R: Wait>(
     k: u8,
 ) -> Result<(Publisher, Vec<Checker>), ShareFault>
     requires { (1 ≤ k) × (k ≤ CHECKERS) }
-    ensures publisher { IfOk result (λ started. (started.0.published ≡ no_batches) × (started.0.pending ≡ [])
-        × (started.0.tried ≡ 0)) }
-    ensures checkers { IfOk result (λ started. started.1.items
-        ≡ replicate k (record { unit = started.0.unit; held = no_batches ∷ [] })) }
-    ensures base { IfOk result (λ started. started.0.unit.base ≡ reset_file hart) }
+    ensures started { IfOk result (λ unit. Started (reset_file hart) k unit.0 unit.1.items) }
     ensures refused { IfErr result (λ fault. ¬ (fault ≡ Full)) }
 {
     start_with(rt, alloc, &RegFile::reset_on(hart), k)
@@ -108,11 +96,7 @@ pub fn start_of<R: Wait>(
     k: u8,
 ) -> Result<(Publisher, Vec<Checker>), ShareFault>
     requires { (1 ≤ k) × (k ≤ CHECKERS) }
-    ensures publisher { IfOk result (λ started. (started.0.published ≡ no_batches) × (started.0.pending ≡ [])
-        × (started.0.tried ≡ 0)) }
-    ensures checkers { IfOk result (λ started. started.1.items
-        ≡ replicate k (record { unit = started.0.unit; held = no_batches ∷ [] })) }
-    ensures base { IfOk result (λ started. started.0.unit.base ≡ reset_file (profile_of size)) }
+    ensures started { IfOk result (λ unit. Started (reset_file (profile_of size)) k unit.0 unit.1.items) }
     ensures refused { IfErr result (λ fault. ¬ (fault ≡ Full)) }
 {
     start_on(rt, alloc, Hart::of(size), k)
@@ -121,11 +105,7 @@ pub fn start_of<R: Wait>(
 /// As `start_of`, of a unit of sixteen entries.
 pub fn start<R: Wait>(rt: &R, alloc: Global, k: u8) -> Result<(Publisher, Vec<Checker>), ShareFault>
     requires { (1 ≤ k) × (k ≤ CHECKERS) }
-    ensures publisher { IfOk result (λ started. (started.0.published ≡ no_batches) × (started.0.pending ≡ [])
-        × (started.0.tried ≡ 0)) }
-    ensures checkers { IfOk result (λ started. started.1.items
-        ≡ replicate k (record { unit = started.0.unit; held = no_batches ∷ [] })) }
-    ensures base { IfOk result (λ started. started.0.unit.base ≡ reset_file (profile_of Sixteen)) }
+    ensures started { IfOk result (λ unit. Started (reset_file (profile_of Sixteen)) k unit.0 unit.1.items) }
     ensures refused { IfErr result (λ fault. ¬ (fault ≡ Full)) }
 {
     start_of(rt, alloc, Size::Sixteen, k)

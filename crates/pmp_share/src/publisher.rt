@@ -8,7 +8,6 @@ ghost use Rattle.pmp_share.specs.Object.{Publishes};
 ghost use Rattle.pmp_share.specs.Room.{has_room};
 
 use crate::batch::Batch;
-use crate::bell::Bell;
 use crate::checker::Checker;
 use crate::fault::ShareFault;
 use crate::handing::hand_over;
@@ -30,7 +29,6 @@ pub struct Publisher {
     handed: usize,
     /// How many pending batches the last publication left.
     tried: usize,
-    bell: Bell,
 }
 
 impl Model for Publisher {
@@ -61,13 +59,11 @@ impl Publisher {
         ensures base { IfOk result (λ publisher. publisher.unit.base ≡ base.now) }
         ensures refused { IfErr result (λ fault. fault ≡ Memory) }
     {
-        let bell = Bell::new(alloc)?;
         Ok(Publisher {
             state: WriterState::open(rt, alloc, base)?,
             pending: Journal::new(alloc),
             handed: 0,
             tried: 0,
-            bell,
         })
     }
 
@@ -78,8 +74,7 @@ impl Publisher {
             checker ≡ record { unit = self.old.unit; held = self.old.published ∷ [] }) }
         ensures refused { IfErr result (λ fault. ¬ (fault ≡ Full)) }
     {
-        let listener = self.bell.listener()?;
-        Ok(Checker::new(self.state.reader_state()?, listener))
+        Ok(Checker::new(self.state.reader_state()?))
     }
 
     /// Adds a copy of the batch to the pending list. An empty batch is a batch.
@@ -119,7 +114,6 @@ impl Publisher {
         self.tried = self.pending.batches();
         hand_over(&mut self.state, &self.pending, &mut self.handed)?;
         self.state.show(rt)?;
-        self.bell.ring();
         self.pending.clear();
         self.handed = 0;
         self.tried = 0;
@@ -136,7 +130,6 @@ impl Publisher {
             pending: _pending,
             handed: _,
             tried: _,
-            bell: _bell,
         } = self;
         state.end(rt)
     }

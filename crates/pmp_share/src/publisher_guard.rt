@@ -2,14 +2,16 @@
 
 ghost use Rattle.std.specs.Prelude.{◌≡◌};
 
+use crate::ending::Ending;
 use crate::publisher::Publisher;
 use std::marker::Model;
 use std::sync::Wait;
 
-/// A publisher, and the handle by which it is ended where it is dropped, which may wait for checkers. A closure may
-/// hold it, and so take it to a thread: what a closure holds may be dropped. A contract sees the publisher.
+/// A publisher that is ended where the guard is dropped, which may wait for checkers. A closure may hold it, and so take
+/// it to a thread: what a closure holds may be dropped. A contract sees the publisher. The end publishes nothing: what
+/// is pending goes with it.
 pub struct PublisherGuard<R: Wait + Drop> {
-    rt: R,
+    ending: Ending<R>,
     publisher: Publisher,
 }
 
@@ -26,21 +28,28 @@ impl<R: Wait + Drop> PublisherGuard<R> {
     pub fn new(rt: R, publisher: Publisher) -> PublisherGuard<R>
         ensures { result ≡ publisher }
     {
-        PublisherGuard { rt, publisher }
+        PublisherGuard {
+            ending: Ending::new(rt),
+            publisher,
+        }
     }
 
     /// Gives the publisher back, which isn't ended then.
     pub fn into_publisher(self) -> Publisher
         ensures { result ≡ self }
     {
-        let PublisherGuard { rt: _rt, publisher } = self;
+        let PublisherGuard {
+            ending: _ending,
+            publisher,
+        } = self;
         publisher
     }
 }
 
+/// It has no handle by which it could publish.
 impl<R: Wait + Drop> Drop for PublisherGuard<R> {
     fn drop(self) {
-        let PublisherGuard { rt, publisher } = self;
-        publisher.end(&rt);
+        let PublisherGuard { ending, publisher } = self;
+        ending.end(publisher);
     }
 }

@@ -1,16 +1,17 @@
 //! Versions of a unit: what a checker enters.
 
-ghost use Rattle.std.specs.Prelude.{◌≡◌, []};
+ghost use Rattle.std.specs.Prelude.{◌≡◌, [], length};
 ghost use Rattle.pmp_share.specs.Batches.{file_from};
 
 use crate::decider::Decider;
+use crate::fault::ShareFault;
 use crate::growth::grow;
 use crate::history::History;
 use crate::journal::Journal;
 use crate::logged_batch::LoggedBatch;
 use crate::version_state::VersionState;
 use left_right::Absorb;
-use pmp_core::{Access, Decision, Mode, Perms, RegFile};
+use pmp_core::{Access, Csr, Decision, Mode, Perms, RegFile};
 use pmp_map::RunMap;
 use std::alloc::{AllocError, Global};
 use std::snapshot::Snapshot;
@@ -71,6 +72,13 @@ impl Version {
         }
     }
 
+    /// How many batches it has.
+    pub fn batches(&self) -> usize
+        ensures { result ≡ length self.now.journal }
+    {
+        self.journal.batches()
+    }
+
     /// Its batches.
     pub fn journal(&self) -> &Journal
         ensures { result.now ≡ self.now.journal }
@@ -103,9 +111,9 @@ impl Version {
 
 /// It decides by the map.
 impl Decider for Version {
-    ghost use Rattle.pmp_share.specs.Batches.{file_from};
+    ghost use Rattle.pmp_share.specs.Rule.{known_of};
 
-    ghost file = { λ version. file_from version.base.value version.journal };
+    ghost known = { known_of };
 
     fn decide(&self, access: &Access) -> Decision {
         self.map.decide(&self.file, access)
@@ -113,5 +121,17 @@ impl Decider for Version {
 
     fn rights(&self, mode: Mode, start: u64, length: u64) -> Option<Perms> {
         self.map.rights(mode, start, length)
+    }
+
+    fn read(&self, csr: Csr) -> u64 {
+        self.file.read(csr)
+    }
+
+    fn events(&self) -> u64 {
+        self.journal.event_count()
+    }
+
+    fn copy_journal(&self) -> Result<Journal, ShareFault> {
+        Ok(self.journal.copy()?)
     }
 }

@@ -40,7 +40,7 @@ pub struct WriterState {
 
 impl Model for WriterState {
     ghost use Rattle.std.specs.Prelude.{drop};
-    ghost use Rattle.pmp_share.specs.Rule.{known};
+    ghost use Rattle.pmp_share.specs.Known.{known};
     ghost use Rattle.pmp_share.specs.WriterStates.{WriterProgress, after, state_of, IsWriterState};
     ghost use Rattle.pmp_share.specs.Tokens.{unit_with};
 
@@ -192,9 +192,8 @@ impl WriterState {
             return Err(ShareFault::NoPlace);
         };
         reader.learn::<Hears>(self.writer.tell::<Tells>());
-        let version = self.writer.published();
-        let digest = Box::new(self.alloc, Digest::of(version))?;
-        Ok(ReaderState::new(reader, digest, version.history()))
+        let digest = Box::new(self.alloc, Digest::of(self.writer.published()))?;
+        Ok(ReaderState::new(reader, digest))
     }
 
     /// Ends both, and answers what is published. It waits for checkers that read a version.

@@ -4,7 +4,7 @@ use Rattle.pmp_share.proofs.checker.Checker.decide_at.Goals as goal
 
 pub returns-then-seen-len-clause-moved : goal.returns-then-seen-len-clause-moved
 returns-then-seen-len-clause-moved c =
-    (c.decide-seen.ensures.count, omega (arith, no_fewer _ _ c.decide-seen.ensures.looked))
+    (c.decide-seen.ensures.look.count, omega (arith, no_fewer _ _ c.decide-seen.ensures.look.looked))
 
 pub returns-clause-at_len : goal.returns-clause-at_len
-returns-clause-at_len c = (omega arith, same_events _ _ c.decide-seen.ensures.looked (omega arith))
+returns-clause-at_len c = (omega arith, same_events _ _ c.decide-seen.ensures.look.looked (omega arith))

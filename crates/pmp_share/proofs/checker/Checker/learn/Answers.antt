@@ -1,6 +1,7 @@
-use Rattle.std.proofs.Common.{◌≡◌, [], ◌∷◌, ◌++◌, ap, ◌∙◌}
+use Rattle.std.proofs.Common.{◌≡◌, MatchBool, [], ◌∷◌, ◌++◌, ap, ◌∙◌}
 use Rattle.pmp_share.specs.declared.knowledge.Known.{Known}
-use Rattle.pmp_share.specs.Batches.{Batches}
+use Rattle.pmp_share.specs.Batches.{StartsWith}
+use Rattle.pmp_share.specs.Looks.{is_as_late}
 use Rattle.pmp_share.specs.Tokens.{CheckerToken}
 use Rattle.pmp_share.proofs.LookFacts.{latest_more, learns_bound}
 use Rattle.pmp_share.proofs.CheckFacts.{learnt_later, learnt_earlier}
@@ -8,7 +9,7 @@ use Rattle.pmp_share.proofs.checker.Checker.learn.Goals as goal
 use Rattle.pmp_share.proofs.checker.Checker.learn.Goals.{After-is_before}
 
 held_more : (c : After-is_before) → c.with.result ≡ c.self.inside.held ++ c.into_state-state.result.list ∷ []
-held_more c = c.with.ensures ∙ ap (λ (told : Batches). c.self.inside.held ++ told ∷ []) c.digest.ensures.list
+held_more c = c.with.ensures ∙ ap (λ (told : Known). c.self.inside.held ++ told.list ∷ []) c.digest.ensures
 
 held_told : (c : After-is_before) → c.with.result ≡ c.args.self.now.held ++ c.args.notice.told ∷ []
 held_told c =
@@ -16,16 +17,26 @@ held_told c =
     ∙ (λ i. ap (λ (token : CheckerToken). token.held) c.self.view_is i
     ++ ap (λ (state : Known). state.list) c.into_state-state.ensures i ∷ [])
 
+late : (c : After-is_before) → c.is_before.result
+    ≡ is_as_late c.self.inside.state.list c.into_state-state.result.list
+late c = c.is_before.ensures.late ∙ (λ i. is_as_late (c.digest-2.ensures i).list (c.digest-3.ensures i).list)
+
+begins : (c : After-is_before) → MatchBool c.is_before.result
+    (StartsWith c.into_state-state.result.list c.self.inside.state.list)
+    (StartsWith c.self.inside.state.list c.into_state-state.result.list)
+begins c = rw (c.digest-2.ensures, c.digest-3.ensures) at c.is_before.ensures.begins
+
 pub invariant_of-self : goal.invariant_of-self
-invariant_of-self c = learnt_later c.self.inside.state c.into_state-state.result c.self.inside.held c.with.result
-    c.is_before.result c.self.invariant (held_more (goal.at.invariant_of-self c).After-is_before)
-    c.is_before.ensures.late c.is_before.ensures.begins c.if-is_before.true
+invariant_of-self c =
+    let asked = (goal.at.invariant_of-self c).After-is_before in
+    learnt_later c.self.inside.state c.into_state-state.result c.self.inside.held c.with.result c.is_before.result
+    c.self.invariant (held_more asked) (late asked) (begins asked) c.if-is_before.true
 
 pub invariant_of-self-else-is_before : goal.invariant_of-self-else-is_before
-invariant_of-self-else-is_before c = learnt_earlier c.self.inside.state c.into_state-state.result c.self.inside.held
-    c.with.result c.is_before.result c.self.invariant
-    (held_more (goal.at.invariant_of-self-else-is_before c).After-is_before) c.is_before.ensures.late
-    c.is_before.ensures.begins c.if-is_before.false
+invariant_of-self-else-is_before c =
+    let asked = (goal.at.invariant_of-self-else-is_before c).After-is_before in
+    learnt_earlier c.self.inside.state c.into_state-state.result c.self.inside.held c.with.result c.is_before.result
+    c.self.invariant (held_more asked) (late asked) (begins asked) c.if-is_before.false
 
 pub returns-then-is_before-clause-reached : goal.returns-then-is_before-clause-reached
 returns-then-is_before-clause-reached c =

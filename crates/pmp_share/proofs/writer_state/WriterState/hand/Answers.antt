@@ -1,6 +1,6 @@
 use Rattle.std.proofs.Common.{ap, sym, ◌∙◌, ◌∷◌, ◌++◌, [], drop}
 use Rattle.pmp_share.specs.Batches.{Batches}
-use Rattle.pmp_share.specs.Rule.{known}
+use Rattle.pmp_share.specs.Known.{known}
 use Rattle.pmp_share.specs.WriterStates.{WriterProgress}
 use Rattle.pmp_share.specs.Tokens.{unit_with}
 use Rattle.pmp_share.proofs.WriterFacts.{handed_more}

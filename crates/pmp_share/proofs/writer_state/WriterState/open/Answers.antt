@@ -1,6 +1,7 @@
 use Rattle.std.proofs.Common.{◌≡◌, [], ap, sym, ◌∙◌}
 use Rattle.pmp_share.specs.declared.version.Version.{Version}
-use Rattle.pmp_share.specs.Rule.{base_of, known, unit_of}
+use Rattle.pmp_share.specs.Known.{known}
+use Rattle.pmp_share.specs.Rule.{unit_of}
 use Rattle.pmp_share.specs.WriterStates.{after, state_of}
 use Rattle.pmp_share.specs.Tokens.{unit_with}
 use Rattle.pmp_share.proofs.RuleFacts.{shows_none}
@@ -29,8 +30,8 @@ module _ (g : Over) (c : In_ok-writer g) where
       ∙ ap (λ history. history.book) c.new-first.ensures.history
       ∙ c.history.ensures.0
 
-  base : base_of c.in_ok-writer.writer.desk.shown.value ≡ c.args.base.now
-  base = ap (λ (version : Version). base_of version) c.in_ok-writer.ensures.0 ∙ c.new-first.ensures.base
+  base : c.in_ok-writer.writer.desk.shown.value.base.value ≡ c.args.base.now
+  base = ap (λ (version : Version). version.base.value) c.in_ok-writer.ensures.0 ∙ c.new-first.ensures.base
 
   unit : unit_of c.in_ok-writer.writer.desk.shown.value ≡ unit_with c.open-recorder.result.book c.args.base.now
   unit = λ i. unit_with (book i) (base i)

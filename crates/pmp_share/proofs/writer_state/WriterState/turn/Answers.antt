@@ -1,5 +1,5 @@
 use Rattle.std.proofs.Common.{sym, ◌∙◌, drop}
-use Rattle.pmp_share.specs.Rule.{known}
+use Rattle.pmp_share.specs.Known.{known}
 use Rattle.pmp_share.specs.WriterStates.{after}
 use Rattle.pmp_share.specs.Tokens.{unit_with}
 use Rattle.pmp_share.proofs.RuleFacts.{shows_told}
