@@ -17,7 +17,6 @@ use Rattle.pmp_share.specs.contracts.digest.Digest as digest
 use Rattle.pmp_share.specs.contracts.digest.Digest.TheInside as digest_inside
 use Rattle.pmp_share.specs.contracts.reader_state.ReaderState as reader_state
 use Rattle.pmp_share.specs.contracts.reader_state.ReaderState.TheInside as reader_state_inside
-use Rattle.pmp_share.specs.contracts.held_lists.HeldLists as held
 use Rattle.pmp_share.specs.contracts.checker.Checker as checker
 use Rattle.pmp_share.specs.contracts.checker.Checker.TheInside as checker_inside
 use Rattle.pmp_share.specs.contracts.notice.Notice as notice
@@ -95,9 +94,6 @@ digest_inside_send = declared_send digest_inside.the_type (
 digest_send : IsSend digest.the_row
 digest_send = search (digest_inside_send, sendable) depth 6
 
-held_send : IsSend held.the_row
-held_send = search (seen.the_send, sendable) depth 10
-
 reader_send : IsSend (reader_of.the_field version.the_row (option.the_row known.the_row) one_history.the_row
     global.the_row rule.ghosts heap.ghosts).row
 reader_send = reader.the_field_send version.the_row (option.the_row known.the_row) one_history.the_row global.the_row
@@ -114,7 +110,7 @@ reader_state_send : IsSend reader_state.the_row
 reader_state_send = search (reader_state_inside_send, sendable) depth 6
 
 checker_inside_send : IsSend checker_inside.the_row
-checker_inside_send = declared_send checker_inside.the_type (reader_state_send, (held_send, tt))
+checker_inside_send = declared_send checker_inside.the_type (reader_state_send, tt)
 
 pub checker_send : IsSend checker.the_row
 checker_send = search (checker_inside_send, sendable) depth 6

@@ -5,11 +5,9 @@ use Rattle.std.proofs.Math.Seq.{drop-append_seam}
 use Rattle.pmp_core.specs.RegisterWrite.{step}
 use Rattle.pmp_core.specs.Histories.{joined}
 use Rattle.pmp_core.specs.LockLaw.{LockLaw}
-use Rattle.pmp_share.specs.Batches.{Batches, StartsWith, event_count, file_from}
-use Rattle.pmp_share.specs.Looks.{latest}
+use Rattle.pmp_share.specs.Batches.{Batches, event_count, file_from}
 use Rattle.pmp_share.specs.Laws.{further_events, FurtherEventsLaw, LaterLookLaw}
 use Rattle.pmp_share.proofs.JournalFacts.{joined-append}
-use Rattle.pmp_share.proofs.LookFacts.{keeps_bound}
 
 further : (batches front rest : Batches) → batches ≡ front ++ rest → further_events batches front ≡ joined rest
 further batches front rest e =
@@ -24,7 +22,5 @@ further_events_law base batches front (rest, e) =
     ∙ ap (fold step (file_from base front)) (sym (further batches front rest e))
 
 pub later_look_law : LockLaw → LaterLookLaw
-later_look_law locks base held later earlier bound looked i frozen writes =
-    let starts : StartsWith (latest later) earlier = (keeps_bound held later looked earlier bound).0 in
-    rw (further_events_law base (latest later) earlier starts)
-    (locks (file_from base earlier) i (further_events (latest later) earlier) frozen writes)
+later_look_law locks base later earlier starts i frozen writes = rw (further_events_law base later earlier starts)
+    (locks (file_from base earlier) i (further_events later earlier) frozen writes)

@@ -5,7 +5,6 @@ pub mod LookFacts
 pub mod Adding
 pub mod RuleFacts
 pub mod WriterFacts
-pub mod CheckFacts
 pub mod GroupFacts
 pub mod Crossing
 pub mod PublisherCrossing

@@ -11,7 +11,6 @@ use Rattle.pmp_share.specs.declared.opening.TheConstants.{CHECKERS}
 use Rattle.pmp_share.specs.declared.writer_state.TheConstants.{PLACES}
 use Rattle.pmp_share.specs.Batches.{Batches, StartsWith, event_count, file_from}
 use Rattle.pmp_share.specs.Journals.{ends_of, batches_of}
-use Rattle.pmp_share.specs.Looks.{Bound, Looked, latest}
 
 -- batches that begin with others of as many events hold the same events
 abbrev pub SameEventsLaw : Type 0
@@ -31,14 +30,13 @@ abbrev pub FurtherEventsLaw : Type 0
 FurtherEventsLaw = (base : RegisterFile) (batches front : Batches) → StartsWith batches front
     → file_from base batches ≡ fold step (file_from base front) (further_events batches front)
 
--- an entry that is frozen in the file of batches that a checker is bound to, as it is to all that it looked at, stays
--- as it is in what it looks at later, if the further events are writes alone (3.7.1.2 and Smepmp)
+-- an entry that is frozen in the file of one look stays as it is in each later one of the same checker, which begins with
+-- its batches, if the further events are writes alone (3.7.1.2 and Smepmp)
 abbrev pub LaterLookLaw : Type 0
-LaterLookLaw = (base : RegisterFile) (held later : List Batches) (earlier : Batches) → Bound held earlier
-    → Looked held later
+LaterLookLaw = (base : RegisterFile) (later earlier : Batches) → StartsWith later earlier
     → (i : ℕ) → is_frozen (file_from base earlier) i ≡ true
-    → list_all is_write (further_events (latest later) earlier) ≡ true
-    → StaysFrozen (file_from base earlier) (file_from base (latest later)) i
+    → list_all is_write (further_events later earlier) ≡ true
+    → StaysFrozen (file_from base earlier) (file_from base later) i
 
 -- a unit has a place for each of its checkers, and one for a notice to each
 abbrev pub PlacesLaw : Type 0

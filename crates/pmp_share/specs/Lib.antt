@@ -15,7 +15,5 @@ pub mod History
 pub mod Versions
 pub mod Rule
 pub mod Digests
-pub mod Entrances
 pub mod WriterStates
 pub mod Publishing
-pub mod Checking

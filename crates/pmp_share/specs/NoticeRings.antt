@@ -1,6 +1,7 @@
 -- Rings of notices, which are all of one unit.
 use Rattle.std.specs.Prelude.{◌≡◌, ℕ, List, [], ◌∷◌}
-use Rattle.pmp_share.specs.Tokens.{UnitId, NoticeToken}
+use Rattle.pmp_share.specs.declared.knowledge.Known.{Known}
+use Rattle.pmp_share.specs.Tokens.{UnitId}
 
 -- the end that sends: whose notices, and how many more it surely takes
 pub record SenderToken : Type 0 where
@@ -13,11 +14,11 @@ pub record ReceiverToken : Type 0 where
   pub waiting : ℕ
 
 -- there is a first notice, which is of this unit
-abbrev pub Began : List NoticeToken → UnitId → Type 0
+abbrev pub Began : List Known → UnitId → Type 0
 Began [] unit = ⊥
 Began (first ∷ notices) unit = first.unit ≡ unit
 
 -- a notice is of the unit of the first before it
-abbrev pub FollowsFirst : List NoticeToken → NoticeToken → Type 0
+abbrev pub FollowsFirst : List Known → Known → Type 0
 FollowsFirst [] notice = Unit {0}
 FollowsFirst (first ∷ notices) notice = notice.unit ≡ first.unit

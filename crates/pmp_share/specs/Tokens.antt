@@ -1,5 +1,5 @@
--- What contracts see of a publisher, a notice and a checker. `unit` is one for all that come from one start.
-use Rattle.std.specs.Prelude.{ℕ, List}
+-- What contracts see of a publisher. `unit` is one for all that come from one start.
+use Rattle.std.specs.Prelude.{ℕ}
 use Rattle.logbook.specs.Pages.{Book}
 use Rattle.pmp_core.specs.RegisterFile.{RegisterFile}
 use Rattle.pmp_share.specs.Batches.{Batches}
@@ -18,13 +18,3 @@ pub record PublisherToken : Type 0 where
   pub published : Batches
   pub pending : Batches
   pub tried : ℕ
-
--- the batches that it tells of
-pub record NoticeToken : Type 0 where
-  pub unit : UnitId
-  pub told : Batches
-
--- the lists of batches that it looked at or learnt of
-pub record CheckerToken : Type 0 where
-  pub unit : UnitId
-  pub held : List Batches

@@ -1,6 +1,6 @@
 //! Checkers: they decide accesses while the publisher publishes.
 
-ghost use Rattle.std.specs.Prelude.{◌≡◌, ◌+◌, ◌<◌, ◌≤◌, [], ◌∷◌, ◌++◌, length, map, IfOk, IfErr, OnOk};
+ghost use Rattle.std.specs.Prelude.{◌≡◌, ◌+◌, ◌<◌, ◌≤◌, length, map, IfOk, IfErr, OnOk};
 ghost use Rattle.std.specs.List.{AllZip};
 ghost use Rattle.pmp_core.specs.declared.access.TheConstants.{ADDRESS_LIMIT};
 ghost use Rattle.pmp_core.specs.Histories.{joined};
@@ -9,15 +9,15 @@ ghost use Rattle.pmp_core.specs.RegisterValue.{register_value};
 ghost use Rattle.pmp_map.specs.RangeRights.{AreRangeRights};
 ghost use Rattle.pmp_share.specs.declared.fault.ShareFault.TheVariants.{Full};
 ghost use Rattle.pmp_share.specs.declared.question.TheConstants.{GROUP_ACCESSES};
-ghost use Rattle.pmp_share.specs.Batches.{event_count};
-ghost use Rattle.pmp_share.specs.Looks.{count_at, file_at, latest, seen, IsLook, LearnsBound};
+ghost use Rattle.pmp_share.specs.Batches.{StartsWith, event_count};
+ghost use Rattle.pmp_share.specs.Known.{file_of};
+ghost use Rattle.pmp_share.specs.Looks.{later_of, IsLook};
 ghost use Rattle.pmp_share.specs.Object.{Decides};
 
 use crate::fault::ShareFault;
-use crate::held_lists::HeldLists;
 use crate::journal::Journal;
 use crate::notice::Notice;
-use crate::question::{Count, GROUP_ACCESSES, Group, Question, Range, WholeJournal};
+use crate::question::{Count, GROUP_ACCESSES, Group, Range, WholeJournal};
 use crate::reader_state::ReaderState;
 use arrayvec::ArrayVec;
 use pmp_core::{Access, Csr, Decision, Mode, Perms};
@@ -30,81 +30,64 @@ pub struct Moved {
     pub seen: u64,
 }
 
-/// Decides accesses in whole published batches, which never fall behind what it saw or learnt of. It keeps nothing
-/// entered between its calls, and can go to any thread.
+/// Decides accesses in whole published batches, and never falls behind what it saw or learnt of. It keeps nothing
+/// entered between its calls, and can go to any thread. A contract sees the batches that it knows, and of which unit
+/// they are.
 #[derive(Drop)]
 pub struct Checker {
     state: ReaderState,
-    held: HeldLists,
 }
 
 impl Model for Checker {
-    ghost use Rattle.pmp_share.specs.Tokens.{CheckerToken};
-    ghost use Rattle.pmp_share.specs.Checking.{IsChecker};
+    ghost use Rattle.pmp_share.specs.declared.knowledge.Known.{Known};
 
-    ghost Value = { CheckerToken };
+    ghost Value = { Known };
 
-    ghost view = { λ checker. record { unit = checker.state.unit; held = checker.held } };
-
-    ghost invariant = { λ checker. IsChecker checker.state checker.held };
+    ghost view = { λ checker. checker.state };
 }
 
 impl Checker {
-    /// A checker that holds what is known there.
+    /// A checker that knows what is known there.
     pub(crate) fn new(state: ReaderState) -> Checker
-        ensures { result ≡ record { unit = state.unit; held = state.list ∷ [] } }
+        ensures { result ≡ state }
     {
-        let held = HeldLists::alone(state.digest());
-        Checker { state, held }
+        Checker { state }
     }
 
     /// Takes in a notice of its own unit. From now on it decides in nothing less.
+    #[tactic(auto, using(crate::proofs::LookFacts::begins_fewer))]
     pub fn learn(&mut self, notice: Notice)
         requires unit { notice.unit ≡ self.old.unit }
         ensures unit { self.new.unit ≡ self.old.unit }
-        ensures held { self.new.held ≡ self.old.held ++ notice.told ∷ [] }
-        ensures reached { (count_at self.old ≤ count_at self.new) × (event_count notice.told ≤ count_at self.new) }
-        ensures bound { LearnsBound self.old.held notice.told self.new.held }
+        ensures later { self.new.list ≡ later_of self.old.list notice.list }
+        ensures begins { StartsWith self.new.list self.old.list × StartsWith self.new.list notice.list }
+        ensures reached { (event_count self.old.list ≤ event_count self.new.list)
+            × (event_count notice.list ≤ event_count self.new.list) }
     {
         let state = notice.into_state();
-        self.held = self.held.with(state.digest());
-        if self.state.digest().is_before(state.digest()) {
+        if self.state.is_before(&state) {
             self.state = state;
         }
-    }
-
-    /// Looks: what is published answers, or where no entrance is given what it knows. It waits for nobody, takes no memory
-    /// of its own, and returns how many events the answer is in.
-    #[inline]
-    fn look<Q: Question>(&mut self, question: &Q) -> (Q::Answer, u64)
-        requires { Q.is_sound question.now }
-        ensures look { IsLook self.old self.new result.1 }
-        ensures answered { Q.answers question.now (seen self.new) result.0 }
-    {
-        let answer = self.state.look(question);
-        self.held = HeldLists::alone(self.state.digest());
-        answer
     }
 
     /// Decides an access in what is published, and returns how many events that is. It waits for nobody.
     pub fn decide(&mut self, access: &Access) -> (Decision, u64)
         ensures look { IsLook self.old self.new result.1 }
-        ensures decided { Decides self.new.unit.base (latest self.new.held) access.now result.0 }
-        ensures computed { result.0 ≡ decision_of (file_at self.new) access.now }
+        ensures decided { Decides self.new.unit.base self.new.list access.now result.0 }
+        ensures computed { result.0 ≡ decision_of (file_of self.new) access.now }
     {
-        self.look(access)
+        self.state.look(access)
     }
 
     /// Decides an access in what is published, if that is just `len` events. It waits for nobody.
     pub fn decide_at(&mut self, len: u64, access: &Access) -> Result<Decision, Moved>
-        requires reached { len ≤ count_at self.old }
-        ensures look { IsLook self.old self.new (count_at self.new) }
-        ensures at_len { OnOk result ((count_at self.new ≡ len)
-            × (joined (latest self.new.held) ≡ joined (latest self.old.held))) }
-        ensures decided { IfOk result (λ decision.
-            Decides self.new.unit.base (latest self.new.held) access.now decision) }
-        ensures computed { IfOk result (λ decision. decision ≡ decision_of (file_at self.new) access.now) }
-        ensures moved { IfErr result (λ moved. (moved.seen ≡ count_at self.new) × (len < moved.seen)) }
+        requires reached { len ≤ event_count self.old.list }
+        ensures look { IsLook self.old self.new (event_count self.new.list) }
+        ensures at_len { OnOk result ((event_count self.new.list ≡ len)
+            × (joined self.new.list ≡ joined self.old.list)) }
+        ensures decided { IfOk result (λ decision. Decides self.new.unit.base self.new.list access.now decision) }
+        ensures computed { IfOk result (λ decision. decision ≡ decision_of (file_of self.new) access.now) }
+        ensures moved { IfErr result (λ moved. (moved.seen ≡ event_count self.new.list) × (len < moved.seen)) }
     {
         let (decision, seen) = self.decide(access);
         if seen != len {
@@ -119,10 +102,10 @@ impl Checker {
     pub fn decide_group(&mut self, accesses: &[Access]) -> (ArrayVec<Decision, GROUP_ACCESSES>, u64)
         requires { length accesses.now ≤ GROUP_ACCESSES }
         ensures look { IsLook self.old self.new result.1 }
-        ensures decided { AllZip (Decides self.new.unit.base (latest self.new.held)) accesses.now result.0.items }
-        ensures computed { result.0.items ≡ map (decision_of (file_at self.new)) accesses.now }
+        ensures decided { AllZip (Decides self.new.unit.base self.new.list) accesses.now result.0.items }
+        ensures computed { result.0.items ≡ map (decision_of (file_of self.new)) accesses.now }
     {
-        self.look(&Group { accesses })
+        self.state.look(&Group { accesses })
     }
 
     /// What the mode may do in the whole range of `length` bytes from byte address `start` on, as a page, in what is
@@ -132,9 +115,9 @@ impl Checker {
         requires full { 0 < length }
         requires inside { start + length ≤ ADDRESS_LIMIT }
         ensures look { IsLook self.old self.new result.1 }
-        ensures rights { AreRangeRights (file_at self.new) mode start length result.0 }
+        ensures rights { AreRangeRights (file_of self.new) mode start length result.0 }
     {
-        self.look(&Range {
+        self.state.look(&Range {
             mode,
             start,
             length,
@@ -146,25 +129,25 @@ impl Checker {
     pub fn count(&mut self) -> u64
         ensures look { IsLook self.old self.new result }
     {
-        self.look(&Count).1
+        self.state.look(&Count).1
     }
 
     /// What the register reads in what is published, and how many events that is. It waits for nobody and takes no
     /// memory.
     pub fn read(&mut self, csr: Csr) -> (u64, u64)
         ensures look { IsLook self.old self.new result.1 }
-        ensures value { result.0 ≡ register_value (file_at self.new) csr }
+        ensures value { result.0 ≡ register_value (file_of self.new) csr }
     {
-        self.look(&csr)
+        self.state.look(&csr)
     }
 
     /// A copy of what is published. `NoPlace` where no entrance is given, as after the publisher's end, and `Memory`
     /// where memory is refused.
     pub fn copy_journal(&mut self) -> Result<Journal, ShareFault>
-        ensures look { IsLook self.old self.new (count_at self.new) }
-        ensures copied { IfOk result (λ journal. journal ≡ latest self.new.held) }
+        ensures look { IsLook self.old self.new (event_count self.new.list) }
+        ensures copied { IfOk result (λ journal. journal ≡ self.new.list) }
         ensures refused { IfErr result (λ fault. ¬ (fault ≡ Full)) }
     {
-        self.look(&WholeJournal).0
+        self.state.look(&WholeJournal).0
     }
 }

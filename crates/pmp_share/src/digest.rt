@@ -1,6 +1,6 @@
 //! What is kept of the batches that a checker or a notice knows.
 
-ghost use Rattle.std.specs.Prelude.{◌≡◌, length, MatchBool};
+ghost use Rattle.std.specs.Prelude.{◌≡◌, MatchBool};
 ghost use Rattle.pmp_share.specs.Batches.{StartsWith};
 ghost use Rattle.pmp_share.specs.Known.{file_of};
 ghost use Rattle.pmp_share.specs.Looks.{is_as_late};
@@ -55,10 +55,23 @@ impl Digest {
         }
     }
 
-    /// Makes it that of a version. A look calls it seldom, so it stands out of line.
+    /// Makes it that of a version which begins with its batches. It is written where that has more.
+    #[inline]
+    pub fn catch_up(&mut self, version: &Version)
+        requires noted { version.now.history.log ≡ version.now.journal }
+        requires unit { self.old.unit ≡ (known_of version.now).unit }
+        requires begins { StartsWith version.now.journal self.old.list }
+        ensures { self.new ≡ known_of version.now }
+    {
+        if self.batches != version.batches() {
+            self.refresh(version);
+        }
+    }
+
+    /// Writes it anew. A look seldom does, so it stands out of line.
     #[cold]
     #[inline(never)]
-    pub fn refresh(&mut self, version: &Version)
+    fn refresh(&mut self, version: &Version)
         requires noted { version.now.history.log ≡ version.now.journal }
         ensures { self.new ≡ known_of version.now }
     {
@@ -69,13 +82,6 @@ impl Digest {
         ensures { result ≡ file_of self.now }
     {
         self.file
-    }
-
-    /// How many batches there are.
-    pub fn batches(&self) -> usize
-        ensures { result ≡ length self.now.list }
-    {
-        self.batches
     }
 
     /// Whether the other's batches hold more events, or as many in no fewer batches.

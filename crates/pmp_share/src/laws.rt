@@ -22,8 +22,7 @@ pub fn law_further_events()
 {}
 
 /// An entry that is frozen in the file of one look keeps its configuration and its bytes in each later look of the same
-/// checker, if the further events hold no reset. A checker stays bound to what it looked at, as `bound` of its calls
-/// says.
+/// checker, if the further events hold no reset. Each look begins with the one before, as `look` of its calls says.
 pub fn law_later_look()
     ensures { LaterLookLaw }
 {

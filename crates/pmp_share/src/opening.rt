@@ -1,6 +1,6 @@
 //! How a unit starts.
 
-ghost use Rattle.std.specs.Prelude.{◌≡◌, ◌≤◌, [], ◌∷◌, IfOk, IfErr, replicate};
+ghost use Rattle.std.specs.Prelude.{◌≡◌, ◌≤◌, IfOk, IfErr, replicate};
 ghost use Rattle.pmp_core.specs.declared.register_file.TheConstants.{ENTRIES};
 ghost use Rattle.pmp_core.specs.RegisterFile.{reset_file};
 ghost use Rattle.pmp_core.specs.SavedRegisters.{restored_file};
@@ -8,6 +8,7 @@ ghost use Rattle.pmp_core.specs.Hart.{profile_of};
 ghost use Rattle.pmp_core.specs.declared.size.Size.TheVariants.{Sixteen};
 ghost use Rattle.pmp_share.specs.declared.fault.ShareFault.TheVariants.{Full};
 ghost use Rattle.pmp_share.specs.declared.opening.TheConstants.{CHECKERS};
+ghost use Rattle.pmp_share.specs.Known.{known};
 ghost use Rattle.pmp_share.specs.Openings.{Started};
 
 use crate::checker::Checker;
@@ -28,7 +29,7 @@ fn seat_checkers(
 ) -> Result<Vec<Checker>, ShareFault>
     ensures same { publisher.new ≡ publisher.old }
     ensures made { IfOk result (λ checkers. checkers.items
-        ≡ replicate k (record { unit = publisher.old.unit; held = publisher.old.published ∷ [] })) }
+        ≡ replicate k (known publisher.old.unit publisher.old.published)) }
     ensures refused { IfErr result (λ fault. ¬ (fault ≡ Full)) }
 {
     let mut checkers = Vec::new(alloc);

@@ -4,6 +4,7 @@ ghost use Rattle.std.specs.Prelude.{◌≡◌, ◌↔◌, [], ◌∷◌, ◌++�
 ghost use Rattle.pmp_core.specs.RegisterValue.{register_value};
 ghost use Rattle.pmp_share.specs.declared.fault.ShareFault.TheVariants.{Full, Memory};
 ghost use Rattle.pmp_share.specs.Batches.{event_count, file_from};
+ghost use Rattle.pmp_share.specs.Known.{known};
 ghost use Rattle.pmp_share.specs.Object.{Publishes};
 ghost use Rattle.pmp_share.specs.Room.{has_room};
 
@@ -70,8 +71,7 @@ impl Publisher {
     /// A checker of its unit, which holds what is published.
     pub(crate) fn checker(&mut self) -> Result<Checker, ShareFault>
         ensures same { self.new ≡ self.old }
-        ensures made { IfOk result (λ checker.
-            checker ≡ record { unit = self.old.unit; held = self.old.published ∷ [] }) }
+        ensures made { IfOk result (λ checker. checker ≡ known self.old.unit self.old.published) }
         ensures refused { IfErr result (λ fault. ¬ (fault ≡ Full)) }
     {
         Ok(Checker::new(self.state.reader_state()?))
@@ -138,8 +138,7 @@ impl Publisher {
     /// once a notice or a checker is dropped, or a notice learnt.
     pub fn tell(&mut self) -> Result<Notice, ShareFault>
         ensures same { self.new ≡ self.old }
-        ensures told { IfOk result (λ notice.
-            notice ≡ record { unit = self.old.unit; told = self.old.published }) }
+        ensures told { IfOk result (λ notice. notice ≡ known self.old.unit self.old.published) }
         ensures refused { IfErr result (λ fault. ¬ (fault ≡ Full)) }
     {
         Ok(Notice::new(self.state.reader_state()?))

@@ -1,25 +1,23 @@
 //! What a checker or a notice is of: a reader of the two copies, and what it knows.
 
-ghost use Rattle.std.specs.Prelude.{◌≡◌, IfOk, IfErr};
+ghost use Rattle.std.specs.Prelude.{◌≡◌, MatchBool};
 ghost use Rattle.pmp_share.specs.Batches.{StartsWith, event_count};
+ghost use Rattle.pmp_share.specs.Looks.{is_as_late, IsLook};
 
 use crate::decider::Decider;
 use crate::digest::Digest;
-use crate::entrance::Entrance;
 use crate::knowledge::Knowledge;
 use crate::question::Question;
 use crate::rule::{Looks, OneHistory};
 use crate::version::Version;
 use core::mem::replace_with;
-use left_right::reader::{Reader, Reading};
+use left_right::reader::Reader;
 use std::marker::Model;
 
 pub type UnitReader = Reader<Version, Knowledge, OneHistory>;
 
-pub type UnitReading = Reading<Version, Knowledge, OneHistory>;
-
-/// A reader of the two copies, and the digest of the batches that it knows: it answers by that where it is given no
-/// entrance. A contract sees the batches, and of which unit they are.
+/// A reader of the two copies, and the digest of the batches that it knows: that answers where no entrance is given. A
+/// contract sees the batches, and of which unit they are.
 #[derive(Drop)]
 pub struct ReaderState {
     reader: UnitReader,
@@ -59,19 +57,6 @@ impl ReaderState {
         ReaderState { reader, digest }
     }
 
-    /// Enters the published version, where an entrance is given.
-    #[inline]
-    fn enter(self) -> Result<Entrance, ReaderState>
-        ensures entered { IfOk result (λ entrance. (entrance.unit ≡ self.unit) × StartsWith entrance.list self.list) }
-        ensures refused { IfErr result (λ state. state ≡ self) }
-    {
-        let ReaderState { reader, digest } = self;
-        match reader.enter_as::<Looks>() {
-            Ok(reading) => Ok(Entrance::new(reading, digest)),
-            Err(reader) => Err(ReaderState::new(reader, digest)),
-        }
-    }
-
     /// The digest of the batches.
     pub fn digest(&self) -> &Digest
         ensures { result.now ≡ self.now }
@@ -79,15 +64,24 @@ impl ReaderState {
         &self.digest
     }
 
-    /// Enters the published version and asks it, or where no entrance is given the digest. Returns how many events that
-    /// has, too.
+    /// Whether the other's batches hold more events, or as many in no fewer batches. Then these are a prefix of them,
+    /// and otherwise they are one of these.
+    pub fn is_before(&self, other: &ReaderState) -> bool
+        requires unit { other.now.unit ≡ self.now.unit }
+        ensures late { result ≡ is_as_late self.now.list other.now.list }
+        ensures begins { MatchBool result (StartsWith other.now.list self.now.list)
+            (StartsWith self.now.list other.now.list) }
+    {
+        self.digest.is_before(&other.digest)
+    }
+
+    /// Looks: the published version answers, or where no entrance is given the digest. Returns how many events the
+    /// answer is in, too.
     #[inline]
     pub fn look<Q: Question>(&mut self, question: &Q) -> (Q::Answer, u64)
         requires { Q.is_sound question.now }
-        ensures unit { self.new.unit ≡ self.old.unit }
-        ensures begins { StartsWith self.new.list self.old.list }
+        ensures look { IsLook self.old self.new result.1 }
         ensures answered { Q.answers question.now self.new result.0 }
-        ensures count { result.1 ≡ event_count self.new.list }
     {
         replace_with(self, question, |state, question| state.asked(question))
     }
@@ -96,19 +90,20 @@ impl ReaderState {
     #[inline]
     fn asked<Q: Question>(self, question: &Q) -> (ReaderState, (Q::Answer, u64))
         requires { Q.is_sound question.now }
-        ensures unit { result.0.unit ≡ self.unit }
-        ensures begins { StartsWith result.0.list self.list }
+        ensures look { IsLook self result.0 result.1.1 }
         ensures answered { Q.answers question.now result.0 result.1.0 }
-        ensures count { result.1.1 ≡ event_count result.0.list }
     {
-        match self.enter() {
-            Ok(entrance) => {
-                let answer = answer_of(question, entrance.version());
-                (entrance.leave(), answer)
+        let ReaderState { reader, mut digest } = self;
+        match reader.enter_as::<Looks>() {
+            Ok(reading) => {
+                let version = reading.get();
+                let answer = answer_of(question, version);
+                digest.catch_up(version);
+                (ReaderState::new(reading.leave(), digest), answer)
             }
-            Err(state) => {
-                let answer = answer_of(question, state.digest());
-                (state, answer)
+            Err(reader) => {
+                let answer = answer_of(question, &*digest);
+                (ReaderState::new(reader, digest), answer)
             }
         }
     }
