@@ -48,11 +48,6 @@ looks seat view version views kept at = (
   (kept.fits seat view at, kept.noted, refl),
 )
 
--- what a reader knows fits the version that it enters
-pub seat_fits : (version : Version) (view : Option Known) (was : Known) → view ≡ Some was → Fits version view
-    → (was.unit ≡ unit_of version) × StartsWith version.journal was.list
-seat_fits version view was is fits = subst (Fits version) is fits
-
 -- what fits a version fits each that begins with it
 fits_later : (now next : Version) → unit_of next ≡ unit_of now → StartsWith next.journal now.journal
     → (view : Option Known) → Fits now view → Fits next view

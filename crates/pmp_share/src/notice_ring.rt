@@ -1,7 +1,9 @@
 //! Rings of notices, by which they reach a checker whose thread runs on.
 
-ghost use Rattle.std.specs.Prelude.{◌≡◌, ◌+◌, ◌<◌, ◌≤◌, IfOk, IfErr, IfSome, IsOk, IsSome};
+ghost use Rattle.std.specs.Prelude.{◌≡◌, ◌+◌, ◌<◌, ◌≤◌, [], ◌∷◌, ◌++◌, length, IfOk, IfErr, IfSome, IsOk, OnOk, IsSome, None};
+ghost use mathlib.Core.List.{IsPrefix};
 ghost use Rattle.pmp_share.specs.declared.fault.ShareFault.TheVariants.{Full};
+ghost use Rattle.pmp_share.specs.NoticeRings.{IsNewRing, ReceiverLooked, SenderLooked};
 
 use crate::fault::ShareFault;
 use crate::notice::Notice;
@@ -30,11 +32,16 @@ pub struct NoticeSender {
 
 impl Model for NoticeSender {
     ghost use Rattle.rtrb.specs.Ring.{sent, known_free};
-    ghost use Rattle.pmp_share.specs.NoticeRings.{SenderToken, Began};
+    ghost use Rattle.pmp_share.specs.NoticeRings.{SenderToken, Began, after_first, ring_of};
 
     ghost Value = { SenderToken };
 
-    ghost view = { λ sender. record { unit = sender.first.value.unit; room = known_free sender.producer } };
+    ghost view = { λ sender. record {
+      ring = ring_of sender.producer.end;
+      unit = sender.first.value.unit;
+      sent = after_first (sent sender.producer);
+      room = known_free sender.producer;
+    } };
 
     ghost invariant = { λ sender. Began (sent sender.producer) sender.first.value.unit };
 }
@@ -47,15 +54,16 @@ pub struct NoticeReceiver {
 }
 
 impl Model for NoticeReceiver {
-    ghost use Rattle.std.specs.Prelude.{length};
     ghost use Rattle.rtrb.specs.Ring.{received, known_items};
-    ghost use Rattle.pmp_share.specs.NoticeRings.{ReceiverToken, Began};
+    ghost use Rattle.pmp_share.specs.NoticeRings.{ReceiverToken, Began, after_first, ring_of};
 
     ghost Value = { ReceiverToken };
 
     ghost view = { λ receiver. record {
+      ring = ring_of receiver.consumer.end;
       unit = receiver.first.value.unit;
-      waiting = length (known_items receiver.consumer);
+      received = after_first (received receiver.consumer);
+      waiting = known_items receiver.consumer;
     } };
 
     ghost invariant = { λ receiver. Began (received receiver.consumer) receiver.first.value.unit };
@@ -72,8 +80,7 @@ impl Publisher {
     ) -> Result<(NoticeSender, NoticeReceiver), ShareFault>
         requires { 1 ≤ room }
         ensures same { self.new ≡ self.old }
-        ensures sender { IfOk result (λ ends. ends.0 ≡ record { unit = self.old.unit; room = room }) }
-        ensures receiver { IfOk result (λ ends. ends.1.unit ≡ self.old.unit) }
+        ensures made { IfOk result (λ ends. IsNewRing self.old.unit room ends.0 ends.1) }
         ensures refused { IfErr result (λ fault. ¬ (fault ≡ Full)) }
     {
         let first = self.tell()?;
@@ -98,13 +105,14 @@ impl Publisher {
 }
 
 impl NoticeSender {
-    /// Sends a notice of the ring's unit, or answers it back where the ring is full.
+    /// Sends a notice of the ring's unit behind those that it sent, or hands it back where the ring is full.
     pub fn send(&mut self, notice: Notice) -> Result<(), Notice>
         requires unit { notice.unit ≡ self.old.unit }
-        ensures unit { self.new.unit ≡ self.old.unit }
+        ensures same { (self.new.ring ≡ self.old.ring) × (self.new.unit ≡ self.old.unit) }
+        ensures sent { OnOk result (self.new.sent ≡ self.old.sent ++ notice ∷ []) }
         ensures room { self.old.room ≤ self.new.room + 1 }
         ensures succeeds { 0 < self.old.room → IsOk result }
-        ensures refused { IfErr result (λ back. back ≡ notice) }
+        ensures full { IfErr result (λ back. (back ≡ notice) × (self.new.sent ≡ self.old.sent)) }
     {
         match self.producer.push(notice) {
             Ok(()) => Ok(()),
@@ -114,37 +122,47 @@ impl NoticeSender {
 
     /// Whether the receiver was dropped. What is sent then is lost.
     pub fn is_abandoned(&mut self) -> bool
-        ensures unit { self.new.unit ≡ self.old.unit }
-        ensures room { self.old.room ≤ self.new.room }
+        ensures { SenderLooked self.old self.new }
     {
         self.producer.is_abandoned()
     }
 }
 
 impl NoticeReceiver {
-    /// The next notice that was sent, where one is there. It is of the ring's unit.
+    /// The next notice that was sent, if one is there. It is of the ring's unit.
     pub fn receive(&mut self) -> Option<Notice>
-        ensures unit { self.new.unit ≡ self.old.unit }
-        ensures waiting { self.old.waiting ≤ self.new.waiting + 1 }
-        ensures received { IfSome result (λ notice. notice.unit ≡ self.old.unit) }
-        ensures succeeds { 0 < self.old.waiting → IsSome result }
+        ensures same { (self.new.ring ≡ self.old.ring) × (self.new.unit ≡ self.old.unit) }
+        ensures received { IfSome result (λ notice. (notice.unit ≡ self.old.unit)
+            × (self.new.received ≡ self.old.received ++ notice ∷ [])
+            × IsPrefix self.old.waiting (notice ∷ self.new.waiting)) }
+        ensures none { (result ≡ None) → (self.new.received ≡ self.old.received) × (self.new.waiting ≡ []) }
+        ensures succeeds { 0 < length self.old.waiting → IsSome result }
     {
         self.consumer.pop().ok()
     }
 
     /// How many notices are there. Each of them is received.
     pub fn waiting(&mut self) -> usize
-        ensures unit { self.new.unit ≡ self.old.unit }
-        ensures known { self.old.waiting ≤ self.new.waiting }
-        ensures value { result ≡ self.new.waiting }
+        ensures looked { ReceiverLooked self.old self.new }
+        ensures value { result ≡ length self.new.waiting }
     {
         self.consumer.slots()
     }
 
+    /// The same on a thread that has both ends, as after a join: what was received and what waits is what was sent, each
+    /// notice once and in order.
+    pub fn waiting_beside(&mut self, sender: &mut NoticeSender) -> usize
+        requires pair { sender.old.ring ≡ self.old.ring }
+        ensures looked { ReceiverLooked self.old self.new × SenderLooked sender.old sender.new }
+        ensures value { result ≡ length self.new.waiting }
+        ensures in_order { self.new.received ++ self.new.waiting ≡ sender.new.sent }
+    {
+        self.consumer.slots_beside(&mut sender.producer)
+    }
+
     /// Whether the sender was dropped. What it had sent is received still.
     pub fn is_abandoned(&mut self) -> bool
-        ensures unit { self.new.unit ≡ self.old.unit }
-        ensures waiting { self.old.waiting ≤ self.new.waiting }
+        ensures { ReceiverLooked self.old self.new }
     {
         self.consumer.is_abandoned()
     }
