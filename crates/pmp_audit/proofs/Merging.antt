@@ -14,7 +14,8 @@ use Rattle.pmp_core.specs.declared.decision.Decision.{Decision}
 use Rattle.pmp_core.specs.Ranges.{decision_of}
 use Rattle.pmp_core.specs.RegisterFile.{RegisterFile}
 use Rattle.pmp_share.specs.Batches.{file_from}
-use Rattle.pmp_share.specs.Tokens.{PublisherToken, CheckerToken, NoticeToken}
+use Rattle.pmp_share.specs.declared.knowledge.Known.{Known}
+use Rattle.pmp_share.specs.Tokens.{PublisherToken}
 use Rattle.pmp_text.specs.declared.trace.Row.{Row}
 use Rattle.pmp_audit.specs.declared.shared_audit.work_fault.WorkFault.{WorkFault}
 use Rattle.pmp_audit.specs.declared.shared_audit.job.Done.{Done}
@@ -168,7 +169,7 @@ done_at results all worker done same at =
 -- what a call of `work` says of its job
 abbrev pub IsDoneAs : (workers first : ℕ) → List Row → Job → Result Done WorkFault → Type 0
 IsDoneAs workers first rows job result =
-    IfOk result (IsDone job.checker.unit (file_from job.checker.unit.base job.notice.told) job.worker workers first
+    IfOk result (IsDone job.checker.unit (file_from job.checker.unit.base job.notice.list) job.worker workers first
     rows)
 
 -- each of so many workers was given a job, and all brought back what `work` says of it
@@ -192,10 +193,10 @@ module _ (publisher : PublisherToken) (count workers first : ℕ) (rows : List R
       let within = slice_get_within all worker done at in omega (arith, all_many, are.many) in
       let (job, job_is, is) = each worker (Ok done) inside in
       let at_job : slice_get jobs worker ≡ Some job = slice_get-get_or jobs worker job inside ∙ ap Some (job_is job) in
-      let own : IsDone job.checker.unit (file_from job.checker.unit.base job.notice.told) job.worker workers first
+      let own : IsDone job.checker.unit (file_from job.checker.unit.base job.notice.list) job.worker workers first
       rows done = subst (IsDoneAs workers first rows job) (done_at results all worker done same at) is in
       let j : IsJob publisher worker job = are.each worker job at_job in
-      let told : job.notice.told ≡ publisher.published = ap (λ (n : NoticeToken). n.told) j.notice in
+      let told : job.notice.list ≡ publisher.published = ap (λ (n : Known). n.list) j.notice in
       let number : workers ≡ length all = as_many ∙ sym all_many in
       rw (j.same_unit, told, j.numbered, number) at own
 
@@ -205,19 +206,19 @@ module _ (publisher : PublisherToken) (count workers first : ℕ) (rows : List R
   pub all_in_file : AreInFile file all
   all_in_file worker done at = (all_met worker done at).in_file
 
-  pub all_checkers : (checkers : List CheckerToken)
+  pub all_checkers : (checkers : List Known)
       → checkers ≡ map (λ done. done.checker) all → AreCheckersOf publisher.unit count checkers
   all_checkers checkers is = record {
-    many = ap (λ (l : List CheckerToken). length l) is ∙ length-map all (λ (done : Done). done.checker) ∙ all_many;
+    many = ap (λ (l : List Known). length l) is ∙ length-map all (λ (done : Done). done.checker) ∙ all_many;
     same_unit = λ i d inside.
-        let of : Done → CheckerToken = λ done. done.checker in
-        let many = ap (λ (l : List CheckerToken). length l) is ∙ length-map all of in
+        let of : Done → Known = λ done. done.checker in
+        let many = ap (λ (l : List Known). length l) is ∙ length-map all of in
         elim ((slice_get_cases all i).1) [
           | inl (done, within, at, _) ↦
               let here : get_or checkers i d ≡ done.checker =
-              ap (λ (l : List CheckerToken). get_or l i d) is ∙ get_or-map of all i done d within
+              ap (λ (l : List Known). get_or l i d) is ∙ get_or-map of all i done d within
               ∙ ap of (get_or_from_slice_get all i done done at) in
-              ap (λ (c : CheckerToken). c.unit) here ∙ (all_met i done at).same_unit
+              ap (λ (c : Known). c.unit) here ∙ (all_met i done at).same_unit
           | inr (past, _) ↦ absurd (omega (arith, many))
         ];
   }

@@ -6,8 +6,10 @@ use Rattle.pmp_core.specs.declared.decision.Decision.{Decision}
 use Rattle.pmp_core.specs.Ranges.{decision_of}
 use Rattle.pmp_core.specs.RegisterFile.{RegisterFile}
 use Rattle.pmp_share.specs.declared.fault.ShareFault.TheVariants.{NoPlace}
+use Rattle.pmp_share.specs.declared.knowledge.Known.{Known}
 use Rattle.pmp_share.specs.Batches.{Batches, event_count}
-use Rattle.pmp_share.specs.Tokens.{PublisherToken, CheckerToken, UnitId}
+use Rattle.pmp_share.specs.Known.{known}
+use Rattle.pmp_share.specs.Tokens.{PublisherToken, UnitId}
 use Rattle.pmp_text.specs.declared.trace.Row.{Row}
 use Rattle.pmp_text.specs.Contents.{ScriptContents}
 use Rattle.pmp_text.specs.Reports.{file_of_script}
@@ -46,7 +48,7 @@ pub record AreDecidedSoFar (script : ScriptContents) (rows : List Row) (after : 
   pub order : IsInOrder (length script.batches) after (afters (map row_fields (drop (length decided) rows)))
 
 -- so many checkers, all of one unit
-pub record AreCheckersOf (unit : UnitId) (count : ℕ) (checkers : List CheckerToken) : Type 0 where
+pub record AreCheckersOf (unit : UnitId) (count : ℕ) (checkers : List Known) : Type 0 where
   pub many : length checkers ≡ count
   pub same_unit : All (λ checker. checker.unit ≡ unit) checkers
 
@@ -54,7 +56,7 @@ pub record AreCheckersOf (unit : UnitId) (count : ℕ) (checkers : List CheckerT
 pub record IsJob (publisher : PublisherToken) (worker : ℕ) (job : Job) : Type 0 where
   pub numbered : job.worker ≡ worker
   pub same_unit : job.checker.unit ≡ publisher.unit
-  pub notice : job.notice ≡ record { unit = publisher.unit; told = publisher.published }
+  pub notice : job.notice ≡ known publisher.unit publisher.published
 
 -- so many jobs, one for each worker
 pub record AreJobs (publisher : PublisherToken) (count : ℕ) (jobs : List Job) : Type 0 where

@@ -1,10 +1,10 @@
 -- What a worker of a shared audit knows and does.
 use Rattle.std.specs.Prelude.{◌≡◌, ℕ, ◌<◌, ◌≤◌, ◌%◌, ◌/◌, List, All, map, slice_get, ⊤}
 use Rattle.std.specs.List.{enumerate_from}
+use Rattle.pmp_share.specs.declared.knowledge.Known.{Known}
 use Rattle.pmp_share.specs.Tokens.{UnitId}
 use Rattle.pmp_core.specs.RegisterFile.{RegisterFile}
-use Rattle.pmp_share.specs.Batches.{Batches, event_count, file_from}
-use Rattle.pmp_share.specs.Looks.{latest, Bound}
+use Rattle.pmp_share.specs.Batches.{Batches, StartsWith, event_count, file_from}
 use Rattle.pmp_text.specs.declared.trace.Row.{Row}
 use Rattle.pmp_audit.specs.declared.shared_audit.job.Done.{Done}
 use Rattle.pmp_audit.specs.declared.shared_audit.row_decision.RowDecision.{RowDecision}
@@ -16,13 +16,13 @@ abbrev pub IsDealt : {A : Type 0} → (worker workers : ℕ) → (all hand : Lis
 IsDealt worker workers all hand =
     (place : ℕ) → place % workers ≡ worker → slice_get hand (place / workers) ≡ slice_get all place
 
--- some batches are bound that hold so many events and leave this file of the base
-pub record HasLearnt (base : RegisterFile) (held : List Batches) (count : ℕ) (file : RegisterFile) : Type 0 where
+-- what is known begins with batches that hold so many events and give this file
+pub record HasLearnt (known : Known) (count : ℕ) (file : RegisterFile) : Type 0 where
   pub told : Batches
-  pub bound : Bound held told
+  pub begins : StartsWith known.list told
   pub counted : count ≡ event_count told
-  pub replayed : file ≡ file_from base told
-  pub reached : count ≤ event_count (latest held)
+  pub replayed : file ≡ file_from known.unit.base told
+  pub reached : count ≤ event_count known.list
 
 -- why a worker stops that was told of these batches: it saw more events than they have, or memory ran out
 abbrev pub StopsWork : Batches → WorkFault → Type 0

@@ -77,9 +77,9 @@ fn round<R: Threads + Wait + Sync, G: Gate + Sync>(
         jobs,
         &|job: Job| -> Result<Done, WorkFault>
             requires { (0 < workers) × (first + length rows.now ≤ 2 ^ 64) }
-            ensures done { IfOk result (IsDone job.checker.unit (file_from job.checker.unit.base job.notice.told)
+            ensures done { IfOk result (IsDone job.checker.unit (file_from job.checker.unit.base job.notice.list)
                 job.worker workers first rows.entry.now) }
-            ensures refused { IfErr result (StopsWork job.notice.told) }
+            ensures refused { IfErr result (StopsWork job.notice.list) }
         {
             let Job {
                 worker,

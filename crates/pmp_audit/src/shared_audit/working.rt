@@ -3,7 +3,6 @@
 ghost use Rattle.std.specs.Prelude.{◌≡◌, ◌<◌, OnOk, IfOk, IfErr, length};
 ghost use Rattle.pmp_audit.specs.Working.{HasLearnt, IsDone, StopsWork, row_of};
 ghost use Rattle.pmp_share.specs.Batches.{event_count, file_from};
-ghost use Rattle.pmp_share.specs.Looks.{latest};
 
 use super::hand::Hand;
 use super::job::Done;
@@ -26,14 +25,14 @@ fn ask(
     number: u64,
     row: &Row,
 ) -> Result<RowDecision, Moved>
-    requires { HasLearnt checker.old.unit.base checker.old.held count file.now }
+    requires { HasLearnt checker.old count file.now }
     ensures unit { checker.new.unit ≡ checker.old.unit }
-    ensures learnt { OnOk result (HasLearnt checker.new.unit.base checker.new.held count file.now) }
-    ensures asked { OnOk result (event_count (latest checker.new.held) ≡ count) }
+    ensures learnt { OnOk result (HasLearnt checker.new count file.now) }
+    ensures asked { OnOk result (event_count checker.new.list ≡ count) }
     ensures row { IfOk result (λ decision. row_of decision ≡ (number, row.now)) }
     ensures file { IfOk result (λ decision. decision.file.value ≡ file.now) }
     ensures moved { IfErr result (λ moved.
-        (moved.seen ≡ event_count (latest checker.new.held)) × (count < moved.seen)) }
+        (moved.seen ≡ event_count checker.new.list) × (count < moved.seen)) }
 {
     law_same_events();
     let decision = checker.decide_at(count, &row.access)?;
@@ -55,11 +54,11 @@ pub(crate) fn work<G: Gate>(
     gate: &G,
 ) -> Result<Done, WorkFault>
     requires { notice.unit ≡ checker.unit }
-    ensures done { IfOk result (IsDone checker.unit (file_from checker.unit.base notice.told)
+    ensures done { IfOk result (IsDone checker.unit (file_from checker.unit.base notice.list)
         hand.entry.worker hand.entry.workers hand.entry.first hand.entry.rows.now) }
     ensures asked { IfOk result (λ done. 0 < length done.decisions.items →
-        event_count (latest done.checker.held) ≡ event_count notice.told) }
-    ensures refused { IfErr result (StopsWork notice.told) }
+        event_count done.checker.list ≡ event_count notice.list) }
+    ensures refused { IfErr result (StopsWork notice.list) }
 {
     let count = notice.len();
     let file = notice.file();

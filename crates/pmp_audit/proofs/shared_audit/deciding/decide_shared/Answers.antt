@@ -33,19 +33,19 @@ returns-in_err-publisher-clause-refused g c =
 
 pub decide_rows-decided-requires-clause-some : goal.decide_rows-decided-requires-clause-some
 decide_rows-decided-requires-clause-some g c κs lived =
-    let many = so_many (λ checker. checker.unit) _ _ _ c.in_ok-publisher.ensures.checkers in omega arith
+    let many = so_many (λ checker. checker.unit) _ _ _ c.in_ok-publisher.ensures.started.seated in omega arith
 
 pub decide_rows-decided-requires-clause-few : goal.decide_rows-decided-requires-clause-few
 decide_rows-decided-requires-clause-few g c κs lived =
-    let many = so_many (λ checker. checker.unit) _ _ _ c.in_ok-publisher.ensures.checkers in omega arith
+    let many = so_many (λ checker. checker.unit) _ _ _ c.in_ok-publisher.ensures.started.seated in omega arith
 
 pub decide_rows-decided-requires-clause-same_unit : goal.decide_rows-decided-requires-clause-same_unit
 decide_rows-decided-requires-clause-same_unit g c κs lived =
-    alike (λ checker. checker.unit) _ _ _ c.in_ok-publisher.ensures.checkers
+    alike (λ checker. checker.unit) _ _ _ c.in_ok-publisher.ensures.started.seated
 
 pub decide_rows-decided-requires-clause-base : goal.decide_rows-decided-requires-clause-base
 decide_rows-decided-requires-clause-base g c κs lived =
-    c.in_ok-publisher.ensures.base ∙ c.save.ensures.restored ∙ c.start.ensures
+    c.in_ok-publisher.ensures.started.base ∙ c.save.ensures.restored ∙ c.start.ensures
 
 pub returns-clause-decided : goal.returns-clause-decided
 returns-clause-decided g c = c.decide_rows-decided.ensures.decided

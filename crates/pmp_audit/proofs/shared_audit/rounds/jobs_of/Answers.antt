@@ -1,7 +1,8 @@
 use Rattle.std.proofs.Common.{◌≡◌, ◌∙◌, ◌∷◌, [], ◌++◌, length, sym, ap, arith, append_assoc}
 use Rattle.std.specs.Vec.Iter.{into_iter_items}
 use Rattle.std.proofs.lemmas.List.{length_push}
-use Rattle.pmp_share.specs.Tokens.{CheckerToken, PublisherToken, NoticeToken}
+use Rattle.pmp_share.specs.declared.knowledge.Known.{Known}
+use Rattle.pmp_share.specs.Tokens.{PublisherToken}
 use Rattle.pmp_audit.specs.Rounds.{IsJob}
 use Rattle.pmp_audit.proofs.Merging.{all_at, one_job}
 use Rattle.pmp_audit.proofs.shared_audit.rounds.jobs_of.Goals as goal
@@ -16,10 +17,10 @@ invariant_of-push c =
     let whole : at.yielded ++ (x ∷ rest) ≡ c.args.checkers.items =
     ap (λ l. at.yielded ++ l) (sym steps) ∙ at.invariant.whole in
     let own : x.unit ≡ unit =
-    all_at (λ (checker : CheckerToken). checker.unit ≡ unit) at.yielded x rest c.args.checkers.items whole
+    all_at (λ (checker : Known). checker.unit ≡ unit) at.yielded x rest c.args.checkers.items whole
     c.requires.same_unit in
     record {
-      same_unit = ap (λ (n : NoticeToken). n.unit) c.in_ok-notice.ensures.told
+      same_unit = ap (λ (n : Known). n.unit) c.in_ok-notice.ensures.told
           ∙ ap (λ (p : PublisherToken). p.unit) at.invariant.same ∙ sym own;
     }
 
@@ -33,7 +34,7 @@ loop-checker-preserved c =
     let whole : at.yielded ++ (x ∷ rest) ≡ c.args.checkers.items =
     ap (λ l. at.yielded ++ l) (sym steps) ∙ at.invariant.whole in
     let own : x.unit ≡ unit =
-    all_at (λ (checker : CheckerToken). checker.unit ≡ unit) at.yielded x rest c.args.checkers.items whole
+    all_at (λ (checker : Known). checker.unit ≡ unit) at.yielded x rest c.args.checkers.items whole
     c.requires.same_unit in
     let job : IsJob at.publisher (length at.yielded) _ = record {
       numbered = omega (arith, at.invariant.jobs.many, at.jobs.ok.0);
