@@ -1,13 +1,13 @@
 -- What a hart's TLB has, beside its checker.
 use Rattle.std.specs.Prelude.{◌≡◌, List, Option, IfSome, All}
 use Rattle.pmp_harts.specs.declared.hart.Page.{Page}
-use Rattle.pmp_share.specs.Looks.{latest, Bound}
-use Rattle.pmp_share.specs.Tokens.{CheckerToken}
+use Rattle.pmp_share.specs.declared.knowledge.Known.{Known}
+use Rattle.pmp_share.specs.Batches.{StartsWith}
 
--- the checker is of the page's unit, and bound to the batches that the page's rights are of
-abbrev pub IsBehind : CheckerToken → Page → Type 0
-IsBehind checker page = (page.seen.value.unit ≡ checker.unit) × Bound checker.held (latest page.seen.value.held)
+-- what the checker knows begins with the batches that the page's rights are of, in one unit
+abbrev pub IsBehind : Known → Page → Type 0
+IsBehind known page = (page.seen.value.unit ≡ known.unit) × StartsWith known.list page.seen.value.list
 
 -- so it is with each page
-abbrev pub AreBehind : CheckerToken → List (Option Page) → Type 0
-AreBehind checker pages = All (λ place. IfSome place (IsBehind checker)) pages
+abbrev pub AreBehind : Known → List (Option Page) → Type 0
+AreBehind known pages = All (λ place. IfSome place (IsBehind known)) pages

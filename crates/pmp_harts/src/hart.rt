@@ -1,9 +1,9 @@
 //! A hart: its checker, and before that a TLB of the rights of pages.
 
-ghost use Rattle.std.specs.Prelude.{◌≡◌, ◌++◌, ◌∷◌, []};
-ghost use Rattle.pmp_share.specs.Looks.{KeepsBound};
+ghost use Rattle.std.specs.Prelude.{◌≡◌};
+ghost use Rattle.pmp_share.specs.Batches.{StartsWith, event_count};
 ghost use Rattle.pmp_harts.specs.declared.hart.TheConstants.{PAGE};
-ghost use Rattle.pmp_harts.specs.Pages.{allows_at, count_at, HasRights, IsInside};
+ghost use Rattle.pmp_harts.specs.Pages.{allows_at, HasRights, IsInside};
 
 use pmp_core::{Access, Mode, Perms};
 use pmp_share::laws::law_same_events;
@@ -22,7 +22,7 @@ pub struct Answer {
     pub by_tlb: bool,
     seen: Snapshot<Checker>,
     ghost decided: { allowed ≡ allows_at seen.value access },
-    ghost counted: { events ≡ count_at seen.value },
+    ghost counted: { events ≡ event_count seen.value.list },
 }
 
 impl Answer {
@@ -34,7 +34,7 @@ impl Answer {
         by_tlb: bool,
     ) -> Answer
         requires decided { allowed ≡ allows_at seen.value access.now }
-        requires counted { events ≡ count_at seen.value }
+        requires counted { events ≡ event_count seen.value.list }
         ensures { (result.access ≡ access.now) × (result.allowed ≡ allowed) × (result.events ≡ events) }
     {
         Answer {
@@ -56,7 +56,7 @@ struct Page {
     events: u64,
     seen: Snapshot<Checker>,
     ghost right: { HasRights seen.value mode start PAGE rights },
-    ghost counted: { events ≡ count_at seen.value },
+    ghost counted: { events ≡ event_count seen.value.list },
 }
 
 impl Page {
@@ -77,10 +77,10 @@ pub struct Hart {
 }
 
 impl Model for Hart {
-    ghost use Rattle.pmp_share.specs.Tokens.{CheckerToken};
+    ghost use Rattle.pmp_share.specs.declared.knowledge.Known.{Known};
     ghost use Rattle.pmp_harts.specs.Tlb.{AreBehind};
 
-    ghost Value = { CheckerToken };
+    ghost Value = { Known };
 
     ghost view = { λ hart. hart.checker };
 
@@ -100,7 +100,7 @@ impl Hart {
     pub fn learn(&mut self, notice: Notice)
         requires { notice.unit ≡ self.old.unit }
         ensures unit { self.new.unit ≡ self.old.unit }
-        ensures held { self.new.held ≡ self.old.held ++ notice.told ∷ [] }
+        ensures begins { StartsWith self.new.list self.old.list × StartsWith self.new.list notice.list }
     {
         self.checker.learn(notice);
     }
@@ -109,10 +109,10 @@ impl Hart {
     /// events that are published.
     pub fn answer(&mut self, access: &Access) -> Answer
         ensures unit { self.new.unit ≡ self.old.unit }
-        ensures bound { KeepsBound self.old.held self.new.held }
+        ensures begins { StartsWith self.new.list self.old.list }
         ensures same { result.access ≡ access.now }
         ensures decided { result.allowed ≡ allows_at self.new access.now }
-        ensures fresh { result.events ≡ count_at self.new }
+        ensures fresh { result.events ≡ event_count self.new.list }
     {
         law_same_events();
         let (events, start) = (self.checker.count(), access.start - access.start % PAGE);

@@ -2,7 +2,7 @@
 
 ghost use Rattle.std.specs.Prelude.{◌≡◌, IfOk};
 ghost use Rattle.pmp_core.specs.Ranges.{decision_of};
-ghost use Rattle.pmp_share.specs.Batches.{file_from};
+ghost use Rattle.pmp_share.specs.Known.{file_of};
 ghost use Rattle.pmp_share.specs.Object.{Decides};
 
 use super::unit::{Unit, by_entry};
@@ -15,9 +15,9 @@ use pmp_share::{Checker, Moved, Notice};
 fn ask(checker: &mut Checker, notice: Notice, access: &Access) -> Result<Decision, Moved>
     requires { notice.unit ≡ checker.old.unit }
     ensures unit { checker.new.unit ≡ checker.old.unit }
-    ensures decided { IfOk result (λ decision. Decides notice.unit.base notice.told access.now decision) }
+    ensures decided { IfOk result (λ decision. Decides notice.unit.base notice.list access.now decision) }
     ensures computed { IfOk result (λ decision.
-        decision ≡ decision_of (file_from notice.unit.base notice.told) access.now) }
+        decision ≡ decision_of (file_of notice) access.now) }
 {
     let len = notice.len();
     checker.learn(notice);
@@ -36,7 +36,7 @@ pub fn ask_both(
 ) -> (Result<Decision, Moved>, Result<Decision, Moved>)
     requires units { (to_first.unit ≡ first.old.unit) × (to_second.unit ≡ second.old.unit) }
     requires base { to_second.unit.base ≡ to_first.unit.base }
-    requires told { to_second.told ≡ to_first.told }
+    requires told { to_second.list ≡ to_first.list }
     ensures units { (first.new.unit ≡ first.old.unit) × (second.new.unit ≡ second.old.unit) }
     ensures alike { IfOk result.0 (λ one. IfOk result.1 (λ other. other ≡ one)) }
 {

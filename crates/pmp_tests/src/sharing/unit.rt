@@ -1,7 +1,7 @@
 //! A publisher with two checkers, and what tests have them do.
 
 ghost use Rattle.std.specs.Prelude.{◌≡◌, ◌≤◌, length};
-ghost use Rattle.pmp_share.specs.declared.group.TheConstants.{GROUP_ACCESSES};
+ghost use Rattle.pmp_share.specs.declared.question.TheConstants.{GROUP_ACCESSES};
 
 use super::asking::ask_both;
 use pmp_core::{Access, Cause, Decision, Event, Kind, Mode, Size};

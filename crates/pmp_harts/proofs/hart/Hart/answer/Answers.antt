@@ -1,10 +1,11 @@
 use Rattle.std.proofs.Common.{◌≡◌, IfSome, ap, sym, subst, ◌∙◌, refl, rules}
 use Rattle.std.proofs.lemmas.List.Elements.{All-set}
 use Rattle.pmp_core.specs.Ranges.{decision_of}
-use Rattle.pmp_share.specs.Looks.{KeepsBound}
-use Rattle.pmp_share.specs.Tokens.{CheckerToken}
+use Rattle.pmp_share.specs.declared.knowledge.Known.{Known}
+use Rattle.pmp_share.specs.Batches.{StartsWith}
+use Rattle.pmp_share.specs.Known.{file_of}
 use Rattle.pmp_harts.specs.Tlb.{IsBehind}
-use Rattle.pmp_harts.specs.Pages.{file_at, allows_at}
+use Rattle.pmp_harts.specs.Pages.{allows_at}
 use Rattle.pmp_harts.proofs.Behind.{GoesOn, goes_on_twice, stay_behind, same_file, filled}
 use Rattle.pmp_harts.proofs.hart.Hart.answer.Goals as goal
 use Rattle.pmp_harts.proofs.hart.Hart.answer.Goals.{After-count-events, After-of, After-rights, After-decide-events}
@@ -13,11 +14,11 @@ use Rattle.pmp_harts.proofs.hart.Hart.answer.Goals.{then-access-start+in_default
 -- ---- the checker
 
 counted : (c : After-count-events) → GoesOn c.self.inside.checker c.count-events.new.self
-counted c = (c.count-events.ensures.unit, c.count-events.ensures.bound)
+counted c = (c.count-events.ensures.look.unit, c.count-events.ensures.look.begins)
 
 filled_in : (c : After-rights) → GoesOn c.self.inside.checker c.rights.new.self
 filled_in c = goes_on_twice c.self.inside.checker c.count-events.new.self c.rights.new.self
-    (c.count-events.ensures.unit, c.count-events.ensures.bound) (c.rights.ensures.unit, c.rights.ensures.bound)
+    (c.count-events.ensures.look.unit, c.count-events.ensures.look.begins) (c.rights.ensures.look.unit, c.rights.ensures.look.begins)
 
 -- where it decides, it may have been asked for rights before, and the TLB is as it was
 asked : (c : After-decide-events) → GoesOn c.self.inside.checker c.if-access-start.self-inside.checker
@@ -25,15 +26,15 @@ asked : (c : After-decide-events) → GoesOn c.self.inside.checker c.if-access-s
 asked c = elim c.if-access-start.branch [
   | then-access-start+in_default+in_default-2 w ↦ rw w.self-inside-is (
     goes_on_twice c.self.inside.checker c.count-events.new.self w.rights.new.self
-        (c.count-events.ensures.unit, c.count-events.ensures.bound) (w.rights.ensures.unit, w.rights.ensures.bound),
+        (c.count-events.ensures.look.unit, c.count-events.ensures.look.begins) (w.rights.ensures.look.unit, w.rights.ensures.look.begins),
     refl,
   )
-  | else-access-start w ↦ rw w.self-inside-is ((c.count-events.ensures.unit, c.count-events.ensures.bound), refl)
+  | else-access-start w ↦ rw w.self-inside-is ((c.count-events.ensures.look.unit, c.count-events.ensures.look.begins), refl)
 ]
 
 decided : (c : After-decide-events) → GoesOn c.self.inside.checker c.decide-events.new.self
 decided c = goes_on_twice c.self.inside.checker c.if-access-start.self-inside.checker c.decide-events.new.self
-    (asked c).0 (c.decide-events.ensures.unit, c.decide-events.ensures.bound)
+    (asked c).0 (c.decide-events.ensures.look.unit, c.decide-events.ensures.look.begins)
 
 -- ---- by the TLB
 
@@ -46,9 +47,9 @@ events c = search rules
 
 by_page : (c : After-of) → c.allows-allowed.result ≡ allows_at c.count-events.new.self c.args.access.now
 by_page c =
-    let file : file_at c.count-events.new.self ≡ file_at c.in-Some.page.seen.value =
-    same_file _ _ (c.count-events.ensures.unit, c.count-events.ensures.bound) c.law_same_events.ensures
-    c.in-Some.page (held c) (sym c.count-events.ensures.count ∙ sym (events c) ∙ c.in-Some.page.counted) in
+    let file : file_of c.count-events.new.self ≡ file_of c.in-Some.page.seen.value =
+    same_file _ _ (c.count-events.ensures.look.unit, c.count-events.ensures.look.begins) c.law_same_events.ensures
+    c.in-Some.page (held c) (sym c.count-events.ensures.look.count ∙ sym (events c) ∙ c.in-Some.page.counted) in
     c.allows-allowed.ensures ∙ ap (λ file. (decision_of file c.args.access.now).allowed) (sym file)
 
 pub of-requires-then-access-start-clause-decided : goal.of-requires-then-access-start-clause-decided
@@ -58,10 +59,10 @@ of-requires-then-access-start-clause-decided c =
 pub invariant_of-self : goal.invariant_of-self
 invariant_of-self c = stay_behind _ _ (counted (goal.at.invariant_of-self c).After-count-events) _ c.self.invariant
 
-pub returns-then-access-start-clause-bound : goal.returns-then-access-start-clause-bound
-returns-then-access-start-clause-bound c =
-    subst (λ (old : CheckerToken). KeepsBound old.held c.count-events.new.self.held) c.self.view_is
-    c.count-events.ensures.bound
+pub returns-then-access-start-clause-begins : goal.returns-then-access-start-clause-begins
+returns-then-access-start-clause-begins c =
+    subst (λ (old : Known). StartsWith c.count-events.new.self.list old.list) c.self.view_is
+    c.count-events.ensures.look.begins
 
 pub returns-then-access-start-clause-decided : goal.returns-then-access-start-clause-decided
 returns-then-access-start-clause-decided c =
@@ -71,13 +72,13 @@ returns-then-access-start-clause-decided c =
 
 pub invariant_of-self-in-Some-default : goal.invariant_of-self-in-Some-default
 invariant_of-self-in-Some-default c = All-set (λ place. IfSome place (IsBehind c.rights.new.self)) c.self.inside.tlb _ _
-    (filled c.count-events.new.self c.rights.new.self _ c.of-in-Some-default.ensures c.rights.ensures.looked)
+    (filled c.rights.new.self _ c.of-in-Some-default.ensures)
     (stay_behind _ _ (filled_in (goal.at.invariant_of-self-in-Some-default c).After-rights) _ c.self.invariant)
 
-pub returns-in-Some-default-clause-bound : goal.returns-in-Some-default-clause-bound
-returns-in-Some-default-clause-bound c =
-    subst (λ (old : CheckerToken). KeepsBound old.held c.rights.new.self.held) c.self.view_is
-    (filled_in (goal.at.returns-in-Some-default-clause-bound c).After-rights).1
+pub returns-in-Some-default-clause-begins : goal.returns-in-Some-default-clause-begins
+returns-in-Some-default-clause-begins c =
+    subst (λ (old : Known). StartsWith c.rights.new.self.list old.list) c.self.view_is
+    (filled_in (goal.at.returns-in-Some-default-clause-begins c).After-rights).1
 
 -- ---- by the unit, without one
 
@@ -86,7 +87,7 @@ invariant_of-self-2 c =
     let after = (goal.at.invariant_of-self-2 c).After-decide-events in
     rw (asked after).1 (stay_behind _ _ (decided after) c.self.inside.tlb c.self.invariant)
 
-pub returns-clause-bound : goal.returns-clause-bound
-returns-clause-bound c =
-    subst (λ (old : CheckerToken). KeepsBound old.held c.decide-events.new.self.held) c.self.view_is
-    (decided (goal.at.returns-clause-bound c).After-decide-events).1
+pub returns-clause-begins : goal.returns-clause-begins
+returns-clause-begins c =
+    subst (λ (old : Known). StartsWith c.decide-events.new.self.list old.list) c.self.view_is
+    (decided (goal.at.returns-clause-begins c).After-decide-events).1
