@@ -55,12 +55,9 @@ fn is_new<R: Wait>(rt: &R, (publisher, checkers): (Publisher, Vec<Checker>)) -> 
 }
 
 /// Whether a notice comes by a ring.
-fn rings(alloc: Global, publisher: &mut Publisher, notice: Notice) -> Result<bool, ShareFault>
-    requires { notice.unit ≡ publisher.old.unit }
-    ensures { publisher.new ≡ publisher.old }
-{
+fn rings(alloc: Global, publisher: &mut Publisher) -> Result<bool, ShareFault> {
     let (mut sender, mut receiver) = publisher.notice_ring(alloc, 1)?;
-    let sent = sender.send(notice).is_ok();
+    let sent = sender.send(publisher.tell()?).is_ok();
     Ok(
         sent && receiver
             .receive()
@@ -78,7 +75,7 @@ impl Case {
         checker: &mut Checker,
         notice: Notice,
     ) -> Result<bool, ShareFault>
-        requires { (checker.old.unit ≡ publisher.old.unit) × (notice.unit ≡ publisher.old.unit) }
+        requires { checker.old.unit ≡ notice.unit }
     {
         let (Ok(seventh), Ok(page)) = (batch(6), page_load()) else {
             return Ok(false);
@@ -91,7 +88,7 @@ impl Case {
             Case::Submit => publisher.submit(&seventh).map(|()| true),
             Case::Publish => Ok(publisher.publish(rt)? == events(6)),
             Case::Tell => Ok(is_notice_of(&publisher.tell()?, 2)),
-            Case::NoticeRing => rings(alloc, publisher, notice),
+            Case::NoticeRing => rings(alloc, publisher),
             Case::CopyJournal => Ok(is_journal_of(&checker.copy_journal()?, 2)),
             Case::Learn => {
                 checker.learn(notice);
@@ -139,10 +136,11 @@ impl Case {
     ) -> Tried
         requires { checker.old.unit ≡ publisher.old.unit }
     {
-        submit_all(publisher, 0, 2)?;
+        publisher.submit(&batch(0)?)?;
+        publisher.submit(&batch(1)?)?;
         publisher.publish(rt)?;
-        submit_all(publisher, 2, 6)?;
         let notice = publisher.tell()?;
+        submit_all(publisher, 2, 6)?;
         match self.call(rt, alloc, publisher, checker, notice) {
             Ok(true) => {
                 let (published, pending) = self.left();

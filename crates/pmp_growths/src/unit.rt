@@ -1,6 +1,6 @@
 //! What a unit has published and pending, of the batches that `worked` has.
 
-ghost use Rattle.std.specs.Prelude.{◌≡◌, ◌+◌, ◌<◌};
+ghost use Rattle.std.specs.Prelude.{◌+◌, ◌<◌};
 
 use crate::stop::{Stop, Tried, expect};
 use crate::worked::{batch, decision_after, events, file_after, is_journal_of, page_load};
@@ -8,9 +8,7 @@ use pmp_share::{Checker, Notice, Publisher};
 use std::sync::Wait;
 
 /// Submits the batches of these places.
-pub fn submit_all(publisher: &mut Publisher, first: u8, behind: u8) -> Tried
-    ensures { publisher.new.unit ≡ publisher.old.unit }
-{
+pub fn submit_all(publisher: &mut Publisher, first: u8, behind: u8) -> Tried {
     for place in first..behind {
         publisher.submit(&batch(place)?)?;
     }
