@@ -36,17 +36,17 @@ struct counts {
     long left, told;
 };
 
-// How a child ended.
+// How a child ended, and what it wrote.
 struct end {
     int status;
     long made;
-    size_t out_length, err_length;
     char out[ROOM], err[ROOM];
 };
 
 static atomic_int counting;
 static long number;
 static struct counts *counts;
+static int out, err;
 static struct end right, got;
 
 typedef int create_thread(pthread_t *, const pthread_attr_t *, void *(*)(void *), void *);
@@ -133,110 +133,90 @@ int pthread_create(pthread_t *thread, const pthread_attr_t *attributes, void *(*
     return error;
 }
 
-// fill FILE TEXT: the text of a file that a child wrote, which is empty again then.
-static size_t fill(int file, char *text) {
+// Takes the text of a file, which is empty again then.
+static void take(int file, char *text) {
     ssize_t length = pread(file, text, ROOM, 0);
     if (length < 0 || length == ROOM || ftruncate(file, 0) != 0 || lseek(file, 0, SEEK_SET) != 0) {
         abort();
     }
-    return (size_t)length;
+    text[length] = 0;
 }
 
-// Whether this is the child, which has to run the program now. The parent has its end in the place that is given.
-static int is_child(long refused, int out, int err, struct end *end) {
+// Whether this is the child, which has to run the program now. The parent waits for its end.
+static int is_child(long refused, struct end *end) {
     memset(counts, 0, sizeof *counts);
     lseek(0, 0, SEEK_SET);
     pid_t child = fork();
     if (child == 0) {
-        number = refused;
         dup2(out, 1);
         dup2(err, 2);
         alarm(SECONDS);
+        number = refused;
+        counting = 1;
         return 1;
     }
     if (child < 0 || waitpid(child, &end->status, 0) != child) {
         abort();
     }
     end->made = counts->made;
-    end->out_length = fill(out, end->out);
-    end->err_length = fill(err, end->err);
+    take(out, end->out);
+    take(err, end->err);
     return 0;
-}
-
-static size_t first_line(const struct end *end) {
-    const char *line_feed = memchr(end->err, '\n', end->err_length);
-    return line_feed == NULL ? 0 : (size_t)(line_feed + 1 - end->err);
 }
 
 static int ends_well(void) {
     return WIFEXITED(got.status) && counts->told && counts->left == 0 && (right.made != 0 || counts->held == 0);
 }
 
-// What an explanation has behind its first line may be left out.
+static size_t first_line(const struct end *end) {
+    return strcspn(end->err, "\n") + 1;
+}
+
+// An explanation behind the first line may lack something.
 static int is_same(void) {
-    return got.status == right.status && got.out_length == right.out_length
-        && memcmp(got.out, right.out, got.out_length) == 0 && first_line(&got) == first_line(&right)
-        && memcmp(got.err, right.err, first_line(&got)) == 0;
+    return got.status == right.status && strcmp(got.out, right.out) == 0
+        && strncmp(got.err, right.err, first_line(&right)) == 0;
 }
 
-static int is_want_of_memory(void) {
+static int lacks_memory(void) {
     static const char text[] = "refused 40 Memory\n";
-    size_t length = first_line(&got);
-    return WEXITSTATUS(got.status) == NO_MEMORY && length >= sizeof text - 1
-        && memcmp(got.err + length - (sizeof text - 1), text, sizeof text - 1) == 0
-        && got.out_length <= right.out_length && memcmp(got.out, right.out, got.out_length) == 0;
-}
-
-static void write_all(int file, const void *text, size_t length) {
-    if (write(file, text, length) != (ssize_t)length) {
-        abort();
-    }
-}
-
-// Whether the child that was refused a request ended as it has to.
-static int is_right(void) {
-    static const char answered[] = "answered\n", less[] = "answered with a thread less\n";
-    if (!ends_well()) {
-        return 0;
-    }
-    if (is_same()) {
-        if (got.made < right.made) {
-            write_all(3, less, sizeof less - 1);
-        } else {
-            write_all(3, answered, sizeof answered - 1);
-        }
-        return 1;
-    }
-    write_all(3, got.err, first_line(&got));
-    return is_want_of_memory();
+    const char *place = strstr(got.err, text);
+    return WEXITSTATUS(got.status) == NO_MEMORY && place != NULL && place + strlen(text) == got.err + first_line(&got)
+        && strncmp(got.out, right.out, strlen(got.out)) == 0;
 }
 
 static _Noreturn void leave(const struct end *end, int status) {
-    write_all(1, end->out, end->out_length);
-    write_all(2, end->err, end->err_length);
+    dprintf(1, "%s", end->out);
+    dprintf(2, "%s", end->err);
     _exit(status);
 }
 
-// Requests are counted from the end of this on: the loader calls it when the C library has begun.
+// The loader calls it when the C library has begun; the requests behind it are the program's.
 __attribute__((constructor)) static void begin(void) {
     create = (create_thread *)dlsym(RTLD_NEXT, "pthread_create");
     counts = mmap(NULL, sizeof *counts, PROT_READ | PROT_WRITE, MAP_SHARED | MAP_ANONYMOUS, -1, 0);
-    int out = memfd_create("out", 0), err = memfd_create("err", 0);
-    for (long refused = 0;; refused++) {
-        if (is_child(refused, out, err, refused == 0 ? &right : &got)) {
-            counting = 1;
+    out = memfd_create("out", 0);
+    err = memfd_create("err", 0);
+    if (is_child(0, &right)) {
+        return;
+    }
+    for (long refused = 1;; refused++) {
+        if (is_child(refused, &got)) {
             return;
         }
-        if (refused == 0) {
-            memcpy(&got, &right, sizeof got);
-        }
-        if (counts->refused == 0 && refused != 0) {
-            leave(&right, ends_well() && is_same() ? WEXITSTATUS(right.status) : WRONG);
-        }
-        if (refused != 0 && !is_right()) {
-            dprintf(2, "request %ld refused: wait status %#x, %ld blocks held, %ld threads left\n", refused,
-                got.status, counts->held, counts->left);
+        int is_last = counts->refused == 0, same = is_same();
+        if (!ends_well() || !(same || (!is_last && lacks_memory()))) {
+            dprintf(2, "request %ld: wait status %#x, %ld blocks held, %ld threads left\n", refused, got.status,
+                counts->held, counts->left);
             leave(&got, WRONG);
+        }
+        if (is_last) {
+            leave(&right, WEXITSTATUS(right.status));
+        }
+        if (same) {
+            dprintf(3, "answered%s\n", got.made < right.made ? " with a thread less" : "");
+        } else {
+            dprintf(3, "%.*s", (int)first_line(&got), got.err);
         }
     }
 }
