@@ -8,7 +8,7 @@ mod stop;
 mod unit;
 mod worked;
 
-use case::CASES;
+use case::{CASES, try_once};
 use std::alloc::Global;
 use std::env;
 use std::io::{Eprint, Print};
@@ -29,9 +29,9 @@ fn main(rt: HostRuntime) -> ExitCode {
 /// Tries the case of this word, or all without one. The status is that of the last one that isn't as it has to be.
 fn try_asked<R: Wait + Print + Eprint>(rt: &R, alloc: Global, asked: &str) -> u8 {
     let mut status = 0;
-    for &(word, case) in &CASES {
-        if asked.is_empty() || asked == word {
-            let left = tell(rt, word, case.try_once(rt, alloc));
+    for &case in &CASES {
+        if asked.is_empty() || asked == case {
+            let left = tell(rt, case, try_once(case, rt, alloc));
             if left != 0 {
                 status = left;
             }
@@ -41,12 +41,12 @@ fn try_asked<R: Wait + Print + Eprint>(rt: &R, alloc: Global, asked: &str) -> u8
 }
 
 /// Writes how a case ended, and answers the status of that.
-fn tell<R: Print + Eprint>(rt: &R, word: &str, tried: Tried) -> u8 {
+fn tell<R: Print + Eprint>(rt: &R, case: &str, tried: Tried) -> u8 {
     let (written, status) = match tried {
-        Ok(()) => (println!(rt; "{word}: answered"), 0),
-        Err(Stop::Refused) => (eprintln!(rt; "{word}: refused 40 Memory"), 3),
+        Ok(()) => (println!(rt; "{case}: answered"), 0),
+        Err(Stop::Refused) => (eprintln!(rt; "{case}: refused 40 Memory"), 3),
         Err(Stop::Outside) => (eprintln!(rt; "outside: refused 40 Memory"), 3),
-        Err(Stop::Wrong(what)) => (eprintln!(rt; "{word}: wrong: {what}"), 1),
+        Err(Stop::Wrong(what)) => (eprintln!(rt; "{case}: wrong: {what}"), 1),
     };
     if written.is_ok() { status } else { 1 }
 }
