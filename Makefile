@@ -66,7 +66,6 @@ test:
 	    'checks/hostile $(PROGRAM)' \
 	    'checks/machines $(PROGRAM)' \
 	    'checks/growths $(GROWTHS)' \
-	    'checks/worked --refused $(PROGRAM)' \
 	    'if command -v chromium; then RT=$(CURDIR)/checks/over-proved make page; fi && checks/page $(PROGRAM)'
 
 # Notes that rt ci has proved the program.
