@@ -5,7 +5,9 @@
 // free its blocks, but for those that joined threads keep, and to leave no thread.
 // In the end it writes what the first child wrote, and ends as that did; where another child ended wrongly it writes
 // what that one wrote, and ends with status 99. Descriptor 3 gets a line for each refused request: standard error's
-// first, or 'answered', or 'answered with a thread less'.
+// first, or 'answered', or 'answered with a thread less'. Descriptor 4, where it is open, is a file of the sizes of
+// another run's requests, or an empty one, which gets this run's: the most requests in a row that both have aren't
+// refused anew, if they are many.
 #define _GNU_SOURCE
 #include <dirent.h>
 #include <dlfcn.h>
@@ -30,8 +32,8 @@ extern void *__libc_realloc(void *block, size_t size);
 extern void *__libc_memalign(size_t alignment, size_t size);
 extern void __libc_free(void *block);
 
-// What a child tells: how many requests it made, how many of them were refused, how many blocks it holds at its end, how
-// many threads it made, how many of them are left, and that it told so.
+// What a child tells: how many requests it made, how many of them were refused, how many blocks it holds at its end,
+// how many threads it made, how many of them are left, and that it told so.
 struct counts {
     atomic_long requests, refused, held, made;
     long left, told;
@@ -201,11 +203,11 @@ static int lacks_memory(void) {
         && strncmp(got.out, right.out, strlen(got.out)) == 0;
 }
 
-// The first of the most requests in a row that have the sizes of requests in a row of another run, and how many they are.
-// Descriptor 4, where it is open, has that run's, or it gets this run's.
+// How many requests in a row this run has at most in common with the other one, and the first of them.
 static long shared(long count, long *first) {
     ssize_t length = read(4, others, sizeof others);
     long other = length / (long)sizeof *others, most = 0;
+    count = count < SIZES ? count : SIZES;
     if (length == 0 && write(4, sizes, (size_t)count * sizeof *sizes) < 0) {
         abort();
     }
