@@ -1,85 +1,147 @@
 //! The cases, one for each call.
 
-use crate::answering::{Answering, answers};
-use crate::deciding::Deciding;
-use crate::outcome::Tried;
-use crate::reading::{Reading, reads};
-use crate::sharing::{Sharing, shares, starts, starts_from};
-use crate::writing::{Writing, appends};
-use pmp_core::Access;
+ghost use Rattle.std.specs.Prelude.{◌≡◌, ◌+◌, ◌<◌};
+
+use crate::stop::{Stop, Tried};
+use crate::unit::{goes_on, is_notice_of, submit_all};
+use crate::worked::{batch, decision_after, events, file_after, is_journal_of, page_load};
+use pmp_core::{Access, Csr, Mode, Perms};
+use pmp_share::{Checker, GROUP_ACCESSES, Notice, Publisher, ShareFault, start, start_from};
 use std::alloc::Global;
 use std::sync::Wait;
-use std::thread::Threads;
 
-/// A call that is tried once.
-#[derive(Clone, Copy)]
-pub enum Case {
-    Start,
-    StartFrom,
-    Share(Sharing),
-    Read(Reading),
-    Append(Writing),
-    Answer(Answering),
-}
-
-/// Each case once, with the word of the command line that stands for it.
-pub static CASES: [(&str, Case); 38] = [
-    ("start", Case::Start),
-    ("start_from", Case::StartFrom),
-    ("submit", Case::Share(Sharing::Submit)),
-    ("publish", Case::Share(Sharing::Publish)),
-    ("tell", Case::Share(Sharing::Tell)),
-    ("notice_ring", Case::Share(Sharing::NoticeRing)),
-    ("copy_journal", Case::Share(Sharing::CopyJournal)),
-    ("learn", Case::Share(Sharing::Decide(Deciding::Learn))),
-    ("decide", Case::Share(Sharing::Decide(Deciding::Decide))),
-    (
-        "decide_at",
-        Case::Share(Sharing::Decide(Deciding::DecideAt)),
-    ),
-    (
-        "decide_group",
-        Case::Share(Sharing::Decide(Deciding::DecideGroup)),
-    ),
-    ("rights", Case::Share(Sharing::Decide(Deciding::Rights))),
-    ("count", Case::Share(Sharing::Decide(Deciding::Count))),
-    ("read", Case::Share(Sharing::Decide(Deciding::Read))),
-    ("read_bytes", Case::Read(Reading::Bytes)),
-    ("read_script", Case::Read(Reading::Script)),
-    ("read_trace", Case::Read(Reading::Trace)),
-    ("read_policy", Case::Read(Reading::Policy)),
-    ("write_row", Case::Append(Writing::Row)),
-    ("write_runs", Case::Append(Writing::Runs)),
-    ("write_registers", Case::Append(Writing::Registers)),
-    ("write_entries", Case::Append(Writing::Entries)),
-    ("write_verdict", Case::Append(Writing::Verdict)),
-    ("write_change", Case::Append(Writing::Changes)),
-    ("check", Case::Answer(Answering::Check)),
-    ("audit", Case::Answer(Answering::Audit)),
-    ("audit_shared_1", Case::Answer(Answering::SharedAudit(1))),
-    ("audit_shared_2", Case::Answer(Answering::SharedAudit(2))),
-    ("audit_shared_8", Case::Answer(Answering::SharedAudit(8))),
-    ("audit_long_1", Case::Answer(Answering::LongAudit(1))),
-    ("audit_long_4", Case::Answer(Answering::LongAudit(4))),
-    ("policy", Case::Answer(Answering::Policy)),
-    ("map_of", Case::Answer(Answering::MapOf)),
-    ("entries_of", Case::Answer(Answering::EntriesOf)),
-    ("dump", Case::Answer(Answering::Dump)),
-    ("dump_script", Case::Answer(Answering::DumpScript)),
-    ("writes", Case::Answer(Answering::Writes)),
-    ("diff", Case::Answer(Answering::Diff)),
+/// Each case once, by the word of the command line that stands for it.
+pub static CASES: [&str; 14] = [
+    "start",
+    "start_from",
+    "submit",
+    "publish",
+    "tell",
+    "notice_ring",
+    "copy_journal",
+    "learn",
+    "decide",
+    "decide_at",
+    "decide_group",
+    "rights",
+    "count",
+    "read",
 ];
 
-impl Case {
-    /// Makes the call, and compares all that has to stand after it.
-    pub fn try_once<R: Threads + Wait + Sync>(self, rt: &R, alloc: Global, page: &Access) -> Tried {
-        match self {
-            Case::Start => starts(rt, alloc),
-            Case::StartFrom => starts_from(rt, alloc),
-            Case::Share(case) => shares(rt, alloc, case, page),
-            Case::Read(case) => reads(alloc, case),
-            Case::Append(case) => appends(alloc, case, page),
-            Case::Answer(case) => answers(rt, alloc, case, page),
+/// Whether the unit is new, with two checkers. Ends it.
+fn is_new<R: Wait>(rt: &R, (publisher, checkers): (Publisher, Vec<Checker>)) -> bool {
+    let counts = (publisher.journal_len(), publisher.pending_len());
+    publisher.end(rt);
+    counts == (0, 0) && checkers.len() == 2
+}
+
+/// Whether a notice comes by a ring.
+fn rings(alloc: Global, publisher: &mut Publisher) -> Result<bool, ShareFault> {
+    let (mut sender, mut receiver) = publisher.notice_ring(alloc, 1)?;
+    let sent = sender.send(publisher.tell()?).is_ok();
+    Ok(
+        sent && receiver
+            .receive()
+            .is_some_and(|notice| is_notice_of(&notice, 2)),
+    )
+}
+
+/// Whether a group of equal accesses has equal decisions.
+fn decides_group(checker: &mut Checker, page: Access) -> bool {
+    let (decisions, seen) = checker.decide_group(&[page; GROUP_ACCESSES]);
+    decisions.as_slice() == [decision_after(2); GROUP_ACCESSES].as_slice() && seen == events(2)
+}
+
+/// Makes the call of a case, on a unit with two batches published and four pending, which the notice is of. Whether its
+/// answer is right.
+fn call<R: Wait>(
+    case: &str,
+    rt: &R,
+    alloc: Global,
+    publisher: &mut Publisher,
+    checker: &mut Checker,
+    notice: Notice,
+) -> Result<bool, ShareFault>
+    requires { checker.old.unit ≡ notice.unit }
+{
+    let (Ok(seventh), Ok(page)) = (batch(6), page_load()) else {
+        return Ok(false);
+    };
+    let len = notice.len();
+    match case {
+        "start" => Ok(is_new(rt, start(rt, alloc, 2)?)),
+        "start_from" => Ok(is_new(rt, start_from(rt, alloc, &file_after(1).save(), 2)?)),
+        // Both vectors of pending batches have to grow.
+        "submit" => publisher.submit(&seventh).map(|()| true),
+        "publish" => Ok(publisher.publish(rt)? == events(6)),
+        "tell" => Ok(is_notice_of(&publisher.tell()?, 2)),
+        "notice_ring" => rings(alloc, publisher),
+        "copy_journal" => Ok(is_journal_of(&checker.copy_journal()?, 2)),
+        "learn" => {
+            checker.learn(notice);
+            Ok(checker.count() == events(2))
         }
+        "decide" => Ok(checker.decide(&page) == (decision_after(2), events(2))),
+        "decide_at" => {
+            checker.learn(notice);
+            Ok(checker.decide_at(len, &page) == Ok(decision_after(2)))
+        }
+        "decide_group" => Ok(decides_group(checker, page)),
+        "rights" => Ok(checker.rights(Mode::U, 0x80000000, 4096) == (Some(Perms::R), events(2))),
+        "count" => Ok(checker.count() == events(2)),
+        "read" => Ok(checker.read(Csr::Cfg(0)) == (0x1900, events(2))),
+        _ => Ok(false),
     }
+}
+
+/// How many batches are published behind a call that answered, and how many are pending.
+fn left(case: &str) -> (u8, u8)
+    ensures { result.0 + result.1 < 256 }
+{
+    match case {
+        "submit" => (2, 5),
+        "publish" => (6, 0),
+        _ => (2, 4),
+    }
+}
+
+/// A refused call has to leave the unit as it was, and no call may be refused behind it.
+fn try_on<R: Wait>(
+    case: &str,
+    rt: &R,
+    alloc: Global,
+    publisher: &mut Publisher,
+    checker: &mut Checker,
+) -> Tried
+    requires { checker.old.unit ≡ publisher.old.unit }
+{
+    publisher.submit(&batch(0)?)?;
+    publisher.submit(&batch(1)?)?;
+    publisher.publish(rt)?;
+    let notice = publisher.tell()?;
+    submit_all(publisher, 2, 6)?;
+    match call(case, rt, alloc, publisher, checker, notice) {
+        Ok(true) => {
+            let (published, pending) = left(case);
+            goes_on(rt, publisher, checker, published, pending)
+        }
+        Ok(false) => Err(Stop::Wrong("the answer")),
+        Err(ShareFault::Memory) => match goes_on(rt, publisher, checker, 2, 4) {
+            Ok(()) => Err(Stop::Refused),
+            Err(Stop::Outside) => Err(Stop::Wrong("a second refusal")),
+            Err(stop) => Err(stop),
+        },
+        Err(_) => Err(Stop::Wrong("another refusal")),
+    }
+}
+
+/// Tries the call of a case on a unit of its own, which is ended on every outcome.
+pub fn try_once<R: Wait>(case: &str, rt: &R, alloc: Global) -> Tried {
+    let (mut publisher, mut checkers) = start(rt, alloc, 1)?;
+    let tried = match checkers.pop() {
+        Some(mut checker) => try_on(case, rt, alloc, &mut publisher, &mut checker),
+        None => Err(Stop::Wrong("no checker")),
+    };
+    publisher.end(rt);
+    tried
 }

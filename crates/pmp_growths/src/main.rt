@@ -1,64 +1,52 @@
-//! Calls that need memory, each in a case of its own, for `checks/growths` to refuse their requests one by one. With
-//! the word of a case it tries that one, and without a word all of them.
+//! The calls of a shared unit, each in a case of its own, for `checks/growths` to refuse their requests for memory one
+//! by one. With the word of a case it tries that one, and without a word all of them. Its status is 3 where memory was
+//! refused, and 1 where something isn't as it has to be.
 #![tactic(auto)]
 
-mod answering;
 mod case;
-mod count;
-mod deciding;
-mod outcome;
-mod reading;
-mod sharing;
-mod texts;
+mod stop;
+mod unit;
 mod worked;
-mod writing;
 
-use case::CASES;
-use outcome::{Tried, Wrong};
+use case::{CASES, try_once};
 use std::alloc::Global;
 use std::env;
-use std::io::Print;
+use std::io::{Eprint, Print};
 use std::process::ExitCode;
 use std::sync::Wait;
-use std::thread::Threads;
-use worked::page_load;
+use stop::{Stop, Tried};
 
 fn main(rt: HostRuntime) -> ExitCode {
     let Ok(mut words) = env::args(&rt) else {
-        return ExitCode::FAILURE;
+        return ExitCode::from(tell(&rt, "", Err(Stop::Outside)));
     };
-    let is_well = match words.nth(1) {
+    ExitCode::from(match words.nth(1) {
         Some(word) => try_asked(&rt, rt.alloc(), &word),
         None => try_asked(&rt, rt.alloc(), ""),
-    };
-    if is_well {
-        ExitCode::SUCCESS
-    } else {
-        ExitCode::FAILURE
-    }
+    })
 }
 
-/// Writes what came of a case. Whether it was written and nothing was wrong.
-fn print_tried<R: Print>(rt: &R, word: &str, tried: Tried) -> bool {
-    let (mark, what) = match tried {
-        Ok(outcome) => ("", outcome.word()),
-        Err(Wrong(what)) => ("wrong: ", what),
-    };
-    let written = println!(rt; "{word}: {mark}{what}");
-    written.is_ok() && tried.is_ok()
-}
-
-/// Tries the case of this word, or all without one. Whether there was one and nothing was wrong.
-fn try_asked<R: Threads + Wait + Sync + Print>(rt: &R, alloc: Global, asked: &str) -> bool {
-    let Ok(page) = page_load() else {
-        return false;
-    };
-    let (mut found, mut well) = (false, true);
-    for &(word, case) in &CASES {
-        if asked.is_empty() || asked == word {
-            found = true;
-            well &= print_tried(rt, word, case.try_once(rt, alloc, &page));
+/// Tries the case of this word, or all without one. The status is that of the last one that isn't as it has to be.
+fn try_asked<R: Wait + Print + Eprint>(rt: &R, alloc: Global, asked: &str) -> u8 {
+    let mut status = 0;
+    for &case in &CASES {
+        if asked.is_empty() || asked == case {
+            let left = tell(rt, case, try_once(case, rt, alloc));
+            if left != 0 {
+                status = left;
+            }
         }
     }
-    found && well
+    status
+}
+
+/// Writes how a case ended, and answers the status of that.
+fn tell<R: Print + Eprint>(rt: &R, case: &str, tried: Tried) -> u8 {
+    let (written, status) = match tried {
+        Ok(()) => (println!(rt; "{case}: answered"), 0),
+        Err(Stop::Refused) => (eprintln!(rt; "{case}: refused 40 Memory"), 3),
+        Err(Stop::Outside) => (eprintln!(rt; "outside: refused 40 Memory"), 3),
+        Err(Stop::Wrong(what)) => (eprintln!(rt; "{case}: wrong: {what}"), 1),
+    };
+    if written.is_ok() { status } else { 1 }
 }

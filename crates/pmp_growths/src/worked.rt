@@ -1,7 +1,8 @@
 //! What is published in turn, and what follows from it.
 
-use pmp_core::{Access, AccessFault, Cause, Csr, Decision, Event, Kind, Mode, RegFile};
-use pmp_share::{Batch, BatchFull, Journal};
+use crate::stop::Stop;
+use pmp_core::{Access, Cause, Csr, Decision, Event, Kind, Mode, RegFile};
+use pmp_share::{Batch, Journal};
 
 /// Entry 0 lets every mode read a page, and entry 1 nothing.
 const OPEN_PAGE: [Event; 2] = [
@@ -16,15 +17,15 @@ const MOVE_RULE: [Event; 2] = [
 ];
 
 /// How many events the first batches have.
-const ENDS: [u64; 5] = [2, 4, 6, 8, 10];
+const ENDS: [u64; 7] = [2, 4, 6, 8, 10, 12, 14];
 
 /// What the batch at this place has, from 0.
-pub fn writes(place: u8) -> [Event; 2] {
+fn writes(place: u8) -> [Event; 2] {
     if place % 2 == 0 { OPEN_PAGE } else { MOVE_RULE }
 }
 
-pub fn batch(place: u8) -> Result<Batch, BatchFull> {
-    Batch::of(&writes(place))
+pub fn batch(place: u8) -> Result<Batch, Stop> {
+    Batch::of(&writes(place)).map_err(|_| Stop::Wrong("a full batch"))
 }
 
 /// How many events the first batches have.
@@ -41,8 +42,8 @@ pub fn file_after(batches: u8) -> RegFile {
 }
 
 /// A load from the page by user mode.
-pub fn page_load() -> Result<Access, AccessFault> {
-    Access::new(Mode::U, Kind::Load, 0x80000000, 4)
+pub fn page_load() -> Result<Access, Stop> {
+    Access::new(Mode::U, Kind::Load, 0x80000000, 4).map_err(|_| Stop::Wrong("no access"))
 }
 
 /// What that load comes to.
@@ -58,7 +59,7 @@ pub fn decision_after(batches: u8) -> Decision {
     }
 }
 
-/// Whether the journal is of just the first batches, of five at most.
+/// Whether the journal is of just the first batches, of seven at most.
 pub fn is_journal_of(journal: &Journal, batches: u8) -> bool {
     let mut left = journal.events();
     for place in 0..batches {

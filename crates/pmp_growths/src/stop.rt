@@ -1,0 +1,33 @@
+//! Why a case stops.
+
+use pmp_share::ShareFault;
+
+#[derive(Clone, Copy)]
+pub enum Stop {
+    /// The call that is tried was refused for want of memory, and what has to stand stands.
+    Refused,
+    /// A call before or behind it was.
+    Outside,
+    /// This isn't as it has to be.
+    Wrong(&'static str),
+}
+
+/// `Ok` where the call answered as it has to.
+pub type Tried = Result<(), Stop>;
+
+impl From<ShareFault> for Stop {
+    fn from(fault: ShareFault) -> Stop {
+        match fault {
+            ShareFault::Memory => Stop::Outside,
+            _ => Stop::Wrong("a refusal outside the call"),
+        }
+    }
+}
+
+pub fn expect(holds: bool, what: &'static str) -> Tried {
+    if holds {
+        Ok(())
+    } else {
+        Err(Stop::Wrong(what))
+    }
+}
