@@ -6,7 +6,7 @@ ghost use Rattle.pmp_core.specs.declared.access.TheConstants.{ADDRESS_LIMIT};
 use crate::failure::Failure;
 use crate::filling::{Pace, publish_many};
 use crate::time::{Moment, Time};
-use crate::unit::{Loads, WRITE, file, loads, publish_regions};
+use crate::unit::{EVENTS, Loads, RULES, WRITE, file, loads, publish_regions};
 use pmp_core::{Access, Csr, Mode, Perms, RegFile};
 use pmp_map::RunMap;
 use pmp_share::{Batch, Checker, Publisher, ShareFault, start};
@@ -44,7 +44,7 @@ pub enum Alone {
     Notices,
 }
 
-/// Not inlined, so that each decision is a call, as in an emulator.
+/// Not inlined, nor are the next five, so that each is a call, as in an emulator.
 #[inline(never)]
 fn is_allowed_by_map(map: &RunMap, file: &RegFile, access: &Access) -> bool
     requires { map.now ≡ file.now }
@@ -52,15 +52,12 @@ fn is_allowed_by_map(map: &RunMap, file: &RegFile, access: &Access) -> bool
     map.decide(file, access).allowed
 }
 
-/// Not inlined either.
 #[inline(never)]
-fn is_allowed(checker: &mut Checker, access: &Access) -> bool
-    ensures { checker.new.unit ≡ checker.old.unit }
-{
+fn is_allowed(checker: &mut Checker, access: &Access) -> bool {
     checker.decide(access).0.allowed
 }
 
-/// How many loads of a group are allowed. Not inlined either.
+/// How many loads of a group are allowed.
 #[inline(never)]
 fn allowed_of_group(checker: &mut Checker, group: &Loads) -> u32 {
     let mut allowed = 0u32;
@@ -68,6 +65,24 @@ fn allowed_of_group(checker: &mut Checker, group: &Loads) -> u32 {
         allowed = allowed.wrapping_add(u32::from(decision.allowed));
     }
     allowed
+}
+
+/// Whether user mode may read and write the page.
+#[inline(never)]
+fn is_open(checker: &mut Checker, start: u64) -> bool
+    requires { start + 4096 ≤ ADDRESS_LIMIT }
+{
+    checker.rights(Mode::U, start, 4096).0 == Some(Perms::RW)
+}
+
+#[inline(never)]
+fn is_counted(checker: &mut Checker) -> bool {
+    checker.count() == EVENTS
+}
+
+#[inline(never)]
+fn is_read(checker: &mut Checker) -> bool {
+    checker.read(Csr::Cfg(0)).0 == RULES
 }
 
 fn allowed_by_map(loads: &Loads) -> u32 {
@@ -81,72 +96,39 @@ fn allowed_by_map(loads: &Loads) -> u32 {
     allowed
 }
 
+/// What so many calls answer, added up.
+fn sum<F: FnMut(&Access) -> u32>(calls: u32, loads: &Loads, mut call: F) -> u32
+    requires { F.IsAlwaysCallable call }
+{
+    let mut sum = 0u32;
+    for index in 0..calls {
+        sum = sum.wrapping_add(call(&loads[index as usize % 16]));
+    }
+    sum
+}
+
 /// How many of many loads the checker allows.
 pub fn allowed_loads(checker: &mut Checker, loads: &Loads) -> u32 {
-    let mut allowed = 0u32;
-    for index in 0..DECISIONS {
-        allowed = allowed.wrapping_add(u32::from(is_allowed(checker, &loads[index as usize % 16])));
+    sum(
+        DECISIONS,
+        loads,
+        |load| u32::from(is_allowed(checker, load)),
+    )
+}
+
+/// How many of many calls of that kind answer as they have to.
+fn right_calls(alone: Alone, checker: &mut Checker, loads: &Loads) -> u32 {
+    match alone {
+        Alone::Groups => sum(DECISIONS / 16, loads, |_| allowed_of_group(checker, loads)),
+        Alone::Rights => sum(
+            DECISIONS,
+            loads,
+            |load| u32::from(is_open(checker, load.start % (1 << 55))),
+        ),
+        Alone::Counts => sum(DECISIONS, loads, |_| u32::from(is_counted(checker))),
+        Alone::Registers => sum(DECISIONS, loads, |_| u32::from(is_read(checker))),
+        _ => allowed_loads(checker, loads),
     }
-    allowed
-}
-
-fn allowed_in_groups(checker: &mut Checker, group: &Loads) -> u32 {
-    let mut allowed = 0u32;
-    for _ in 0..DECISIONS / 16 {
-        allowed = allowed.wrapping_add(allowed_of_group(checker, group));
-    }
-    allowed
-}
-
-/// Not inlined either.
-#[inline(never)]
-fn rights_of_page(checker: &mut Checker, start: u64) -> Option<Perms>
-    requires { start + 4096 ≤ ADDRESS_LIMIT }
-{
-    checker.rights(Mode::U, start, 4096).0
-}
-
-/// How many of many pages user mode may read and write.
-fn pages_with_rights(checker: &mut Checker, loads: &Loads) -> u32 {
-    let mut allowed = 0u32;
-    for index in 0..DECISIONS {
-        let page = loads[index as usize % 16].start % (1 << 55);
-        let rights = rights_of_page(checker, page);
-        allowed = allowed.wrapping_add(u32::from(rights == Some(Perms::RW)));
-    }
-    allowed
-}
-
-/// Not inlined either.
-#[inline(never)]
-fn count_of(checker: &mut Checker) -> u64 {
-    checker.count()
-}
-
-/// How many of many counts are as the first.
-fn same_counts(checker: &mut Checker) -> u32 {
-    let first = count_of(checker);
-    let mut same = 0u32;
-    for _ in 0..DECISIONS {
-        same = same.wrapping_add(u32::from(count_of(checker) == first));
-    }
-    same
-}
-
-/// Not inlined either.
-#[inline(never)]
-fn value_of(checker: &mut Checker, csr: Csr) -> u64 {
-    checker.read(csr).0
-}
-
-/// How many of many reads are as the first.
-fn same_reads(checker: &mut Checker) -> u32 {
-    let first = value_of(checker, Csr::Cfg(0));
-    let mut same = 0u32;
-    for _ in 0..DECISIONS {
-        same = same.wrapping_add(u32::from(value_of(checker, Csr::Cfg(0)) == first));
-    }
-    same
 }
 
 fn learn_notices(publisher: &mut Publisher, checker: &mut Checker) -> Result<u32, ShareFault>
@@ -181,15 +163,11 @@ impl Alone {
     {
         match self {
             Alone::Map => Ok(allowed_by_map(loads)),
-            Alone::Checker => Ok(allowed_loads(checker, loads)),
-            Alone::Groups => Ok(allowed_in_groups(checker, loads)),
-            Alone::Rights => Ok(pages_with_rights(checker, loads)),
-            Alone::Counts => Ok(same_counts(checker)),
-            Alone::Registers => Ok(same_reads(checker)),
             Alone::Publications => {
                 publish_many(rt, publisher, write, PUBLICATIONS, Pace::OneByOne)
             }
             Alone::Notices => learn_notices(publisher, checker),
+            _ => Ok(right_calls(self, checker, loads)),
         }
     }
 
@@ -206,7 +184,7 @@ impl Alone {
         let since = Moment::now(rt);
         let count = self.repeat(rt, publisher, checker, &loads, &write)?;
         if count != self.count() {
-            return Err(Failure::Decision);
+            return Err(Failure::Answer);
         }
         Ok(since.each(rt, count))
     }

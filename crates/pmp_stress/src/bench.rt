@@ -1,11 +1,9 @@
 //! What decisions, publications and notices cost, as `make bench-threads` prints it.
 
 use crate::alone::{Alone, ROUNDS};
+use crate::crowd::{Times, time_crowd};
 use crate::failure::Failure;
 use crate::printing::print_time;
-use crate::random::Random;
-use crate::round::{Load, run_round};
-use crate::tally::Tally;
 use std::alloc::Global;
 use std::io::Print;
 use std::sync::Wait;
@@ -25,34 +23,32 @@ const ALONE: [(&str, Alone); 8] = [
 ];
 
 /// The least times of so many checkers at once.
-fn least_of_crowd<R: Clock + Threads + Wait + Copy>(
+fn least_of_crowd<R: Clock + Threads + Wait + Copy + Send + 'static>(
     rt: &R,
     alloc: Global,
     checkers: u8,
-    load: Load,
-) -> Result<Tally, Failure> {
-    let mut random = Random::new(0);
-    let mut least = Tally::NOTHING;
+    publishes: bool,
+) -> Result<Times, Failure> {
+    let mut least = Times::MOST;
     for _ in 0..ROUNDS {
-        run_round(rt, alloc, checkers, load, &mut random, &mut least)?;
+        least = least.min(time_crowd(rt, alloc, checkers, publishes)?);
     }
-    least.verdict()?;
     Ok(least)
 }
 
-fn print_crowd<R: Clock + Threads + Wait + Print + Copy>(
+fn print_crowd<R: Clock + Threads + Wait + Print + Copy + Send + 'static>(
     rt: &R,
     alloc: Global,
     checkers: u8,
 ) -> Result<(), Failure> {
-    let quiet = least_of_crowd(rt, alloc, checkers, Load::Quiet)?;
+    let quiet = least_of_crowd(rt, alloc, checkers, false)?;
     print_time(rt, checkers, "a decision", quiet.decision)?;
-    let busy = least_of_crowd(rt, alloc, checkers, Load::Busy)?;
+    let busy = least_of_crowd(rt, alloc, checkers, true)?;
     print_time(rt, checkers, "a decision while it publishes", busy.decision)?;
     print_time(rt, checkers, "a publication meanwhile", busy.publication)
 }
 
-pub fn bench<R: Clock + Threads + Wait + Print + Copy>(
+pub fn bench<R: Clock + Threads + Wait + Print + Copy + Send + 'static>(
     rt: &R,
     alloc: Global,
 ) -> Result<(), Failure> {

@@ -15,8 +15,8 @@ pub enum Failure {
     Thread,
     /// A batch or an access isn't lawful.
     Unlawful,
-    /// A decision isn't what it has to be.
-    Decision,
+    /// An answer isn't what it has to be.
+    Answer,
     /// A call of the unit was refused.
     Unit(ShareFault),
 }

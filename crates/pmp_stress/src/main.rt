@@ -7,16 +7,20 @@
 #![tactic(auto)]
 
 mod alone;
+mod asking;
 mod bench;
 mod crew;
+mod crowd;
 mod failure;
 mod filling;
 mod meeting;
 mod printing;
+mod published;
 mod random;
-mod replay;
 mod round;
 mod soak;
+mod source;
+mod swap;
 mod tally;
 mod time;
 mod unit;
@@ -48,7 +52,7 @@ fn number(words: &[String], place: usize, other: u32) -> u32 {
     }
 }
 
-fn run<R: Clock + Threads + Wait + Print + Copy>(
+fn run<R: Clock + Threads + Wait + Print + Copy + Send + 'static>(
     rt: &R,
     alloc: Global,
     words: &[String],

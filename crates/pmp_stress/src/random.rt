@@ -70,10 +70,10 @@ impl Random {
         }
     }
 
-    /// None to seven events.
-    pub fn batch(&mut self) -> Result<Batch, Failure> {
+    /// At least so many events, and up to seven more.
+    pub fn batch(&mut self, least: u32) -> Result<Batch, Failure> {
         let mut batch = Batch::new();
-        for _ in 0..self.below(8) {
+        for _ in 0..least.saturating_add(self.below(8)) {
             batch.push(self.event())?;
         }
         Ok(batch)
@@ -82,7 +82,7 @@ impl Random {
     /// What a batch leaves of a reset.
     pub fn file(&mut self) -> Result<RegFile, Failure> {
         let mut file = RegFile::reset();
-        file.run_events(self.batch()?.events());
+        file.run_events(self.batch(0)?.events());
         Ok(file)
     }
 

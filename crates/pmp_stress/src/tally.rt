@@ -1,33 +1,25 @@
 //! What came of rounds.
 
-use crate::crew::Done;
 use crate::failure::Failure;
-use crate::replay::Published;
-use crate::time::Time;
 
 #[derive(Clone, Copy)]
 pub struct Tally {
-    pub decisions: u64,
+    pub answers: u64,
     pub publications: u64,
     pub batches: u64,
-    /// How many nanoseconds the longest random publication took.
+    /// How many nanoseconds the longest publication took.
     pub longest: u64,
-    /// The least time of a decision of each checker in a round, and of a publication meanwhile.
-    pub decision: Time,
-    pub publication: Time,
-    /// How many checkers answered right, and how many didn't, or couldn't be compared.
+    /// How many checkers came back, and publishers ended, with all as it has to be, and how many didn't.
     pub passed: u64,
     pub failed: u64,
 }
 
 impl Tally {
     pub const NOTHING: Tally = Tally {
-        decisions: 0,
+        answers: 0,
         publications: 0,
         batches: 0,
         longest: 0,
-        decision: Time::MOST,
-        publication: Time::MOST,
         passed: 0,
         failed: 0,
     };
@@ -37,17 +29,25 @@ impl Tally {
         self.longest = self.longest.max(nanoseconds);
     }
 
-    pub fn add_checker(&mut self, published: &Published, done: &mut Done) {
-        self.decisions = self.decisions.wrapping_add(done.answers.len() as u64);
-        let is_right = published.fits(done);
+    pub fn add_checker(&mut self, answers: usize, is_right: bool) {
+        self.answers = self.answers.wrapping_add(answers as u64);
+        self.add(is_right);
+    }
+
+    pub fn add_journal(&mut self, batches: usize, is_right: bool) {
+        self.batches = self.batches.wrapping_add(batches as u64);
+        self.add(is_right);
+    }
+
+    fn add(&mut self, is_right: bool) {
         self.passed = self.passed.wrapping_add(u64::from(is_right));
         self.failed = self.failed.wrapping_add(u64::from(!is_right));
     }
 
-    /// `Decision` where a checker failed.
+    /// `Answer` where one failed.
     pub fn verdict(&self) -> Result<(), Failure> {
         if self.failed > 0 {
-            Err(Failure::Decision)
+            Err(Failure::Answer)
         } else {
             Ok(())
         }
