@@ -4,7 +4,6 @@ use denote.Param.SendFields.{declared_send, as_row_send}
 use Rattle.std.proofs.Crossing.{crosses}
 use Rattle.pmp_share.proofs.Crossing.{checker_send}
 use Rattle.pmp_stress.specs.contracts.asking.Answer as answer
-use Rattle.pmp_stress.specs.contracts.asking.Said as said
 use Rattle.pmp_stress.specs.contracts.crew.Done as done
 use Rattle.pmp_stress.specs.contracts.crew.Duty as duty
 use Rattle.pmp_stress.specs.contracts.failure.Failure as failure
@@ -19,11 +18,8 @@ meeting_send = search (crosses, sendable) depth 14
 pub meeting_sync : IsSync meeting.the_row
 meeting_sync = search (crosses, sendable) depth 14
 
-said_send : IsSend said.the_row
-said_send = search (crosses, sendable) depth 20
-
 answer_send : IsSend answer.the_row
-answer_send = search (said_send, crosses, sendable) depth 24
+answer_send = search (crosses, sendable) depth 24
 
 failure_send : IsSend failure.the_row
 failure_send = search (crosses, sendable) depth 14
