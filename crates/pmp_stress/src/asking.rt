@@ -5,7 +5,6 @@ use crate::meeting::Meeting;
 use crate::source::Source;
 use pmp_core::{Access, Decision, Perms};
 use pmp_share::{Checker, GROUP_ACCESSES};
-use std::alloc::Global;
 use std::sync::Wait;
 
 /// How often a checker is asked freely each time that it is on a thread, at least and at most.
@@ -58,7 +57,7 @@ pub struct Answer {
 pub struct Asked {
     pub checker: Checker,
     pub answers: Vec<Answer>,
-    source: Source,
+    pub source: Source,
 }
 
 /// The decision of all, if they don't differ.
@@ -68,14 +67,6 @@ fn common(decisions: &[Decision]) -> Option<Decision> {
 }
 
 impl Asked {
-    pub fn new(alloc: Global, checker: Checker, source: Source) -> Asked {
-        Asked {
-            checker,
-            answers: Vec::new(alloc),
-            source,
-        }
-    }
-
     fn ask(&mut self, question: Question, meeting: &Meeting) -> Result<(), Failure> {
         let (access, csr) = (self.source.access()?, self.source.register());
         let checker = &mut self.checker;

@@ -1,7 +1,7 @@
 //! The checkers of a unit, each on a thread of its own.
 
-use crate::alone::{DECISIONS, allowed_loads};
 use crate::asking::{Answer, Asked};
+use crate::calls::{CALLS, Call, right_calls};
 use crate::failure::Failure;
 use crate::meeting::Meeting;
 use crate::source::Source;
@@ -15,12 +15,10 @@ use std::thread::{JoinHandle, Threads};
 /// What a checker does on its thread.
 #[derive(Clone, Copy)]
 pub enum Duty {
-    /// Begins with the others, decides many loads, which all have to be allowed, and is dropped.
-    Loads,
-    /// Is asked freely, and is dropped.
-    Leaves(Source),
-    /// Is asked freely, then behind publications, and comes back.
-    ComesBack(Source),
+    /// It begins with the others, makes these calls, and is dropped.
+    Calls(Call),
+    /// It is asked freely, and dropped, or else asked behind publications, and comes back.
+    Questions(Source, bool),
 }
 
 /// What came of it.
@@ -40,13 +38,18 @@ pub struct Crew {
     threads: Vec<JoinHandle<Done>>,
 }
 
-fn decide_loads<R: Wait>(rt: &R, checker: &mut Checker, meeting: &Meeting) -> Result<(), Failure> {
+fn make_calls<R: Wait>(
+    rt: &R,
+    checker: &mut Checker,
+    call: Call,
+    meeting: &Meeting,
+) -> Result<(), Failure> {
     let loads = loads();
     meeting.wait(rt);
-    let allowed = allowed_loads(checker, &loads?);
+    let right = loads.map(|loads| right_calls(call, checker, &loads));
     meeting.leave();
-    match allowed {
-        DECISIONS => Ok(()),
+    match right? {
+        CALLS => Ok(()),
         _ => Err(Failure::Answer),
     }
 }
@@ -59,26 +62,25 @@ fn serve<R: Wait>(
     meeting: &Meeting,
 ) -> Done {
     match duty {
-        Duty::Loads => Done {
-            outcome: decide_loads(rt, &mut checker, meeting),
+        Duty::Calls(call) => Done {
+            outcome: make_calls(rt, &mut checker, call, meeting),
             answers: Vec::new(alloc),
             checker: None,
         },
-        Duty::Leaves(source) => {
-            let mut asked = Asked::new(alloc, checker, source);
-            Done {
-                outcome: asked.ask_freely(meeting),
-                answers: asked.answers,
-                checker: None,
+        Duty::Questions(source, comes_back) => {
+            let mut asked = Asked {
+                checker,
+                answers: Vec::new(alloc),
+                source,
+            };
+            let mut outcome = asked.ask_freely(meeting);
+            if comes_back {
+                outcome = asked.ask_behind_publications(rt, meeting).and(outcome);
             }
-        }
-        Duty::ComesBack(source) => {
-            let mut asked = Asked::new(alloc, checker, source);
-            let freely = asked.ask_freely(meeting);
             Done {
-                outcome: asked.ask_behind_publications(rt, meeting).and(freely),
+                outcome,
                 answers: asked.answers,
-                checker: Some(asked.checker),
+                checker: comes_back.then_some(asked.checker),
             }
         }
     }
@@ -103,7 +105,8 @@ impl Crew {
     ) -> Result<(), Failure> {
         let (runtime, alloc) = (*rt, self.alloc);
         let meeting = Arc::try_clone(&self.meeting)?;
-        let thread = thread::spawn(rt, move || serve(&runtime, alloc, checker, duty, &meeting))?;
+        let thread = move || serve(&runtime, alloc, checker, duty, &meeting);
+        let thread = thread::spawn(rt, thread).map_err(|_| Failure::Thread)?;
         self.threads.push(thread)?;
         Ok(())
     }

@@ -1,10 +1,8 @@
 //! Why there is nothing to compare or to time.
 
-use pmp_core::AccessFault;
 use pmp_share::{BatchFull, ShareFault};
 use std::alloc::{AllocError, AllocFailed};
 use std::io;
-use std::thread::SpawnError;
 
 #[derive(Clone, Copy, Debug)]
 pub enum Failure {
@@ -36,18 +34,6 @@ impl From<AllocError> for Failure {
 impl<T: Drop> From<AllocFailed<T>> for Failure {
     fn from(_failed: AllocFailed<T>) -> Failure {
         Failure::Memory
-    }
-}
-
-impl<F: Drop> From<SpawnError<F>> for Failure {
-    fn from(_error: SpawnError<F>) -> Failure {
-        Failure::Thread
-    }
-}
-
-impl From<AccessFault> for Failure {
-    fn from(_fault: AccessFault) -> Failure {
-        Failure::Unlawful
     }
 }
 

@@ -2,17 +2,16 @@
 
 use crate::asking::{Answer, Question, Said};
 use crate::crew::Done;
-use pmp_core::{Access, Csr, Event, RegFile};
+use crate::source::Source;
+use pmp_core::{Access, Event, RegFile};
 use pmp_map::rights_in;
-use pmp_share::{Batch, Journal, Publisher};
+use pmp_share::{Batch, Journal};
 use std::alloc::{AllocError, Global};
 
-/// What a unit begins with, the published events, where each batch and each publication ends, and the register file
-/// after all of them.
+/// What a unit begins with, the published events, and where each batch and each publication ends.
 #[derive(Drop)]
 pub struct Published {
     base: RegFile,
-    pub file: RegFile,
     events: Vec<Event>,
     ends: Vec<u64>,
     publications: Vec<u64>,
@@ -22,39 +21,25 @@ impl Published {
     pub fn new(alloc: Global, base: RegFile) -> Published {
         Published {
             base,
-            file: base,
             events: Vec::new(alloc),
             ends: Vec::new(alloc),
             publications: Vec::new(alloc),
         }
     }
 
-    pub fn push(&mut self, batch: &Batch) -> Result<(), AllocError> {
-        self.events.extend_from_slice(batch.events())?;
-        self.file.run_events(batch.events());
-        self.ends.push(self.events.len() as u64)?;
-        Ok(())
+    /// How many publications there are.
+    pub fn len(&self) -> usize {
+        self.publications.len()
     }
 
-    /// All so far is published, in one publication with what came since the last. Answers how many publications there
-    /// are.
-    pub fn end_publication(&mut self) -> Result<(), AllocError> {
+    /// These are the batches of one publication more.
+    pub fn push(&mut self, batches: &[Batch]) -> Result<(), AllocError> {
+        for batch in batches {
+            self.events.extend_from_slice(batch.events())?;
+            self.ends.push(self.events.len() as u64)?;
+        }
         self.publications.push(self.events.len() as u64)?;
         Ok(())
-    }
-
-    /// Whether the publisher reads so, all of which it published or has pending.
-    pub fn is_read_by(&self, publisher: &Publisher, csr: Csr) -> bool {
-        let mut same = true;
-        for csr in [csr, Csr::Addr(1), Csr::Mseccfg] {
-            same = same && publisher.read(csr) == self.file.read(csr);
-        }
-        same
-    }
-
-    /// How many batches.
-    pub fn batches(&self) -> usize {
-        self.ends.len()
     }
 
     /// Whether the journal has just these batches.
@@ -64,14 +49,20 @@ impl Published {
 
     /// Whether all that a checker answered is right. One that comes back was asked each question behind a publication
     /// that it hadn't seen.
-    pub fn fits(&self, done: &Done, csr: Csr) -> bool {
-        let mut replay = Replay::new(self, csr);
+    pub fn fits(&self, done: &Done, source: &Source) -> bool {
+        let mut replay = Replay {
+            published: self,
+            source,
+            file: self.base,
+            seen: 0,
+            behind: [false; Question::ALL.len()],
+        };
         for answer in done.answers.as_slice() {
             if !replay.fits(answer) {
                 return false;
             }
         }
-        done.outcome.is_ok() && (done.checker.is_none() || replay.behind == [true; 5])
+        done.outcome.is_ok() && (done.checker.is_none() || !replay.behind.contains(&false))
     }
 }
 
@@ -80,23 +71,13 @@ impl Published {
 #[derive(Drop)]
 struct Replay<'a> {
     published: &'a Published,
-    csr: Csr,
+    source: &'a Source,
     file: RegFile,
     seen: usize,
     behind: [bool; 5],
 }
 
 impl<'a> Replay<'a> {
-    fn new(published: &'a Published, csr: Csr) -> Replay<'a> {
-        Replay {
-            published,
-            csr,
-            file: published.base,
-            seen: 0,
-            behind: [false; 5],
-        }
-    }
-
     /// Goes on to so many events. False where these are no whole publications, or fewer than before.
     fn goes_to(&mut self, count: usize) -> bool {
         if count == self.seen {
@@ -108,19 +89,18 @@ impl<'a> Replay<'a> {
         }
         self.seen = count;
         self.published.publications.contains(&(count as u64))
+            && self.source.fits(&self.file, count as u64)
     }
 
-    /// Whether the register file says the same.
+    /// What the register file says.
     fn says(&self, question: Question, access: &Access) -> Said {
+        let (mode, start, length) = (access.mode, access.start, access.length);
         match question {
             Question::Group | Question::Decision => Said::Decision(Some(self.file.decide(access))),
-            Question::Rights => Said::Rights(rights_in(
-                &self.file.registers(),
-                access.mode,
-                access.start,
-                access.length,
-            )),
-            Question::Register => Said::Register(self.file.read(self.csr)),
+            Question::Rights => {
+                Said::Rights(rights_in(&self.file.registers(), mode, start, length))
+            }
+            Question::Register => Said::Register(self.file.read(self.source.register())),
             Question::Count => Said::Count,
         }
     }
@@ -128,8 +108,7 @@ impl<'a> Replay<'a> {
     /// Whether the answer is that of the events that it counts, which are no fewer than before, or than were published
     /// before it was asked.
     fn fits(&mut self, answer: &Answer) -> bool {
-        let is_behind = self.seen > 0 && answer.least > self.seen as u64;
-        self.behind[answer.question as usize] |= is_behind;
+        self.behind[answer.question as usize] |= self.seen > 0 && answer.least > self.seen as u64;
         answer.count >= answer.least
             && self.goes_to(answer.count as usize)
             && self.says(answer.question, &answer.access) == answer.said

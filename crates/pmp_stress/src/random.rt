@@ -88,18 +88,10 @@ impl Random {
 
     /// One to 64 bytes.
     pub fn access(&mut self) -> Result<Access, Failure> {
-        let mode = match self.below(3) {
-            0 => Mode::M,
-            1 => Mode::S,
-            _ => Mode::U,
-        };
-        let kind = match self.below(3) {
-            0 => Kind::Fetch,
-            1 => Kind::Load,
-            _ => Kind::Store,
-        };
+        let mode = [Mode::M, Mode::S, Mode::U][self.below(3) as usize];
+        let kind = [Kind::Fetch, Kind::Load, Kind::Store][self.below(3) as usize];
         let start = 4 * FIRST_WORD + u64::from(self.below(4 * WORDS));
         let length = 1 + u64::from(self.below(64));
-        Ok(Access::new(mode, kind, start, length)?)
+        Access::new(mode, kind, start, length).map_err(|_| Failure::Unlawful)
     }
 }

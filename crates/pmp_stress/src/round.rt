@@ -7,8 +7,8 @@ use crate::crew::{Crew, Done, Duty};
 use crate::failure::Failure;
 use crate::meeting::Meeting;
 use crate::published::Published;
+use crate::soak::Tally;
 use crate::source::Source;
-use crate::tally::Tally;
 use crate::time::Moment;
 use pmp_core::Event;
 use pmp_share::{Batch, CHECKERS, Checker, Publisher, start_from};
@@ -20,8 +20,7 @@ use std::time::Clock;
 /// How often the checkers go to threads and come back.
 const STRETCHES: u32 = 5;
 
-/// How often the publisher publishes in each, beside once for each question: 400 times in all, which are 200 rounds of
-/// a swap.
+/// How often the publisher publishes in each, beside once for each question: 400 times in all, 200 rounds of a swap.
 const PUBLICATIONS: u32 = 75;
 
 #[derive(Drop)]
@@ -29,7 +28,6 @@ struct Round {
     alloc: Global,
     source: Source,
     published: Published,
-    publications: u32,
     tally: Tally,
 }
 
@@ -52,7 +50,7 @@ fn tell_all(
 }
 
 impl Round {
-    /// Publishes what comes next, which the publisher reads before, and answers how many events are published then.
+    /// Publishes what comes next, and answers how many events are published then.
     fn publish<R: Clock + Wait>(
         &mut self,
         rt: &R,
@@ -60,22 +58,15 @@ impl Round {
     ) -> Result<u64, Failure>
         ensures { publisher.new.unit ≡ publisher.old.unit }
     {
-        let batches = self.source.batches(self.alloc, self.publications)?;
+        let batches = self.source.batches(self.alloc, self.published.len())?;
         for batch in batches.as_slice() {
             publisher.submit(batch)?;
-            self.published.push(batch)?;
         }
-        let is_read = self.published.is_read_by(publisher, self.source.register());
+        self.published.push(&batches)?;
         let since = Moment::now(rt);
         let events = publisher.publish(rt)?;
         self.tally.add_publication(since.nanoseconds(rt));
-        self.published.end_publication()?;
-        self.publications = self.publications.wrapping_add(1);
-        if is_read && self.source.fits(&self.published.file, events)? {
-            Ok(events)
-        } else {
-            Err(Failure::Answer)
-        }
+        Ok(events)
     }
 
     /// Sends the checkers out, of which so many don't come back.
@@ -87,15 +78,12 @@ impl Round {
         leaving: usize,
     ) -> Result<Crew, Failure> {
         let threads = checkers.len().wrapping_sub(leaving).wrapping_add(1);
-        let meeting = Meeting::new(threads, 1, publisher.journal_len());
-        let mut crew = Crew::new(self.alloc, meeting)?;
+        let mut crew = Crew::new(
+            self.alloc,
+            Meeting::new(threads, 1, publisher.journal_len()),
+        )?;
         for (seat, checker) in checkers.into_iter().enumerate() {
-            let source = self.source.branch();
-            let duty = if seat < leaving {
-                Duty::Leaves(source)
-            } else {
-                Duty::ComesBack(source)
-            };
+            let duty = Duty::Questions(self.source.branch(), seat >= leaving);
             crew.send(rt, checker, duty)?;
         }
         Ok(crew)
@@ -105,13 +93,9 @@ impl Round {
     fn come_back<R: Threads>(&mut self, rt: &R, crew: Crew) -> Result<Vec<Checker>, Failure> {
         let mut checkers = Vec::new(self.alloc);
         for done in crew.join(rt)? {
-            let is_right = self.published.fits(&done, self.source.register());
-            let Done {
-                outcome: _,
-                answers,
-                checker,
-            } = done;
-            self.tally.add_checker(answers.len(), is_right);
+            let is_right = self.published.fits(&done, &self.source);
+            self.tally.add(done.answers.len(), is_right);
+            let Done { checker, .. } = done;
             if let Some(checker) = checker {
                 checkers.push(checker)?;
             }
@@ -147,8 +131,8 @@ impl Round {
         Ok(checkers)
     }
 
-    /// All stretches. In the last but one a checker doesn't come back. The checkers are asked on, and a reset is
-    /// pending, where it is through.
+    /// All stretches, of which in the last but one a checker doesn't come back. Then the others are asked, and a reset is
+    /// pending.
     fn run<R: Clock + Threads + Wait + Copy + Send + 'static>(
         &mut self,
         rt: &R,
@@ -170,7 +154,7 @@ impl Round {
     }
 }
 
-/// Runs a unit of its own. The publisher ends with a reset pending, while the checkers are asked: none sees it, and the
+/// Runs a unit of its own. The publisher ends with the reset pending while the checkers are asked: none sees it, and the
 /// journal doesn't have it.
 pub fn run_round<R: Clock + Threads + Wait + Copy + Send + 'static>(
     rt: &R,
@@ -184,7 +168,6 @@ pub fn run_round<R: Clock + Threads + Wait + Copy + Send + 'static>(
         alloc,
         source,
         published: Published::new(alloc, base),
-        publications: 0,
         tally,
     };
     let crew = round.run(rt, &mut publisher, checkers);
@@ -192,8 +175,6 @@ pub fn run_round<R: Clock + Threads + Wait + Copy + Send + 'static>(
     let crew = crew?;
     crew.meeting.leave();
     round.come_back(rt, crew)?;
-    round
-        .tally
-        .add_journal(round.published.batches(), round.published.is_in(&journal));
+    round.tally.add(0, round.published.is_in(&journal));
     Ok(round.tally)
 }

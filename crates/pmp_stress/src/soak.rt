@@ -4,9 +4,7 @@ use crate::failure::Failure;
 use crate::printing::print_counts;
 use crate::random::Random;
 use crate::round::run_round;
-use crate::source::Source;
-use crate::swap::Swap;
-use crate::tally::Tally;
+use crate::source::{Source, Swap};
 use crate::time::Moment;
 use std::alloc::Global;
 use std::io::Print;
@@ -14,10 +12,44 @@ use std::sync::Wait;
 use std::thread::Threads;
 use std::time::Clock;
 
-/// Whose batches there are, one unit after another.
-const SWAPS: [Option<Swap>; 3] = [None, Some(Swap::ZERO_AND_ONE), Some(Swap::LAST_TWO)];
+/// What units have swapped, one after another: nothing, or these entries.
+const SWAPS: [Option<Swap>; 3] = [None, Some(Swap::ZeroAndOne), Some(Swap::LastTwo)];
 
-/// All of them, until so many seconds are over.
+/// What came of rounds.
+#[derive(Clone, Copy, Default)]
+pub struct Tally {
+    pub answers: u64,
+    pub publications: u64,
+    /// How many nanoseconds the longest publication took.
+    pub longest: u64,
+    /// How often a checker ended its thread, or a publisher its unit, with all as it has to be, and how often not.
+    pub passed: u64,
+    pub failed: u64,
+}
+
+impl Tally {
+    pub fn add_publication(&mut self, nanoseconds: u64) {
+        self.publications = self.publications.wrapping_add(1);
+        self.longest = self.longest.max(nanoseconds);
+    }
+
+    pub fn add(&mut self, answers: usize, is_right: bool) {
+        self.answers = self.answers.wrapping_add(answers as u64);
+        self.passed = self.passed.wrapping_add(u64::from(is_right));
+        self.failed = self.failed.wrapping_add(u64::from(!is_right));
+    }
+
+    /// `Answer` where one failed.
+    pub fn verdict(&self) -> Result<(), Failure> {
+        if self.failed > 0 {
+            Err(Failure::Answer)
+        } else {
+            Ok(())
+        }
+    }
+}
+
+/// Units of all three, until so many seconds are over.
 fn run_rounds<R: Clock + Threads + Wait + Copy + Send + 'static>(
     rt: &R,
     alloc: Global,
@@ -26,10 +58,11 @@ fn run_rounds<R: Clock + Threads + Wait + Copy + Send + 'static>(
 ) -> Result<Tally, Failure> {
     let since = Moment::now(rt);
     let mut random = Random::new(u64::from(seed));
-    let mut tally = Tally::NOTHING;
+    let mut tally = Tally::default();
     for _ in 0..u64::MAX {
         for swap in SWAPS {
-            tally = run_round(rt, alloc, Source::new(random.branch(), swap), tally)?;
+            let random = random.branch();
+            tally = run_round(rt, alloc, Source { random, swap }, tally)?;
         }
         if since.nanoseconds(rt) / 1_000_000_000 >= u64::from(seconds) {
             break;
@@ -50,7 +83,6 @@ pub fn soak<R: Clock + Threads + Wait + Print + Copy + Send + 'static>(
         (tally.answers, "answers"),
         (tally.longest / 1_000, "us in the longest publication"),
         (tally.publications, "publications"),
-        (tally.batches, "batches"),
         (tally.passed, "passed"),
         (tally.failed, "failed"),
     ];

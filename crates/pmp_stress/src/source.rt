@@ -2,32 +2,119 @@
 
 use crate::failure::Failure;
 use crate::random::Random;
-use crate::swap::Swap;
-use pmp_core::{Access, Csr, RegFile};
+use pmp_core::{Access, Cause, Csr, Decision, Event, Kind, Mode, Perms, RegFile, Size};
+use pmp_map::rights_in;
 use pmp_share::Batch;
 use std::alloc::Global;
 
-/// Random numbers alone, or a swap of two entries.
+/// The first byte of the page, and what an address register has that is the page's.
+const PAGE: u64 = 0x8000_0000;
+
+const ADDRESS: u64 = 0x2000_01ff;
+
+/// Two neighbouring entries that are swapped and swapped back again and again, so that one reads the page at a time.
+#[derive(Clone, Copy)]
+pub enum Swap {
+    ZeroAndOne,
+    /// The last two of sixty-four.
+    LastTwo,
+}
+
+/// Random numbers alone, or a swap.
 #[derive(Clone, Copy)]
 pub struct Source {
     pub random: Random,
-    swap: Option<Swap>,
+    pub swap: Option<Swap>,
+}
+
+impl Swap {
+    fn size(self) -> Size {
+        match self {
+            Swap::ZeroAndOne => Size::Sixteen,
+            Swap::LastTwo => Size::SixtyFour,
+        }
+    }
+
+    /// The number of an entry: of the first, or of that behind it.
+    fn entry(self, behind: u8) -> u8 {
+        match self {
+            Swap::ZeroAndOne => behind,
+            Swap::LastTwo => behind.wrapping_add(62),
+        }
+    }
+
+    /// The register with both configurations, and its value where both have these.
+    fn register(self) -> Csr {
+        Csr::Cfg(self.entry(0) / 8 * 2)
+    }
+
+    fn value(self, both: u64) -> u64 {
+        both.wrapping_shl(u32::from(self.entry(0) % 8) * 8)
+    }
+
+    fn configure(self, both: u64) -> Event {
+        Event::Write(self.register(), self.value(both))
+    }
+
+    fn locate(self, behind: u8, address: u64) -> Event {
+        Event::Write(Csr::Addr(self.entry(behind)), address)
+    }
+
+    /// The batches of the publication with this number. The first opens the page by the first entry. From then on the
+    /// second reads it in its place, by two events, after one of which no entry would, and then the first again, by
+    /// three. In every second round each event is a batch of its own.
+    fn batches(self, alloc: Global, number: usize) -> Result<Vec<Batch>, Failure> {
+        let first = [self.locate(0, ADDRESS), self.configure(0x19)];
+        let there = [self.configure(0x1900), self.locate(1, ADDRESS)];
+        let back = [self.configure(0), self.locate(1, 0), self.configure(0x19)];
+        let events = match number {
+            0 => first.as_slice(),
+            _ if number % 2 == 1 => there.as_slice(),
+            _ => back.as_slice(),
+        };
+        let mut batches = Vec::new(alloc);
+        for part in events.chunks(if number % 4 < 2 { 1 } else { 3 }) {
+            batches.push(Batch::of(part)?)?;
+        }
+        Ok(batches)
+    }
+
+    /// A load from the page by user mode.
+    fn load(self) -> Result<Access, Failure> {
+        Access::new(Mode::U, Kind::Load, PAGE, 4).map_err(|_| Failure::Unlawful)
+    }
+
+    /// Whether these may be the registers after so many events: the first entry reads the page after each whole round,
+    /// and the second in the middle of one.
+    fn fits(self, file: &RegFile, events: u64) -> bool {
+        let (behind, both) = match events % 5 {
+            2 => (0, 0x19),
+            4 => (1, 0x1900),
+            _ => return false,
+        };
+        let read = Decision {
+            allowed: true,
+            cause: Cause::Rule(self.entry(behind)),
+        };
+        self.load().is_ok_and(|load| file.decide(&load) == read)
+            && file.read(self.register()) == self.value(both)
+            && rights_in(&file.registers(), Mode::U, PAGE, 4096) == Some(Perms::R)
+    }
 }
 
 impl Source {
-    pub fn new(random: Random, swap: Option<Swap>) -> Source {
-        Source { random, swap }
-    }
-
-    /// One of its own for a checker.
+    /// One of its own for someone else.
     pub fn branch(&mut self) -> Source {
-        Source::new(self.random.branch(), self.swap)
+        Source {
+            random: self.random.branch(),
+            swap: self.swap,
+        }
     }
 
     /// What the unit begins with.
     pub fn base(&mut self) -> Result<RegFile, Failure> {
         match self.swap {
-            Some(swap) => Ok(swap.base()),
+            Some(swap) => Ok(RegFile::reset_of(swap.size())),
             None => self.random.file(),
         }
     }
@@ -41,41 +128,24 @@ impl Source {
 
     /// The register that is read.
     pub fn register(&self) -> Csr {
-        match self.swap {
-            Some(swap) => swap.register(),
-            None => Csr::Cfg(0),
-        }
+        self.swap.map_or(Csr::Cfg(0), |swap| swap.register())
     }
 
-    /// The batches of the publication with this number, of at least one event. In every second round of a swap each
-    /// event is a batch of its own.
-    pub fn batches(&mut self, alloc: Global, number: u32) -> Result<Vec<Batch>, Failure> {
+    /// The batches of the publication with this number, with at least one event.
+    pub fn batches(&mut self, alloc: Global, number: usize) -> Result<Vec<Batch>, Failure> {
+        if let Some(swap) = self.swap {
+            return swap.batches(alloc, number);
+        }
         let mut batches = Vec::new(alloc);
-        match self.swap {
-            Some(swap) => {
-                let is_whole = number.wrapping_sub(1) / 2 % 2 == 0;
-                for events in swap
-                    .events(alloc, number)?
-                    .chunks(if is_whole { 3 } else { 1 })
-                {
-                    batches.push(Batch::of(events)?)?;
-                }
-            }
-            None => {
-                batches.push(self.random.batch(1)?)?;
-                for _ in 0..self.random.below(3) {
-                    batches.push(self.random.batch(0)?)?;
-                }
-            }
+        batches.push(self.random.batch(1)?)?;
+        for _ in 0..self.random.below(3) {
+            batches.push(self.random.batch(0)?)?;
         }
         Ok(batches)
     }
 
     /// Whether these may be the registers after so many events, as far as the source knows.
-    pub fn fits(&self, file: &RegFile, events: u64) -> Result<bool, Failure> {
-        match self.swap {
-            Some(swap) => swap.fits(file, events),
-            None => Ok(true),
-        }
+    pub fn fits(&self, file: &RegFile, events: u64) -> bool {
+        self.swap.is_none_or(|swap| swap.fits(file, events))
     }
 }
