@@ -1,12 +1,11 @@
 -- What a checker's thread takes with it may move there, and what it answers may move back.
 use denote.Param.Send.{IsSend, IsSync, sendable}
-use denote.Param.SendFields.{declared_send, as_row_send}
+use denote.Param.SendFields.{declared_send}
 use Rattle.std.proofs.Crossing.{crosses}
 use Rattle.pmp_share.proofs.Crossing.{checker_send}
 use Rattle.pmp_stress.specs.contracts.asking.Answer as answer
 use Rattle.pmp_stress.specs.contracts.crew.Done as done
 use Rattle.pmp_stress.specs.contracts.crew.Duty as duty
-use Rattle.pmp_stress.specs.contracts.failure.Failure as failure
 use Rattle.pmp_stress.specs.contracts.meeting.Meeting as meeting
 
 pub duty_send : IsSend duty.the_row
@@ -21,11 +20,8 @@ meeting_sync = search (crosses, sendable) depth 14
 answer_send : IsSend answer.the_row
 answer_send = search (crosses, sendable) depth 24
 
-failure_send : IsSend failure.the_row
-failure_send = search (crosses, sendable) depth 14
-
 pub done_send : IsSend done.the_row
 done_send = declared_send done.the_type (
-  search (failure_send, crosses, sendable) depth 12,
+  search (crosses, sendable) depth 20,
   (search (answer_send, crosses, sendable) depth 12, (search (checker_send, crosses, sendable) depth 12, tt)),
 )
