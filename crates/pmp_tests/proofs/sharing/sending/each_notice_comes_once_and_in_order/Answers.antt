@@ -2,7 +2,7 @@ use Rattle.std.proofs.Crossing.{crosses}
 use denote.Param.Send.{sendable}
 use Rattle.pmp_share.proofs.PublisherCrossing.{guard_send}
 use Rattle.pmp_share.proofs.RingCrossing.{sender_send}
-use Rattle.pmp_tests.proofs.sharing.sending.a_publisher_swaps_on_a_thread_and_comes_back.Goals as goal
+use Rattle.pmp_tests.proofs.sharing.sending.each_notice_comes_once_and_in_order.Goals as goal
 
 pub spawn-requires-send-F : goal.spawn-requires-send-F
 spawn-requires-send-F g c κs = search (guard_send, sender_send, crosses, sendable) depth 20
