@@ -1,13 +1,13 @@
 //! What decisions, publications and notices cost, as `make bench-threads` prints it.
 
-use crate::calls::{CALLS, Call, allowed_by_map, learn};
+use crate::calls::{CALLS, Call, learn};
 use crate::crew::{Crew, Duty};
 use crate::failure::Failure;
 use crate::filling::publish_many;
 use crate::meeting::Meeting;
 use crate::printing::print_time;
 use crate::time::Moment;
-use crate::unit::{WRITE, loads, publish, publish_regions};
+use crate::unit::{WRITE, publish, publish_regions};
 use pmp_share::{Batch, CHECKERS, Checker, Publisher, ShareFault, start};
 use std::alloc::Global;
 use std::io::Print;
@@ -18,8 +18,9 @@ use std::time::Clock;
 /// How often each time is taken. The least counts.
 const ROUNDS: u32 = 15;
 
-/// What is timed of one checker.
-const TIMED: [(&str, Call); 5] = [
+/// What is timed on one thread.
+const TIMED: [(&str, Call); 6] = [
+    ("a decision by a map", Call::Map),
     ("a decision by a checker", Call::Decision),
     ("a decision of a group of 16", Call::Group),
     ("the rights of a page by a checker", Call::Rights),
@@ -36,16 +37,6 @@ const NOTICES: u32 = 100_000;
 
 /// Two times in tenths of a nanosecond.
 type Times = (u64, u64);
-
-/// The time of a decision by a map.
-fn time_map<R: Clock>(rt: &R) -> Result<Times, Failure> {
-    let loads = loads()?;
-    let since = Moment::now(rt);
-    match allowed_by_map(&loads) {
-        CALLS => Ok((since.each(rt, CALLS), u64::MAX)),
-        _ => Err(Failure::Answer),
-    }
-}
 
 /// The times of a publication of one event while nobody decides, and of a notice that is told and learnt.
 fn time_publisher<R: Clock + Wait>(rt: &R, alloc: Global) -> Result<Times, Failure> {
@@ -145,7 +136,6 @@ pub fn bench<R: Clock + Threads + Wait + Print + Copy + Send + 'static>(
     rt: &R,
     alloc: Global,
 ) -> Result<(), Failure> {
-    print_time(rt, 1, "a decision by a map", least(|| time_map(rt))?.0)?;
     for (what, call) in TIMED {
         let (time, _) = least(|| time_crowd(rt, alloc, 1, call, false))?;
         print_time(rt, 1, what, time)?;

@@ -11,9 +11,10 @@ use pmp_share::{Checker, Publisher, ShareFault};
 /// How many decisions there are, or other calls.
 pub const CALLS: u32 = 1_000_000;
 
-/// A call of a checker.
 #[derive(Clone, Copy)]
 pub enum Call {
+    /// A decision by a map that no thread shares. The others are of a checker.
+    Map,
     Decision,
     /// Of sixteen accesses in one look.
     Group,
@@ -73,8 +74,7 @@ fn sum<F: FnMut(&Access) -> u32>(calls: u32, loads: &Loads, mut call: F) -> u32
     sum
 }
 
-/// How many of many loads a map allows that no thread shares.
-pub fn allowed_by_map(loads: &Loads) -> u32 {
+fn allowed_by_map(loads: &Loads) -> u32 {
     let file = file();
     let map = RunMap::build(&file);
     sum(
@@ -84,9 +84,10 @@ pub fn allowed_by_map(loads: &Loads) -> u32 {
     )
 }
 
-/// How many of many loads the checker allows, or of other calls answers as it has to.
+/// How many of many loads are allowed, or of other calls answered as they have to be.
 pub fn right_calls(call: Call, checker: &mut Checker, loads: &Loads) -> u32 {
     match call {
+        Call::Map => allowed_by_map(loads),
         Call::Decision => sum(CALLS, loads, |load| u32::from(is_allowed(checker, load))),
         Call::Group => sum(CALLS / 16, loads, |_| allowed_of_group(checker, loads)),
         Call::Rights => sum(

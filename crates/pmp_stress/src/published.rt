@@ -3,7 +3,7 @@
 use crate::asking::{Answer, Question, Said};
 use crate::crew::Done;
 use crate::source::Source;
-use pmp_core::{Access, Event, RegFile};
+use pmp_core::{Event, RegFile};
 use pmp_map::rights_in;
 use pmp_share::{Batch, Journal};
 use std::alloc::{AllocError, Global};
@@ -47,70 +47,47 @@ impl Published {
         journal.events() == self.events.as_slice() && journal.ends() == self.ends.as_slice()
     }
 
-    /// Whether all that a checker answered is right. One that comes back was asked each question behind a publication
-    /// that it hadn't seen.
+    /// Whether all that a checker answered is right: each answer is that of whole publications, which are no fewer than
+    /// before, or than had been published when it was asked. One that comes back was asked each question behind a
+    /// publication that it hadn't seen.
     pub fn fits(&self, done: &Done, source: &Source) -> bool {
-        let mut replay = Replay {
-            published: self,
-            source,
-            file: self.base,
-            seen: 0,
-            behind: [false; Question::ALL.len()],
-        };
+        let (mut file, mut seen) = (self.base, 0);
+        let mut behind = [false; Question::ALL.len()];
         for answer in done.answers.as_slice() {
-            if !replay.fits(answer) {
+            let count = answer.count as usize;
+            behind[answer.question as usize] |= seen > 0 && answer.least > seen as u64;
+            if count != seen {
+                match self.events.get(seen..count) {
+                    Some(next) if self.publications.contains(&answer.count) => file.run_events(
+                        next,
+                    ),
+                    _ => return false,
+                }
+                if !source.fits(&file, answer.count) {
+                    return false;
+                }
+                seen = count;
+            }
+            if answer.count < answer.least || answer.said != said_by(&file, source, answer) {
                 return false;
             }
         }
-        done.outcome.is_ok() && (done.checker.is_none() || !replay.behind.contains(&false))
+        done.outcome.is_ok() && (done.checker.is_none() || !behind.contains(&false))
     }
 }
 
-/// The register file after so many published events, which a checker saw last, and which questions it was asked behind
-/// a publication that it hadn't seen.
-#[derive(Drop)]
-struct Replay<'a> {
-    published: &'a Published,
-    source: &'a Source,
-    file: RegFile,
-    seen: usize,
-    behind: [bool; 5],
-}
-
-impl<'a> Replay<'a> {
-    /// Goes on to so many events. False where these are no whole publications, or fewer than before.
-    fn goes_to(&mut self, count: usize) -> bool {
-        if count == self.seen {
-            return true;
-        }
-        match self.published.events.get(self.seen..count) {
-            Some(next) => self.file.run_events(next),
-            None => return false,
-        }
-        self.seen = count;
-        self.published.publications.contains(&(count as u64))
-            && self.source.fits(&self.file, count as u64)
-    }
-
-    /// What the register file says.
-    fn says(&self, question: Question, access: &Access) -> Said {
-        let (mode, start, length) = (access.mode, access.start, access.length);
-        match question {
-            Question::Group | Question::Decision => Said::Decision(Some(self.file.decide(access))),
-            Question::Rights => {
-                Said::Rights(rights_in(&self.file.registers(), mode, start, length))
-            }
-            Question::Register => Said::Register(self.file.read(self.source.register())),
-            Question::Count => Said::Count,
-        }
-    }
-
-    /// Whether the answer is that of the events that it counts, which are no fewer than before, or than were published
-    /// before it was asked.
-    fn fits(&mut self, answer: &Answer) -> bool {
-        self.behind[answer.question as usize] |= self.seen > 0 && answer.least > self.seen as u64;
-        answer.count >= answer.least
-            && self.goes_to(answer.count as usize)
-            && self.says(answer.question, &answer.access) == answer.said
+/// What the register file says of the same.
+fn said_by(file: &RegFile, source: &Source, answer: &Answer) -> Said {
+    let access = &answer.access;
+    match answer.question {
+        Question::Group | Question::Decision => Said::Decision(Some(file.decide(access))),
+        Question::Rights => Said::Rights(rights_in(
+            &file.registers(),
+            access.mode,
+            access.start,
+            access.length,
+        )),
+        Question::Register => Said::Register(file.read(source.register())),
+        Question::Count => Said::Count,
     }
 }

@@ -6,6 +6,7 @@ use crate::random::Random;
 use crate::round::run_round;
 use crate::source::{Source, Swap};
 use crate::time::Moment;
+use pmp_core::Size;
 use std::alloc::Global;
 use std::io::Print;
 use std::sync::Wait;
@@ -13,7 +14,7 @@ use std::thread::Threads;
 use std::time::Clock;
 
 /// What units have swapped, one after another: nothing, or these entries.
-const SWAPS: [Option<Swap>; 3] = [None, Some(Swap::ZeroAndOne), Some(Swap::LastTwo)];
+const SWAPS: [Option<Swap>; 3] = [None, Some(Swap(Size::Sixteen)), Some(Swap(Size::SixtyFour))];
 
 /// What came of rounds.
 #[derive(Clone, Copy, Default)]
@@ -38,24 +39,16 @@ impl Tally {
         self.passed = self.passed.wrapping_add(u64::from(is_right));
         self.failed = self.failed.wrapping_add(u64::from(!is_right));
     }
-
-    /// `Answer` where one failed.
-    pub fn verdict(&self) -> Result<(), Failure> {
-        if self.failed > 0 {
-            Err(Failure::Answer)
-        } else {
-            Ok(())
-        }
-    }
 }
 
-/// Units of all three, until so many seconds are over.
-fn run_rounds<R: Clock + Threads + Wait + Copy + Send + 'static>(
+/// Runs units of all three until so many seconds are over, and prints what came of it: of no seconds what is the same
+/// on each machine.
+pub fn soak<R: Clock + Threads + Wait + Print + Copy + Send + 'static>(
     rt: &R,
     alloc: Global,
     seconds: u32,
     seed: u32,
-) -> Result<Tally, Failure> {
+) -> Result<(), Failure> {
     let since = Moment::now(rt);
     let mut random = Random::new(u64::from(seed));
     let mut tally = Tally::default();
@@ -68,17 +61,6 @@ fn run_rounds<R: Clock + Threads + Wait + Copy + Send + 'static>(
             break;
         }
     }
-    Ok(tally)
-}
-
-/// Prints what came of it. Of no seconds it says what is the same on each machine.
-pub fn soak<R: Clock + Threads + Wait + Print + Copy + Send + 'static>(
-    rt: &R,
-    alloc: Global,
-    seconds: u32,
-    seed: u32,
-) -> Result<(), Failure> {
-    let tally = run_rounds(rt, alloc, seconds, seed)?;
     let counts = [
         (tally.answers, "answers"),
         (tally.longest / 1_000, "us in the longest publication"),
@@ -87,5 +69,9 @@ pub fn soak<R: Clock + Threads + Wait + Print + Copy + Send + 'static>(
         (tally.failed, "failed"),
     ];
     print_counts(rt, if seconds > 0 { &counts } else { &counts[2..] })?;
-    tally.verdict()
+    if tally.failed > 0 {
+        Err(Failure::Answer)
+    } else {
+        Ok(())
+    }
 }

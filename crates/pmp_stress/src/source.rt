@@ -12,13 +12,10 @@ const PAGE: u64 = 0x8000_0000;
 
 const ADDRESS: u64 = 0x2000_01ff;
 
-/// Two neighbouring entries that are swapped and swapped back again and again, so that one reads the page at a time.
+/// Two entries that are swapped and swapped back again and again, so that one reads the page at a time: the first two of
+/// sixteen, or the last two of sixty-four.
 #[derive(Clone, Copy)]
-pub enum Swap {
-    ZeroAndOne,
-    /// The last two of sixty-four.
-    LastTwo,
-}
+pub struct Swap(pub Size);
 
 /// Random numbers alone, or a swap.
 #[derive(Clone, Copy)]
@@ -28,18 +25,11 @@ pub struct Source {
 }
 
 impl Swap {
-    fn size(self) -> Size {
-        match self {
-            Swap::ZeroAndOne => Size::Sixteen,
-            Swap::LastTwo => Size::SixtyFour,
-        }
-    }
-
-    /// The number of an entry: of the first, or of that behind it.
+    /// The number of the first, or of that behind it.
     fn entry(self, behind: u8) -> u8 {
-        match self {
-            Swap::ZeroAndOne => behind,
-            Swap::LastTwo => behind.wrapping_add(62),
+        match self.0 {
+            Size::Sixteen => behind,
+            Size::SixtyFour => behind.wrapping_add(62),
         }
     }
 
@@ -73,7 +63,7 @@ impl Swap {
             _ => back.as_slice(),
         };
         let mut batches = Vec::new(alloc);
-        for part in events.chunks(if number % 4 < 2 { 1 } else { 3 }) {
+        for part in events.chunks(if number.wrapping_add(1) % 4 < 2 { 1 } else { 3 }) {
             batches.push(Batch::of(part)?)?;
         }
         Ok(batches)
@@ -114,7 +104,7 @@ impl Source {
     /// What the unit begins with.
     pub fn base(&mut self) -> Result<RegFile, Failure> {
         match self.swap {
-            Some(swap) => Ok(RegFile::reset_of(swap.size())),
+            Some(swap) => Ok(RegFile::reset_of(swap.0)),
             None => self.random.file(),
         }
     }
