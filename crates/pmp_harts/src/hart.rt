@@ -69,6 +69,20 @@ impl Page {
     }
 }
 
+/// A hart has learnt of so many events. Only its `learn` makes one.
+#[derive(Drop)]
+pub struct Learnt {
+    events: u64,
+}
+
+impl Learnt {
+    pub fn events(&self) -> u64
+        ensures { result ≡ self.now.events }
+    {
+        self.events
+    }
+}
+
 /// A hart of an emulator. A contract sees its checker: the TLB's pages are of registers that this had or has.
 #[derive(Drop)]
 pub struct Hart {
@@ -97,12 +111,15 @@ impl Hart {
     }
 
     /// Takes in a notice of its unit, at a remote fence.
-    pub fn learn(&mut self, notice: Notice)
+    pub fn learn(&mut self, notice: Notice) -> Learnt
         requires { notice.unit ≡ self.old.unit }
         ensures unit { self.new.unit ≡ self.old.unit }
         ensures begins { StartsWith self.new.list self.old.list × StartsWith self.new.list notice.list }
+        ensures learnt { result.events ≡ event_count notice.list }
     {
+        let events = notice.len();
         self.checker.learn(notice);
+        Learnt { events }
     }
 
     /// Answers an access as the checker would where it stands now, by the TLB where that holds its page as of just the

@@ -2,16 +2,18 @@
 //! domain while hart 1 runs on a thread of its own.
 #![tactic(auto)]
 
-ghost use Rattle.std.specs.Prelude.{◌≡◌};
+ghost use Rattle.std.specs.Prelude.{◌≡◌, ◌≤◌, IfOk};
+ghost use Rattle.pmp_share.specs.Batches.{event_count};
 
+mod fence;
 mod hart;
 
+use fence::{Fence, Fenced};
 use hart::{Answer, Hart};
 use pmp_core::{Access, Csr, Event, Kind, Mode, RegFile};
 use pmp_share::{Batch, Checker, NoticeReceiver, NoticeSender, Publisher, ShareFault, start};
 use std::alloc::Global;
 use std::process::ExitCode;
-use std::sync::atomic::{AtomicU64, Ordering};
 use std::sync::{Arc, Wait};
 use std::thread::Threads;
 use std::{io, thread};
@@ -29,8 +31,8 @@ const SWITCH: [Event; 2] = [
     Event::Write(Csr::Cfg(0), 0x1b18),
 ];
 
-/// Where hart 1 loads between notices: in a page of entry 0 that no walk fills the TLB with.
-const BETWEEN: u64 = 0x80001000;
+/// Where hart 1 loads before each notice: in a page of entry 0 that no walk fills the TLB with.
+const BEFORE: u64 = 0x80001000;
 
 type Answers = Vec<Answer>;
 
@@ -50,25 +52,27 @@ fn main(rt: HostRuntime) -> ExitCode {
     ExitCode::from(u8::from(show(&rt, journal.events(), &answers).is_err()))
 }
 
-/// Shows the answers of the walks of hart 0 and of hart 1, and of hart 1 between notices, and whether a replay of what
-/// was published gives all of them.
+/// Shows the answers of the walks of hart 0 and of hart 1, and of hart 1 before each notice, and to how many of them a
+/// replay of what was published gives the same.
 fn show(rt: &impl Print, events: &[Event], all: &(Answers, Answers, Answers)) -> io::Result<()> {
-    let mut same = true;
-    for (hart, answers) in [("0", &all.0), ("1", &all.1), ("1 between notices", &all.2)] {
+    let (mut same, mut count) = (0u64, 0u64);
+    for (hart, answers) in [("0", &all.0), ("1", &all.1), ("1 before a notice", &all.2)] {
         for answer in answers.as_slice() {
             let mut file = RegFile::reset();
             file.run_events(events.get(..answer.events as usize).unwrap_or(&[]));
-            same = same && file.decide(&answer.access).allowed == answer.allowed;
-            let (start, count) = (answer.access.start, answer.events);
+            let is_same = file.decide(&answer.access).allowed == answer.allowed;
+            same = same.wrapping_add(u64::from(is_same));
+            count = count.wrapping_add(1);
+            let (start, events) = (answer.access.start, answer.events);
             let allowed = if answer.allowed { "allowed" } else { "refused" };
             let by = if answer.by_tlb { "TLB" } else { "unit" };
-            println!(rt; "hart {hart}, {count} events: load {start:#x} {allowed} by the {by}")?;
+            println!(rt; "hart {hart}, {events} events: load {start:#x} {allowed} by the {by}")?;
         }
     }
-    println!(rt; "a replay answers the same: {same}")
+    println!(rt; "a replay answers {same} of {count} loads the same")
 }
 
-/// Sets the unit up, and runs hart 1 on a thread of its own and hart 0 meanwhile. Answers what `show` shows.
+/// Runs hart 1 on a thread of its own and hart 0 meanwhile. Answers what `show` shows.
 fn run_harts<R: Threads + Wait + Copy + Send + 'static>(
     rt: &R,
     alloc: Global,
@@ -78,103 +82,94 @@ fn run_harts<R: Threads + Wait + Copy + Send + 'static>(
 ) -> Result<(Answers, Answers, Answers), ShareFault>
     requires { (zero.unit ≡ publisher.old.unit) × (one.unit ≡ publisher.old.unit) }
 {
-    let (mut sender, receiver) = publisher.notice_ring(alloc, 1)?;
-    program(rt, publisher, &mut sender, &SET_UP)?;
-    let fenced = Arc::new(alloc, AtomicU64::new(0))?;
-    let (runtime, theirs) = (*rt, Arc::try_clone(&fenced)?);
+    let (sender, receiver) = publisher.notice_ring(alloc, 1)?;
+    let fence = Arc::new(alloc, Fence::new())?;
+    let (runtime, theirs) = (*rt, Arc::try_clone(&fence)?);
     let hart = move || -> Result<(Answers, Answers), ShareFault>
         requires { receiver.unit ≡ one.unit }
     { run_one(&runtime, alloc, one, receiver, &theirs) };
     let thread = thread::spawn(rt, hart).map_err(|_| ShareFault::NoPlace)?;
-    let zero = run_zero(rt, alloc, zero, publisher, sender, &fenced);
+    let zero = run_zero(rt, alloc, zero, publisher, sender, &fence);
     let one = thread.join(rt);
-    let (zero, (one, between)) = (zero?, one?);
-    Ok((zero, one, between))
+    let (zero, (one, before)) = (zero?, one?);
+    Ok((zero, one, before))
 }
 
-/// Publishes these writes in one step, tells hart 1 of it, and answers how many events are published.
+/// Publishes these writes in one step and shows it, sends hart 1 a notice, and waits at a remote fence: it ends no
+/// sooner, since what it answers comes of that wait.
 fn program<R: Wait>(
     rt: &R,
     publisher: &mut Publisher,
     notices: &mut NoticeSender,
+    fence: &Fence,
     writes: &[Event],
-) -> Result<u64, ShareFault>
+) -> Result<Fenced, ShareFault>
     requires { notices.old.unit ≡ publisher.old.unit }
     ensures publisher { publisher.new.unit ≡ publisher.old.unit }
     ensures notices { notices.new.unit ≡ notices.old.unit }
+    ensures fenced { IfOk result (λ fenced. event_count publisher.new.published ≤ fenced.events) }
 {
     publisher.submit(&Batch::of(writes).map_err(|_| ShareFault::Full)?)?;
     let events = publisher.publish(rt)?;
+    fence.show(rt, events, notices)?;
     let sent = notices.send(publisher.tell()?);
-    sent.map(|()| events).map_err(|_| ShareFault::NoPlace)
+    sent.map_err(|_| ShareFault::NoPlace)?;
+    fence.wait(rt, events, notices)
 }
 
-/// Hart 0 walks, switches to the second domain once hart 1 walked in the first, and walks again behind a remote fence.
+/// Hart 0 sets the first domain up and walks in it, and switches to the second and walks again.
 fn run_zero<R: Wait>(
     rt: &R,
     alloc: Global,
     checker: Checker,
     publisher: &mut Publisher,
     mut notices: NoticeSender,
-    fenced: &AtomicU64,
+    fence: &Fence,
 ) -> Result<Answers, ShareFault>
     requires { (notices.unit ≡ publisher.old.unit) × (checker.unit ≡ publisher.old.unit) }
 {
     let (mut hart, mut answers) = (Hart::new(checker), Vec::new(alloc));
-    hart.learn(publisher.tell()?);
-    walk(&mut hart, &mut answers)?;
-    wait_for(rt, fenced, SET_UP.len() as u64, &mut notices);
-    let events = program(rt, publisher, &mut notices, &SWITCH)?;
-    wait_for(rt, fenced, events, &mut notices);
-    hart.learn(publisher.tell()?);
-    walk(&mut hart, &mut answers)?;
+    for writes in [SET_UP.as_slice(), SWITCH.as_slice()] {
+        program(rt, publisher, &mut notices, fence, writes)?;
+        hart.learn(publisher.tell()?);
+        walk(&mut hart, &mut answers)?;
+    }
     Ok(answers)
 }
 
-/// Waits until hart 1 has learnt of so many events, or is gone.
-fn wait_for<R: Wait>(rt: &R, fenced: &AtomicU64, events: u64, notices: &mut NoticeSender)
-    ensures { notices.new.unit ≡ notices.old.unit }
-{
-    for _ in rt.forever() {
-        if fenced.load(Ordering::SeqCst) >= events || notices.is_abandoned() {
-            break;
-        }
-        thread::yield_now();
-    }
-}
-
-/// Hart 1 learns of each notice and then walks, until nobody sends any more. It loads all the while, and answers what
-/// the walks gave, and of the other loads the first in each number of events.
+/// Hart 1 loads where it sees that something was published, before a notice of it comes. It learns of each notice and
+/// then walks, until nobody sends any more. Answers what the walks gave, and the other loads.
 fn run_one<R: Wait>(
     rt: &R,
     alloc: Global,
     checker: Checker,
     mut notices: NoticeReceiver,
-    fenced: &AtomicU64,
+    fence: &Fence,
 ) -> Result<(Answers, Answers), ShareFault>
     requires { notices.unit ≡ checker.unit }
 {
     let mut hart = Hart::new(checker);
-    let (mut walked, mut between) = (Vec::new(alloc), Vec::new(alloc));
-    let mut seen = None;
+    let (mut walked, mut before) = (Vec::new(alloc), Vec::new(alloc));
+    let mut looked = 0;
     for _ in rt.forever() {
         let is_last = notices.is_abandoned();
-        let answer = load(&mut hart, BETWEEN)?;
-        if seen != Some(answer.events) {
-            seen = Some(answer.events);
-            between.push(answer)?;
+        let shown = fence.shown();
+        if shown > looked {
+            before.push(load(&mut hart, BEFORE)?)?;
+            before.push(load(&mut hart, BEFORE)?)?;
+            looked = shown;
+            fence.look(shown);
         }
         if let Some(notice) = notices.receive() {
-            let events = notice.len();
-            hart.learn(notice);
+            let learnt = hart.learn(notice);
             walk(&mut hart, &mut walked)?;
-            fenced.store(events, Ordering::SeqCst);
+            fence.acknowledge(learnt);
         } else if is_last {
             break;
         }
         thread::yield_now();
     }
-    Ok((walked, between))
+    Ok((walked, before))
 }
 
 /// Loads eight bytes in user mode.

@@ -1,21 +1,15 @@
 -- What a checker's thread takes with it may move there, and what it answers may move back.
 use denote.Param.Send.{IsSend, IsSync, sendable}
-use denote.Param.SendFields.{declared_send, as_row_send}
+use denote.Param.SendFields.{declared_send}
 use Rattle.std.proofs.Crossing.{crosses}
 use Rattle.pmp_share.proofs.Crossing.{checker_send}
-use Rattle.pmp_stress.specs.contracts.crew.Answer as answer
+use Rattle.pmp_stress.specs.contracts.asking.Answer as answer
 use Rattle.pmp_stress.specs.contracts.crew.Done as done
 use Rattle.pmp_stress.specs.contracts.crew.Duty as duty
-use Rattle.pmp_stress.specs.contracts.crew.Said as said
-use Rattle.pmp_stress.specs.contracts.failure.Failure as failure
 use Rattle.pmp_stress.specs.contracts.meeting.Meeting as meeting
-use Rattle.pmp_stress.specs.contracts.random.Random as random
-
-pub random_send : IsSend random.the_row
-random_send = search (crosses, sendable) depth 14
 
 pub duty_send : IsSend duty.the_row
-duty_send = search (crosses, sendable) depth 14
+duty_send = search (crosses, sendable) depth 24
 
 pub meeting_send : IsSend meeting.the_row
 meeting_send = search (crosses, sendable) depth 14
@@ -23,20 +17,11 @@ meeting_send = search (crosses, sendable) depth 14
 pub meeting_sync : IsSync meeting.the_row
 meeting_sync = search (crosses, sendable) depth 14
 
-said_send : IsSend said.the_row
-said_send = search (crosses, sendable) depth 20
-
 answer_send : IsSend answer.the_row
-answer_send = search (said_send, crosses, sendable) depth 24
-
-failure_send : IsSend failure.the_row
-failure_send = search (crosses, sendable) depth 14
+answer_send = search (crosses, sendable) depth 24
 
 pub done_send : IsSend done.the_row
 done_send = declared_send done.the_type (
-  search (failure_send, crosses, sendable) depth 12,
-  (
-    search (as_row_send, sendable) depth 6,
-    (search (answer_send, crosses, sendable) depth 12, (search (checker_send, crosses, sendable) depth 12, tt)),
-  ),
+  search (crosses, sendable) depth 20,
+  (search (answer_send, crosses, sendable) depth 12, (search (checker_send, crosses, sendable) depth 12, tt)),
 )

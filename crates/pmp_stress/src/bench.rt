@@ -1,66 +1,154 @@
 //! What decisions, publications and notices cost, as `make bench-threads` prints it.
 
-use crate::alone::{Alone, ROUNDS};
+use crate::calls::{CALLS, Call, learn};
+use crate::crew::{Crew, Duty};
 use crate::failure::Failure;
+use crate::filling::publish_many;
+use crate::meeting::Meeting;
 use crate::printing::print_time;
-use crate::random::Random;
-use crate::round::{Load, run_round};
-use crate::tally::Tally;
+use crate::time::Moment;
+use crate::unit::{WRITE, publish, publish_regions};
+use pmp_share::{Batch, CHECKERS, Checker, Publisher, ShareFault, start};
 use std::alloc::Global;
 use std::io::Print;
 use std::sync::Wait;
 use std::thread::Threads;
 use std::time::Clock;
 
+/// How often each time is taken. The least counts.
+const ROUNDS: u32 = 15;
+
 /// What is timed on one thread.
-const ALONE: [(&str, Alone); 8] = [
-    ("a decision by a map", Alone::Map),
-    ("a decision by a checker", Alone::Checker),
-    ("a decision of a group of 16", Alone::Groups),
-    ("the rights of a page by a checker", Alone::Rights),
-    ("a checker's count of events", Alone::Counts),
-    ("a register read by a checker", Alone::Registers),
-    ("a publication", Alone::Publications),
-    ("tell and learn", Alone::Notices),
+const TIMED: [(&str, Call); 6] = [
+    ("a decision by a map", Call::Map),
+    ("a decision by a checker", Call::Decision),
+    ("a decision of a group of 16", Call::Group),
+    ("the rights of a page by a checker", Call::Rights),
+    ("a checker's count of events", Call::Count),
+    ("a register read by a checker", Call::Register),
 ];
 
-/// The least times of so many checkers at once.
-fn least_of_crowd<R: Clock + Threads + Wait + Copy>(
+/// How often the publisher publishes while nobody decides, and at most while checkers do.
+const PUBLICATIONS: u32 = 20_000;
+
+const MOST_PUBLICATIONS: u32 = 500_000;
+
+const NOTICES: u32 = 100_000;
+
+/// Two times in tenths of a nanosecond.
+type Times = (u64, u64);
+
+/// The times of a publication of one event while nobody decides, and of a notice that is told and learnt.
+fn time_publisher<R: Clock + Wait>(rt: &R, alloc: Global) -> Result<Times, Failure> {
+    let batch = Batch::of(&[WRITE])?;
+    let (mut publisher, mut checkers) = start(rt, alloc, 1)?;
+    let opened = publish_regions(rt, &mut publisher);
+    let since = Moment::now(rt);
+    let told = match checkers.pop() {
+        Some(mut checker) => learn(&mut publisher, &mut checker, NOTICES),
+        None => Err(ShareFault::NoPlace),
+    };
+    let notice = since.each(rt, NOTICES);
+    let since = Moment::now(rt);
+    let published = publish_many(rt, &mut publisher, &batch, PUBLICATIONS, false);
+    let publication = since.each(rt, PUBLICATIONS);
+    publisher.end(rt);
+    opened?;
+    told?;
+    published?;
+    Ok((publication, notice))
+}
+
+/// Publishes one write at a time until all checkers are through, and answers the time of each.
+fn publish_writes<R: Clock + Wait>(
+    rt: &R,
+    publisher: &mut Publisher,
+    meeting: &Meeting,
+) -> Result<u64, Failure> {
+    let batch = Batch::of(&[WRITE])?;
+    let since = Moment::now(rt);
+    let mut published = 0u32;
+    for before in 0..MOST_PUBLICATIONS {
+        published = before;
+        if meeting.is_over() {
+            break;
+        }
+        publish(rt, publisher, &batch)?;
+    }
+    Ok(since.each(rt, published))
+}
+
+fn time_crowd_of<R: Clock + Threads + Wait + Copy + Send + 'static>(
+    rt: &R,
+    alloc: Global,
+    publisher: &mut Publisher,
+    checkers: Vec<Checker>,
+    call: Call,
+    publishes: bool,
+) -> Result<Times, Failure> {
+    publish_regions(rt, publisher)?;
+    let count = checkers.len();
+    let mut crew = Crew::new(alloc, Meeting::new(count.wrapping_add(1), count, 0))?;
+    for checker in checkers {
+        crew.send(rt, checker, Duty::Calls(call))?;
+    }
+    crew.meeting.wait(rt);
+    let since = Moment::now(rt);
+    let publication = if publishes {
+        publish_writes(rt, publisher, &crew.meeting)?
+    } else {
+        u64::MAX
+    };
+    let all = crew.join(rt)?;
+    let time = since.each(rt, CALLS);
+    for done in all {
+        done.outcome?;
+    }
+    Ok((time, publication))
+}
+
+/// The times of a call by each of one to eight checkers at once, and of a publication meanwhile, if there are any.
+fn time_crowd<R: Clock + Threads + Wait + Copy + Send + 'static>(
     rt: &R,
     alloc: Global,
     checkers: u8,
-    load: Load,
-) -> Result<Tally, Failure> {
-    let mut random = Random::new(0);
-    let mut least = Tally::NOTHING;
+    call: Call,
+    publishes: bool,
+) -> Result<Times, Failure> {
+    let (mut publisher, checkers) = start(rt, alloc, checkers.clamp(1, CHECKERS))?;
+    let times = time_crowd_of(rt, alloc, &mut publisher, checkers, call, publishes);
+    publisher.end(rt);
+    times
+}
+
+fn least<F: FnMut() -> Result<Times, Failure>>(mut round: F) -> Result<Times, Failure>
+    requires { F.IsAlwaysCallable round }
+{
+    let mut least = (u64::MAX, u64::MAX);
     for _ in 0..ROUNDS {
-        run_round(rt, alloc, checkers, load, &mut random, &mut least)?;
+        let times = round()?;
+        least = (least.0.min(times.0), least.1.min(times.1));
     }
-    least.verdict()?;
     Ok(least)
 }
 
-fn print_crowd<R: Clock + Threads + Wait + Print + Copy>(
-    rt: &R,
-    alloc: Global,
-    checkers: u8,
-) -> Result<(), Failure> {
-    let quiet = least_of_crowd(rt, alloc, checkers, Load::Quiet)?;
-    print_time(rt, checkers, "a decision", quiet.decision)?;
-    let busy = least_of_crowd(rt, alloc, checkers, Load::Busy)?;
-    print_time(rt, checkers, "a decision while it publishes", busy.decision)?;
-    print_time(rt, checkers, "a publication meanwhile", busy.publication)
-}
-
-pub fn bench<R: Clock + Threads + Wait + Print + Copy>(
+pub fn bench<R: Clock + Threads + Wait + Print + Copy + Send + 'static>(
     rt: &R,
     alloc: Global,
 ) -> Result<(), Failure> {
-    for (what, alone) in ALONE {
-        print_time(rt, 1, what, alone.least(rt, alloc)?)?;
+    for (what, call) in TIMED {
+        let (time, _) = least(|| time_crowd(rt, alloc, 1, call, false))?;
+        print_time(rt, 1, what, time)?;
     }
+    let (publication, notice) = least(|| time_publisher(rt, alloc))?;
+    print_time(rt, 1, "a publication", publication)?;
+    print_time(rt, 1, "tell and learn", notice)?;
     for checkers in 1..=4 {
-        print_crowd(rt, alloc, checkers)?;
+        let (quiet, _) = least(|| time_crowd(rt, alloc, checkers, Call::Decision, false))?;
+        print_time(rt, checkers, "a decision", quiet)?;
+        let (busy, publication) = least(|| time_crowd(rt, alloc, checkers, Call::Decision, true))?;
+        print_time(rt, checkers, "a decision while it publishes", busy)?;
+        print_time(rt, checkers, "a publication meanwhile", publication)?;
     }
     Ok(())
 }

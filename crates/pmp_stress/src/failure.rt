@@ -1,10 +1,8 @@
 //! Why there is nothing to compare or to time.
 
-use pmp_core::AccessFault;
 use pmp_share::{BatchFull, ShareFault};
 use std::alloc::{AllocError, AllocFailed};
 use std::io;
-use std::thread::SpawnError;
 
 #[derive(Clone, Copy, Debug)]
 pub enum Failure {
@@ -15,8 +13,8 @@ pub enum Failure {
     Thread,
     /// A batch or an access isn't lawful.
     Unlawful,
-    /// A decision isn't what it has to be.
-    Decision,
+    /// An answer isn't what it has to be.
+    Answer,
     /// A call of the unit was refused.
     Unit(ShareFault),
 }
@@ -36,18 +34,6 @@ impl From<AllocError> for Failure {
 impl<T: Drop> From<AllocFailed<T>> for Failure {
     fn from(_failed: AllocFailed<T>) -> Failure {
         Failure::Memory
-    }
-}
-
-impl<F: Drop> From<SpawnError<F>> for Failure {
-    fn from(_error: SpawnError<F>) -> Failure {
-        Failure::Thread
-    }
-}
-
-impl From<AccessFault> for Failure {
-    fn from(_fault: AccessFault) -> Failure {
-        Failure::Unlawful
     }
 }
 

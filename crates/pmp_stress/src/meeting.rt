@@ -1,41 +1,45 @@
-//! Where the threads of a round meet.
+//! Where a publisher and the threads of its checkers meet.
 
 use std::sync::atomic::{AtomicU64, Ordering};
+use std::sync::{Barrier, Wait};
 
-/// Its threads begin together, and the publisher sees when the last checker has decided.
 #[derive(Drop)]
 pub struct Meeting {
-    awaited: AtomicU64,
-    deciding: AtomicU64,
+    barrier: Barrier,
+    busy: AtomicU64,
+    shown: AtomicU64,
 }
 
 impl Meeting {
-    /// Of so many checkers and a publisher.
-    pub fn new(checkers: usize) -> Meeting {
-        let checkers = checkers as u64;
+    /// Of so many threads, where it goes on until so many of them have left. So many events are published before.
+    pub fn new(threads: usize, busy: usize, shown: u64) -> Meeting {
         Meeting {
-            awaited: AtomicU64::new(checkers.wrapping_add(1)),
-            deciding: AtomicU64::new(checkers),
+            barrier: Barrier::new(threads),
+            busy: AtomicU64::new(busy as u64),
+            shown: AtomicU64::new(shown),
         }
     }
 
-    /// Spins until all are there.
-    pub fn begin(&self) {
-        self.awaited.fetch_sub(1, Ordering::SeqCst);
-        for _ in 0..u64::MAX {
-            if self.awaited.load(Ordering::SeqCst) == 0 {
-                break;
-            }
-        }
+    /// Waits until all are there.
+    pub fn wait<R: Wait>(&self, rt: &R) {
+        self.barrier.wait(rt);
     }
 
-    /// One checker more has decided.
     pub fn leave(&self) {
-        self.deciding.fetch_sub(1, Ordering::SeqCst);
+        self.busy.fetch_sub(1, Ordering::SeqCst);
     }
 
-    /// Whether all checkers have decided.
     pub fn is_over(&self) -> bool {
-        self.deciding.load(Ordering::SeqCst) == 0
+        self.busy.load(Ordering::SeqCst) == 0
+    }
+
+    /// A publication of so many events has returned.
+    pub fn show(&self, events: u64) {
+        self.shown.store(events, Ordering::SeqCst);
+    }
+
+    /// How many events each look has that starts from now on, at least.
+    pub fn shown(&self) -> u64 {
+        self.shown.load(Ordering::SeqCst)
     }
 }

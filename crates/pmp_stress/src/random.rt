@@ -70,10 +70,10 @@ impl Random {
         }
     }
 
-    /// None to seven events.
-    pub fn batch(&mut self) -> Result<Batch, Failure> {
+    /// At least so many events, and up to seven more.
+    pub fn batch(&mut self, least: u32) -> Result<Batch, Failure> {
         let mut batch = Batch::new();
-        for _ in 0..self.below(8) {
+        for _ in 0..least.saturating_add(self.below(8)) {
             batch.push(self.event())?;
         }
         Ok(batch)
@@ -82,24 +82,16 @@ impl Random {
     /// What a batch leaves of a reset.
     pub fn file(&mut self) -> Result<RegFile, Failure> {
         let mut file = RegFile::reset();
-        file.run_events(self.batch()?.events());
+        file.run_events(self.batch(0)?.events());
         Ok(file)
     }
 
     /// One to 64 bytes.
     pub fn access(&mut self) -> Result<Access, Failure> {
-        let mode = match self.below(3) {
-            0 => Mode::M,
-            1 => Mode::S,
-            _ => Mode::U,
-        };
-        let kind = match self.below(3) {
-            0 => Kind::Fetch,
-            1 => Kind::Load,
-            _ => Kind::Store,
-        };
+        let mode = [Mode::M, Mode::S, Mode::U][self.below(3) as usize];
+        let kind = [Kind::Fetch, Kind::Load, Kind::Store][self.below(3) as usize];
         let start = 4 * FIRST_WORD + u64::from(self.below(4 * WORDS));
         let length = 1 + u64::from(self.below(64));
-        Ok(Access::new(mode, kind, start, length)?)
+        Access::new(mode, kind, start, length).map_err(|_| Failure::Unlawful)
     }
 }

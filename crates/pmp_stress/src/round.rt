@@ -1,201 +1,180 @@
-//! One unit, whose checkers decide at once while its publisher publishes.
+//! One unit under load: its checkers are asked on threads, and come back, while its publisher publishes.
 
 ghost use Rattle.std.specs.Prelude.{◌≡◌, All};
 
-use crate::alone::DECISIONS;
-use crate::crew::{Done, Duty, send_all};
+use crate::asking::Question;
+use crate::crew::{Crew, Done, Duty};
 use crate::failure::Failure;
 use crate::meeting::Meeting;
-use crate::random::Random;
-use crate::replay::Published;
-use crate::tally::Tally;
+use crate::published::Published;
+use crate::soak::Tally;
+use crate::source::Source;
 use crate::time::Moment;
-use crate::unit::{WRITE, publish, publish_regions};
-use pmp_core::RegFile;
-use pmp_share::{Batch, CHECKERS, Checker, Publisher, PublisherGuard, start_from};
+use pmp_core::Event;
+use pmp_share::{Batch, CHECKERS, Checker, Publisher, start_from};
 use std::alloc::Global;
-use std::sync::{Arc, Wait};
-use std::thread::{JoinHandle, Threads};
+use std::sync::Wait;
+use std::thread::Threads;
 use std::time::Clock;
 
-/// How often the publisher publishes random batches.
-const RANDOM_PUBLICATIONS: u32 = 500;
+/// How often the checkers go to threads and come back.
+const STRETCHES: u32 = 5;
 
-/// How often it publishes writes at most.
-const MOST_PUBLICATIONS: u32 = 500_000;
+/// How often the publisher publishes in each, beside once for each question: 400 times in all, 200 rounds of a swap.
+const PUBLICATIONS: u32 = 75;
 
-/// What the publisher does meanwhile, and so what the checkers decide.
-#[derive(Clone, Copy)]
-pub enum Load {
-    /// Nothing, while they decide loads.
-    Quiet,
-    /// It publishes one write at a time until they have decided loads.
-    Busy,
-    /// It publishes random batches, while they decide random accesses.
-    Random,
+#[derive(Drop)]
+struct Round {
+    alloc: Global,
+    source: Source,
+    published: Published,
+    tally: Tally,
 }
 
-impl Load {
-    fn duty(self) -> Duty {
-        match self {
-            Load::Quiet | Load::Busy => Duty::Loads,
-            Load::Random => Duty::Random,
-        }
-    }
-}
-
-fn publish_writes<R: Clock + Wait>(
-    rt: &R,
-    publisher: &mut Publisher,
-    meeting: &Meeting,
-    tally: &mut Tally,
-) -> Result<(), Failure> {
-    let batch = Batch::of(&[WRITE])?;
-    let since = Moment::now(rt);
-    let mut published = 0u32;
-    for before in 0..MOST_PUBLICATIONS {
-        published = before;
-        if meeting.is_over() {
-            break;
-        }
-        publish(rt, publisher, &batch)?;
-    }
-    tally.publication = tally.publication.min(since.each(rt, published));
-    Ok(())
-}
-
-/// One to three batches, which the publisher reads at once.
-fn submit_some(
-    publisher: &mut Publisher,
-    published: &mut Published,
-    random: &mut Random,
-) -> Result<(), Failure> {
-    for _ in 0..=random.below(3) {
-        let batch = random.batch()?;
-        publisher.submit(&batch)?;
-        published.push(&batch)?;
-    }
-    if published.is_read_by(publisher) {
-        Ok(())
-    } else {
-        Err(Failure::Decision)
-    }
-}
-
-fn publish_random<R: Clock + Wait>(
-    rt: &R,
-    publisher: &mut Publisher,
-    published: &mut Published,
-    random: &mut Random,
-    tally: &mut Tally,
-) -> Result<(), Failure> {
-    for _ in 0..RANDOM_PUBLICATIONS {
-        submit_some(publisher, published, random)?;
-        let since = Moment::now(rt);
-        publisher.publish(rt)?;
-        tally.add_publication(since.nanoseconds(rt));
-        published.end_publication()?;
-    }
-    tally.batches = tally.batches.wrapping_add(published.batches() as u64);
-    Ok(())
-}
-
-/// Compares what all of them answered, once the last has ended.
-fn join_all<R: Threads>(
-    rt: &R,
-    mut threads: Vec<JoinHandle<Done>>,
-    published: &Published,
-    tally: &mut Tally,
-) {
-    for _ in 0..threads.len() {
-        if let Some(thread) = threads.pop() {
-            tally.add_checker(published, &mut thread.join(rt));
-        }
-    }
-}
-
-fn run<R: Clock + Threads + Wait>(
-    rt: &R,
+/// Has each checker learn what is published.
+fn tell_all(
     alloc: Global,
     publisher: &mut Publisher,
-    checkers: Vec<Checker>,
-    base: RegFile,
-    load: Load,
-    random: &mut Random,
-    tally: &mut Tally,
-) -> Result<(), Failure>
+    mut checkers: Vec<Checker>,
+) -> Result<Vec<Checker>, Failure>
     requires { All (λ checker. checker.unit ≡ publisher.old.unit) checkers.items }
 {
-    let meeting = Arc::new(alloc, Meeting::new(checkers.len()))?;
-    let threads = send_all(
-        rt,
-        alloc,
-        publisher,
-        checkers,
-        load.duty(),
-        random,
-        &meeting,
-    )?;
-    let mut published = Published::new(alloc, base);
-    meeting.begin();
-    let since = Moment::now(rt);
-    let outcome = match load {
-        Load::Quiet => Ok(()),
-        Load::Busy => publish_writes(rt, publisher, &meeting, tally),
-        Load::Random => publish_random(rt, publisher, &mut published, random, tally),
-    };
-    join_all(rt, threads, &published, tally);
-    tally.decision = tally.decision.min(since.each(rt, DECISIONS));
-    outcome
+    let mut told = Vec::new(alloc);
+    for _ in 0..checkers.len() {
+        if let Some(mut checker) = checkers.pop() {
+            checker.learn(publisher.tell()?);
+            told.push(checker)?;
+        }
+    }
+    Ok(told)
 }
 
-/// What the loads need.
-fn publish_first<R: Wait>(rt: &R, publisher: &mut Publisher, load: Load) -> Result<(), Failure>
-    ensures { publisher.new.unit ≡ publisher.old.unit }
-{
-    match load {
-        Load::Quiet | Load::Busy => publish_regions(rt, publisher),
-        Load::Random => Ok(()),
+impl Round {
+    /// Publishes what comes next, and answers how many events are published then.
+    fn publish<R: Clock + Wait>(
+        &mut self,
+        rt: &R,
+        publisher: &mut Publisher,
+    ) -> Result<u64, Failure>
+        ensures { publisher.new.unit ≡ publisher.old.unit }
+    {
+        let batches = self.source.batches(self.alloc, self.published.len())?;
+        for batch in batches.as_slice() {
+            publisher.submit(batch)?;
+        }
+        self.published.push(&batches)?;
+        let since = Moment::now(rt);
+        let events = publisher.publish(rt)?;
+        self.tally.add_publication(since.nanoseconds(rt));
+        Ok(events)
+    }
+
+    /// Sends the checkers out, of which so many don't come back.
+    fn send_out<R: Threads + Wait + Copy + Send + 'static>(
+        &mut self,
+        rt: &R,
+        publisher: &Publisher,
+        checkers: Vec<Checker>,
+        leaving: usize,
+    ) -> Result<Crew, Failure> {
+        let threads = checkers.len().wrapping_sub(leaving).wrapping_add(1);
+        let mut crew = Crew::new(
+            self.alloc,
+            Meeting::new(threads, 1, publisher.journal_len()),
+        )?;
+        for (seat, checker) in checkers.into_iter().enumerate() {
+            let duty = Duty::Questions(self.source.branch(), seat >= leaving);
+            crew.send(rt, checker, duty)?;
+        }
+        Ok(crew)
+    }
+
+    /// Compares what all of them answered, and answers those that came back.
+    fn come_back<R: Threads>(&mut self, rt: &R, crew: Crew) -> Result<Vec<Checker>, Failure> {
+        let mut checkers = Vec::new(self.alloc);
+        for done in crew.join(rt)? {
+            let is_right = self.published.fits(&done, &self.source);
+            self.tally.add(done.answers.len(), is_right);
+            let Done { checker, .. } = done;
+            if let Some(checker) = checker {
+                checkers.push(checker)?;
+            }
+        }
+        Ok(checkers)
+    }
+
+    /// Publishes while the checkers are asked freely, and then once for each question. Those that come back copy what is
+    /// published.
+    fn stretch<R: Clock + Threads + Wait + Copy + Send + 'static>(
+        &mut self,
+        rt: &R,
+        publisher: &mut Publisher,
+        checkers: Vec<Checker>,
+        leaving: usize,
+    ) -> Result<Vec<Checker>, Failure> {
+        let crew = self.send_out(rt, publisher, checkers, leaving)?;
+        for _ in 0..PUBLICATIONS {
+            crew.meeting.show(self.publish(rt, publisher)?);
+        }
+        crew.meeting.leave();
+        for _ in Question::ALL {
+            crew.meeting.wait(rt);
+            crew.meeting.show(self.publish(rt, publisher)?);
+            crew.meeting.wait(rt);
+        }
+        let mut checkers = self.come_back(rt, crew)?;
+        for checker in checkers.iter_mut() {
+            if !self.published.is_in(&checker.copy_journal()?) {
+                return Err(Failure::Answer);
+            }
+        }
+        Ok(checkers)
+    }
+
+    /// All stretches, of which in the last but one a checker doesn't come back. Then the others are asked, and a reset is
+    /// pending.
+    fn run<R: Clock + Threads + Wait + Copy + Send + 'static>(
+        &mut self,
+        rt: &R,
+        publisher: &mut Publisher,
+        checkers: Vec<Checker>,
+    ) -> Result<Crew, Failure>
+        requires { All (λ checker. checker.unit ≡ publisher.old.unit) checkers.items }
+    {
+        self.publish(rt, publisher)?;
+        let mut checkers = tell_all(self.alloc, publisher, checkers)?;
+        for stretch in 0..STRETCHES {
+            let leaving = usize::from(stretch + 2 == STRETCHES);
+            checkers = self.stretch(rt, publisher, checkers, leaving)?;
+        }
+        let leaving = checkers.len();
+        let crew = self.send_out(rt, publisher, checkers, leaving)?;
+        publisher.submit(&Batch::of(&[Event::Reset])?)?;
+        Ok(crew)
     }
 }
 
-/// What a unit begins with.
-fn base_for(load: Load, random: &mut Random) -> Result<RegFile, Failure> {
-    match load {
-        Load::Quiet | Load::Busy => Ok(RegFile::reset()),
-        Load::Random => random.file(),
-    }
-}
-
-/// A round with a unit of its own, of one to eight checkers. A guard ends it.
-pub fn run_round<R: Clock + Threads + Wait + Copy>(
+/// Runs a unit of its own. The publisher ends with the reset pending while the checkers are asked: none sees it, and the
+/// journal doesn't have it.
+pub fn run_round<R: Clock + Threads + Wait + Copy + Send + 'static>(
     rt: &R,
     alloc: Global,
-    checkers: u8,
-    load: Load,
-    random: &mut Random,
-    tally: &mut Tally,
-) -> Result<(), Failure> {
-    let base = base_for(load, random)?;
-    let (mut publisher, checkers) = start_from(
-        rt,
+    mut source: Source,
+    tally: Tally,
+) -> Result<Tally, Failure> {
+    let base = source.base()?;
+    let (mut publisher, checkers) = start_from(rt, alloc, &base.save(), CHECKERS)?;
+    let mut round = Round {
         alloc,
-        &base.save(),
-        checkers.clamp(1, CHECKERS),
-    )?;
-    let outcome = match publish_first(rt, &mut publisher, load) {
-        Ok(()) => run(
-            rt,
-            alloc,
-            &mut publisher,
-            checkers,
-            base,
-            load,
-            random,
-            tally,
-        ),
-        Err(failure) => Err(failure),
+        source,
+        published: Published::new(alloc, base),
+        tally,
     };
-    drop(PublisherGuard::new(*rt, publisher));
-    outcome
+    let crew = round.run(rt, &mut publisher, checkers);
+    let journal = publisher.end(rt);
+    let crew = crew?;
+    crew.meeting.leave();
+    round.come_back(rt, crew)?;
+    round.tally.add(0, round.published.is_in(&journal));
+    Ok(round.tally)
 }

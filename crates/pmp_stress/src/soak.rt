@@ -1,54 +1,77 @@
-//! Units under random load, for a chosen time.
+//! Units under load, for a chosen time.
 
 use crate::failure::Failure;
 use crate::printing::print_counts;
 use crate::random::Random;
-use crate::round::{Load, run_round};
-use crate::tally::Tally;
+use crate::round::run_round;
+use crate::source::{Source, Swap};
 use crate::time::Moment;
-use pmp_share::CHECKERS;
+use pmp_core::Size;
 use std::alloc::Global;
 use std::io::Print;
 use std::sync::Wait;
 use std::thread::Threads;
 use std::time::Clock;
 
-/// One unit after another, until so many seconds are over.
-fn run_rounds<R: Clock + Threads + Wait + Copy>(
+/// What units have swapped, one after another: nothing, or these entries.
+const SWAPS: [Option<Swap>; 3] = [None, Some(Swap(Size::Sixteen)), Some(Swap(Size::SixtyFour))];
+
+/// What came of rounds.
+#[derive(Clone, Copy, Default)]
+pub struct Tally {
+    pub answers: u64,
+    pub publications: u64,
+    /// How many nanoseconds the longest publication took.
+    pub longest: u64,
+    /// How often a checker ended its thread, or a publisher its unit, with all as it has to be, and how often not.
+    pub passed: u64,
+    pub failed: u64,
+}
+
+impl Tally {
+    pub fn add_publication(&mut self, nanoseconds: u64) {
+        self.publications = self.publications.wrapping_add(1);
+        self.longest = self.longest.max(nanoseconds);
+    }
+
+    pub fn add(&mut self, answers: usize, is_right: bool) {
+        self.answers = self.answers.wrapping_add(answers as u64);
+        self.passed = self.passed.wrapping_add(u64::from(is_right));
+        self.failed = self.failed.wrapping_add(u64::from(!is_right));
+    }
+}
+
+/// Runs units of all three until so many seconds are over, and prints what came of it: of no seconds what is the same
+/// on each machine.
+pub fn soak<R: Clock + Threads + Wait + Print + Copy + Send + 'static>(
     rt: &R,
     alloc: Global,
     seconds: u32,
     seed: u32,
-    tally: &mut Tally,
 ) -> Result<(), Failure> {
     let since = Moment::now(rt);
     let mut random = Random::new(u64::from(seed));
+    let mut tally = Tally::default();
     for _ in 0..u64::MAX {
-        run_round(rt, alloc, CHECKERS, Load::Random, &mut random, tally)?;
+        for swap in SWAPS {
+            let random = random.branch();
+            tally = run_round(rt, alloc, Source { random, swap }, tally)?;
+        }
         if since.nanoseconds(rt) / 1_000_000_000 >= u64::from(seconds) {
             break;
         }
     }
-    Ok(())
-}
-
-/// Prints what came of it. Of no seconds it says what is the same on each machine.
-pub fn soak<R: Clock + Threads + Wait + Print + Copy>(
-    rt: &R,
-    alloc: Global,
-    seconds: u32,
-    seed: u32,
-) -> Result<(), Failure> {
-    let mut tally = Tally::NOTHING;
-    run_rounds(rt, alloc, seconds, seed, &mut tally)?;
     let counts = [
-        (tally.decisions, "decisions"),
-        (tally.publications, "publications"),
-        (tally.batches, "batches"),
+        (tally.answers, "answers"),
         (tally.longest / 1_000, "us in the longest publication"),
+        (tally.publications, "publications"),
         (tally.passed, "passed"),
         (tally.failed, "failed"),
     ];
-    print_counts(rt, if seconds > 0 { &counts } else { &counts[4..] })?;
-    tally.verdict()
+    print_counts(rt, if seconds > 0 { &counts } else { &counts[2..] })?;
+    if tally.failed > 0 {
+        Err(Failure::Answer)
+    } else {
+        Ok(())
+    }
 }

@@ -21,26 +21,8 @@ impl Moment {
         }
     }
 
-    /// How long each of so many calls took since then.
-    pub fn each<R: Clock>(self, rt: &R, calls: u32) -> Time {
-        Time {
-            tenths: self.nanoseconds(rt).saturating_mul(10) / u64::from(calls.max(1)),
-        }
-    }
-}
-
-/// So many tenths of a nanosecond.
-#[derive(Clone, Copy)]
-pub struct Time {
-    pub tenths: u64,
-}
-
-impl Time {
-    pub const MOST: Time = Time { tenths: u64::MAX };
-
-    pub fn min(self, other: Time) -> Time {
-        Time {
-            tenths: self.tenths.min(other.tenths),
-        }
+    /// How many tenths of a nanosecond each of so many calls took since then.
+    pub fn each<R: Clock>(self, rt: &R, calls: u32) -> u64 {
+        self.nanoseconds(rt).saturating_mul(10) / u64::from(calls.max(1))
     }
 }

@@ -9,8 +9,11 @@ use std::sync::Wait;
 
 const REGIONS: usize = 16;
 
+/// How many writes set them.
+pub const EVENTS: u64 = REGIONS as u64 + 2;
+
 /// All sixteen are readable and writable.
-const RULES: u64 = 0x1b1b_1b1b_1b1b_1b1b;
+pub const RULES: u64 = 0x1b1b_1b1b_1b1b_1b1b;
 
 /// A write that changes no decision.
 pub const WRITE: Event = Event::Write(Csr::Addr(0), 0x2000_01ff);
@@ -34,7 +37,7 @@ fn regions() -> [Event; REGIONS + 2] {
 
 /// A load of eight bytes by user mode.
 fn load(entry: u8) -> Result<Access, Failure> {
-    Ok(Access::new(Mode::U, Kind::Load, region(entry), 8)?)
+    Access::new(Mode::U, Kind::Load, region(entry), 8).map_err(|_| Failure::Unlawful)
 }
 
 /// One from each region.

@@ -4,12 +4,12 @@ mod asking;
 mod copying;
 mod ending;
 mod groups;
+mod guards;
 mod limits;
 mod reading;
 mod rings;
 mod sending;
 mod starting;
-mod swapping;
 mod unit;
 
 use pmp_core::{Csr, Event, Size};

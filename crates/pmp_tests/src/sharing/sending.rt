@@ -3,24 +3,32 @@
 ghost use Rattle.std.specs.Prelude.{◌≡◌};
 
 use super::ENTRY_ZERO;
-use super::swapping::{ROUNDS, ZERO_AND_ONE, events_after, look_in_round};
 use super::unit::{BY_NO_ENTRY, look, publish, tell};
-use pmp_core::{Csr, Event, RegFile, SavedRegisters};
-use pmp_share::{
-    Checker, Journal, NoticeReceiver, NoticeSender, PublisherGuard, start, start_from,
-};
+use pmp_core::Event;
+use pmp_share::{Checker, Journal, Notice, NoticeReceiver, NoticeSender, PublisherGuard, start};
 use std::process::Abort;
 use std::sync::Wait;
 use std::thread;
 
-/// The registers with which the first of the two entries reads the page.
-fn opened() -> SavedRegisters {
-    let mut file = RegFile::reset();
-    file.run_events(&ZERO_AND_ONE.opening);
-    file.save()
+/// How many notices are sent to a thread that runs on.
+const NOTICES: u64 = 2_000;
+
+/// Sends the notice as soon as there is room for it.
+fn send<R: Wait>(rt: &R, notices: &mut NoticeSender, notice: Notice)
+    requires { notice.unit ≡ notices.old.unit }
+    ensures { notices.new.unit ≡ notices.old.unit }
+{
+    let mut unsent = notice;
+    for _ in rt.forever() {
+        match notices.send(unsent) {
+            Ok(()) => break,
+            Err(back) => unsent = back,
+        }
+        thread::yield_now();
+    }
 }
 
-/// Publishes all rounds, sends a notice of each, unless the ring is full, and gives the publisher back.
+/// Sends a notice of each publication of one event, and gives the publisher back.
 fn publish_there<R: Wait + Abort + Drop>(
     rt: R,
     guard: PublisherGuard<R>,
@@ -29,50 +37,49 @@ fn publish_there<R: Wait + Abort + Drop>(
     requires { notices.unit ≡ guard.unit }
 {
     let mut publisher = guard.into_publisher();
-    for round in 0..ROUNDS {
-        ZERO_AND_ONE.publish(&rt, &mut publisher, round..round + 1);
-        let _full = notices.send(tell(&rt, &mut publisher)).is_err();
+    for published in 1..=NOTICES {
+        publish(&rt, &mut publisher, &[Event::Reset], published);
+        let notice = tell(&rt, &mut publisher);
+        send(&rt, &mut notices, notice);
     }
     PublisherGuard::new(rt, publisher)
 }
 
-/// Learns of each notice and decides, in no fewer events than that tells of, until the sender is gone. Then all rounds
-/// are published.
-fn watch_told<R: Wait + Abort>(rt: &R, mut checker: Checker, mut notices: NoticeReceiver)
+/// Learns of each notice as it comes, once and in their order, until the sender is gone. A look behind that is at no
+/// fewer events.
+fn learn_all<R: Wait + Abort>(rt: &R, mut checker: Checker, mut notices: NoticeReceiver)
     requires { notices.unit ≡ checker.unit }
 {
-    let mut least = 2;
+    let mut learnt = 0u64;
     for _ in rt.forever() {
         let is_last = notices.is_abandoned();
         if let Some(notice) = notices.receive() {
-            least = notice.len().max(least);
+            learnt = learnt.wrapping_add(1);
+            assert!(rt; notice.len() == learnt);
             checker.learn(notice);
+            assert!(rt; checker.count() >= learnt);
         } else if is_last {
             break;
         }
-        least = look_in_round(rt, ZERO_AND_ONE.first, &mut checker, least);
+        thread::yield_now();
     }
-    least = look_in_round(rt, ZERO_AND_ONE.first, &mut checker, least);
-    assert!(rt; least == events_after(ROUNDS));
+    assert!(rt; learnt == NOTICES);
 }
 
-/// The unit begins with entry 0, so what it publishes first may be writes that change nothing.
+/// Through a ring of two, while the publisher is on a thread. It comes back.
 #[test]
-fn a_publisher_swaps_on_a_thread_and_comes_back(rt: HostRuntime) {
-    let (mut publisher, mut checkers) = start_from(&rt, rt.alloc(), &opened(), 1).expect(
-        &rt, "memory",
-    );
+fn each_notice_comes_once_and_in_order(rt: HostRuntime) {
+    let (mut publisher, mut checkers) = start(&rt, rt.alloc(), 1).expect(&rt, "memory");
     let checker = checkers.pop().expect(&rt, "a checker");
-    let (sender, receiver) = publisher.notice_ring(rt.alloc(), 4).expect(&rt, "a ring");
-    publish(&rt, &mut publisher, &[Event::Write(Csr::Mseccfg, 0); 2], 2);
+    let (sender, receiver) = publisher.notice_ring(rt.alloc(), 2).expect(&rt, "a ring");
     let guard = PublisherGuard::new(rt, publisher);
     let firmware = move || -> PublisherGuard<HostRuntime>
         requires { sender.unit ≡ guard.unit }
     { publish_there(rt, guard, sender) };
     let thread = thread::spawn(&rt, firmware).ok().expect(&rt, "a thread");
-    watch_told(&rt, checker, receiver);
+    learn_all(&rt, checker, receiver);
     let journal = thread.join(&rt).into_publisher().end(&rt);
-    assert!(rt; journal.events().len() as u64 == events_after(ROUNDS));
+    assert!(rt; journal.events().len() as u64 == NOTICES);
 }
 
 /// Publishes entry 0, and ends the publisher.

@@ -43,21 +43,6 @@ pub fn publish<R: Wait + Abort>(rt: &R, publisher: &mut Publisher, events: &[Eve
     assert!(rt; publisher.publish(rt) == Ok(count));
 }
 
-/// Publishes these events too in one publication, each as a batch of its own, after which there are so many.
-pub fn publish_apart<R: Wait + Abort>(
-    rt: &R,
-    publisher: &mut Publisher,
-    events: &[Event],
-    count: u64,
-)
-    ensures { publisher.new.unit ≡ publisher.old.unit }
-{
-    for event in events {
-        submit(rt, publisher, &[*event]);
-    }
-    assert!(rt; publisher.publish(rt) == Ok(count));
-}
-
 pub fn tell(rt: &impl Abort, publisher: &mut Publisher) -> Notice
     ensures same { publisher.new ≡ publisher.old }
     ensures told { result ≡ record { unit = publisher.old.unit; told = publisher.old.published } }
