@@ -1,8 +1,20 @@
 //! Rings of notices.
 
+ghost use Rattle.std.specs.Prelude.{◌≡◌};
+
 use super::unit::{publish, tell};
 use super::{ENTRY_ONE, ENTRY_ZERO};
-use pmp_share::start;
+use pmp_share::{Notice, NoticeSender, start};
+use std::process::Abort;
+
+/// Asserts that there is no room for the notice, which comes back.
+fn refused(rt: &impl Abort, notices: &mut NoticeSender, notice: Notice) -> Notice
+    requires { notice.unit ≡ notices.old.unit }
+    ensures back { result ≡ notice }
+    ensures unit { notices.new.unit ≡ notices.old.unit }
+{
+    notices.send(notice).err().expect(rt, "no room")
+}
 
 /// A ring of two keeps both of two notices that nobody saw come, and answers the third back, which is sent later.
 #[test]
@@ -14,14 +26,12 @@ fn notices_come_once_and_in_order(rt: HostRuntime) {
     publish(&rt, &mut publisher, &ENTRY_ONE, 4);
     assert!(rt; sender.send(tell(&rt, &mut publisher)).is_ok());
     publish(&rt, &mut publisher, &ENTRY_ZERO, 6);
-    let back = sender
-        .send(tell(&rt, &mut publisher))
-        .err()
-        .expect(&rt, "no room");
+    let third = tell(&rt, &mut publisher);
+    let third = refused(&rt, &mut sender, third);
     assert!(rt; receiver.receive().map(|notice| notice.len()) == Some(2));
     assert!(rt; receiver.receive().map(|notice| notice.len()) == Some(4));
     assert!(rt; receiver.receive().is_none() && receiver.waiting() == 0);
-    assert!(rt; sender.send(back).is_ok() && receiver.waiting() == 1);
+    assert!(rt; sender.send(third).is_ok() && receiver.waiting() == 1);
     assert!(rt; receiver.receive().map(|notice| notice.len()) == Some(6));
     assert!(rt; receiver.receive().is_none());
     publisher.end(&rt);
