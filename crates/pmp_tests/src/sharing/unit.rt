@@ -2,6 +2,7 @@
 
 ghost use Rattle.std.specs.Prelude.{◌≡◌, ◌≤◌, length};
 ghost use Rattle.pmp_share.specs.declared.question.TheConstants.{GROUP_ACCESSES};
+ghost use Rattle.pmp_share.specs.Known.{known};
 
 use super::asking::ask_both;
 use pmp_core::{Access, Cause, Decision, Event, Kind, Mode, Size};
@@ -45,7 +46,7 @@ pub fn publish<R: Wait + Abort>(rt: &R, publisher: &mut Publisher, events: &[Eve
 
 pub fn tell(rt: &impl Abort, publisher: &mut Publisher) -> Notice
     ensures same { publisher.new ≡ publisher.old }
-    ensures told { result ≡ record { unit = publisher.old.unit; told = publisher.old.published } }
+    ensures told { result ≡ known publisher.old.unit publisher.old.published }
 {
     publisher.tell().expect(rt, "a notice")
 }
