@@ -1,6 +1,6 @@
 //! What decisions, publications and notices cost, as `make bench-threads` prints it.
 
-use crate::calls::{CALLS, Call, learn};
+use crate::calls::{Call, learn};
 use crate::crew::{Crew, Duty};
 use crate::failure::Failure;
 use crate::filling::publish_many;
@@ -93,16 +93,15 @@ fn time_crowd_of<R: Clock + Threads + Wait + Copy + Send + 'static>(
         crew.send(rt, checker, Duty::Calls(call))?;
     }
     crew.meeting.wait(rt);
-    let since = Moment::now(rt);
     let publication = if publishes {
         publish_writes(rt, publisher, &crew.meeting)?
     } else {
         u64::MAX
     };
-    let all = crew.join(rt)?;
-    let time = since.each(rt, CALLS);
-    for done in all {
+    let mut time = 0;
+    for done in crew.join(rt)? {
         done.outcome?;
+        time = done.time.max(time);
     }
     Ok((time, publication))
 }
