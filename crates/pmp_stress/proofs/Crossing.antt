@@ -1,6 +1,6 @@
 -- What a checker's thread takes with it may move there, and what it answers may move back.
 use denote.Param.Send.{IsSend, IsSync, sendable}
-use denote.Param.SendFields.{declared_send}
+use denote.Param.SendFields.{declared_send, as_row_send}
 use Rattle.std.proofs.Crossing.{crosses}
 use Rattle.pmp_share.proofs.Crossing.{checker_send}
 use Rattle.pmp_stress.specs.contracts.asking.Answer as answer
@@ -23,5 +23,8 @@ answer_send = search (crosses, sendable) depth 24
 pub done_send : IsSend done.the_row
 done_send = declared_send done.the_type (
   search (crosses, sendable) depth 20,
-  (search (answer_send, crosses, sendable) depth 12, (search (checker_send, crosses, sendable) depth 12, tt)),
+  (
+    search (as_row_send, sendable) depth 6,
+    (search (answer_send, crosses, sendable) depth 12, (search (checker_send, crosses, sendable) depth 12, tt)),
+  ),
 )

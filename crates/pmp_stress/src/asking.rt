@@ -10,7 +10,7 @@ use std::sync::Wait;
 /// How often a checker is asked freely each time that it is on a thread, at least and at most.
 const LEAST: u32 = 2_500;
 
-const MOST: u32 = 5_000;
+const MOST: u32 = 10_000;
 
 #[derive(Clone, Copy, PartialEq, Eq)]
 pub enum Question {

@@ -1,11 +1,10 @@
 //! What decisions, publications and notices cost, as `make bench-threads` prints it.
 
-use crate::calls::{CALLS, Call, learn};
+use crate::calls::{Call, learn};
 use crate::crew::{Crew, Duty};
 use crate::failure::Failure;
 use crate::filling::publish_many;
 use crate::meeting::Meeting;
-use crate::printing::print_time;
 use crate::time::Moment;
 use crate::unit::{WRITE, publish, publish_regions};
 use pmp_share::{Batch, CHECKERS, Checker, Publisher, ShareFault, start};
@@ -67,15 +66,13 @@ fn publish_writes<R: Clock + Wait>(
 ) -> Result<u64, Failure> {
     let batch = Batch::of(&[WRITE])?;
     let since = Moment::now(rt);
-    let mut published = 0u32;
-    for before in 0..MOST_PUBLICATIONS {
-        published = before;
+    for published in 0..MOST_PUBLICATIONS {
         if meeting.is_over() {
-            break;
+            return Ok(since.each(rt, published));
         }
         publish(rt, publisher, &batch)?;
     }
-    Ok(since.each(rt, published))
+    Ok(since.each(rt, MOST_PUBLICATIONS))
 }
 
 fn time_crowd_of<R: Clock + Threads + Wait + Copy + Send + 'static>(
@@ -93,16 +90,15 @@ fn time_crowd_of<R: Clock + Threads + Wait + Copy + Send + 'static>(
         crew.send(rt, checker, Duty::Calls(call))?;
     }
     crew.meeting.wait(rt);
-    let since = Moment::now(rt);
     let publication = if publishes {
         publish_writes(rt, publisher, &crew.meeting)?
     } else {
         u64::MAX
     };
-    let all = crew.join(rt)?;
-    let time = since.each(rt, CALLS);
-    for done in all {
+    let mut time = 0;
+    for done in crew.join(rt)? {
         done.outcome?;
+        time = done.time.max(time);
     }
     Ok((time, publication))
 }
@@ -130,6 +126,13 @@ fn least<F: FnMut() -> Result<Times, Failure>>(mut round: F) -> Result<Times, Fa
         least = (least.0.min(times.0), least.1.min(times.1));
     }
     Ok(least)
+}
+
+/// How many tenths of a nanosecond one of these takes, where so many threads do them at once.
+fn print_time<R: Print>(rt: &R, threads: u8, what: &str, tenths: u64) -> Result<(), Failure> {
+    let (whole, tenths) = (tenths / 10, tenths % 10);
+    println!(rt; "proved: {threads} at once: {what} {whole}.{tenths} ns")?;
+    Ok(())
 }
 
 pub fn bench<R: Clock + Threads + Wait + Print + Copy + Send + 'static>(

@@ -5,12 +5,14 @@ use crate::calls::{CALLS, Call, right_calls};
 use crate::failure::Failure;
 use crate::meeting::Meeting;
 use crate::source::Source;
+use crate::time::Moment;
 use crate::unit::loads;
 use pmp_share::Checker;
 use std::alloc::Global;
 use std::sync::{Arc, Wait};
 use std::thread;
 use std::thread::{JoinHandle, Threads};
+use std::time::Clock;
 
 /// What a checker does on its thread.
 #[derive(Clone, Copy)]
@@ -25,6 +27,8 @@ pub enum Duty {
 #[derive(Drop)]
 pub struct Done {
     pub outcome: Result<(), Failure>,
+    /// How many tenths of a nanosecond each of its calls took.
+    pub time: u64,
     pub answers: Vec<Answer>,
     /// None where it was dropped on its thread.
     pub checker: Option<Checker>,
@@ -38,23 +42,25 @@ pub struct Crew {
     threads: Vec<JoinHandle<Done>>,
 }
 
-fn make_calls<R: Wait>(
+fn make_calls<R: Clock + Wait>(
     rt: &R,
     checker: &mut Checker,
     call: Call,
     meeting: &Meeting,
-) -> Result<(), Failure> {
+) -> Result<u64, Failure> {
     let loads = loads();
     meeting.wait(rt);
+    let since = Moment::now(rt);
     let right = loads.map(|loads| right_calls(call, checker, &loads));
+    let time = since.each(rt, CALLS);
     meeting.leave();
     match right? {
-        CALLS => Ok(()),
+        CALLS => Ok(time),
         _ => Err(Failure::Answer),
     }
 }
 
-fn serve<R: Wait>(
+fn serve<R: Clock + Wait>(
     rt: &R,
     alloc: Global,
     mut checker: Checker,
@@ -62,11 +68,15 @@ fn serve<R: Wait>(
     meeting: &Meeting,
 ) -> Done {
     match duty {
-        Duty::Calls(call) => Done {
-            outcome: make_calls(rt, &mut checker, call, meeting),
-            answers: Vec::new(alloc),
-            checker: None,
-        },
+        Duty::Calls(call) => {
+            let time = make_calls(rt, &mut checker, call, meeting);
+            Done {
+                outcome: time.map(|_| ()),
+                time: time.unwrap_or(0),
+                answers: Vec::new(alloc),
+                checker: None,
+            }
+        }
         Duty::Questions(source, comes_back) => {
             let mut asked = Asked {
                 checker,
@@ -79,6 +89,7 @@ fn serve<R: Wait>(
             }
             Done {
                 outcome,
+                time: 0,
                 answers: asked.answers,
                 checker: comes_back.then_some(asked.checker),
             }
@@ -97,7 +108,7 @@ impl Crew {
     }
 
     /// Gives the checker a thread.
-    pub fn send<R: Threads + Wait + Copy + Send + 'static>(
+    pub fn send<R: Clock + Threads + Wait + Copy + Send + 'static>(
         &mut self,
         rt: &R,
         checker: Checker,

@@ -1,7 +1,7 @@
 //! What a unit that is full of history costs.
 
 use crate::failure::Failure;
-use crate::printing::print_counts;
+use crate::soak::print_counts;
 use crate::time::Moment;
 use pmp_core::{Csr, Event};
 use pmp_share::{Batch, Publisher, ShareFault, start};

@@ -13,7 +13,6 @@ mod crew;
 mod failure;
 mod filling;
 mod meeting;
-mod printing;
 mod published;
 mod random;
 mod round;

@@ -79,14 +79,10 @@ impl Published {
 /// What the register file says of the same.
 fn said_by(file: &RegFile, source: &Source, answer: &Answer) -> Said {
     let access = &answer.access;
+    let (mode, start, length) = (access.mode, access.start, access.length);
     match answer.question {
         Question::Group | Question::Decision => Said::Decision(Some(file.decide(access))),
-        Question::Rights => Said::Rights(rights_in(
-            &file.registers(),
-            access.mode,
-            access.start,
-            access.length,
-        )),
+        Question::Rights => Said::Rights(rights_in(&file.registers(), mode, start, length)),
         Question::Register => Said::Register(file.read(source.register())),
         Question::Count => Said::Count,
     }

@@ -3,7 +3,7 @@
 ghost use Rattle.std.specs.Prelude.{◌<◌};
 
 use crate::failure::Failure;
-use pmp_core::{Access, Csr, Event, Kind, Mode, RegFile};
+use pmp_core::{Access, Csr, Event, Kind, Mode};
 use pmp_share::Batch;
 
 /// Where all addresses lie, as words of four bytes.
@@ -77,13 +77,6 @@ impl Random {
             batch.push(self.event())?;
         }
         Ok(batch)
-    }
-
-    /// What a batch leaves of a reset.
-    pub fn file(&mut self) -> Result<RegFile, Failure> {
-        let mut file = RegFile::reset();
-        file.run_events(self.batch(0)?.events());
-        Ok(file)
     }
 
     /// One to 64 bytes.

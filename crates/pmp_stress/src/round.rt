@@ -70,7 +70,7 @@ impl Round {
     }
 
     /// Sends the checkers out, of which so many don't come back.
-    fn send_out<R: Threads + Wait + Copy + Send + 'static>(
+    fn send_out<R: Clock + Threads + Wait + Copy + Send + 'static>(
         &mut self,
         rt: &R,
         publisher: &Publisher,

@@ -1,7 +1,6 @@
 //! Units under load, for a chosen time.
 
 use crate::failure::Failure;
-use crate::printing::print_counts;
 use crate::random::Random;
 use crate::round::run_round;
 use crate::source::{Source, Swap};
@@ -39,6 +38,14 @@ impl Tally {
         self.passed = self.passed.wrapping_add(u64::from(is_right));
         self.failed = self.failed.wrapping_add(u64::from(!is_right));
     }
+}
+
+/// A line for each number and what it counts.
+pub fn print_counts<R: Print>(rt: &R, counts: &[(u64, &str)]) -> Result<(), Failure> {
+    for (count, what) in counts {
+        println!(rt; "{count} {what}")?;
+    }
+    Ok(())
 }
 
 /// Runs units of all three until so many seconds are over, and prints what came of it: of no seconds what is the same

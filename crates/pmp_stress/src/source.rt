@@ -103,10 +103,11 @@ impl Source {
 
     /// What the unit begins with.
     pub fn base(&mut self) -> Result<RegFile, Failure> {
-        match self.swap {
-            Some(swap) => Ok(RegFile::reset_of(swap.0)),
-            None => self.random.file(),
+        let mut file = RegFile::reset_of(self.swap.map_or(Size::Sixteen, |swap| swap.0));
+        if self.swap.is_none() {
+            file.run_events(self.random.batch(0)?.events());
         }
+        Ok(file)
     }
 
     pub fn access(&mut self) -> Result<Access, Failure> {
