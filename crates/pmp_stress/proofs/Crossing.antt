@@ -3,7 +3,6 @@ use denote.Param.Send.{IsSend, IsSync, sendable}
 use denote.Param.SendFields.{declared_send, as_row_send}
 use Rattle.std.proofs.Crossing.{crosses}
 use Rattle.pmp_share.proofs.Crossing.{checker_send}
-use Rattle.pmp_stress.specs.contracts.asking.Answer as answer
 use Rattle.pmp_stress.specs.contracts.crew.Done as done
 use Rattle.pmp_stress.specs.contracts.crew.Duty as duty
 use Rattle.pmp_stress.specs.contracts.meeting.Meeting as meeting
@@ -17,14 +16,11 @@ meeting_send = search (crosses, sendable) depth 14
 pub meeting_sync : IsSync meeting.the_row
 meeting_sync = search (crosses, sendable) depth 14
 
-answer_send : IsSend answer.the_row
-answer_send = search (crosses, sendable) depth 24
-
 pub done_send : IsSend done.the_row
 done_send = declared_send done.the_type (
   search (crosses, sendable) depth 20,
   (
     search (as_row_send, sendable) depth 6,
-    (search (answer_send, crosses, sendable) depth 12, (search (checker_send, crosses, sendable) depth 12, tt)),
+    (search (crosses, sendable) depth 30, (search (checker_send, crosses, sendable) depth 12, tt)),
   ),
 )

@@ -115,11 +115,7 @@ impl Asked {
 
     /// Each question once, where nobody asks while the publication before it is made: a checker that doesn't look
     /// answers without that one. On every outcome it waits as often as the publisher does.
-    pub fn ask_behind_publications<R: Wait>(
-        &mut self,
-        rt: &R,
-        meeting: &Meeting,
-    ) -> Result<(), Failure> {
+    pub fn ask_in_step<R: Wait>(&mut self, rt: &R, meeting: &Meeting) -> Result<(), Failure> {
         let mut outcome = Ok(());
         for question in Question::ALL {
             meeting.wait(rt);

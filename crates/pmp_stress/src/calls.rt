@@ -74,20 +74,18 @@ fn sum<F: FnMut(&Access) -> u32>(calls: u32, loads: &Loads, mut call: F) -> u32
     sum
 }
 
-fn allowed_by_map(loads: &Loads) -> u32 {
-    let file = file();
-    let map = RunMap::build(&file);
-    sum(
-        CALLS,
-        loads,
-        |load| u32::from(is_allowed_by_map(&map, &file, load)),
-    )
-}
-
 /// How many of many loads are allowed, or of other calls answered as they have to be.
 pub fn right_calls(call: Call, checker: &mut Checker, loads: &Loads) -> u32 {
     match call {
-        Call::Map => allowed_by_map(loads),
+        Call::Map => {
+            let file = file();
+            let map = RunMap::build(&file);
+            sum(
+                CALLS,
+                loads,
+                |load| u32::from(is_allowed_by_map(&map, &file, load)),
+            )
+        }
         Call::Decision => sum(CALLS, loads, |load| u32::from(is_allowed(checker, load))),
         Call::Group => sum(CALLS / 16, loads, |_| allowed_of_group(checker, loads)),
         Call::Rights => sum(

@@ -19,7 +19,7 @@ use std::time::Clock;
 pub enum Duty {
     /// It begins with the others, makes these calls, and is dropped.
     Calls(Call),
-    /// It is asked freely, and dropped, or else asked behind publications, and comes back.
+    /// It is asked freely, and dropped, or else asked in step with publications, and comes back.
     Questions(Source, bool),
 }
 
@@ -85,7 +85,7 @@ fn serve<R: Clock + Wait>(
             };
             let mut outcome = asked.ask_freely(meeting);
             if comes_back {
-                outcome = asked.ask_behind_publications(rt, meeting).and(outcome);
+                outcome = asked.ask_in_step(rt, meeting).and(outcome);
             }
             Done {
                 outcome,
@@ -98,7 +98,6 @@ fn serve<R: Clock + Wait>(
 }
 
 impl Crew {
-    /// Nobody yet.
     pub fn new(alloc: Global, meeting: Meeting) -> Result<Crew, Failure> {
         Ok(Crew {
             alloc,

@@ -27,7 +27,6 @@ impl Published {
         }
     }
 
-    /// How many publications there are.
     pub fn len(&self) -> usize {
         self.publications.len()
     }

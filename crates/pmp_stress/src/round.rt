@@ -65,7 +65,8 @@ impl Round {
         self.published.push(&batches)?;
         let since = Moment::now(rt);
         let events = publisher.publish(rt)?;
-        self.tally.add_publication(since.nanoseconds(rt));
+        self.tally.publications = self.tally.publications.wrapping_add(1);
+        self.tally.longest = self.tally.longest.max(since.nanoseconds(rt));
         Ok(events)
     }
 

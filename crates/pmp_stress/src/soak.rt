@@ -12,9 +12,6 @@ use std::sync::Wait;
 use std::thread::Threads;
 use std::time::Clock;
 
-/// What units have swapped, one after another: nothing, or these entries.
-const SWAPS: [Option<Swap>; 3] = [None, Some(Swap(Size::Sixteen)), Some(Swap(Size::SixtyFour))];
-
 /// What came of rounds.
 #[derive(Clone, Copy, Default)]
 pub struct Tally {
@@ -28,11 +25,6 @@ pub struct Tally {
 }
 
 impl Tally {
-    pub fn add_publication(&mut self, nanoseconds: u64) {
-        self.publications = self.publications.wrapping_add(1);
-        self.longest = self.longest.max(nanoseconds);
-    }
-
     pub fn add(&mut self, answers: usize, is_right: bool) {
         self.answers = self.answers.wrapping_add(answers as u64);
         self.passed = self.passed.wrapping_add(u64::from(is_right));
@@ -48,8 +40,8 @@ pub fn print_counts<R: Print>(rt: &R, counts: &[(u64, &str)]) -> Result<(), Fail
     Ok(())
 }
 
-/// Runs units of all three until so many seconds are over, and prints what came of it: of no seconds what is the same
-/// on each machine.
+/// Runs units that swap nothing, and units of both sizes that do, until so many seconds are over. Prints what came of it:
+/// of no seconds what is the same on each machine.
 pub fn soak<R: Clock + Threads + Wait + Print + Copy + Send + 'static>(
     rt: &R,
     alloc: Global,
@@ -60,8 +52,8 @@ pub fn soak<R: Clock + Threads + Wait + Print + Copy + Send + 'static>(
     let mut random = Random::new(u64::from(seed));
     let mut tally = Tally::default();
     for _ in 0..u64::MAX {
-        for swap in SWAPS {
-            let random = random.branch();
+        for swapped in [None, Some(Size::Sixteen), Some(Size::SixtyFour)] {
+            let (random, swap) = (random.branch(), swapped.map(|size| Swap(size)));
             tally = run_round(rt, alloc, Source { random, swap }, tally)?;
         }
         if since.nanoseconds(rt) / 1_000_000_000 >= u64::from(seconds) {
