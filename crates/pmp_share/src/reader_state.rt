@@ -76,7 +76,8 @@ impl ReaderState {
     }
 
     /// Looks: the published version answers, or where no entrance is given the digest. Returns how many events the
-    /// answer is in, too.
+    /// answer is in, too. No clause says that it sees a publication which has returned: a body that answers by the
+    /// digest alone is caught by `pmp_stress`, which asks each question behind publications, on running threads.
     #[inline]
     pub fn look<Q: Question>(&mut self, question: &Q) -> (Q::Answer, u64)
         requires { Q.is_sound question.now }
