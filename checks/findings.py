@@ -22,6 +22,7 @@ READ = {
     "quotes that open and close": HEADER + '"0"0,"","S"U,any,"0",9,"never"', "no last line end": (HEADER + ROW)[:-1],
     "a header in quotes": '"from",to,modes,kind,first,last,demand\n' + ROW, "long numbers":
     HEADER + "00000000000000000000,,M,load,0x0000000000000000,00000000000000000009,held\n",
+    "addresses without 0x": HEADER + ROW + ROW.replace("9", "00000080000000") + ROW.replace("0,9", "00000000000000,9"),
 }
 REFUSED = {
     "no header": (20, 0, ROW), "another header": (20, 0, HEADER.replace("to", "until") + ROW),
@@ -58,7 +59,8 @@ class Findings:
         self.file.write_bytes(second.encode())
         done = subprocess.run([self.program, command, *options, "stdin", str(self.file)], input=first.encode(),
                               capture_output=True, check=False)
-        refused = re.match(r"pmp: (?:(.*): )?refused (\d+) ", done.stderr.decode())
+        self.told = done.stderr.decode()
+        refused = re.match(r"pmp: (?:(.*): )?refused (\d+) ", self.told)
         return [int(refused[2]), refused[1] or "", ""] if refused else [0, "", done.stdout.decode()]
 
     # Policies.
@@ -94,6 +96,8 @@ class Findings:
             head = f"{place.capitalize() or 'Policy'}: refused {status} "
             self.tally.has(f"{place_shown}: {shown['fault']!r}", shown["fault"].startswith(head) if status
                            else shown["fault"] == "")
+            note = re.sub("pmp: note: policy row (.*)\n", r"\1.", self.told) if status == 0 else ""
+            self.tally.compare(f"{place_shown}: the note", shown["note"], note)
             self.tally.compare(f"{place_shown}: what is wanted", bool(shown["wanted"]), bool(status))
             moments = [{"by": by, "at": int(it.split(",")[2])} for it in rows[:40] if ",broken," in it]
             self.tally.compare(f"{place_shown}: where breaches lead", tab.call("breachesGoneTo", 40), moments)

@@ -157,6 +157,7 @@ async function verdictsShown(policy, by) {
         rows: rowsOf('verdicts').map(asRow),
         answers: page.demands.fault ? [] : page.demands.lines.map(asRow),
         fault: seen ? byId('policy-fault-line').textContent : '',
+        note: byId('verdicts-count').textContent.split(' Row ')[1] ?? '',
         wanted: seen ? byId('policy-fault-wanted').textContent : '',
     };
 }

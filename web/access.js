@@ -10,6 +10,10 @@ function readNumber(text) {
     return value < 1n << 64n ? value : null;
 }
 
+// As rows write an address in hexadecimal, but without 0x it is read as decimal.
+const isBare = (text) => /^[0-9]{14}$/.test(text);
+const AS_DECIMAL = '14 digits without 0x are read as decimal; write 0x before a hexadecimal address.';
+
 // The access that the form's words name, or null where a number is none.
 function readAccess([mode, kind, start, length]) {
     const [first, bytes] = [readNumber(start), readNumber(length)];
@@ -72,7 +76,8 @@ class Access {
     show(at) {
         const answer = this.answerAt(at);
         const right = answer.status === 0;
-        this.now.textContent = right ? sayDecision(linesOf(answer.text, ',')[0]) : sayRefusal(answer);
+        const note = right && isBare(this.state[2]) ? ` Start: ${AS_DECIMAL}` : '';
+        this.now.textContent = (right ? sayDecision(linesOf(answer.text, ',')[0]) : sayRefusal(answer)) + note;
         this.now.className = right ? '' : 'wrong';
         for (const word of this.words) word.ariaInvalid = String(!right && word.tagName === 'INPUT');
         this.at = at;

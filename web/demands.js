@@ -94,6 +94,7 @@ class Demands {
             this.lines.push([...linesOf(answer.text, ',')[0], sayDemand(row.words)]);
         }
         this.draw(by);
+        if (this.fault === null) this.showNote(rows);
         byId('verdicts').setAttribute('aria-busy', 'false');
     }
 
@@ -115,6 +116,12 @@ class Demands {
             const at = Number(fields[2]);
             makeButton(row.cells[2], `Row ${fields[0]}: go to ${by} ${at}`, () => this.moved({by, at}));
         });
+    }
+
+    // The first row with an address that may not be what its writer meant.
+    showNote(rows) {
+        const bare = rows.find(({words}) => isBare(words[4]) || isBare(words[5]));
+        if (bare) byId('verdicts-count').textContent += ` Row ${bare.number}: ${AS_DECIMAL}`;
     }
 
     showFault(fault) {

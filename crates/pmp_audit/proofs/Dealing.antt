@@ -2,7 +2,6 @@
 use Rattle.std.proofs.Common.{◌≡◌, ℕ, zero, suc, ◌+◌, ◌*◌, ◌/◌, ◌<◌, ◌≤◌, ◌↔◌, inl, inr, List, [], ◌∷◌, ◌++◌}
 use Rattle.std.proofs.Common.{length, Some, refl, sym, ap, ◌∙◌, arith, subst}
 use Rattle.std.specs.Prelude.{slice_get}
-use Rattle.std.specs.List.{enumerate_from}
 use Rattle.std.proofs.lemmas.Bool.{cases_lt}
 use Rattle.std.proofs.lemmas.List.{length_push}
 use Rattle.std.proofs.lemmas.Nat.{div-add-mod'}
@@ -21,19 +20,6 @@ pub slice_get-push_new : {A : Type 0} (xs : List A) (x : A) → slice_get (xs ++
 slice_get-push_new [] x = refl
 slice_get-push_new (a ∷ xs) x = slice_get-push_new xs x
 
--- ---- numbered elements
-
-pub slice_get-enumerate_from : {A : Type 0} (n : ℕ) (xs : List A) (i : ℕ) (x : A)
-    → slice_get xs i ≡ Some x → slice_get (enumerate_from n xs) i ≡ Some (n + i, x)
-slice_get-enumerate_from n [] i x at = absurd cc
-slice_get-enumerate_from {A = A} n (a ∷ xs) zero x at =
-    let same : a ≡ x = cc in
-    let number : n ≡ n + 0 = omega arith in
-    ap (λ (b : A). Some (n, b)) same ∙ ap (λ (m : ℕ). Some (m, x)) number
-slice_get-enumerate_from {A = A} n (a ∷ xs) (suc i) x at =
-    let number : n + 1 + i ≡ n + suc i = omega arith in
-    slice_get-enumerate_from (n + 1) xs i x at ∙ ap (λ (m : ℕ). Some (m, x)) number
-
 -- ---- a worker's share
 
 module _ {A : Type 0} (worker workers : ℕ) (all : List A) where
@@ -48,9 +34,6 @@ module _ {A : Type 0} (worker workers : ℕ) (all : List A) where
   pub record IsDealtSoFar (turns : ℕ) (hand : List A) : Type 0 where
     pub many : length hand ≡ turns
     pub each : (turn : ℕ) → turn < turns → slice_get hand turn ≡ slice_get all (worker + turn * workers)
-
-  pub none_dealt : IsDealtSoFar 0 []
-  none_dealt = record { many = refl; each = λ turn none. absurd (omega arith) }
 
   pub one_dealt : (turns : ℕ) (hand : List A) (x : A) → IsDealtSoFar turns hand
       → slice_get all (worker + turns * workers) ≡ Some x → IsDealtSoFar (turns + 1) (hand ++ x ∷ [])

@@ -2,9 +2,10 @@
 use Rattle.std.proofs.Common.{◌≡◌, ℕ, ◌+◌, ◌<◌, ◌≤◌, ◌==◌, Bool, true, false, cond, List, [], ◌∷◌, ◌++◌}
 use Rattle.std.proofs.Common.{length, map, take, drop, get_or, refl, sym, ap, subst, ◌∙◌, arith}
 use Rattle.std.specs.Prelude.{sum_by, slice_index_or}
+use Rattle.std.proofs.Math.Seq.{take-add}
 use Rattle.std.proofs.lemmas.Bool.Decides.{nat_tests}
-use Rattle.std.proofs.lemmas.List.{drop-drop, drop-take, length-append, length-drop, length-map, map-append}
-use Rattle.std.proofs.lemmas.List.{length-take-le, take-append-drop, take-take, take_all}
+use Rattle.std.proofs.lemmas.List.{drop-drop, length-append, length-drop, length-map, map-append}
+use Rattle.std.proofs.lemmas.List.{length-take-le, take_all}
 use Rattle.std.proofs.lemmas.List.Concat.{length-flat_map}
 use Rattle.std.proofs.lemmas.List.Sums.{sum_by_more_le}
 use Rattle.pmp_core.specs.declared.access.Access.{Access}
@@ -24,7 +25,8 @@ use Rattle.pmp_text.specs.Reports.{AreDecided, file_of_script}
 use Rattle.pmp_text.specs.Sizes.{script_size}
 use Rattle.pmp_text.specs.TraceFaults.{IsInOrder, afters}
 use Rattle.pmp_text.specs.Traces.{row_fields}
-use Rattle.pmp_audit.specs.Rounds.{AreDecidedSoFar, asking, decided_in, decision_for}
+use Rattle.pmp_audit.specs.Rounds.{AreDecidedSoFar, asking, decision_for}
+use Rattle.pmp_audit.specs.Working.{decided_in}
 
 module _ (script : ScriptContents) where
   abbrev Ordered : ℕ → List Row → Type 0
@@ -72,12 +74,6 @@ module _ (script : ScriptContents) where
     pub none_decided : Ordered 0 rows → AreDecidedSoFar script rows 0 []
     none_decided order = record { within = omega arith; decisions = refl; order = order }
 
-    front_more : (n m : ℕ) → take (n + m) rows ≡ take n rows ++ take m (drop n rows)
-    front_more n m =
-        sym (take-append-drop n (take (n + m) rows))
-        ∙ ap (λ (l : List Row). l ++ drop n (take (n + m) rows)) (take-take n (n + m) rows (omega arith))
-        ∙ ap (λ (l : List Row). take n rows ++ l) (drop-take n m rows)
-
     pub decided_next : (after : ℕ) (base : RegisterFile) (published : Batches) (decided new : List Decision)
         → AreDecidedSoFar script rows after decided → base ≡ script.start
         → published ≡ take after script.batches
@@ -98,7 +94,7 @@ module _ (script : ScriptContents) where
         ap (λ (l : List Decision). length l) now ∙ length-append decided (map f front)
         ∙ ap (λ (k : ℕ). n + k) (length-map front f) in
         let whole : take (n + m) rows ≡ take n rows ++ front =
-        front_more n m ∙ ap (λ (l : List Row). take n rows ++ l) (sym next.is) in
+        take-add n m rows ∙ ap (λ (l : List Row). take n rows ++ l) (sym next.is) in
         record {
           within = let w = next.within in let o = so_far.within in omega (arith, length-drop n rows, many);
           decisions = now ∙ ap (λ (l : List Decision). l ++ map f front) so_far.decisions

@@ -8,7 +8,7 @@ use Rattle.std.proofs.lemmas.List.{take-append-le, drop-append-le, take-append-d
 use Rattle.std.proofs.lemmas.List.{take_all, drop_all}
 use Rattle.std.proofs.lemmas.List.{append-nil, length-append, length-take-le, take_more, get_or-replicate, get_or_past}
 use Rattle.std.proofs.lemmas.List.{length-replicate}
-use Rattle.std.proofs.lemmas.List.Concat.{flat_map-append}
+use Rattle.std.proofs.lemmas.List.Sums.{fold-append}
 use Rattle.std.proofs.lemmas.List.Folds.{list_all-append}
 use Rattle.pmp_core.specs.declared.event.Event.{Event}
 use Rattle.pmp_core.specs.Decision.{IsLeast}
@@ -21,6 +21,7 @@ use Rattle.pmp_core.specs.ProtectionLaw.{ProtectedLaw, StaysProtected}
 use Rattle.pmp_core.proofs.Held.{held_still}
 use Rattle.pmp_core.proofs.Locks.{lock_law}
 use Rattle.pmp_core.proofs.Legal.{length-fold, replay_legal_from}
+use Rattle.pmp_share.proofs.JournalFacts.{joined-append}
 use Rattle.pmp_text.specs.declared.lines.since.Since.{Since}
 use Rattle.pmp_text.specs.EntryRows.{no_since}
 use Rattle.pmp_text.specs.Reports.{file_behind}
@@ -30,20 +31,13 @@ use Rattle.pmp_audit.specs.SinceStep.{since_after}
 
 -- ---- batches
 
-joined-append : (xs ys : List (List Event)) → joined (xs ++ ys) ≡ joined xs ++ joined ys
-joined-append xs ys = flat_map-append (λ (batch : List Event). batch) xs ys
-
-pub fold-append : (file : RegisterFile) (xs ys : List Event) → fold step file (xs ++ ys) ≡ fold step (fold step file xs) ys
-fold-append file [] ys = refl
-fold-append file (x ∷ xs) ys = fold-append (step file x) xs ys
-
 -- the file after all batches, from the one after the first k on
 file_split : (start : RegisterFile) (k : ℕ) (batches : List (List Event))
     → file_behind start batches ≡ fold step (file_behind start (take k batches)) (joined (drop k batches))
 file_split start k batches =
     ap (file_behind start) (sym (take-append-drop k batches))
     ∙ ap (fold step (start)) (joined-append (take k batches) (drop k batches))
-    ∙ fold-append (start) (joined (take k batches)) (joined (drop k batches))
+    ∙ fold-append step start (joined (take k batches)) (joined (drop k batches))
 
 -- so many batches, counted from the first k on
 file_from : (start : RegisterFile) (k done : ℕ) (batches : List (List Event)) → k ≤ done

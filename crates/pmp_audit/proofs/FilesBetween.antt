@@ -1,26 +1,20 @@
 -- The register file between the events of a script.
-use Rattle.std.proofs.Common.{◌≡◌, ℕ, ◌+◌, ◌-◌, ◌≤◌, List, ◌++◌, fold, length, min, take, drop, sym, ap, ◌∙◌, arith, inl, inr}
+use Rattle.std.proofs.Common.{◌≡◌, ℕ, ◌+◌, ◌-◌, ◌≤◌, List, fold, length, min, take, drop, sym, ap, ◌∙◌, arith, inl, inr}
+use Rattle.std.proofs.Math.Seq.{take-add}
 use Rattle.std.proofs.lemmas.Bool.{cases_lt}
-use Rattle.std.proofs.lemmas.List.{drop-take, take-append-drop, take-take, take_all}
+use Rattle.std.proofs.lemmas.List.Sums.{fold-append}
+use Rattle.std.proofs.lemmas.List.{take_all}
 use Rattle.pmp_core.specs.declared.event.Event.{Event}
 use Rattle.pmp_core.specs.RegisterFile.{RegisterFile}
 use Rattle.pmp_core.specs.RegisterWrite.{step}
-use Rattle.pmp_audit.proofs.EntriesSince.{fold-append}
-
--- the first n and the m behind them
-front_more : (all : List Event) (n m : ℕ) → take (n + m) all ≡ take n all ++ take m (drop n all)
-front_more all n m =
-    sym (take-append-drop n (take (n + m) all))
-    ∙ ap (λ (l : List Event). l ++ drop n (take (n + m) all)) (take-take n (n + m) all (omega arith))
-    ∙ ap (λ (l : List Event). take n all ++ l) (drop-take n m all)
 
 -- from the file behind the first events to the one behind some more
 pub file_further : (start : RegisterFile) (all : List Event) (done end : ℕ) → done ≤ end
     → fold step (fold step start (take done all)) (take (end - done) (drop done all)) ≡ fold step start (take end all)
 file_further start all done end within =
     let sum : done + (end - done) ≡ end = omega arith in
-    sym (fold-append start (take done all) (take (end - done) (drop done all)))
-    ∙ ap (fold step start) (sym (front_more all done (end - done)) ∙ ap (λ (n : ℕ). take n all) sum)
+    sym (fold-append step start (take done all) (take (end - done) (drop done all)))
+    ∙ ap (fold step start) (sym (take-add done (end - done) all) ∙ ap (λ (n : ℕ). take n all) sum)
 
 -- no more events than there are
 pub first_of : (all : List Event) (n : ℕ) → take (min (length all) n) all ≡ take n all

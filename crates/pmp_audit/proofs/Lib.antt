@@ -11,7 +11,6 @@ pub mod LongListings
 pub mod FilesBetween
 pub mod LongAudits
 pub mod LongSteps
-pub mod LongPieces
 pub mod LongStops
 pub mod LongTurns
 pub mod OneEntryList

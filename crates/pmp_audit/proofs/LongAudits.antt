@@ -1,23 +1,24 @@
 -- A long audit, piece by piece.
-use Rattle.std.proofs.Common.{◌≡◌, ℕ, ◌+◌, ◌-◌, ◌≤◌, false, cond, List, [], ◌∷◌, ◌++◌}
+use Rattle.std.proofs.Common.{◌≡◌, ℕ, ◌+◌, ◌-◌, ◌≤◌, false, cond, List, [], ◌∷◌, ◌++◌, Result, Err, Ok}
 use Rattle.std.proofs.Common.{length, map, Option, Some, None, refl, sym, ap, ◌∙◌}
 use Rattle.std.proofs.Common.{arith}
 use Rattle.std.specs.Prelude.{filter_map, not, option_map}
-use Rattle.std.specs.List.{AllZip}
+use Rattle.std.specs.List.{AllZip, position_from}
 use Rattle.std.specs.Option.{option_or}
 use Rattle.std.proofs.lemmas.List.{length-map, map-append}
 use Rattle.std.proofs.lemmas.List.Sums.{count_by-le-length, sum_by-append}
 use Rattle.std.proofs.lemmas.Slice.Zip.{AllZip-long}
 use Rattle.pmp_core.specs.declared.decision.Decision.{Decision}
+use Rattle.pmp_text.specs.declared.trace.Row.{Row}
 use Rattle.pmp_text.specs.declared.trace.TraceFault.{TraceFault}
-use Rattle.pmp_text.specs.declared.trace.TraceKind.TheVariants.{BadRow}
+use Rattle.pmp_text.specs.declared.flaw.Flaw.{Flaw}
 use Rattle.pmp_text.specs.declared.trace.piece.Place.{Place}
 use Rattle.pmp_text.specs.declared.trace.row_fields.RowFields.{RowFields}
 use Rattle.pmp_text.specs.Contents.{ScriptContents}
 use Rattle.pmp_text.specs.LongTraces.{Records, beginning, first_fault_at, piece_fault, place_behind, report_text_from}
-use Rattle.pmp_text.specs.LongTraces.{row_records}
-use Rattle.pmp_text.specs.Tables.{at_row}
-use Rattle.pmp_text.specs.Traces.{after_of, first_row_fault, is_header, row_fault, row_fields, row_of_record}
+use Rattle.pmp_text.specs.LongTraces.{is_bare_record, row_records}
+use Rattle.pmp_text.specs.Flaws.{at_row}
+use Rattle.pmp_text.specs.Traces.{after_of, first_bare, first_row_fault, is_header, row_fault, row_fields, row_of_record, row_in}
 use Rattle.pmp_text.proofs.PieceFaults.{behind, in_turn, places_in_turn, rows_in_two}
 use Rattle.pmp_audit.specs.declared.long_audit.standing.Standing.{Standing}
 use Rattle.pmp_audit.specs.LongAudit.{IsFrontReport}
@@ -41,30 +42,30 @@ module _ (script : ScriptContents) (first : ℕ) where
   begins standing place faults =
       let number : first ≡ first + 0 = omega arith in record {
         report = record { fine = refl; rows = []; decisions = []; said = refl; decided = tt; report = refl };
-        place = place ∙ ap (λ (n : ℕ). record { begun = false; last = None; next = n }) number;
+        place = place ∙ ap (λ (n : ℕ). record { begun = false; last = None; next = n; bare = None }) number;
         counted = faults;
       }
 
-module _ (publications : ℕ) where
-  neither : (own later : Option TraceFault) → option_or own later ≡ None → (own ≡ None) × (later ≡ None)
-  neither None later e = (refl, e)
-  neither (Some fault) later e = absurd cc
+pub neither : (own later : Option TraceFault) → option_or own later ≡ None → (own ≡ None) × (later ≡ None)
+neither None later e = (refl, e)
+neither (Some fault) later e = absurd cc
 
+module _ (publications : ℕ) where
   all_say : (rows : Records) (last : Option ℕ) (next : ℕ) → first_row_fault publications last next rows ≡ None
       → length (filter_map row_of_record rows) ≡ length rows
   all_say [] last next fine = refl
-  all_say (row ∷ more) last next fine = by (row_of_record row) refl (all_say more)
+  all_say (row ∷ more) last next fine = by (row_in row) refl (all_say more)
     where
-      by : (said : Option RowFields) → row_of_record row ≡ said
+      by : (said : Result RowFields Flaw) → row_in row ≡ said
           → ((last : Option ℕ) (next : ℕ) → first_row_fault publications last next more ≡ None
           → length (filter_map row_of_record more) ≡ length more)
           → length (filter_map row_of_record (row ∷ more)) ≡ length (row ∷ more)
-      by None is later =
-          let own : Some (at_row next BadRow) ≡ None = (neither (Some (at_row next BadRow))
+      by (Err flaw) is later =
+          let own : Some (at_row next flaw) ≡ None = (neither (Some (at_row next flaw))
           (first_row_fault publications None (next + 1) more) (rw is at fine)).0 in
           absurd cc
-      by (Some fields) is later =
-          let rest = (neither (option_map (at_row next) (row_fault publications last (row_of_record row)))
+      by (Ok fields) is later =
+          let rest = (neither (option_map (at_row next) (row_fault publications last (row_in row)))
           (first_row_fault publications (after_of (row_of_record row)) (next + 1) more) fine).1 in
           let count = later (after_of (row_of_record row)) (next + 1) rest in
           rw is (omega arith)
@@ -75,6 +76,45 @@ module _ (publications : ℕ) where
   all_rows_say [] last next fine = refl
   all_rows_say (header ∷ rows) last next fine =
       all_say rows last next (behind publications (is_header header) last next rows fine)
+
+  -- the rows that records say are as bare as the records
+  bare_as_said : (rows : Records) (read : List Row) (last : Option ℕ) (next number : ℕ)
+      → first_row_fault publications last next rows ≡ None → map row_fields read ≡ filter_map row_of_record rows
+      → first_bare number read ≡ position_from is_bare_record number rows
+  bare_as_said [] [] last next number fine said = refl
+  bare_as_said [] (one ∷ read) last next number fine said = absurd cc
+  bare_as_said (row ∷ more) read last next number fine said = by (row_in row) read refl said (bare_as_said more)
+    where
+      by : (says : Result RowFields Flaw) (read : List Row) → row_in row ≡ says
+          → map row_fields read ≡ filter_map row_of_record (row ∷ more)
+          → ((read : List Row) (last : Option ℕ) (next number : ℕ)
+          → first_row_fault publications last next more ≡ None → map row_fields read ≡ filter_map row_of_record more
+          → first_bare number read ≡ position_from is_bare_record number more)
+          → first_bare number read ≡ position_from is_bare_record number (row ∷ more)
+      by (Err flaw) read is said later =
+          let own : Some (at_row next flaw) ≡ None = (neither (Some (at_row next flaw))
+          (first_row_fault publications None (next + 1) more) (rw is at fine)).0 in
+          absurd cc
+      by (Ok fields) [] is said later =
+          let none : [] ≡ fields ∷ filter_map row_of_record more = rw is at said in absurd cc
+      by (Ok fields) (one ∷ read) is said later =
+          let both : row_fields one ∷ map row_fields read ≡ fields ∷ filter_map row_of_record more = rw is at said in
+          let here : row_fields one ≡ fields = cc in
+          let there : map row_fields read ≡ filter_map row_of_record more = cc in
+          let bare : one.is_bare ≡ fields.is_bare = ap (λ (f : RowFields). f.is_bare) here in
+          let rest = (neither (option_map (at_row next) (row_fault publications last (row_in row)))
+          (first_row_fault publications (after_of (row_of_record row)) (next + 1) more) fine).1 in
+          let after = later read (after_of (row_of_record row)) (next + 1) (number + 1) rest there in
+          rw (is_bare_record, is) (λ i. cond (bare i) (Some number) (after i))
+
+  pub all_bare : (records : Records) (read : List Row) (last : Option ℕ) (next : ℕ)
+      → first_fault_at publications false last next records ≡ None
+      → map row_fields read ≡ filter_map row_of_record (row_records false records)
+      → first_bare next read ≡ position_from is_bare_record next (row_records false records)
+  all_bare [] [] last next fine said = refl
+  all_bare [] (one ∷ read) last next fine said = absurd cc
+  all_bare (header ∷ rows) read last next fine said =
+      bare_as_said rows read last next next (behind publications (is_header header) last next rows fine) said
 
 zipped_apart : {A B : Type 0} (R : A → B → Type 0) (xs more : List A) (ys others : List B) → AllZip R xs ys
     → AllZip R more others → AllZip R (xs ++ more) (ys ++ others)
@@ -105,10 +145,6 @@ module _ (script : ScriptContents) (first : ℕ) (records : Records) (old : Stan
       sym (length-map stands.report.rows row_fields) ∙ ap (λ (l : List RowFields). length l) stands.report.said in
       omega arith
 
-  -- rows are numbered from the first one on, and no more were refused than there are
-  pub not_before : first ≤ old.place.next
-  not_before = let next = numbered in omega arith
-
   pub few_refused : old.faults ≤ old.place.next
   few_refused =
       let next = numbered in
@@ -123,6 +159,11 @@ module _ (script : ScriptContents) (first : ℕ) (records : Records) (old : Stan
       let next = numbered in
       let one_each = AllZip-long (Decides script) stands.report.rows stands.report.decisions stands.report.decided in
       omega arith
+
+  -- the first bare row of what was reported
+  pub bare_so_far : old.place.bare ≡ first_bare first stands.report.rows
+  bare_so_far = ap (λ (p : Place). p.bare) stands.place
+      ∙ sym (all_bare publications records stands.report.rows None first stands.report.fine stands.report.said)
 
   pub one_piece : (more : Records) (new : Standing) (faults : ℕ) (piece : List ℕ)
       → IsPieceText script more old faults piece → new.place ≡ place_behind old.place more

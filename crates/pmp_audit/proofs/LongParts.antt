@@ -2,78 +2,42 @@
 use Rattle.std.proofs.Common.{◌≡◌, ℕ, suc, ◌+◌, ◌<◌, true, false, cond, List, [], ◌∷◌, ◌++◌, length}
 use Rattle.std.proofs.Common.{map, Option, Some, None, Result, Ok, Err, refl, sym, ap, ◌∙◌, arith, take, drop}
 use Rattle.std.proofs.Common.{get_or}
-use Rattle.std.specs.Prelude.{◌==◌, filter_map, option_map, slice_get, IfOk, Vec}
+use Rattle.std.specs.Prelude.{◌==◌, filter_map, option_map, IfOk}
+use Rattle.std.specs.List.{position_from}
 use Rattle.std.specs.Option.{option_or}
-use Rattle.std.specs.declared.alloc.Global.{Global}
 use Rattle.std.proofs.lemmas.Bool.{ne_eqb}
 use Rattle.std.proofs.lemmas.List.{drop_more, map-append, take-append-drop, take_more}
 use Rattle.std.proofs.lemmas.List.Concat.{flat_map-append}
 use Rattle.pmp_text.specs.declared.trace.Row.{Row}
 use Rattle.pmp_text.specs.declared.trace.TraceFault.{TraceFault}
-use Rattle.pmp_text.specs.declared.trace.TraceKind.{TraceKind}
-use Rattle.pmp_text.specs.declared.trace.TraceKind.TheVariants.{BadRow}
-use Rattle.pmp_text.specs.declared.trace.piece.Piece.{Piece}
+use Rattle.pmp_text.specs.declared.flaw.Flaw.{Flaw}
 use Rattle.pmp_text.specs.declared.trace.piece.Place.{Place}
 use Rattle.pmp_text.specs.declared.trace.row_fields.RowFields.{RowFields}
-use Rattle.pmp_text.specs.LongTraces.{IsReadAs, Records, has_begun, is_line_end, last_after, piece_fault}
-use Rattle.pmp_text.specs.LongTraces.{place_behind, row_records}
-use Rattle.pmp_text.specs.Tables.{at_row, records_of}
-use Rattle.pmp_text.specs.Traces.{after_of, falls_behind, fields_fault, first_row_fault, row_fault, row_fields}
+use Rattle.pmp_text.specs.LongTraces.{Records, has_begun, last_after, piece_fault}
+use Rattle.pmp_text.specs.Tables.{is_line_end}
+use Rattle.pmp_text.specs.LongTraces.{is_bare_record, place_behind, row_records}
+use Rattle.pmp_text.specs.Tables.{records_of}
+use Rattle.pmp_text.specs.Flaws.{at_row}
+use Rattle.pmp_text.specs.Traces.{after_of, falls_behind, fields_fault, first_row_fault, row_fault, row_fields, row_in}
 use Rattle.pmp_text.specs.Traces.{row_of_record}
 use Rattle.pmp_text.specs.TraceFaults.{IsInOrder, afters}
-use Rattle.pmp_text.proofs.PieceFaults.{apart, in_turn, piece_in_order, places_in_turn, rows_in_two}
+use Rattle.pmp_text.proofs.PieceFaults.{apart, in_turn, piece_in_order, places_in_turn, position_shifted, rows_in_two}
 use Rattle.pmp_audit.specs.declared.long_audit.reading.Parts.{Parts}
+use Rattle.pmp_audit.proofs.LongAudits.{neither}
 use Rattle.pmp_audit.specs.LongParts.{AreJoined, AreReadAs, Follows, items_of, place_of_both, within_trace}
 
-no_fault : (number other : ℕ) (kind : Option TraceKind) → option_map (at_row number) kind ≡ None
+no_fault : (number other : ℕ) (kind : Option Flaw) → option_map (at_row number) kind ≡ None
     → option_map (at_row other) kind ≡ None
 no_fault number other None e = refl
 no_fault number other (Some kind) e = absurd cc
-
-first_none : (x y : Option TraceFault) → option_or x y ≡ None → x ≡ None
-first_none None y e = refl
-first_none (Some fault) y e = absurd cc
-
-then_none : (x y : Option TraceFault) → option_or x y ≡ None → y ≡ None
-then_none None y e = e
-then_none (Some fault) y e = absurd cc
 
 none_then : (x y : Option TraceFault) → x ≡ None → y ≡ None → option_or x y ≡ None
 none_then None y none e = e
 none_then (Some fault) y none e = absurd cc
 
-pub no_kind : (number : ℕ) (kind : Option TraceKind) → option_map (at_row number) kind ≡ None → kind ≡ None
+pub no_kind : (number : ℕ) (kind : Option Flaw) → option_map (at_row number) kind ≡ None → kind ≡ None
 no_kind number None e = refl
 no_kind number (Some kind) e = absurd cc
-
--- ---- one part
-
--- a piece that was read is its one part
-pub one_part : (fault : Option TraceFault) (rows : Records) (behind : Place) (piece : Piece) (parts : Parts)
-    → IsReadAs fault rows behind (Ok piece) → items_of parts.rows.items ≡ piece.rows.items
-    → parts.place ≡ piece.place → AreReadAs fault rows behind (Ok parts)
-one_part fault rows behind piece parts (fine, said, stands, small) same place =
-    (fine, ap (map row_fields) same ∙ said, place ∙ stands, small)
-
-pub no_rows : (rows : List Row) → length rows ≡ 0 → [] ≡ rows
-no_rows [] none = refl
-no_rows (row ∷ more) none = absurd (omega arith)
-
--- ---- the first row
-
-module _ (last : ℕ) (parts : List (Vec Row Global)) (part : Vec Row Global) (row : Row)
-    (part_is : slice_get parts 0 ≡ Some part) (row_is : slice_get part.items 0 ≡ Some row)
-    (follows : falls_behind (Some last) row.after ≡ false) where
-  first_row : (rows more : List Row) → slice_get rows 0 ≡ Some row → Follows (Some last) (rows ++ more)
-  first_row [] more is = absurd cc
-  first_row (first ∷ rest) more is = let same : first ≡ row = cc in rw same follows
-
-  first_part : (all : List (Vec Row Global)) → slice_get all 0 ≡ Some part → Follows (Some last) (items_of all)
-  first_part [] is = absurd cc
-  first_part (one ∷ more) is = let same : one ≡ part = cc in rw same (first_row part.items (items_of more) row_is)
-
-  pub part_follows : Follows (Some last) (items_of parts)
-  part_follows = first_part parts part_is
 
 module _ (publications : ℕ) where
   -- rows without a fault have none with other numbers
@@ -81,12 +45,12 @@ module _ (publications : ℕ) where
       → first_row_fault publications last number rows ≡ None → first_row_fault publications last other rows ≡ None
   renumbered [] last number other fine = refl
   renumbered (row ∷ more) last number other fine =
-      let kind = row_fault publications last (row_of_record row) in
+      let kind = row_fault publications last (row_in row) in
       let after = after_of (row_of_record row) in
       let rest = first_row_fault publications after (number + 1) more in
       none_then (option_map (at_row other) kind) (first_row_fault publications after (other + 1) more)
-      (no_fault number other kind (first_none (option_map (at_row number) kind) rest fine))
-      (renumbered more after (number + 1) (other + 1) (then_none (option_map (at_row number) kind) rest fine))
+      (no_fault number other kind (neither (option_map (at_row number) kind) rest fine).0)
+      (renumbered more after (number + 1) (other + 1) (neither (option_map (at_row number) kind) rest fine).1)
 
   -- ---- the first row behind another one
 
@@ -106,26 +70,26 @@ module _ (publications : ℕ) where
       → first_row_fault publications None 0 records ≡ None → map row_fields rows ≡ filter_map row_of_record records
       → Follows last rows → first_row_fault publications last next records ≡ None
   goes_on last next [] rows fine said follows = refl
-  goes_on last next (one ∷ more) rows fine said follows = by (row_of_record one) refl
+  goes_on last next (one ∷ more) rows fine said follows = by (row_in one) refl
     where
-      by : (says : Option RowFields) → row_of_record one ≡ says
+      by : (says : Result RowFields Flaw) → row_in one ≡ says
           → first_row_fault publications last next (one ∷ more) ≡ None
-      by None is =
-          let own : Some BadRow ≡ None = no_kind 0 (Some BadRow)
-          (first_none (Some (at_row 0 BadRow)) (first_row_fault publications None 1 more) (rw is at fine)) in
+      by (Err flaw) is =
+          let own : Some flaw ≡ None = no_kind 0 (Some flaw)
+          (neither (Some (at_row 0 flaw)) (first_row_fault publications None 1 more) (rw is at fine)).0 in
           absurd cc
-      by (Some fields) is =
+      by (Ok fields) is =
           let kind = fields_fault publications None fields in
           let rest = first_row_fault publications (Some fields.after) 1 more in
           let fine_one : option_or (option_map (at_row 0) kind) rest ≡ None = rw is at fine in
-          let none = no_kind 0 kind (first_none (option_map (at_row 0) kind) rest fine_one) in
+          let none = no_kind 0 kind (neither (option_map (at_row 0) kind) rest fine_one).0 in
           let begins : map row_fields rows ≡ fields ∷ filter_map row_of_record more = rw is at said in
           let here = in_bounds last fields none (first_follows last rows fields (filter_map row_of_record more) begins
           follows) in
           rw is (none_then (option_map (at_row next) (fields_fault publications last fields))
           (first_row_fault publications (Some fields.after) (next + 1) more)
           (ap (option_map (at_row next)) here)
-          (renumbered more (Some fields.after) 1 (next + 1) (then_none (option_map (at_row 0) kind) rest fine_one)))
+          (renumbered more (Some fields.after) 1 (next + 1) (neither (option_map (at_row 0) kind) rest fine_one).1))
 
   -- ---- both parts
 
@@ -135,12 +99,17 @@ module _ (publications : ℕ) where
   both_places front (one ∷ more) begun =
       let records = one ∷ more in
       let number : 0 + length records ≡ length records = omega arith in
+      let same : front.next + 0 ≡ front.next = omega arith in
+      let bare : option_map (λ n. front.next + n) (position_from is_bare_record 0 records)
+      ≡ position_from is_bare_record front.next records = position_shifted is_bare_record front.next 0 records
+      ∙ ap (λ (n : ℕ). position_from is_bare_record n records) same in
       let some : (0 + length records == 0) ≡ false = ne_eqb (0 + length records) 0
       (λ none. let long : 0 + suc (length more) ≡ 0 = none in omega arith) in
       rw begun (λ i. record {
         begun = true;
         last = cond (some i) front.last (last_after None records);
         next = front.next + number i;
+        bare = option_or front.bare (bare i);
       })
 
   module _ (place : Place) (before : List ℕ) (e : ℕ) (ends : is_line_end e ≡ true) (behind : List ℕ) where

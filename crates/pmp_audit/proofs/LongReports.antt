@@ -1,7 +1,8 @@
 -- Reports with numbers from any one on, one behind the other.
-use Rattle.std.proofs.Common.{◌≡◌, ℕ, suc, ◌+◌, ◌^◌, ◌<◌, ◌≤◌, cond, List, [], ◌∷◌, ◌++◌, length, refl, sym, ap}
+use Rattle.std.proofs.Common.{◌≡◌, ℕ, zero, suc, get_or, ◌+◌, ◌^◌, ◌<◌, ◌≤◌, cond, List, [], ◌∷◌, ◌++◌}
+use Rattle.std.proofs.Common.{length, refl, sym, ap, Result, Err}
 use Rattle.std.proofs.Common.{◌∙◌, append_assoc, append-nil, arith}
-use Rattle.std.proofs.Common.{Option, Some, None, Ok}
+use Rattle.std.proofs.Common.{Option, Ok}
 use Rattle.std.specs.Prelude.{filter_map, not}
 use Rattle.std.proofs.lemmas.List.{length-map}
 use Rattle.std.proofs.lemmas.List.Sums.{count_by-le-length}
@@ -11,24 +12,24 @@ use Rattle.std.proofs.KnownBytes.{Keeps-refl}
 use Rattle.pmp_core.specs.declared.decision.Decision.{Decision}
 use Rattle.pmp_text.specs.declared.trace.Row.{Row}
 use Rattle.pmp_text.specs.declared.trace.TraceFault.{TraceFault}
+use Rattle.pmp_text.specs.declared.flaw.Flaw.{Flaw}
 use Rattle.pmp_text.specs.declared.trace.piece.Place.{Place}
 use Rattle.pmp_text.specs.declared.trace.row_fields.RowFields.{RowFields}
 use Rattle.pmp_text.specs.Bytes.{AppendsBeginning}
 use Rattle.pmp_text.specs.Contents.{ScriptContents}
 use Rattle.pmp_text.specs.LongTraces.{Records, piece_fault, place_behind, report_text_from, row_records}
-use Rattle.pmp_text.specs.Traces.{row_fields, row_of_record}
-use Rattle.pmp_text.specs.Reports.{report_row, report_text}
+use Rattle.pmp_text.specs.Traces.{row_fields, row_of_record, row_in}
+use Rattle.pmp_text.specs.Reports.{AreDecided, report_row}
 use Rattle.pmp_audit.specs.LongPieces.{IsPieceReported, IsPieceText, IsPieceWritten, PieceFails, PieceStops}
-use Rattle.pmp_audit.specs.declared.trace_audit.Summary.{Summary}
-use Rattle.pmp_audit.specs.Report.{IsListed, IsReported}
+use Rattle.pmp_audit.specs.Report.{IsListed}
 use Rattle.pmp_audit.specs.declared.fault.AuditFault.{AuditFault}
-use Rattle.pmp_audit.specs.declared.fault.AuditFault.TheVariants.{Script, Trace, Policy, Share, Moved, BadAfter, Memory}
-use Rattle.pmp_audit.specs.declared.fault.AuditFault.TheVariants.{Output, ScriptOf, BadAfterOf}
+use Rattle.pmp_audit.specs.declared.fault.AuditFault.TheVariants.{Trace, Memory}
+use Rattle.pmp_audit.specs.declared.fault.AuditFault.TheVariants.{Output}
 use Rattle.pmp_audit.specs.declared.long_audit.reading.Parts.{Parts}
 use Rattle.pmp_audit.specs.declared.long_audit.reporting.PieceReport.{PieceReport}
 use Rattle.pmp_audit.specs.declared.long_audit.standing.Standing.{Standing}
 use Rattle.pmp_audit.specs.LongParts.{AreReadAs, items_of}
-use Rattle.pmp_audit.proofs.Reports.{Decides, refused-push, same_summary}
+use Rattle.pmp_audit.proofs.Reports.{Decides, refused-push}
 
 -- a report behind another one goes on with its numbers
 pub report_goes_on : (rows more : List Row) (decisions others : List Decision) (first : ℕ)
@@ -48,6 +49,16 @@ report_goes_on (row ∷ rows) more (decision ∷ decisions) others first same =
     ∙ sym (append_assoc line (report_text_from (first + 1) rows decisions)
     (report_text_from (first + 1 + length rows) more others))
     ∙ ap (λ (n : ℕ). (line ++ report_text_from (first + 1) rows decisions) ++ report_text_from n more others) number
+
+-- the decision of the row at a place
+pub decides_at : (script : ScriptContents) (rows : List Row) (decisions : List Decision) (place : ℕ) (row : Row)
+    (decision : Decision) → AreDecided script rows decisions → place < length rows → row ≡ get_or rows place row
+    → Decides script row (get_or decisions place decision)
+decides_at script [] decisions place row decision decided inside is = absurd (omega arith)
+decides_at script (one ∷ rows) [] place row decision decided inside is = absurd decided
+decides_at script (one ∷ rows) (its ∷ decisions) zero row decision decided inside is = rw is decided.0
+decides_at script (one ∷ rows) (its ∷ decisions) (suc place) row decision decided inside is =
+    decides_at script rows decisions place row decision decided.1 (omega arith) is
 
 module _ (script : ScriptContents) (first : ℕ) where
   pub none_listed : (held : List ℕ) → IsListed script [] first held held 0
@@ -82,31 +93,17 @@ module _ (script : ScriptContents) (first : ℕ) where
                 ∙ sym (refused-push so_far.decisions decision);
           }
 
--- a list of rows that are numbered from 1 is a report with its summary
-pub listed_from_one : (script : ScriptContents) (rows : List Row) (before after : List ℕ) (faults : ℕ)
-    (summary : Summary) → IsListed script rows 1 before after faults → summary.rows ≡ length rows
-    → summary.faults ≡ faults → IsReported script rows before after summary
-unfolding report_text_from report_text
-listed_from_one script rows before after faults summary listed rows_are faults_are = record {
-  decisions = listed.decisions;
-  decided = listed.decided;
-  report = listed.report;
-  counted = same_summary summary _
-      (rows_are ∙ sym (AllZip-long (Decides script) rows listed.decisions listed.decided))
-      (faults_are ∙ listed.counted);
-}
-
 -- ---- how many rows a piece has
 
 few_said : (records : Records) → length (filter_map row_of_record records) ≤ length records
 few_said [] = omega arith
-few_said (one ∷ more) = by (row_of_record one) refl (few_said more)
+few_said (one ∷ more) = by (row_in one) refl (few_said more)
   where
-    by : (said : Option RowFields) → row_of_record one ≡ said
+    by : (said : Result RowFields Flaw) → row_in one ≡ said
         → length (filter_map row_of_record more) ≤ length more
         → length (filter_map row_of_record (one ∷ more)) ≤ length (one ∷ more)
-    by None is few = rw is (omega arith)
-    by (Some row) is few = rw is (omega arith)
+    by (Err flaw) is few = rw is (omega arith)
+    by (Ok row) is few = rw is (omega arith)
 
 -- the rows of a piece are numbered before those of the next one
 pub rows_fit : (fault : Option TraceFault) (place : Place) (records : Records) (parts : Parts)
@@ -154,14 +151,7 @@ module _ (script : ScriptContents) (records : Records) (old : Standing) where
       → PieceStops script records old out out fault
   fails_unwritten out (Trace fault) fails = (fails, Keeps-refl out)
   fails_unwritten out Memory fails = Keeps-refl out
-  fails_unwritten out (Script fault) fails = absurd fails
-  fails_unwritten out (Policy fault) fails = absurd fails
-  fails_unwritten out (Share fault) fails = absurd fails
-  fails_unwritten out (Moved moved) fails = absurd fails
-  fails_unwritten out BadAfter fails = absurd fails
-  fails_unwritten out (ScriptOf side fault) fails = absurd fails
-  fails_unwritten out (BadAfterOf side) fails = absurd fails
-  fails_unwritten out Output fails = absurd fails
+  fails_unwritten out fault fails = absurd fails
 
   module _ (report : PieceReport) (reported : IsPieceReported script records old report)
       (before after : Option (List ℕ)) where

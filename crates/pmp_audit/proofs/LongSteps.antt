@@ -11,10 +11,11 @@ use Rattle.pmp_text.specs.Cutting.{IsFront}
 use Rattle.pmp_text.specs.LongTraces.{Records, beginning, has_begun, long_meaning, long_rows_meaning, piece_fault}
 use Rattle.pmp_text.specs.LongTraces.{row_records}
 use Rattle.pmp_text.specs.Scripts.{script_meaning}
-use Rattle.pmp_text.specs.Tables.{at_row, fault_or_rows, records_of}
+use Rattle.pmp_text.specs.Tables.{fault_or_rows, records_of}
+use Rattle.pmp_text.specs.Flaws.{at_row, as_whole}
 use Rattle.pmp_text.specs.Traces.{first_row_fault, is_header, row_of_record}
 use Rattle.pmp_text.specs.declared.trace.TraceFault.{TraceFault}
-use Rattle.pmp_text.specs.declared.trace.TraceKind.TheVariants.{BadHeader}
+use Rattle.pmp_text.specs.declared.refusal.Refusal.TheVariants.{BadHeader}
 use Rattle.pmp_text.proofs.PieceFaults as pieces
 use Rattle.pmp_audit.specs.declared.long_audit.standing.Standing.{Standing}
 use Rattle.pmp_audit.specs.LongAudit.{IsFrontOf}
@@ -47,17 +48,18 @@ going_begins script first bytes_in held bytes_out standing none place faults = r
   many = omega arith;
 }
 
-module _ (script : ScriptContents) (first count limit : ℕ) (in_old in_mid in_new : Option (List ℕ)) (held left : List ℕ)
-    (out_old out_mid out_new : Option (List ℕ)) (old new : Standing)
+module _ {script : ScriptContents} {first count limit : ℕ} {in_old in_mid in_new : Option (List ℕ)} {held left : List ℕ}
+    {out_old out_mid : Option (List ℕ)} {old : Standing}
     (going : Going script first count in_old in_mid held out_old out_mid old) where
   module _ (piece : List ℕ) (cut : IsFront limit held in_mid in_new left piece) where
     joined : (more : List ℕ) → held ++ (cut.taken ++ more) ≡ cut.before ++ cut.line_end ∷ (cut.behind ++ more)
     joined more = sym (append_assoc held cut.taken more) ∙ ap (λ (l : List ℕ). l ++ more) cut.split
         ∙ append_assoc cut.before (cut.line_end ∷ cut.behind) more
 
-    pub goes_on : IsPieceWritten script (records_of piece) old out_mid out_new new
+    pub goes_on : {out_new : Option (List ℕ)} {new : Standing}
+        → IsPieceWritten script (records_of piece) old out_mid out_new new
         → Going script first (count + 1) in_old in_new left out_old out_new new
-    goes_on piece_written =
+    goes_on {new = new} piece_written =
         let here = records_of piece in
         let fine = ap (λ (l : List ℕ). piece_fault (length script.batches) old.place (records_of l)) (sym cut.piece_is)
         ∙ piece_written.says.fine in
@@ -105,8 +107,8 @@ pub none_left : (new : Option (List ℕ)) → IsAtEnd new → unwrap_or new [] �
 none_left None e = refl
 none_left (Some xs) e = e
 
-module _ (script : List ℕ) (contents : ScriptContents) (means : script_meaning script ≡ Ok contents) (first : ℕ)
-    (records : Records) (standing : Standing) (text : List ℕ) (stands : Stands contents first records standing text)
+module _ {script : List ℕ} {contents : ScriptContents} (means : script_meaning script ≡ Ok contents) {first : ℕ}
+    {records : Records} {standing : Standing} {text : List ℕ} (stands : Stands contents first records standing text)
     (trace : List ℕ) (behind : Records) (are : records_of trace ≡ records ++ behind) where
   -- what was written is a front of the report
   pub front_of : IsFrontOf script first trace text
@@ -118,33 +120,3 @@ module _ (script : List ℕ) (contents : ScriptContents) (means : script_meaning
     trace_has = are;
     report = stands.report;
   }
-
--- the first fault of all records is what they mean
-pub faulty_records : (publications first : ℕ) (records : Records) (fault : TraceFault)
-    → piece_fault publications (beginning first) records ≡ Some fault
-    → long_meaning publications first records ≡ Err fault
-faulty_records publications first [] fault e = absurd cc
-faulty_records publications first (header ∷ rows) fault e = by (is_header header) e
-  where
-    by : (named : Bool)
-        → cond named (first_row_fault publications None first rows) (Some (at_row 0 BadHeader)) ≡ Some fault
-        → cond named (long_rows_meaning publications first rows) (Err (at_row 0 BadHeader)) ≡ Err fault
-    by true e = ap (λ (f : Option TraceFault). fault_or_rows f (filter_map row_of_record rows)) e
-    by false e = let same : at_row 0 BadHeader ≡ fault = cc in ap Err same
-
-pub fine_records : (publications first : ℕ) (records : Records)
-    → piece_fault publications (beginning first) records ≡ None → has_begun false records ≡ true
-    → long_meaning publications first records ≡ Ok (filter_map row_of_record (row_records false records))
-fine_records publications first [] e begun = absurd cc
-fine_records publications first (header ∷ rows) e begun = by (is_header header) e
-  where
-    by : (named : Bool)
-        → cond named (first_row_fault publications None first rows) (Some (at_row 0 BadHeader)) ≡ None
-        → cond named (long_rows_meaning publications first rows) (Err (at_row 0 BadHeader))
-        ≡ Ok (filter_map row_of_record rows)
-    by true e = ap (λ (f : Option TraceFault). fault_or_rows f (filter_map row_of_record rows)) e
-    by false e = absurd cc
-
-pub no_records : (records : Records) → has_begun false records ≡ false → records ≡ []
-no_records [] e = refl
-no_records (header ∷ rows) e = absurd cc

@@ -6,26 +6,36 @@ use Rattle.std.specs.Io.KnownBytes.{Appends, Keeps}
 use Rattle.std.proofs.KnownBytes.{Appends-trans}
 use Rattle.std.proofs.lemmas.List.{length-append}
 use Rattle.pmp_text.specs.declared.trace.TraceFault.{TraceFault}
-use Rattle.pmp_text.specs.declared.trace.TraceKind.TheVariants.{BadHeader}
+use Rattle.pmp_text.specs.declared.refusal.Refusal.TheVariants.{BadHeader}
 use Rattle.pmp_text.specs.declared.trace.piece.Place.{Place}
 use Rattle.pmp_text.specs.Contents.{ScriptContents}
 use Rattle.pmp_text.specs.LongTraces.{Records, beginning, long_meaning, piece_fault, place_behind, row_records}
 use Rattle.pmp_text.specs.LongTraces.{too_long_for_rows}
 use Rattle.pmp_text.specs.Outcomes.{no_input_for_rows}
 use Rattle.pmp_text.specs.Scripts.{script_meaning}
-use Rattle.pmp_text.specs.Tables.{at_row, records_of}
+use Rattle.pmp_text.specs.Tables.{records_of}
+use Rattle.pmp_text.specs.Flaws.{at_row, as_whole}
 use Rattle.pmp_text.proofs.CutTexts.{few_records}
 use Rattle.pmp_audit.specs.declared.fault.AuditFault.{AuditFault}
-use Rattle.pmp_audit.specs.declared.fault.AuditFault.TheVariants.{Script, Trace, Policy, Share, Moved, BadAfter, Memory}
-use Rattle.pmp_audit.specs.declared.fault.AuditFault.TheVariants.{Output, ScriptOf, BadAfterOf}
+use Rattle.pmp_audit.specs.declared.fault.AuditFault.TheVariants.{Trace, Memory}
+use Rattle.pmp_audit.specs.declared.fault.AuditFault.TheVariants.{Output}
 use Rattle.pmp_audit.specs.declared.long_audit.standing.Standing.{Standing}
 use Rattle.pmp_audit.specs.declared.trace_audit.Summary.{Summary}
 use Rattle.pmp_audit.specs.LongAudit.{IsTooLong, LongAuditSays, StopsLong, WroteFront}
 use Rattle.pmp_audit.specs.LongPieces.{PieceStops}
-use Rattle.pmp_audit.proofs.LongAudits.{Stands, fault_behind, one_piece, summed}
-use Rattle.pmp_audit.proofs.LongPieces.{IsPieceOf}
-use Rattle.pmp_audit.proofs.LongSteps.{faulty_records, fine_records, front_of, no_records}
-use Rattle.pmp_audit.proofs.Reports.{same_summary}
+use Rattle.pmp_audit.proofs.LongAudits.{Stands, bare_so_far, fault_behind, one_piece, summed}
+use Rattle.pmp_text.proofs.WholeTraces.{faulty_records, fewer_rows, fine_records, no_records}
+use Rattle.pmp_audit.proofs.LongSteps.{front_of}
+
+-- the piece stands behind these records of the trace, whatever follows it
+pub record IsPieceOf (publications : ℕ) (place : Place) (records : Records) (piece trace : List ℕ) : Type 0 where
+  pub tail : Records
+  pub are : records_of trace ≡ records ++ tail
+  pub stays : (fault : TraceFault) → piece_fault publications place (records_of piece) ≡ Some fault
+      → piece_fault publications place tail ≡ Some fault
+  pub apart : piece_fault publications place (records_of piece) ≡ None
+      → (behind : Records) × (tail ≡ records_of piece ++ behind)
+  pub within : length piece ≤ length trace
 
 appends_kept : (old mid new : Option (List ℕ)) (text : List ℕ) → Appends old mid text → Keeps mid new
     → Appends old new text
@@ -34,13 +44,8 @@ appends_kept (Some xs) None new text written kept = absurd written
 appends_kept (Some xs) (Some ys) None text written kept = absurd kept
 appends_kept (Some xs) (Some ys) (Some zs) text written kept = kept ∙ written
 
-fewer_rows : (begun : Bool) (records : Records) → length (row_records begun records) ≤ length records
-fewer_rows true records = omega arith
-fewer_rows false [] = omega arith
-fewer_rows false (header ∷ rows) = omega arith
-
-module _ (script : List ℕ) (contents : ScriptContents) (means : script_meaning script ≡ Ok contents)
-    (limit first : ℕ) (records : Records) (old : Standing) (text : List ℕ)
+module _ (script : List ℕ) {contents : ScriptContents} (means : script_meaning script ≡ Ok contents) (limit : ℕ)
+    {first : ℕ} {records : Records} {old : Standing} {text : List ℕ}
     (stands : Stands contents first records old text) (out_old out_mid out_new : Option (List ℕ))
     (written : Appends out_old out_mid text) where
   abbrev publications : ℕ
@@ -51,7 +56,7 @@ module _ (script : List ℕ) (contents : ScriptContents) (means : script_meaning
     pub wrote_front : Keeps out_mid out_new → WroteFront limit script first trace out_old out_new
     wrote_front kept = (
       text,
-      front_of script contents means first records old text stands trace behind are,
+      front_of means stands trace behind are,
       appends_kept out_old out_mid out_new text written kept,
     )
 
@@ -119,7 +124,7 @@ module _ (script : List ℕ) (contents : ScriptContents) (means : script_meaning
         here.are ∙ ap (λ (l : Records). records ++ l) tail_is ∙ sym (append_assoc records (records_of piece) behind)
         in (
           text ++ more,
-          front_of script contents means first (records ++ records_of piece) new (text ++ more) later trace behind are,
+          front_of means later trace behind are,
           (
             text ++ front,
             rest,
@@ -127,19 +132,13 @@ module _ (script : List ℕ) (contents : ScriptContents) (means : script_meaning
             Appends-trans _ _ _ _ _ written wrote,
           ),
         )
-    piece_stops (Script fault) stops = absurd stops
-    piece_stops (Policy fault) stops = absurd stops
-    piece_stops (Share fault) stops = absurd stops
-    piece_stops (Moved moved) stops = absurd stops
-    piece_stops BadAfter stops = absurd stops
-    piece_stops (ScriptOf side fault) stops = absurd stops
-    piece_stops (BadAfterOf side) stops = absurd stops
+    piece_stops fault stops = absurd stops
 
   -- ---- the end of the trace
 
   module _ (trace : List ℕ) (are : records_of trace ≡ records) where
     pub says_all : (summary : Summary) → old.place.begun ≡ true
-        → summary ≡ record { rows = old.place.next - first; faults = old.faults }
+        → summary ≡ record { rows = old.place.next - first; faults = old.faults; bare = old.place.bare }
         → LongAuditSays script first trace summary text
     says_all summary begun is =
         let done = stands.report in
@@ -155,12 +154,15 @@ module _ (script : List ℕ) (contents : ScriptContents) (means : script_meaning
             decided = done.decided;
             report = done.report;
           };
-          counted = same_summary summary _
-              (ap (λ (s : Summary). s.rows) is ∙ summed contents first records old text stands)
-              (ap (λ (s : Summary). s.faults) is ∙ stands.counted);
+          counted = is
+              ∙ (λ i. record {
+                rows = summed contents first records old text stands i;
+                faults = stands.counted i;
+                bare = bare_so_far contents first records old text stands i;
+              });
         }
 
     pub no_header : old.place.begun ≡ false
-        → long_meaning publications first (records_of trace) ≡ Err (at_row 0 BadHeader)
+        → long_meaning publications first (records_of trace) ≡ Err (at_row 0 (as_whole BadHeader))
     no_header begun = ap (long_meaning publications first) (are
         ∙ no_records records (sym (ap (λ (p : Place). p.begun) stands.place) ∙ begun))

@@ -1,112 +1,50 @@
 -- What workers bring back, in the order of the rows.
-use Rattle.std.proofs.Common.{◌≡◌, ℕ, ◌+◌, ◌<◌, ◌≤◌, ◌/◌, ◌%◌, inl, inr, List, [], ◌∷◌, ◌++◌, length, map, All}
-use Rattle.std.proofs.Common.{Option, Some, None, Result, Ok, IfOk, refl, sym, ap, ◌∙◌, arith, subst, get_or, take}
+use Rattle.std.proofs.Common.{◌≡◌, ℕ, ◌+◌, ◌<◌, ◌/◌, ◌%◌, inl, inr, List, [], ◌∷◌, ◌++◌, length, map, All}
+use Rattle.std.proofs.Common.{Some, Result, Ok, IfOk, refl, sym, ap, ◌∙◌, arith, subst, get_or, take}
 use Rattle.std.proofs.Common.{append_assoc}
 use Rattle.std.specs.Prelude.{slice_get}
 use Rattle.std.specs.List.{enumerate_from}
-use Rattle.std.specs.Option.{option_map}
-use Rattle.std.proofs.lemmas.List.{map_more, length-append, length_push, get_or_at, length-map, get_or-map}
-use Rattle.std.proofs.lemmas.List.FromFn.{length-enumerate_from}
+use Rattle.std.proofs.lemmas.List.{length-append, length_push, get_or_at, length-map, get_or-map, take_more}
+use Rattle.std.proofs.lemmas.List.FromFn.{get_or-enumerate_from, length-enumerate_from}
 use Rattle.std.proofs.lemmas.Bool.{cases_lt}
-use Rattle.std.proofs.lemmas.Option.{slice_get-map, slice_get_within, slice_get_cases, get_or_from_slice_get}
-use Rattle.std.proofs.lemmas.Option.{same_Some, some_pair_parts, slice_get_past, slice_get-get_or}
+use Rattle.std.proofs.lemmas.Option.{slice_get_within, slice_get_cases, get_or_from_slice_get}
+use Rattle.std.proofs.lemmas.Option.{same_Some, slice_get-get_or}
 use Rattle.pmp_core.specs.declared.decision.Decision.{Decision}
-use Rattle.pmp_core.specs.Ranges.{decision_of}
 use Rattle.pmp_core.specs.RegisterFile.{RegisterFile}
 use Rattle.pmp_share.specs.Batches.{file_from}
 use Rattle.pmp_share.specs.declared.knowledge.Known.{Known}
 use Rattle.pmp_share.specs.Tokens.{PublisherToken}
 use Rattle.pmp_text.specs.declared.trace.Row.{Row}
-use Rattle.pmp_audit.specs.declared.shared_audit.work_fault.WorkFault.{WorkFault}
+use Rattle.pmp_audit.specs.declared.fault.AuditFault.{AuditFault}
 use Rattle.pmp_audit.specs.declared.shared_audit.job.Done.{Done}
 use Rattle.pmp_audit.specs.declared.shared_audit.job.Job.{Job}
-use Rattle.pmp_audit.specs.declared.shared_audit.row_decision.RowDecision.{RowDecision}
-use Rattle.pmp_audit.specs.Rounds.{AreCheckersOf, AreDealt, AreInFile, AreJobs, IsJob, decided_in}
-use Rattle.pmp_audit.specs.Working.{IsDealt, IsDone, row_of}
-use Rattle.pmp_audit.proofs.Dealing.{slice_get-push_old, slice_get-push_new, slice_get-enumerate_from}
-
-abbrev pub row_at : RowDecision → Row
-row_at decision = decision.row.value
-
--- ---- rows without their numbers
-
-row_of_some : (decision : Option RowDecision) (number : ℕ) (row : Row)
-    → option_map row_of decision ≡ Some (number, row) → option_map row_at decision ≡ Some row
-row_of_some None number row is = absurd cc
-row_of_some (Some decision) number row is = ap Some (some_pair_parts decision.number number (row_at decision) row is).1
-
-row_of_none : (decision : Option RowDecision) → option_map row_of decision ≡ None → option_map row_at decision ≡ None
-row_of_none None is = refl
-row_of_none (Some decision) is = absurd cc
-
-pub unnumbered : (worker workers first : ℕ) (rows : List Row) (decisions : List RowDecision)
-    → IsDealt worker workers (enumerate_from first rows) (map row_of decisions)
-    → IsDealt worker workers rows (map row_at decisions)
-unnumbered worker workers first rows decisions dealt place own =
-    let turn = place / workers in
-    let numbered : option_map row_of (slice_get decisions turn) ≡ slice_get (enumerate_from first rows) place =
-    sym (slice_get-map row_of decisions turn) ∙ dealt place own in
-    slice_get-map row_at decisions turn ∙ elim ((slice_get_cases rows place).1) [
-      | inl (row, _, at, _) ↦
-          row_of_some (slice_get decisions turn) (first + place) row
-          (numbered ∙ slice_get-enumerate_from first rows place row at) ∙ sym at
-      | inr (past, none) ↦
-          let beyond : length (enumerate_from first rows) ≤ place = omega (arith, length-enumerate_from first rows) in
-          row_of_none (slice_get decisions turn) (numbered ∙ slice_get_past (enumerate_from first rows) place beyond)
-          ∙ sym none
-    ]
+use Rattle.pmp_audit.specs.Rounds.{AreCheckersOf, AreDealt, AreJobs, IsJob}
+use Rattle.pmp_audit.specs.Working.{IsDone, decided_in}
+use Rattle.pmp_audit.proofs.Dealing.{slice_get-push_old, slice_get-push_new}
 
 -- ---- one decision more
 
-module _ (first : ℕ) (rows : List Row) (all : List Done) (place : ℕ) (done : Done)
-    (dealt : AreDealt first rows all) (at_done : slice_get all (place % length all) ≡ Some done) where
-  same_row : slice_get (map row_at done.decisions.items) (place / length all) ≡ slice_get rows place
-  same_row =
-      unnumbered (place % length all) (length all) first rows done.decisions.items
-      (dealt (place % length all) done at_done) place refl
+module _ (first : ℕ) (made : List Decision) (all : List Done) (place : ℕ) (done : Done)
+    (dealt : AreDealt first made all) (at_done : slice_get all (place % length all) ≡ Some done)
+    (inside : place < length made) (d : ℕ × Decision) where
+  -- the worker whose turn it is brings the decision of the next row
+  own : slice_get done.decisions.items (place / length all) ≡ Some (get_or (enumerate_from first made) place d)
+  own = dealt (place % length all) done at_done place refl
+      ∙ slice_get-get_or (enumerate_from first made) place d (omega (arith, length-enumerate_from first made))
 
-  pub is_decided : place < length rows → place / length all < length done.decisions.items
-  is_decided inside = elim ((slice_get_cases rows place).1) [
-    | inl (row, _, at, _) ↦
-        let within = slice_get_within (map row_at done.decisions.items) (place / length all) row (same_row ∙ at) in
-        omega (arith, length-map done.decisions.items row_at)
-    | inr (past, _) ↦ absurd (omega arith)
-  ]
+  pub is_brought : place / length all < length done.decisions.items
+  is_brought = slice_get_within done.decisions.items (place / length all) _ own
 
-  module _ (decision : RowDecision) (at : slice_get done.decisions.items (place / length all) ≡ Some decision) where
-    own_row : slice_get rows place ≡ Some (row_at decision)
-    own_row = sym same_row ∙ slice_get-map row_at done.decisions.items (place / length all) ∙ ap (option_map row_at) at
-
-    own_file : (file : RegisterFile) → AreInFile file all → decision.file.value ≡ file
-    own_file file in_file =
-        let turn = place / length all in
-        let items = done.decisions.items in
-        subst (λ (d : RowDecision). d.file.value ≡ file) (get_or_from_slice_get items turn decision decision at)
-        (in_file (place % length all) done at_done turn decision (slice_get_within items turn decision at))
-
-    own_decision : (file : RegisterFile) → AreInFile file all
-        → decision.decision ≡ decision_of file (row_at decision).access
-    own_decision file in_file =
-        decision.decided ∙ ap (λ (f : RegisterFile). decision_of f (row_at decision).access) (own_file file in_file)
-
-    -- the decision is that of the next row
-    decided_more : (file : RegisterFile) → AreInFile file all → place < length rows
-        → decided_in file (take (place + 1) rows) ≡ decided_in file (take place rows) ++ decision.decision ∷ []
-    decided_more file in_file inside =
-        let before = decided_in file (take place rows) in
-        let row_is : get_or rows place (row_at decision) ≡ row_at decision =
-        get_or_from_slice_get rows place (row_at decision) (row_at decision) own_row in
-        map_more (λ (row : Row). decision_of file row.access) rows place (row_at decision) inside
-        ∙ ap (λ (row : Row). before ++ decision_of file row.access ∷ []) row_is
-        ∙ ap (λ (d : Decision). before ++ d ∷ []) (sym (own_decision file in_file))
-
-    pub merged : (file : RegisterFile) (old held new : List Decision) → AreInFile file all → place < length rows
-        → held ≡ old ++ decided_in file (take place rows) → new ≡ held ++ decision.decision ∷ []
-        → new ≡ old ++ decided_in file (take (place + 1) rows)
-    merged file old held new in_file inside so_far pushed =
-        pushed ∙ ap (λ (l : List Decision). l ++ decision.decision ∷ []) so_far
-        ∙ append_assoc old (decided_in file (take place rows)) (decision.decision ∷ [])
-        ∙ ap (λ (l : List Decision). old ++ l) (sym (decided_more file in_file inside))
+  pub merged : (old held new : List Decision) → d ≡ get_or done.decisions.items (place / length all) d
+      → held ≡ old ++ take place made → new ≡ held ++ d.1 ∷ [] → new ≡ old ++ take (place + 1) made
+  merged old held new at so_far pushed =
+      let is : d ≡ (first + place, get_or made place d.1) =
+      at ∙ get_or_from_slice_get done.decisions.items (place / length all) _ d own
+      ∙ get_or-enumerate_from first made place d inside in
+      let next = take_more made place d.1 inside in
+      let one : d.1 ≡ get_or made place d.1 = ap (λ (p : ℕ × Decision). p.1) is in
+      pushed ∙ ap (λ (l : List Decision). l ++ d.1 ∷ []) so_far ∙ append_assoc old (take place made) (d.1 ∷ [])
+      ∙ ap (λ (e : Decision). old ++ (take place made ++ e ∷ [])) one ∙ ap (λ (l : List Decision). old ++ l) (sym next)
 
 -- ---- one job more
 
@@ -117,9 +55,6 @@ all_at P xs x ys all whole each =
     let inside : length xs < length all = omega (arith, many, length-append xs (x ∷ ys)) in
     subst P (ap (λ (l : List _). get_or l (length xs) x) (sym whole) ∙ get_or_at xs x ys x (length xs) refl)
     (each (length xs) x inside)
-
-pub no_jobs : (publisher : PublisherToken) → AreJobs publisher 0 []
-no_jobs publisher = record { many = refl; each = λ worker job none. absurd cc }
 
 module _ (publisher : PublisherToken) (count : ℕ) (jobs : List Job) (job : Job)
     (so_far : AreJobs publisher count jobs) where
@@ -159,31 +94,31 @@ one_job publisher count jobs new job so_far is pushed =
 
 -- ---- what all workers bring back
 
-done_at : (results : List (Result Done WorkFault)) (all : List Done) (worker : ℕ) (done : Done)
+done_at : (results : List (Result Done AuditFault)) (all : List Done) (worker : ℕ) (done : Done)
     → results ≡ map Ok all → slice_get all worker ≡ Some done → get_or results worker (Ok done) ≡ Ok done
 done_at results all worker done same at =
-    ap (λ (l : List (Result Done WorkFault)). get_or l worker (Ok done)) same
+    ap (λ (l : List (Result Done AuditFault)). get_or l worker (Ok done)) same
     ∙ get_or-map Ok all worker done (Ok done) (slice_get_within all worker done at)
     ∙ ap Ok (get_or_from_slice_get all worker done done at)
 
 -- what a call of `work` says of its job
-abbrev pub IsDoneAs : (workers first : ℕ) → List Row → Job → Result Done WorkFault → Type 0
+abbrev pub IsDoneAs : (workers first : ℕ) → List Row → Job → Result Done AuditFault → Type 0
 IsDoneAs workers first rows job result =
     IfOk result (IsDone job.checker.unit (file_from job.checker.unit.base job.notice.list) job.worker workers first
     rows)
 
 -- each of so many workers was given a job, and all brought back what `work` says of it
 module _ (publisher : PublisherToken) (count workers first : ℕ) (rows : List Row) (jobs : List Job)
-    (results : List (Result Done WorkFault)) (all : List Done)
+    (results : List (Result Done AuditFault)) (all : List Done)
     (are : AreJobs publisher count jobs) (as_many : workers ≡ count) (same : results ≡ map Ok all)
-    (each : (i : ℕ) (d : Result Done WorkFault) → i < length jobs
+    (each : (i : ℕ) (d : Result Done AuditFault) → i < length jobs
     → (job : Job) × ((e : Job) → get_or jobs i e ≡ job) × IsDoneAs workers first rows job (get_or results i d))
     (length_is : length results ≡ count) where
   abbrev file : RegisterFile
   file = file_from publisher.unit.base publisher.published
 
   all_many : length all ≡ count
-  all_many = sym (length-map all Ok) ∙ sym (ap (λ (l : List (Result Done WorkFault)). length l) same) ∙ length_is
+  all_many = sym (length-map all Ok) ∙ sym (ap (λ (l : List (Result Done AuditFault)). length l) same) ∙ length_is
 
   -- so each is done with the rows of its number, in the file of what is published
   pub all_met : (worker : ℕ) (done : Done) → slice_get all worker ≡ Some done
@@ -200,11 +135,8 @@ module _ (publisher : PublisherToken) (count workers first : ℕ) (rows : List R
       let number : workers ≡ length all = as_many ∙ sym all_many in
       rw (j.same_unit, told, j.numbered, number) at own
 
-  pub all_dealt_out : AreDealt first rows all
+  pub all_dealt_out : AreDealt first (decided_in file rows) all
   all_dealt_out worker done at = (all_met worker done at).dealt
-
-  pub all_in_file : AreInFile file all
-  all_in_file worker done at = (all_met worker done at).in_file
 
   pub all_checkers : (checkers : List Known)
       → checkers ≡ map (λ done. done.checker) all → AreCheckersOf publisher.unit count checkers

@@ -1,8 +1,9 @@
 -- A script and a policy have one answer.
 use Rattle.std.proofs.Common.{◌≡◌, ℕ, ◌+◌, ◌<◌, ◌≤◌, List, [], ◌∷◌, map, Option, Some, None, refl, sym, ap, subst, ◌∙◌}
-use Rattle.std.proofs.Common.{inl, inr, arith}
+use Rattle.std.proofs.Common.{Bool, inl, inr, arith}
 use Rattle.std.proofs.Math.Bridge.{le_prop}
 use Rattle.std.proofs.lemmas.Bool.{cases_lt, false≢true}
+use Rattle.std.proofs.lemmas.Option.{none-some}
 use Rattle.std.specs.Prelude.{IsSome}
 use Rattle.pmp_core.specs.declared.access.TheConstants.{ADDRESS_LIMIT}
 use Rattle.pmp_core.specs.Matching.{Matches}
@@ -17,8 +18,8 @@ use Rattle.pmp_text.specs.declared.policy.Kinds.{Kinds}
 use Rattle.pmp_text.specs.declared.policy.Modes.{Modes}
 use Rattle.pmp_text.specs.Policies.{policy_fields}
 use Rattle.pmp_audit.specs.Laws.{OnePolicyAnswerLaw}
-use Rattle.pmp_audit.specs.PolicyCheck.{IsBroken, IsFirstBreach, IsFirstIn, IsFirstLoose, IsFirstOf, IsFirstOfAll}
-use Rattle.pmp_audit.specs.PolicyCheck.{IsFirstRun, IsLoose}
+use Rattle.pmp_audit.specs.PolicyCheck.{IsBroken, IsFirstBreach, IsFirstIn, IsFirstNotHeld, IsFirstOf, IsFirstOfAll}
+use Rattle.pmp_audit.specs.PolicyCheck.{IsFirstRun, IsNotHeld}
 use Rattle.pmp_audit.specs.PolicyCheck.{IsVerdict, IsVerdictBy, policy_summary, state_after, step_count, verdicts_text}
 use Rattle.pmp_audit.proofs.Lists.{one_list}
 
@@ -79,9 +80,6 @@ same_breach one other done run =
     ap (λ (n : ℕ). record { done = n; run = one.run }) done
     ∙ ap (λ (r : Run). record { done = other.done; run = r }) run
 
-none_is_some : {X : Type 0} (x : X) → None ≡ Some x → ⊥
-none_is_some x same = absurd cc
-
 module _ (state : ℕ → RegisterFile) (row : PolicyRow) (from to : ℕ) where
   none_there : (done : ℕ) (run : Run) → IsFirstIn (state done) row None → IsFirstIn (state done) row (Some run) → ⊥
   none_there done run none some = none run.first some.from (omega (arith, some.proper, some.to))
@@ -114,20 +112,17 @@ module _ (state : ℕ → RegisterFile) (row : PolicyRow) (from to : ℕ) where
       absurd (none_there breach.done breach.run (too breach.done is.after is.until) is.here)
   one_of_all (Some one) (Some other) is too = ap Some (same_breaches one other is too)
 
-  loose_of : Option Run → Type 0
-  loose_of run = IsFirstOf (state to) (IsLoose (state to) row) row run
-
-  one_loose : (one other : Option Breach) → IsFirstLoose state row to one → IsFirstLoose state row to other
+  one_loose : (one other : Option Breach) → IsFirstNotHeld state row to one → IsFirstNotHeld state row to other
       → one ≡ other
   one_loose None None is too = refl
   one_loose None (Some breach) is too =
-      absurd (none_is_some breach.run
-      (one_first (state to) (IsLoose (state to) row) row None (Some breach.run) is too.1))
+      absurd (none-some breach.run
+      (one_first (state to) (IsNotHeld (state to) row) row None (Some breach.run) is too.1))
   one_loose (Some breach) None is too =
-      absurd (none_is_some breach.run
-      (one_first (state to) (IsLoose (state to) row) row None (Some breach.run) too is.1))
+      absurd (none-some breach.run
+      (one_first (state to) (IsNotHeld (state to) row) row None (Some breach.run) too is.1))
   one_loose (Some one) (Some other) is too =
-      let runs = one_first (state to) (IsLoose (state to) row) row (Some one.run) (Some other.run) is.1 too.1 in
+      let runs = one_first (state to) (IsNotHeld (state to) row) row (Some one.run) (Some other.run) is.1 too.1 in
       ap Some (same_breach one other (is.0 ∙ sym too.0) cc)
 
   -- a row without a breach has none
@@ -148,9 +143,9 @@ module _ (state : ℕ → RegisterFile) (row : PolicyRow) (from to : ℕ) where
 
 -- ---- a row is what a policy says of it
 
-row_of : (from to : ℕ) (modes : Modes) (kinds : Kinds) (first last : ℕ) (demand : Demand) → from ≤ to → first ≤ last
-    → last < ADDRESS_LIMIT → PolicyRow
-row_of from to modes kinds first last demand forward ordered inside = record {
+row_of : (from to : ℕ) (modes : Modes) (kinds : Kinds) (first last : ℕ) (demand : Demand) (is_bare : Bool) → from ≤ to
+    → first ≤ last → last < ADDRESS_LIMIT → PolicyRow
+row_of from to modes kinds first last demand is_bare forward ordered inside = record {
   from = from;
   to = to;
   modes = modes;
@@ -158,6 +153,7 @@ row_of from to modes kinds first last demand forward ordered inside = record {
   first = first;
   last = last;
   demand = demand;
+  is_bare = is_bare;
   forward = forward;
   ordered = ordered;
   inside = inside;
@@ -167,8 +163,8 @@ same_row : (one other : PolicyRow) → policy_fields one ≡ policy_fields other
 unfolding row_of
 same_row one other same =
     let From : ℕ → ℕ → ℕ → ℕ → Type 0 = λ f t a b. (forward : f ≤ t) (ordered : a ≤ b) (inside : b < ADDRESS_LIMIT)
-    → one ≡ row_of f t one.modes one.kinds a b one.demand forward ordered inside in
-    let here = row_of one.from one.to one.modes one.kinds one.first one.last one.demand in
+    → one ≡ row_of f t one.modes one.kinds a b one.demand one.is_bare forward ordered inside in
+    let here = row_of one.from one.to one.modes one.kinds one.first one.last one.demand one.is_bare in
     let own : From one.from one.to one.first one.last = λ forward ordered inside.
     ap (λ f. here f one.ordered one.inside) (le_prop one.forward forward)
     ∙ ap (λ o. here forward o one.inside) (le_prop one.ordered ordered)
@@ -177,12 +173,10 @@ same_row one other same =
     let moved_to = subst (λ (n : ℕ). From other.from n one.first one.last) (ap (λ f. f.to) same) moved in
     let moved_first = subst (λ (n : ℕ). From other.from other.to n one.last) (ap (λ f. f.first) same) moved_to in
     let moved_last = subst (λ (n : ℕ). From other.from other.to other.first n) (ap (λ f. f.last) same) moved_first in
-    let there : Modes → Kinds → Demand → PolicyRow = λ m k d.
-    row_of other.from other.to m k other.first other.last d other.forward other.ordered other.inside in
+    let there : Modes → Kinds → Demand → Bool → PolicyRow = λ m k d b.
+    row_of other.from other.to m k other.first other.last d b other.forward other.ordered other.inside in
     moved_last other.forward other.ordered other.inside
-    ∙ ap (λ (m : Modes). there m one.kinds one.demand) (ap (λ f. f.modes) same)
-    ∙ ap (λ (k : Kinds). there other.modes k one.demand) (ap (λ f. f.kinds) same)
-    ∙ ap (λ (d : Demand). there other.modes other.kinds d) (ap (λ f. f.demand) same)
+    ∙ (λ i. there (same i).modes (same i).kinds (same i).demand (same i).is_bare)
 
 same_rows : (one other : List PolicyRow) → map policy_fields one ≡ map policy_fields other → one ≡ other
 same_rows [] [] same = refl
@@ -205,6 +199,7 @@ one_policy_answer pace script policy one other text another said too =
     let verdicts = one_list (IsVerdict pace too.contents)
     (λ row. one_verdict_by (state_after pace too.contents) row (step_count pace too.contents.batches row.from)
     (step_count pace too.contents.batches row.to) row.demand) too.rows said.verdicts too.verdicts judged too.judged in (
-      said.counted ∙ ap policy_summary verdicts ∙ sym too.counted,
+      said.counted ∙ ap (λ rows. policy_summary rows said.verdicts) rows ∙ ap (policy_summary too.rows) verdicts
+          ∙ sym too.counted,
       said.text_is ∙ ap verdicts_text verdicts ∙ sym too.text_is,
     )

@@ -59,8 +59,8 @@ same_row one other same =
     let access : one.access ≡ other.access = same_access one.access other.access
     (ap (λ f. f.mode) same) (ap (λ f. f.kind) same) (ap (λ f. f.start) same) (ap (λ f. f.length) same) in
     let after : one.after ≡ other.after = ap (λ f. f.after) same in
-    ap (λ n. record { after = n; access = one.access }) after
-    ∙ ap (λ a. record { after = other.after; access = a }) access
+    let bare : one.is_bare ≡ other.is_bare = ap (λ f. f.is_bare) same in
+    (λ i. record { after = after i; access = access i; is_bare = bare i })
 
 same_rows : (one other : List Row) → map row_fields one ≡ map row_fields other → one ≡ other
 same_rows [] [] same = refl
@@ -83,7 +83,8 @@ one_report one_list script trace one other text another said too =
     let rows = same_rows here.rows there.rows fields in
     let decided = rw (contents, rows) at here.decided in
     let decisions = one_list too.contents there.rows here.decisions there.decisions decided there.decided in (
-      said.counted ∙ ap summary_of decisions ∙ sym too.counted,
+      said.counted ∙ ap (λ rows. summary_of 1 rows here.decisions) rows ∙ ap (summary_of 1 there.rows) decisions
+          ∙ sym too.counted,
       here.report ∙ ap (λ rows. report_text rows here.decisions) rows ∙ ap (report_text there.rows) decisions
           ∙ sym there.report,
     )

@@ -18,18 +18,16 @@ use Rattle.pmp_text.specs.declared.policy.PolicyRow.{PolicyRow}
 use Rattle.pmp_text.specs.Policies.{has_mode}
 use Rattle.pmp_audit.specs.declared.policy_check.question.Question.{Question}
 use Rattle.pmp_audit.specs.declared.policy_check.question.Question.TheVariants as question
-use Rattle.pmp_audit.specs.PolicyCheck.{IsFound, IsLoose, is_broken_by}
+use Rattle.pmp_audit.specs.PolicyCheck.{IsFound, IsNotHeld, is_broken_by}
 use Rattle.pmp_audit.specs.PolicyQuestions.{IsYes, finds_in, finds_kind, finds_mode, finds_owned, is_so, is_yes}
 
 given_so : (allowed given : Bool) → is_so allowed given ≡ true → given ≡ allowed
 given_so true true so = refl
-given_so true false so = absurd (false≢true so)
-given_so false true so = absurd (false≢true so)
 given_so false false so = refl
+given_so allowed given so = absurd (false≢true so)
 
 so_given : (allowed given : Bool) → allowed ≡ given → is_so allowed given ≡ true
-so_given true true same = refl
-so_given true false same = absurd (false≢true (sym same))
+so_given true given same = sym same
 so_given false true same = absurd (false≢true same)
 so_given false false same = refl
 
@@ -89,14 +87,14 @@ module _ (file : RegisterFile) (row : PolicyRow) (byte : ℕ) (owner : Option �
   same_owner : (other : Option ℕ) → IsOwner file byte other → other ≡ owner
   same_owner other is = least_once (λ i. Matches file i byte) other owner is owned
 
-  loose : not (holds file owner) ≡ true → IsLoose file row byte
+  loose : not (holds file owner) ≡ true → IsNotHeld file row byte
   loose free (other, is, held) =
       false≢true (sym (not-true _ free) ∙ ap (holds file) (sym (same_owner other is)) ∙ held)
 
   pub yes_by_owner : (asked : Question) → is_yes asked file owner row ≡ true → IsYes asked file row byte
   yes_by_owner question.IsBroken answer = found_owned (is_broken_by row.demand) answer
-  yes_by_owner question.IsLoose answer = loose answer
+  yes_by_owner question.IsNotHeld answer = loose answer
 
   pub no_by_owner : (asked : Question) → is_yes asked file owner row ≡ false → ¬ (IsYes asked file row byte)
   no_by_owner question.IsBroken answer found = false≢true (sym answer ∙ finds_found (is_broken_by row.demand) found)
-  no_by_owner question.IsLoose answer free = free (owner, owned, not-false _ answer)
+  no_by_owner question.IsNotHeld answer free = free (owner, owned, not-false _ answer)

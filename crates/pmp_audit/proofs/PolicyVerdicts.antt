@@ -1,11 +1,11 @@
 -- The verdicts on a policy's rows, one after another.
-use Rattle.std.proofs.Common.{◌≡◌, ℕ, ◌+◌, ◌<◌, ◌≤◌, cond, List, [], ◌∷◌, ◌++◌, length, map, Ok, Option}
-use Rattle.std.proofs.Common.{Some, None}
-use Rattle.std.proofs.Common.{get_or, take, refl, sym, ap, ◌∙◌, append_assoc, arith}
+use Rattle.std.proofs.Common.{◌≡◌, ℕ, ◌+◌, ◌<◌, ◌≤◌, cond, List, [], ◌∷◌, ◌++◌, length, map, None, Ok, Option, Some}
+use Rattle.std.proofs.Common.{get_or, take, sym, ap, ◌∙◌, append_assoc, arith}
 use Rattle.std.specs.Prelude.{count_by, is_some}
-use Rattle.std.specs.List.{enumerate_from, flat_map}
+use Rattle.std.specs.List.{enumerate_from, flat_map, position_from}
+use Rattle.std.specs.Option.{option_or}
 use Rattle.std.proofs.lemmas.List.{append-nil, flat_map_more, length-append, take_more}
-use Rattle.std.proofs.lemmas.List.Sums.{count_by-le-length, sum_by-append}
+use Rattle.std.proofs.lemmas.List.Sums.{count_by-le-length, sum_by_push}
 use Rattle.std.proofs.lemmas.Slice.Zip.{AllZip-long, all_zipped_more}
 use Rattle.pmp_text.specs.declared.lines.verdict.Breach.{Breach}
 use Rattle.pmp_text.specs.declared.policy.PolicyRow.{PolicyRow}
@@ -14,6 +14,7 @@ use Rattle.pmp_text.specs.Policies.{policy_fields, policy_meaning}
 use Rattle.pmp_text.specs.Scripts.{script_meaning}
 use Rattle.pmp_text.specs.Verdicts.{verdict_row}
 use Rattle.pmp_text.proofs.Numbered.{enumerate_from-push}
+use Rattle.pmp_text.proofs.PieceFaults.{position_apart}
 use Rattle.pmp_audit.specs.declared.policy_check.PolicySummary.{PolicySummary}
 use Rattle.pmp_audit.specs.declared.policy_check.steps.Pace.{Pace}
 use Rattle.pmp_audit.specs.PolicyCheck.{IsVerdict, PolicySays, policy_summary, verdicts_text}
@@ -29,30 +30,28 @@ verdicts_text-push verdicts verdict =
     ∙ sym (flat_map_more line [] (enumerate_from 1 verdicts) (1 + length verdicts, verdict))
     ∙ ap (λ (n : ℕ). verdicts_text verdicts ++ verdict_row n verdict) number
 
-same_summary : (one other : PolicySummary) → one.rows ≡ other.rows → one.broken ≡ other.broken → one ≡ other
-same_summary one other rows broken =
-    ap (λ (n : ℕ). record { rows = n; broken = one.broken }) rows
-    ∙ ap (λ (n : ℕ). record { rows = other.rows; broken = n }) broken
+same_summary : (one other : PolicySummary) → one.rows ≡ other.rows → one.broken ≡ other.broken
+    → one.bare ≡ other.bare → one ≡ other
+same_summary one other rows broken bare =
+    (λ i. record { rows = rows i; broken = broken i; bare = bare i })
 
-one_broken : (verdict : Option Breach) → count_by is_some (verdict ∷ []) ≡ cond (is_some verdict) 1 0
-one_broken None = refl
-one_broken (Some breach) = refl
-
-broken-push : (verdicts : List (Option Breach)) (verdict : Option Breach)
-    → count_by is_some (verdicts ++ verdict ∷ []) ≡ count_by is_some verdicts + cond (is_some verdict) 1 0
-broken-push verdicts verdict =
-    sum_by-append (λ (v : Option Breach). cond (is_some v) 1 0) verdicts (verdict ∷ [])
-    ∙ ap (λ (n : ℕ). count_by is_some verdicts + n) (one_broken verdict)
+bare_push : (rows : List PolicyRow) (row : PolicyRow)
+    → option_or (position_from (λ row. row.is_bare) 1 rows) (cond row.is_bare (Some (length rows + 1)) None)
+    ≡ position_from (λ row. row.is_bare) 1 (rows ++ row ∷ [])
+bare_push rows row =
+    let number : length rows + 1 ≡ 1 + length rows = omega arith in
+    ap (λ (n : ℕ). option_or (position_from (λ row. row.is_bare) 1 rows) (cond row.is_bare (Some n) None)) number
+    ∙ sym (position_apart (λ (r : PolicyRow). r.is_bare) rows (row ∷ []) 1)
 
 module _ (pace : Pace) (script : ScriptContents) where
   pub none_judged : (held : List ℕ) (summary : PolicySummary) → summary.rows ≡ 0 → summary.broken ≡ 0
-      → AreJudged pace script [] held held summary
+      → summary.bare ≡ None → AreJudged pace script [] held held summary
   unfolding verdicts_text
-  none_judged held summary rows broken = record {
+  none_judged held summary rows broken bare = record {
     verdicts = [];
     judged = tt;
     text_is = sym (append-nil held);
-    counted = same_summary summary (policy_summary []) rows broken;
+    counted = same_summary summary (policy_summary [] []) rows broken bare;
   }
 
   module _ (rows : List PolicyRow) (before held : List ℕ) (summary : PolicySummary)
@@ -67,17 +66,23 @@ module _ (pace : Pace) (script : ScriptContents) where
     broken_so_far = rw so_far.counted (count_by-le-length is_some so_far.verdicts)
 
     module _ (row : PolicyRow) (verdict : Option Breach) (after : List ℕ) (more : PolicySummary) where
-      counted : more.rows ≡ summary.rows + 1 → more.broken ≡ summary.broken + cond (is_some verdict) 1 0
-          → more ≡ policy_summary (so_far.verdicts ++ verdict ∷ [])
-      counted one_more broken =
+      abbrev pub IsCounted : Type 0
+      IsCounted = (more.rows ≡ summary.rows + 1) × (more.broken ≡ summary.broken + cond (is_some verdict) 1 0)
+          × (more.bare ≡ option_or summary.bare (cond row.is_bare (Some (summary.rows + 1)) None))
+
+      counted : IsCounted → more ≡ policy_summary (rows ++ row ∷ []) (so_far.verdicts ++ verdict ∷ [])
+      counted (one_more, broken, bare) =
           let verdicts = so_far.verdicts ++ verdict ∷ [] in
           let many : more.rows ≡ length verdicts = one_more
           ∙ ap (λ (s : PolicySummary). s.rows + 1) so_far.counted
           ∙ sym (length-append so_far.verdicts (verdict ∷ [])) in
           let faults : more.broken ≡ count_by is_some verdicts = broken
           ∙ ap (λ (s : PolicySummary). s.broken + cond (is_some verdict) 1 0) so_far.counted
-          ∙ sym (broken-push so_far.verdicts verdict) in
-          same_summary more (policy_summary verdicts) many faults
+          ∙ sym (sum_by_push (λ (v : Option Breach). cond (is_some v) 1 0) so_far.verdicts verdict) in
+          let first : more.bare ≡ position_from (λ row. row.is_bare) 1 (rows ++ row ∷ []) = bare
+          ∙ (λ i. option_or (so_far.counted i).bare (cond row.is_bare (Some (rows_so_far i + 1)) None))
+          ∙ bare_push rows row in
+          same_summary more (policy_summary (rows ++ row ∷ []) verdicts) many faults first
 
       written : more.rows ≡ summary.rows + 1 → after ≡ held ++ verdict_row more.rows verdict
           → after ≡ before ++ verdicts_text (so_far.verdicts ++ verdict ∷ [])
@@ -90,13 +95,12 @@ module _ (pace : Pace) (script : ScriptContents) where
           ∙ ap (λ l. before ++ l) (sym (verdicts_text-push so_far.verdicts verdict))
 
       pub one_judged : IsVerdict pace script row verdict → after ≡ held ++ verdict_row more.rows verdict
-          → more.rows ≡ summary.rows + 1 → more.broken ≡ summary.broken + cond (is_some verdict) 1 0
-          → AreJudged pace script (rows ++ row ∷ []) before after more
-      one_judged is appended one_more broken = record {
+          → IsCounted → AreJudged pace script (rows ++ row ∷ []) before after more
+      one_judged is appended all = record {
         verdicts = so_far.verdicts ++ verdict ∷ [];
         judged = all_zipped_more (IsVerdict pace script) rows so_far.verdicts row verdict so_far.judged is;
-        text_is = written one_more appended;
-        counted = counted one_more broken;
+        text_is = written all.0 appended;
+        counted = counted all;
       }
 
 -- the rows before place i, and the one there

@@ -1,18 +1,16 @@
 -- What stops a shared audit of inputs without a fault.
-use Rattle.std.proofs.Common.{◌≡◌, ◌∙◌, ◌<◌, ℕ, List, map, take, Option, Some, None, refl, ap}
+use Rattle.std.proofs.Common.{◌≡◌, ◌∙◌, ◌<◌, ℕ, List, map, take, Option, ap}
 use Rattle.std.specs.Prelude.{Any}
 use Rattle.std.proofs.lemmas.List.{get_or-map, length-map}
-use Rattle.std.specs.Io.KnownBytes.{Keeps}
-use Rattle.pmp_share.specs.declared.fault.ShareFault.TheVariants.{NoPlace, Full}
-use Rattle.pmp_share.specs.declared.fault.ShareFault.TheVariants as share
+use Rattle.std.proofs.KnownBytes.{Keeps-refl}
+use Rattle.pmp_share.specs.declared.fault.ShareFault.TheVariants.{NoPlace}
 use Rattle.pmp_share.specs.Batches.{Batches, event_count}
 use Rattle.pmp_text.specs.declared.trace.Row.{Row}
 use Rattle.pmp_text.specs.Traces.{row_fields}
 use Rattle.pmp_audit.specs.declared.fault.AuditFault.{AuditFault}
-use Rattle.pmp_audit.specs.declared.fault.AuditFault.TheVariants.{Script, Trace, Policy, Share, Moved, BadAfter, Memory}
-use Rattle.pmp_audit.specs.declared.fault.AuditFault.TheVariants.{Output, ScriptOf, BadAfterOf}
+use Rattle.pmp_audit.specs.declared.fault.AuditFault.TheVariants.{Share, Moved, Memory}
 use Rattle.pmp_audit.specs.Answers.{IsRefused}
-use Rattle.pmp_audit.specs.Rounds.{StopsRound}
+use Rattle.pmp_audit.specs.Working.{StopsRound}
 use Rattle.pmp_audit.specs.SharedAudit.{AreFaultless, MayStop, SawMore, SharedAuditRefuses}
 
 -- where a row asks for publications that have fewer events than were seen
@@ -26,37 +24,17 @@ more_than_asked batches told seen rows (k, row, inside, at, asks) less =
 pub stops_after : (batches published : Batches) (rows : List Row) (told : ℕ) → published ≡ take told batches
     → (fault : AuditFault) → StopsRound published fault → Any (λ row. row.after ≡ told) rows
     → MayStop batches (map row_fields rows) fault
-stops_after batches published rows told is (Script fault) stops asks = absurd stops
-stops_after batches published rows told is (Trace fault) stops asks = absurd stops
-stops_after batches published rows told is (Policy fault) stops asks = absurd stops
 stops_after batches published rows told is (Share NoPlace) stops asks = tt
-stops_after batches published rows told is (Share Full) stops asks = absurd stops
-stops_after batches published rows told is (Share share.Memory) stops asks = absurd stops
 stops_after batches published rows told is (Moved moved) stops asks =
     more_than_asked batches told moved.seen rows asks (rw is at stops)
-stops_after batches published rows told is BadAfter stops asks = absurd stops
-stops_after batches published rows told is (ScriptOf side fault) stops asks = absurd stops
-stops_after batches published rows told is (BadAfterOf side) stops asks = absurd stops
 stops_after batches published rows told is Memory stops asks = tt
-stops_after batches published rows told is Output stops asks = absurd stops
-
-kept : (bytes : Option (List ℕ)) → Keeps bytes bytes
-kept None = tt
-kept (Some bytes) = refl
+stops_after batches published rows told is fault stops asks = absurd stops
 
 -- what may stop the audit, while nothing was written, is a refusal of it
 pub refused_so : {A : Type 0} (Says : A → List ℕ → Type 0) (before : Option (List ℕ)) (script trace : List ℕ)
     (inputs : AreFaultless script trace) (fault : AuditFault) → MayStop inputs.contents.batches inputs.rows fault
     → IsRefused Says before before (SharedAuditRefuses script trace) fault
-refused_so Says before script trace inputs (Script fault) stops = absurd stops
-refused_so Says before script trace inputs (Trace fault) stops = absurd stops
-refused_so Says before script trace inputs (Policy fault) stops = absurd stops
-refused_so Says before script trace inputs (Share NoPlace) stops = (inputs, kept before)
-refused_so Says before script trace inputs (Share Full) stops = absurd stops
-refused_so Says before script trace inputs (Share share.Memory) stops = absurd stops
-refused_so Says before script trace inputs (Moved moved) stops = ((inputs, stops), kept before)
-refused_so Says before script trace inputs BadAfter stops = absurd stops
-refused_so Says before script trace inputs (ScriptOf side fault) stops = absurd stops
-refused_so Says before script trace inputs (BadAfterOf side) stops = absurd stops
-refused_so Says before script trace inputs Memory stops = kept before
-refused_so Says before script trace inputs Output stops = absurd stops
+refused_so Says before script trace inputs (Share NoPlace) stops = (inputs, Keeps-refl before)
+refused_so Says before script trace inputs (Moved moved) stops = ((inputs, stops), Keeps-refl before)
+refused_so Says before script trace inputs Memory stops = Keeps-refl before
+refused_so Says before script trace inputs fault stops = absurd stops

@@ -3,7 +3,8 @@ use Rattle.std.proofs.Common.{◌≡◌, ℕ, suc, cond, ◌+◌, ◌<◌, min, 
 use Rattle.std.proofs.Common.{take, get_or}
 use Rattle.std.proofs.Common.{refl, sym, ap, ◌∙◌, append_assoc, append-nil, arith}
 use Rattle.std.specs.List.{count_by, enumerate_from, flat_map, range_with_len, slice_index_or, zip}
-use Rattle.std.proofs.lemmas.List.{take_all, take_more, take-append-le, length_push, length-map, get_or-map}
+use Rattle.std.proofs.lemmas.List.{take_all, take_more, take-append-le, length-append}
+use Rattle.std.proofs.lemmas.List.{length_push, length-map, get_or-map}
 use Rattle.std.proofs.lemmas.List.Concat.{flat_map-append}
 use Rattle.std.proofs.lemmas.List.Sums.{sum_by-cons}
 use Rattle.std.proofs.lemmas.Slice.Zip.{length-zip, get_or-zip}
@@ -45,18 +46,6 @@ turned-append : (file : RegisterFile) (xs ys : List PlacedEvent)
 turned-append file [] ys = omega arith
 turned-append file (it ∷ xs) ys = let rest = turned-append (step file it.event) xs ys in omega arith
 
-counted-append : (n : ℕ) (xs ys : List PlacedEvent) → n + length (xs ++ ys) ≡ n + length xs + length ys
-counted-append n [] ys = omega arith
-counted-append n (x ∷ xs) ys = let rest = counted-append n xs ys in omega arith
-
-pub nothing_written : (from : Written) → AreWritten from from []
-nothing_written from = record {
-  rows = sym (append-nil from.text);
-  file_is = refl;
-  counted = omega arith;
-  turned = omega arith;
-}
-
 pub written_then : (from mid to : Written) (xs ys : List PlacedEvent) → AreWritten from mid xs → AreWritten mid to ys
     → AreWritten from to (xs ++ ys)
 written_then from mid to xs ys first second =
@@ -71,8 +60,7 @@ written_then from mid to xs ys first second =
           ∙ ap (λ (l : List ℕ). from.text ++ l) (sym (rows-append n from.file xs ys));
       file_is = second.file_is ∙ ap (λ (file : RegisterFile). file_left file ys) first.file_is
           ∙ sym (left-append from.file xs ys);
-      counted = second.counted ∙ ap (λ (m : ℕ). m + length ys) first.counted
-          ∙ sym (counted-append from.summary.events xs ys);
+      counted = omega (arith, first.counted, second.counted, length-append xs ys);
       turned =
           let one = first.turned in
           let two = second.turned ∙ ap (λ (file : RegisterFile). mid.summary.not_stored + turned_from file ys)

@@ -18,6 +18,7 @@ pub mod Laws
 -- The rest, which only private contracts cite.
 pub mod Replay
 pub mod Sides
+pub mod Growing
 pub mod Report
 pub mod EventRows
 pub mod SinceStep

@@ -26,7 +26,7 @@ pub record LongAuditSays (script : List ℕ) (first : ℕ) (trace : List ℕ) (s
     pub contents : ScriptContents
     pub script_means : script_meaning script ≡ Ok contents
     pub report : IsReportOf contents first (records_of trace) text
-    pub counted : summary ≡ summary_of report.decisions
+    pub counted : summary ≡ summary_of first report.rows report.decisions
 
 -- ---- an audit that stops
 

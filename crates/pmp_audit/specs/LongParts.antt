@@ -1,7 +1,9 @@
 -- Parts of a piece, read apart, and how they are one.
 use Rattle.std.specs.Prelude.{◌≡◌, ◌⊎◌, ℕ, ◌+◌, ◌^◌, ◌<◌, ◌≤◌, List, [], ◌∷◌, ◌++◌, map, filter_map, true, false, ◌==◌}
 use Rattle.std.specs.Prelude.{if◌then◌else◌, Option, None, Some, Result, Ok, Err, Vec, ⊤}
+use Rattle.std.specs.Prelude.{option_map}
 use Rattle.std.specs.List.{flat_map}
+use Rattle.std.specs.Option.{option_or}
 use Rattle.std.specs.declared.alloc.Global.{Global}
 use Rattle.pmp_text.specs.declared.trace.Row.{Row}
 use Rattle.pmp_text.specs.declared.trace.TraceFault.{TraceFault}
@@ -26,7 +28,7 @@ AreReadAs first_fault rows behind (Err fault) = (first_fault ≡ Some fault) ⊎
 
 -- where a part is read whose place isn't known yet: behind the header, and behind no row
 abbrev pub within_trace : Place
-within_trace = record { begun = true; last = None; next = 0 }
+within_trace = record { begun = true; last = None; next = 0; bare = None }
 
 -- the first of these rows asks for no fewer publications than the row before it
 abbrev pub Follows : (last : Option ℕ) → List Row → Type 0
@@ -39,6 +41,7 @@ place_of_both front back = record {
   begun = true;
   last = if back.next == 0 then front.last else back.last;
   next = front.next + back.next;
+  bare = option_or front.bare (option_map (λ number. front.next + number) back.bare);
 }
 
 -- two parts were read, the back one goes on from the front one, and this is both

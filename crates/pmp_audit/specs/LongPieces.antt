@@ -3,8 +3,9 @@ use Rattle.std.specs.Prelude.{◌≡◌, ◌⊎◌, ℕ, ◌+◌, ◌^◌, ◌�
 use Rattle.std.specs.Prelude.{Option, None, Some, ⊤}
 use Rattle.std.specs.Io.KnownBytes.{Appends, Keeps}
 use Rattle.pmp_core.specs.declared.decision.Decision.{Decision}
-use Rattle.pmp_text.specs.declared.input.InputFault.{InputFault}
-use Rattle.pmp_text.specs.declared.input.InputFault.TheVariants as input
+use Rattle.pmp_text.specs.declared.refusal.Refusal.{Refusal}
+use Rattle.pmp_text.specs.Flaws.{as_whole, at_row}
+use Rattle.pmp_audit.specs.Fault.{fault_of_trace}
 use Rattle.pmp_text.specs.declared.trace.Row.{Row}
 use Rattle.pmp_text.specs.Bytes.{AppendsBeginning}
 use Rattle.pmp_text.specs.Contents.{ScriptContents}
@@ -71,7 +72,5 @@ PieceStops script records old before after Output =
 PieceStops script records old before after _ = ⊥
 
 -- an input that gives no piece is a fault of the trace
-abbrev pub fault_of_cut : InputFault → AuditFault
-fault_of_cut input.TooLong = Trace too_long_for_rows
-fault_of_cut input.Input = Trace no_input_for_rows
-fault_of_cut input.Memory = Memory
+abbrev pub fault_of_cut : Refusal → AuditFault
+fault_of_cut refusal = fault_of_trace (at_row 0 (as_whole refusal))

@@ -1,7 +1,7 @@
 -- What the rows of a policy come to, by bytes and by states of the register file (Volume II, 3.7.1.3).
 use Rattle.std.specs.Prelude.{◌≡◌, ◌≢◌, ℕ, ◌+◌, ◌<◌, ◌≤◌, Bool, true, false, List, [], ◌∷◌, length, map, take, count_by}
 use Rattle.std.specs.Prelude.{Option, Some, None, IsSome, is_some, Ok, Err, ◌⊎◌, option_map}
-use Rattle.std.specs.List.{AllZip, enumerate_from, flat_map}
+use Rattle.std.specs.List.{AllZip, enumerate_from, flat_map, position_from}
 use Rattle.pmp_core.specs.declared.access.Kind.{Kind}
 use Rattle.pmp_core.specs.declared.access.Mode.{Mode}
 use Rattle.pmp_core.specs.declared.event.Event.{Event}
@@ -22,7 +22,7 @@ use Rattle.pmp_text.specs.declared.policy.row_fields.PolicyFields.{PolicyFields}
 use Rattle.pmp_text.specs.Policies.{has_kind, has_mode, policy_fields, policy_meaning, proper_fields_fault}
 use Rattle.pmp_text.specs.Reports.{file_behind}
 use Rattle.pmp_text.specs.Scripts.{script_meaning}
-use Rattle.pmp_text.specs.Tables.{at_row}
+use Rattle.pmp_text.specs.Flaws.{at_row}
 use Rattle.pmp_text.specs.Verdicts.{verdict_row}
 use Rattle.pmp_audit.specs.declared.fault.AuditFault.{AuditFault}
 use Rattle.pmp_audit.specs.declared.fault.AuditFault.TheVariants.{Policy, Script}
@@ -65,8 +65,8 @@ abbrev pub IsBroken : RegisterFile → PolicyRow → (byte : ℕ) → Type 0
 IsBroken file row = IsFound (is_broken_by row.demand) file row
 
 -- the byte isn't held
-abbrev pub IsLoose : RegisterFile → PolicyRow → (byte : ℕ) → Type 0
-IsLoose file row byte = ¬ (IsHeldByte file byte)
+abbrev pub IsNotHeld : RegisterFile → PolicyRow → (byte : ℕ) → Type 0
+IsNotHeld file row byte = ¬ (IsHeldByte file byte)
 
 -- the run begins at the first byte of the row's range that is so, and goes on in the range as far as its owner does
 pub record IsFirstRun (file : RegisterFile) (IsSo : ℕ → Type 0) (row : PolicyRow) (run : Run) : Type 0 where
@@ -103,17 +103,17 @@ IsFirstOfAll state row from to None = (done : ℕ) → from ≤ done → done �
 IsFirstOfAll state row from to (Some breach) = IsFirstBreach state row from to breach
 
 -- the first run that isn't held in the last state, or none
-abbrev pub IsFirstLoose : (state : ℕ → RegisterFile) → PolicyRow → (to : ℕ) → Option Breach → Type 0
-IsFirstLoose state row to None = IsFirstOf (state to) (IsLoose (state to) row) row None
-IsFirstLoose state row to (Some breach) =
-    (breach.done ≡ to) × IsFirstOf (state to) (IsLoose (state to) row) row (Some breach.run)
+abbrev pub IsFirstNotHeld : (state : ℕ → RegisterFile) → PolicyRow → (to : ℕ) → Option Breach → Type 0
+IsFirstNotHeld state row to None = IsFirstOf (state to) (IsNotHeld (state to) row) row None
+IsFirstNotHeld state row to (Some breach) =
+    (breach.done ≡ to) × IsFirstOf (state to) (IsNotHeld (state to) row) row (Some breach.run)
 
 -- a hold is asked for where nothing is open
 abbrev pub IsVerdictBy : Demand → (state : ℕ → RegisterFile) → PolicyRow → (from to : ℕ) → Option Breach → Type 0
 IsVerdictBy Never state row from to verdict = IsFirstOfAll state row from to verdict
 IsVerdictBy Always state row from to verdict = IsFirstOfAll state row from to verdict
 IsVerdictBy Held state row from to verdict = (IsSome verdict × IsFirstOfAll state row from to verdict)
-    ⊎ (IsFirstOfAll state row from to None × IsFirstLoose state row to verdict)
+    ⊎ (IsFirstOfAll state row from to None × IsFirstNotHeld state row to verdict)
 
 -- whether the row holds, and its first breach where it doesn't
 abbrev pub IsVerdict : Pace → ScriptContents → PolicyRow → Option Breach → Type 0
@@ -126,9 +126,13 @@ IsVerdict pace script row = IsVerdictBy row.demand (state_after pace script) row
 unfoldable pub verdicts_text : List (Option Breach) → List ℕ
 verdicts_text verdicts = flat_map (λ (number, verdict). verdict_row number verdict) (enumerate_from 1 verdicts)
 
--- how many rows there are, and how many of them are broken
-abbrev pub policy_summary : List (Option Breach) → PolicySummary
-policy_summary verdicts = record { rows = length verdicts; broken = count_by is_some verdicts }
+-- how many rows there are, how many of them are broken, and the number of the first that has a bare address
+abbrev pub policy_summary : List PolicyRow → List (Option Breach) → PolicySummary
+policy_summary rows verdicts = record {
+  rows = length verdicts;
+  broken = count_by is_some verdicts;
+  bare = position_from (λ row. row.is_bare) 1 rows;
+}
 
 -- the two texts mean this, each row has its verdict, and the text has them all
 pub record PolicySays (pace : Pace) (script policy : List ℕ) (summary : PolicySummary) (text : List ℕ) : Type 0 where
@@ -139,7 +143,7 @@ pub record PolicySays (pace : Pace) (script policy : List ℕ) (summary : Policy
   pub verdicts : List (Option Breach)
   pub judged : AllZip (IsVerdict pace contents) rows verdicts
   pub text_is : text ≡ verdicts_text verdicts
-  pub counted : summary ≡ policy_summary verdicts
+  pub counted : summary ≡ policy_summary rows verdicts
 
 -- the script means this, the fields are a row beside it, and the text has the verdict on it, as row of this number
 pub record VerdictSays (pace : Pace) (script : List ℕ) (number : ℕ) (fields : PolicyFields) (verdict : Option Breach)

@@ -13,7 +13,7 @@ use Rattle.pmp_text.specs.declared.policy.PolicyRow.{PolicyRow}
 use Rattle.pmp_text.specs.Policies.{has_kind, has_mode}
 use Rattle.pmp_audit.specs.declared.policy_check.question.Question.{Question}
 use Rattle.pmp_audit.specs.declared.policy_check.question.Question.TheVariants as question
-use Rattle.pmp_audit.specs.PolicyCheck.{IsBroken, IsLoose, is_broken_by}
+use Rattle.pmp_audit.specs.PolicyCheck.{IsBroken, IsNotHeld, is_broken_by}
 
 -- the right is given, or it isn't
 abbrev pub is_so : (allowed given : Bool) → Bool
@@ -38,9 +38,9 @@ finds_owned allowed file owner row =
 -- the answer for the bytes of this owner
 abbrev pub is_yes : Question → RegisterFile → (owner : Option ℕ) → PolicyRow → Bool
 is_yes question.IsBroken file owner row = finds_owned (is_broken_by row.demand) file owner row
-is_yes question.IsLoose file owner row = not (holds file owner)
+is_yes question.IsNotHeld file owner row = not (holds file owner)
 
 -- what is asked of a byte
 abbrev pub IsYes : Question → RegisterFile → PolicyRow → (byte : ℕ) → Type 0
 IsYes question.IsBroken file row = IsBroken file row
-IsYes question.IsLoose file row = IsLoose file row
+IsYes question.IsNotHeld file row = IsNotHeld file row

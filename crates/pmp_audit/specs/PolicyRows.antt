@@ -14,4 +14,4 @@ pub record AreJudged (pace : Pace) (script : ScriptContents) (rows : List Policy
   pub verdicts : List (Option Breach)
   pub judged : AllZip (IsVerdict pace script) rows verdicts
   pub text_is : after ≡ before ++ verdicts_text verdicts
-  pub counted : summary ≡ policy_summary verdicts
+  pub counted : summary ≡ policy_summary rows verdicts

@@ -1,13 +1,10 @@
 -- What is decided between two publications of a shared audit.
-use Rattle.std.specs.Prelude.{◌≡◌, ℕ, ◌==◌, ◌<◌, ◌≤◌, List, [], ◌∷◌, All, length, map, take, drop, slice_get, Some}
-use Rattle.std.specs.Prelude.{if◌then◌else◌, ⊤}
+use Rattle.std.specs.Prelude.{◌≡◌, ℕ, ◌==◌, ◌≤◌, List, [], ◌∷◌, All, length, map, take, drop, slice_get, Some}
+use Rattle.std.specs.Prelude.{if◌then◌else◌}
 use Rattle.std.specs.List.{enumerate_from}
 use Rattle.pmp_core.specs.declared.decision.Decision.{Decision}
 use Rattle.pmp_core.specs.Ranges.{decision_of}
-use Rattle.pmp_core.specs.RegisterFile.{RegisterFile}
-use Rattle.pmp_share.specs.declared.fault.ShareFault.TheVariants.{NoPlace}
 use Rattle.pmp_share.specs.declared.knowledge.Known.{Known}
-use Rattle.pmp_share.specs.Batches.{Batches, event_count}
 use Rattle.pmp_share.specs.Known.{known}
 use Rattle.pmp_share.specs.Tokens.{PublisherToken, UnitId}
 use Rattle.pmp_text.specs.declared.trace.Row.{Row}
@@ -15,26 +12,14 @@ use Rattle.pmp_text.specs.Contents.{ScriptContents}
 use Rattle.pmp_text.specs.Reports.{file_of_script}
 use Rattle.pmp_text.specs.TraceFaults.{IsInOrder, afters}
 use Rattle.pmp_text.specs.Traces.{row_fields}
-use Rattle.pmp_audit.specs.declared.fault.AuditFault.{AuditFault}
-use Rattle.pmp_audit.specs.declared.fault.AuditFault.TheVariants.{Share, Moved, Memory}
 use Rattle.pmp_audit.specs.declared.shared_audit.job.Job.{Job}
 use Rattle.pmp_audit.specs.declared.shared_audit.job.Done.{Done}
-use Rattle.pmp_audit.specs.Working.{IsDealt, row_of}
-
--- what may stop a round after these publications
-abbrev pub StopsRound : Batches → AuditFault → Type 0
-StopsRound published Memory = ⊤
-StopsRound published (Share NoPlace) = ⊤
-StopsRound published (Moved moved) = event_count published < moved.seen
-StopsRound published _ = ⊥
+use Rattle.pmp_audit.specs.Working.{IsDealt}
 
 -- the rows at the front that ask for just so many publications
 abbrev pub asking : (after : ℕ) → List Row → List Row
 asking after [] = []
 asking after (row ∷ rows) = if row.after == after then row ∷ asking after rows else []
-
-abbrev pub decided_in : RegisterFile → List Row → List Decision
-decided_in file rows = map (λ row. decision_of file row.access) rows
 
 -- the decision of a row in the file that it asks for
 abbrev pub decision_for : ScriptContents → Row → Decision
@@ -63,12 +48,7 @@ pub record AreJobs (publisher : PublisherToken) (count : ℕ) (jobs : List Job) 
   pub many : length jobs ≡ count
   pub each : (worker : ℕ) (job : Job) → slice_get jobs worker ≡ Some job → IsJob publisher worker job
 
--- each worker has decided its rows, of which the first of all has this number
-abbrev pub AreDealt : (first : ℕ) → List Row → List Done → Type 0
-AreDealt first rows all = (worker : ℕ) (done : Done) → slice_get all worker ≡ Some done
-    → IsDealt worker (length all) (enumerate_from first rows) (map row_of done.decisions.items)
-
--- all workers' decisions were made in this file
-abbrev pub AreInFile : RegisterFile → List Done → Type 0
-AreInFile file all = (worker : ℕ) (done : Done) → slice_get all worker ≡ Some done
-    → All (λ decision. decision.file.value ≡ file) done.decisions.items
+-- each worker brings its share of these decisions, the first of which is of the row with this number
+abbrev pub AreDealt : (first : ℕ) → List Decision → List Done → Type 0
+AreDealt first made all = (worker : ℕ) (done : Done) → slice_get all worker ≡ Some done
+    → IsDealt worker (length all) (enumerate_from first made) done.decisions.items

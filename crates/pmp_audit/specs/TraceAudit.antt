@@ -1,21 +1,24 @@
 -- What an audit says of a trace, and when it refuses.
 use Rattle.std.specs.Prelude.{◌≡◌, ◌⊎◌, ℕ, List, length, count_by, not, Ok, Err}
 use Rattle.pmp_core.specs.declared.decision.Decision.{Decision}
+use Rattle.pmp_text.specs.declared.trace.Row.{Row}
 use Rattle.pmp_text.specs.declared.trace.TraceFault.{TraceFault}
 use Rattle.pmp_text.specs.Contents.{ScriptContents}
 use Rattle.pmp_text.specs.Outcomes.{no_input_for_rows}
 use Rattle.pmp_text.specs.Reports.{IsReport}
 use Rattle.pmp_text.specs.Scripts.{script_meaning}
-use Rattle.pmp_text.specs.Traces.{trace_meaning}
+use Rattle.pmp_text.specs.Traces.{first_bare, trace_meaning}
 use Rattle.pmp_audit.specs.declared.fault.AuditFault.{AuditFault}
 use Rattle.pmp_audit.specs.declared.fault.AuditFault.TheVariants.{Script, Trace}
 use Rattle.pmp_audit.specs.declared.trace_audit.Summary.{Summary}
 
--- how many rows were decided, and how many of them were refused
-abbrev pub summary_of : List Decision → Summary
-summary_of decisions = record {
+-- how many rows were decided, how many of them were refused, and the number of the first whose start is bare, where the
+-- first of all has the number `first`
+abbrev pub summary_of : (first : ℕ) → List Row → List Decision → Summary
+summary_of first rows decisions = record {
   rows = length decisions;
   faults = count_by (λ decision. not decision.allowed) decisions;
+  bare = first_bare first rows;
 }
 
 -- the script means this, the text is its report with the trace, and the report's decisions are counted
@@ -23,7 +26,7 @@ pub record AuditSays (script trace : List ℕ) (summary : Summary) (text : List 
   pub contents : ScriptContents
   pub script_means : script_meaning script ≡ Ok contents
   pub report : IsReport contents trace text
-  pub counted : summary ≡ summary_of report.decisions
+  pub counted : summary ≡ summary_of 1 report.rows report.decisions
 
 -- the script has no fault, and the trace has this one, or its input failed
 pub record IsFaultyTrace (script trace : List ℕ) (fault : TraceFault) : Type 0 where

@@ -1,6 +1,6 @@
 //! One access, decided after publications of a script.
 
-ghost use Rattle.std.specs.Prelude.{IfOk, IfErr};
+ghost use Rattle.std.specs.Prelude.{◌≡◌, IfOk, IfErr, OnErr};
 ghost use Rattle.pmp_audit.specs.AccessCheck.{CheckSays};
 ghost use Rattle.pmp_audit.specs.Answers.{Declines, IsAppended, IsWritten, IsRefused};
 ghost use Rattle.pmp_audit.specs.AskedFile.{FileRefuses};
@@ -32,7 +32,7 @@ pub fn check<W: Write>(
         (FileRefuses script.now after)) }
 {
     let mut row = Vec::new(alloc);
-    let decision = append_check(&mut GrowingLog::new(alloc), script, access, after, &mut row)?;
+    let decision = append_check(&mut GrowingLog::new(alloc), script, access, after, &mut row);
     write_answer(writer, &row, decision)
 }
 
@@ -48,6 +48,7 @@ pub fn append_check<L: EventLog, S: Sink>(
     ensures ok { IfOk result
         (IsAppended (CheckSays script.now access.now after) (S.text out.old) (S.text out.new)) }
     ensures err { IfErr result (Declines (FileRefuses script.now after)) }
+    ensures kept { OnErr result (S.text out.new ≡ S.text out.old) }
 {
     let script = read_script(log, script)?;
     let count = asked_count(&script, after)?;

@@ -1,7 +1,7 @@
 //! Answers that come with a text.
 
-ghost use Rattle.std.specs.Prelude.{◌≡◌, IfOk, IfErr};
-ghost use Rattle.std.specs.Io.KnownBytes.{Appends};
+ghost use Rattle.std.specs.Prelude.{◌≡◌, ◌⊎◌, IfOk, IfErr, Ok, Err};
+ghost use Rattle.std.specs.Io.KnownBytes.{Appends, Keeps};
 ghost use Rattle.pmp_audit.specs.declared.fault.AuditFault.TheVariants.{Output};
 ghost use Rattle.pmp_text.specs.Bytes.{AppendsBeginning};
 
@@ -9,17 +9,20 @@ use crate::fault::AuditFault;
 use pmp_text::write_out;
 use std::io::Write;
 
-/// Writes the whole text that goes with an answer, and gives the answer.
+/// Writes the whole text that goes with an answer, and gives the answer. A refusal is given with nothing written.
 pub fn write_answer<W: Write, A: Copy>(
     writer: &mut W,
     text: &[u8],
-    answer: A,
+    made: Result<A, AuditFault>,
 ) -> Result<A, AuditFault>
     ensures ok { IfOk result
-        (λ given. (given ≡ answer) × Appends (W.contents writer.old) (W.contents writer.new) text.now) }
+        (λ given. (made ≡ Ok given) × Appends (W.contents writer.old) (W.contents writer.new) text.now) }
     ensures err { IfErr result
-        (λ fault. (fault ≡ Output) × AppendsBeginning (W.contents writer.old) (W.contents writer.new) text.now) }
+        (λ fault. ((made ≡ Err fault) × Keeps (W.contents writer.old) (W.contents writer.new))
+        ⊎ ((given : A) × (made ≡ Ok given) × (fault ≡ Output)
+        × AppendsBeginning (W.contents writer.old) (W.contents writer.new) text.now)) }
 {
+    let answer = made?;
     write_out(writer, text)?;
     Ok(answer)
 }

@@ -1,8 +1,8 @@
 //! What a script expects of registers, as rows.
 
-ghost use Rattle.std.specs.Prelude.{◌≡◌, ◌≤◌, ◌-◌, ◌++◌, IfOk, drop, fold, length, take};
-ghost use Rattle.pmp_core.specs.Histories.{joined};
+ghost use Rattle.std.specs.Prelude.{◌≡◌, ◌≤◌, ◌-◌, ◌++◌, IfOk, OnErr, drop, fold, length, take};
 ghost use Rattle.pmp_core.specs.RegisterWrite.{step};
+ghost use Rattle.pmp_audit.specs.Growing.{HasGrown};
 ghost use Rattle.pmp_audit.specs.Expectations.{differing, expected_rows, file_at_event};
 
 use pmp_core::{Event, RegFile};
@@ -17,17 +17,13 @@ fn run_between(file: &mut RegFile, all: &[Event], start: usize, end: usize)
     file.run_events(&all[start..end]);
 }
 
-/// Brings the register file from the one behind so many events of the script to the one behind so many others, and
-/// answers how many these are.
-fn advance(script: &Script, file: &mut RegFile, done: u64, events: u64) -> u64
-    requires before { file.old ≡ file_at_event script.now done }
-    requires inside { done ≤ length (joined script.now.batches) }
-    ensures there { file.new ≡ file_at_event script.now events }
-    ensures after { file.new ≡ file_at_event script.now result }
-    ensures inside { result ≤ length (joined script.now.batches) }
+/// Brings the register file from the one behind so many events of the script to the one behind so many others.
+fn advance(script: &Script, file: &mut RegFile, done: u64, events: u64)
+    requires { file.old ≡ file_at_event script.now done }
+    ensures { file.new ≡ file_at_event script.now events }
 {
     let all = script.events();
-    let start = done as usize;
+    let start = all.len().min(done as usize);
     let end = all.len().min(events as usize);
     if end < start {
         *file = script.start();
@@ -35,7 +31,6 @@ fn advance(script: &Script, file: &mut RegFile, done: u64, events: u64) -> u64
     } else {
         run_between(file, all, start, end);
     }
-    end as u64
 }
 
 /// Appends a row for each expectation, and answers how many of them differ.
@@ -43,12 +38,14 @@ pub fn write_expectations<S: Sink>(out: &mut S, script: &Script) -> Result<u64, 
     ensures rows { IfOk result (λ _. S.text out.new ≡ S.text out.old
         ++ expected_rows script.now script.now.expectations) }
     ensures counted { IfOk result (λ count. count ≡ differing script.now script.now.expectations) }
+    ensures err { OnErr result (HasGrown (S.text out.old) (S.text out.new)) }
 {
     let mut file = script.start();
     let mut done = 0;
     let mut count = 0;
     for expectation in script.expectations() {
-        done = advance(script, &mut file, done, expectation.events);
+        advance(script, &mut file, done, expectation.events);
+        done = expectation.events;
         let value = file.read(expectation.register);
         write_expected(out, expectation, value)?;
         if value != expectation.value {

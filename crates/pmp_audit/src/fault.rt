@@ -1,13 +1,14 @@
 //! Why a script, two scripts, or a script and another text, get no answer.
 
 ghost use Rattle.std.specs.Prelude.{◌≡◌};
-ghost use Rattle.pmp_audit.specs.Fault.{fault_of_policy, fault_of_script, fault_of_share, fault_of_trace};
+ghost use Rattle.pmp_audit.specs.Fault.{fault_of_policy, fault_of_script, fault_of_share, fault_of_trace, refusal_of};
 ghost use Rattle.pmp_audit.specs.Sides.{fault_on};
+ghost use Rattle.pmp_audit.specs.declared.fault.AuditFault.TheVariants as audit;
 ghost use Rattle.pmp_audit.specs.declared.fault.AuditFault.TheVariants.{Memory, Output};
 
 use pmp_share::{Moved, ShareFault};
-use pmp_text::{OutputFault, ScriptFault, ScriptKind, TraceFault, TraceKind};
-use std::alloc::AllocError;
+use pmp_text::{OutputFault, Refusal, ScriptFault, TraceFault};
+use std::alloc::{AllocError, AllocFailed};
 use thiserror::Error;
 
 /// Which of two scripts.
@@ -53,6 +54,22 @@ pub enum AuditFault {
 }
 
 impl AuditFault {
+    /// Its number and name.
+    pub fn refusal(&self) -> Refusal
+        ensures { result ≡ refusal_of self.now }
+    {
+        match self {
+            AuditFault::Script(fault) | AuditFault::ScriptOf(_, fault) => fault.kind,
+            AuditFault::Trace(fault) | AuditFault::Policy(fault) => fault.kind,
+            AuditFault::Share(ShareFault::NoPlace) => Refusal::NoPlace,
+            AuditFault::Share(ShareFault::Full) => Refusal::Full,
+            AuditFault::Moved(_) => Refusal::Moved,
+            AuditFault::BadAfter | AuditFault::BadAfterOf(_) => Refusal::BadAfter,
+            AuditFault::Memory | AuditFault::Share(ShareFault::Memory) => Refusal::Memory,
+            AuditFault::Output => Refusal::Output,
+        }
+    }
+
     /// The fault of a script as that of the one on this side.
     pub fn on_side(self, side: Side) -> AuditFault
         ensures { result ≡ fault_on side self }
@@ -69,7 +86,7 @@ impl AuditFault {
         ensures { result ≡ fault_of_policy fault }
     {
         match fault.kind {
-            TraceKind::Memory => AuditFault::Memory,
+            Refusal::Memory => AuditFault::Memory,
             _ => AuditFault::Policy(fault),
         }
     }
@@ -80,7 +97,7 @@ impl From<ScriptFault> for AuditFault {
 
     fn from(fault: ScriptFault) -> AuditFault {
         match fault.kind {
-            ScriptKind::Memory => AuditFault::Memory,
+            Refusal::Memory => AuditFault::Memory,
             _ => AuditFault::Script(fault),
         }
     }
@@ -91,7 +108,7 @@ impl From<TraceFault> for AuditFault {
 
     fn from(fault: TraceFault) -> AuditFault {
         match fault.kind {
-            TraceKind::Memory => AuditFault::Memory,
+            Refusal::Memory => AuditFault::Memory,
             _ => AuditFault::Trace(fault),
         }
     }
@@ -105,6 +122,22 @@ impl From<ShareFault> for AuditFault {
             ShareFault::Memory => AuditFault::Memory,
             _ => AuditFault::Share(fault),
         }
+    }
+}
+
+impl From<Moved> for AuditFault {
+    ghost from_gives = { λ moved answer. answer ≡ audit.Moved moved };
+
+    fn from(moved: Moved) -> AuditFault {
+        AuditFault::Moved(moved)
+    }
+}
+
+impl<T: Drop> From<AllocFailed<T>> for AuditFault {
+    ghost from_gives = { λ _ answer. answer ≡ Memory };
+
+    fn from(_failed: AllocFailed<T>) -> AuditFault {
+        AuditFault::Memory
     }
 }
 

@@ -28,5 +28,5 @@ pub use policy_check::{Pace, PolicySummary, append_verdict, check_policy};
 pub use rights_diff::{append_diff, diff};
 pub use shared_audit::audit_shared;
 pub use trace_audit::{Summary, audit};
-pub use view::{View, append_view, dump, entries_of, map_of, picture_of, show};
+pub use view::{View, append_view, dump, map_of, show};
 pub use write_list::{WriteSummary, append_writes, writes};

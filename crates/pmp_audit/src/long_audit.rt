@@ -12,10 +12,11 @@ mod standing;
 mod writing;
 
 use crate::fault::AuditFault;
+use crate::long_audit::reporting::{report_and_cut, report_piece};
 use crate::long_audit::standing::Standing;
-use crate::long_audit::writing::{write_and_cut, write_piece};
+use crate::long_audit::writing::write_report;
 use crate::trace_audit::Summary;
-use pmp_text::{Cut, GrowingLog, InputFault, Script, cut_piece, read_script};
+use pmp_text::{Cut, GrowingLog, Refusal, Script, cut_piece, read_script};
 use std::alloc::Global;
 use std::io::{Read, Write};
 use std::thread::Threads;
@@ -77,15 +78,18 @@ fn audit_pieces<T: Threads + Sync, R: Read, W: Write>(
     for _count in 0..u64::MAX {
         match cut {
             Ok(Cut::Front(text)) => {
-                (standing, cut) = write_and_cut(
-                    rt, alloc, jobs, script, &text, standing, reader, &mut held, limit, writer,
-                )?;
+                let (report, next) = report_and_cut(
+                    rt, alloc, jobs, script, &text, standing, reader, &mut held, limit,
+                );
+                standing = write_report(writer, report)?;
+                cut = next;
             }
             Ok(Cut::Last(text)) => {
-                return write_piece(rt, alloc, jobs, script, &text, standing, writer)?.end(first);
+                let report = report_piece(rt, alloc, jobs, script, &text, standing);
+                return write_report(writer, report)?.end(first);
             }
-            Err(fault) => return Err(AuditFault::of_cut(fault)),
+            Err(refusal) => return Err(AuditFault::from(refusal.whole().at_row(0))),
         }
     }
-    Err(AuditFault::of_cut(InputFault::TooLong))
+    Err(AuditFault::from(Refusal::TooLong.whole().at_row(0)))
 }

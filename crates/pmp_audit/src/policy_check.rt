@@ -1,7 +1,8 @@
 //! The rows of a policy, each judged in all states that it asks of.
 
-ghost use Rattle.std.specs.Prelude.{◌≡◌, ◌+◌, ◌^◌, ◌<◌, ◌≤◌, ◌++◌, All, IfOk, IfErr, OnOk, length, is_some};
-ghost use Rattle.std.specs.Prelude.{if◌then◌else◌};
+ghost use Rattle.std.specs.Prelude.{◌≡◌, ◌+◌, ◌^◌, ◌<◌, ◌≤◌, ◌++◌, All, IfOk, IfErr, OnErr, OnOk, length, is_some};
+ghost use Rattle.std.specs.Prelude.{None, Some, if◌then◌else◌};
+ghost use Rattle.std.specs.Option.{option_or};
 ghost use Rattle.pmp_text.specs.Verdicts.{verdict_row};
 ghost use Rattle.pmp_audit.specs.Answers.{Declines, IsAppended, IsWritten, IsRefused};
 ghost use Rattle.pmp_audit.specs.Fault.{fault_of_policy};
@@ -17,8 +18,8 @@ use crate::fault::AuditFault;
 use crate::policy_check::search::judge;
 use crate::policy_check::steps::Steps;
 use pmp_text::{
-    Breach, EventLog, GrowingLog, PolicyFields, PolicyRow, Sink, TraceFault, read_policy,
-    read_script, write_verdict,
+    Breach, EventLog, GrowingLog, PolicyFields, PolicyRow, Sink, read_policy, read_script,
+    write_verdict,
 };
 use std::alloc::{AllocError, Global};
 use std::io::Write;
@@ -29,6 +30,9 @@ pub use steps::Pace;
 pub struct PolicySummary {
     pub rows: u64,
     pub broken: u64,
+    /// The number of the first row with an address of 14 digits without `0x`: a decimal number, where rows mean
+    /// hexadecimal.
+    pub bare: Option<u64>,
 }
 
 /// Judges each row of the policy after the script's publications that it names, or after each of their events, and
@@ -56,9 +60,9 @@ pub fn check_policy<W: Write>(
         Err(fault) => return Err(AuditFault::of_policy(fault)),
     };
     let mut text = Vec::new(alloc);
-    let steps = Steps::new(&script, pace);
-    let summary = write_verdicts(&mut text, &steps, &rows)?;
-    write_answer(writer, &text, summary)
+    let script = &script;
+    let summary = write_verdicts(&mut text, &Steps { script, pace }, &rows)?;
+    write_answer(writer, &text, Ok(summary))
 }
 
 /// Appends the verdict on one row, as that of the row with this number, and answers the row's first breach. The
@@ -76,13 +80,15 @@ pub fn append_verdict<L: EventLog, S: Sink>(
     ensures ok { IfOk result
         (IsAppended (VerdictSays pace script.now number fields) (S.text out.old) (S.text out.new)) }
     ensures err { IfErr result (Declines (VerdictRefuses script.now number fields)) }
+    ensures kept { OnErr result (S.text out.new ≡ S.text out.old) }
 {
     let script = read_script(log, script)?;
     let row = match PolicyRow::new(script.batches(), fields) {
         Ok(row) => row,
-        Err(kind) => return Err(AuditFault::Policy(TraceFault { kind, row: number })),
+        Err(flaw) => return Err(AuditFault::Policy(flaw.at_row(number))),
     };
-    let verdict = judge(&Steps::new(&script, pace), &row);
+    let script = &script;
+    let verdict = judge(&Steps { script, pace }, &row);
     write_verdict(out, number, verdict)?;
     Ok(verdict)
 }
@@ -98,34 +104,32 @@ fn write_verdicts(
 {
     let mut summary = PolicySummary::default();
     for row in rows {
-        summary.add_row(out, judge(steps, row))?;
+        summary.add_row(out, row, judge(steps, row))?;
     }
     Ok(summary)
 }
 
 impl PolicySummary {
-    /// One more row, which has this verdict.
-    fn count(&mut self, verdict: Option<Breach>)
+    /// One more row, and its verdict, appended to a text.
+    fn add_row(
+        &mut self,
+        out: &mut Vec<u8>,
+        row: &PolicyRow,
+        verdict: Option<Breach>,
+    ) -> Result<(), AllocError>
         requires rows { self.old.rows + 1 < 2 ^ 64 }
         requires broken { self.old.broken ≤ self.old.rows }
         ensures rows { self.new.rows ≡ self.old.rows + 1 }
         ensures broken { self.new.broken ≡ self.old.broken + (if is_some verdict then 1 else 0) }
+        ensures bare { self.new.bare ≡ option_or self.old.bare
+            (if row.now.is_bare then Some (self.old.rows + 1) else None) }
+        ensures written { OnOk result (out.new.items ≡ out.old.items ++ verdict_row self.new.rows verdict) }
     {
         self.rows += 1;
         if verdict.is_some() {
             self.broken += 1;
         }
-    }
-
-    /// One more row, which has this verdict, appended to a text.
-    fn add_row(&mut self, out: &mut Vec<u8>, verdict: Option<Breach>) -> Result<(), AllocError>
-        requires rows { self.old.rows + 1 < 2 ^ 64 }
-        requires broken { self.old.broken ≤ self.old.rows }
-        ensures rows { self.new.rows ≡ self.old.rows + 1 }
-        ensures broken { self.new.broken ≡ self.old.broken + (if is_some verdict then 1 else 0) }
-        ensures written { OnOk result (out.new.items ≡ out.old.items ++ verdict_row self.new.rows verdict) }
-    {
-        self.count(verdict);
+        self.bare = self.bare.or(row.is_bare.then_some(self.rows));
         write_verdict(out, self.rows, verdict)
     }
 }

@@ -1,7 +1,8 @@
 //! Where the register files of two scripts differ in what they let the modes do.
 
-ghost use Rattle.std.specs.Prelude.{IfOk, IfErr};
+ghost use Rattle.std.specs.Prelude.{◌≡◌, IfOk, IfErr, OnErr};
 ghost use Rattle.pmp_audit.specs.Answers.{Declines, IsAppended, IsWritten, IsRefused};
+ghost use Rattle.pmp_audit.specs.Growing.{HasGrown};
 ghost use Rattle.pmp_audit.specs.RightsDiff.{ChangesSay, DiffRefuses, DiffSays, GivesFile};
 ghost use Rattle.pmp_audit.specs.Sides.{FailsFile, FailsOn};
 
@@ -40,7 +41,7 @@ pub fn diff<W: Write>(
 {
     let mut text = Vec::new(alloc);
     let mut log = GrowingLog::new(alloc);
-    let rows = append_diff(&mut log, old, old_after, new, new_after, only, &mut text)?;
+    let rows = append_diff(&mut log, old, old_after, new, new_after, only, &mut text);
     write_answer(writer, &text, rows)
 }
 
@@ -58,11 +59,16 @@ pub fn append_diff<L: EventLog, S: Sink>(
     ensures ok { IfOk result
         (IsAppended (DiffSays old.now old_after new.now new_after only) (S.text out.old) (S.text out.new)) }
     ensures err { IfErr result (Declines (DiffRefuses old.now old_after new.now new_after)) }
+    ensures kept { OnErr result (S.text out.new ≡ S.text out.old) }
 {
     let old_file = file_on(log, Side::Old, old, old_after)?;
     let new_file = file_on(log, Side::New, new, new_after)?;
-    let rows = write_differences(out, &old_file.registers(), &new_file.registers(), only)?;
-    Ok(rows)
+    let before = out.position();
+    let rows = write_differences(out, &old_file.registers(), &new_file.registers(), only);
+    if rows.is_err() {
+        out.go_back(before);
+    }
+    Ok(rows?)
 }
 
 /// Appends a row for each of the longest ranges where the files differ as is asked, and answers how many these are.
@@ -72,7 +78,8 @@ fn write_differences<S: Sink>(
     new: &Registers<'_>,
     only: Option<Only>,
 ) -> Result<u64, AllocError>
-    ensures { IfOk result (IsAppended (ChangesSay old.now new.now only) (S.text out.old) (S.text out.new)) }
+    ensures ok { IfOk result (IsAppended (ChangesSay old.now new.now only) (S.text out.old) (S.text out.new)) }
+    ensures err { OnErr result (HasGrown (S.text out.old) (S.text out.new)) }
 {
     let mut rows = 0;
     let mut first = 0;

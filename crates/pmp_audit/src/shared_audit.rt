@@ -10,20 +10,16 @@ mod asking;
 mod deciding;
 mod hand;
 mod job;
-mod listing;
 mod merging;
-mod publishing;
 mod rounds;
-mod row_decision;
-mod work_fault;
 mod working;
 
 use crate::answer::write_answer;
 use crate::fault::AuditFault;
 use crate::gate::Gate;
+use crate::report::list_decisions;
 use crate::trace_audit::Summary;
 use deciding::decide_shared;
-use listing::list_decisions;
 use pmp_core::laws::law_decided_by_ranges;
 use pmp_text::laws::{law_legal_start, law_script_size};
 use pmp_text::{GrowingLog, read_script, read_trace};
@@ -66,6 +62,6 @@ pub fn audit_shared<R: Threads + Wait + Sync, G: Gate + Sync, W: Write>(
     law_legal_start();
     law_decided_by_ranges();
     let mut report = Vec::new(alloc);
-    let summary = list_decisions(&mut report, &rows, &decisions)?;
-    write_answer(writer, &report, summary)
+    let faults = list_decisions(&mut report, &rows, &decisions)?;
+    write_answer(writer, &report, Ok(Summary::of(&rows, faults)))
 }

@@ -1,19 +1,15 @@
 //! The accesses of a trace, each decided after the publications that it asks for.
 
-ghost use Rattle.std.specs.Prelude.{◌≡◌, ◌+◌, ◌^◌, ◌<◌, ◌≤◌, ◌++◌, IfOk, IfErr, OnOk, length, map, if◌then◌else◌};
-ghost use Rattle.pmp_text.specs.Reports.{report_row};
-ghost use Rattle.pmp_text.specs.TraceFaults.{IsInOrder, afters};
-ghost use Rattle.pmp_text.specs.Traces.{row_fields};
+ghost use Rattle.std.specs.Prelude.{◌≡◌, ◌<◌, IfErr, IfOk, IfSome, length};
+ghost use Rattle.pmp_text.specs.Traces.{first_bare};
 ghost use Rattle.pmp_audit.specs.Answers.{IsWritten, IsRefused};
-ghost use Rattle.pmp_audit.specs.Report.{IsReported};
 ghost use Rattle.pmp_audit.specs.TraceAudit.{AuditSays, AuditRefuses};
 
 use crate::answer::write_answer;
 use crate::fault::AuditFault;
-use crate::report::{list_rows, refusals};
-use pmp_core::Decision;
-use pmp_text::{GrowingLog, Row, Script, read_script, read_trace, write_row};
-use std::alloc::{AllocError, Global};
+use crate::report::list_rows;
+use pmp_text::{GrowingLog, Row, read_script, read_trace};
+use std::alloc::Global;
 use std::io::Write;
 
 /// How many accesses an audit decided, and how many of them it refused.
@@ -21,6 +17,37 @@ use std::io::Write;
 pub struct Summary {
     pub rows: u64,
     pub faults: u64,
+    /// The number of the first row whose start is 14 digits without `0x`: a decimal number, where rows mean
+    /// hexadecimal.
+    pub bare: Option<u64>,
+}
+
+impl Summary {
+    /// The summary of these rows, numbered from 1, of which so many were refused.
+    pub(crate) fn of(rows: &[Row], faults: u64) -> Summary
+        ensures { result ≡ record { rows = length rows.now; faults = faults; bare = first_bare 1 rows.now } }
+    {
+        Summary {
+            rows: rows.len() as u64,
+            faults,
+            bare: first_bare(rows),
+        }
+    }
+}
+
+/// The number of the first of these rows whose start is bare.
+fn first_bare(rows: &[Row]) -> Option<u64>
+    ensures { result ≡ first_bare 1 rows.now }
+{
+    let place = bare_place(rows)?;
+    Some(1 + place as u64)
+}
+
+fn bare_place(rows: &[Row]) -> Option<usize>
+    ensures place { result ≡ first_bare 0 rows.now }
+    ensures inside { IfSome result (λ place. place < length rows.now) }
+{
+    rows.iter().position(|row| row.is_bare)
 }
 
 /// Decides each row of the trace in the register file that the publications give that it asks for, and writes a report
@@ -45,37 +72,6 @@ pub fn audit<W: Write>(
     let script = read_script(&mut log, script)?;
     let rows = read_trace(alloc, trace, script.batches())?;
     let mut report = Vec::new(alloc);
-    let summary = write_report(&mut report, &script, &rows)?;
-    write_answer(writer, &report, summary)
-}
-
-/// Appends the report of the rows, which ask for the script's publications in order.
-fn write_report(report: &mut Vec<u8>, script: &Script, rows: &[Row]) -> Result<Summary, AllocError>
-    requires { IsInOrder (length script.now.batches) 0 (afters (map row_fields rows.now)) }
-    ensures { IfOk result (IsReported script.now rows.now report.old.items report.new.items) }
-{
-    let faults = list_rows(report, script, rows, 1)?;
-    let rows = rows.len() as u64;
-    Ok(Summary { rows, faults })
-}
-
-impl Summary {
-    /// One more row, which was decided so, appended to a report.
-    pub(crate) fn add_row(
-        &mut self,
-        report: &mut Vec<u8>,
-        row: &Row,
-        decision: Decision,
-    ) -> Result<(), AllocError>
-        requires rows { self.old.rows + 1 < 2 ^ 64 }
-        requires faults { self.old.faults ≤ self.old.rows }
-        ensures rows { self.new.rows ≡ self.old.rows + 1 }
-        ensures faults { self.new.faults ≡ self.old.faults + (if decision.allowed then 0 else 1) }
-        ensures report { OnOk result
-            (report.new.items ≡ report.old.items ++ report_row self.new.rows row.now.access decision) }
-    {
-        self.rows += 1;
-        self.faults += refusals(decision);
-        write_row(report, self.rows, &row.access, &decision)
-    }
+    let faults = list_rows(&mut report, &script, &rows, 1)?;
+    write_answer(writer, &report, Ok(Summary::of(&rows, faults)))
 }

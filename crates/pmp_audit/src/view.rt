@@ -1,11 +1,11 @@
 //! What is shown of the register file after publications of a script.
 
-ghost use Rattle.std.specs.Prelude.{◌≡◌, ◌≤◌, ◌++◌, List, ℕ, IfOk, IfErr, OnOk, length};
+ghost use Rattle.std.specs.Prelude.{◌≡◌, ◌≤◌, ◌++◌, List, ℕ, IfOk, IfErr, OnErr, OnOk, length};
 ghost use Rattle.pmp_core.specs.RegisterFile.{IsLegal};
 ghost use Rattle.pmp_audit.specs.Answers.{Declines, IsAppended, IsWritten, IsRefused};
 ghost use Rattle.pmp_audit.specs.AskedFile.{FileRefuses};
 ghost use Rattle.pmp_audit.specs.View.{IsViewText, ViewSays};
-ghost use Rattle.pmp_audit.specs.declared.view.View.TheVariants.{Registers, Runs, Picture, Entries};
+ghost use Rattle.pmp_audit.specs.declared.view.View.TheVariants.{Registers, Runs};
 
 use crate::answer::write_answer;
 use crate::asked_count::asked_count;
@@ -66,39 +66,6 @@ pub fn map_of<W: Write>(
     show(alloc, View::Runs, script, after, writer)
 }
 
-/// Writes the runs as a picture, an SVG document with a band for each.
-pub fn picture_of<W: Write>(
-    alloc: Global,
-    script: &[u8],
-    after: Option<u64>,
-    writer: &mut W,
-) -> Result<(), AuditFault>
-    ensures ok { IfOk result
-        (IsWritten (ViewSays Picture script.now after) (W.contents writer.old) (W.contents writer.new)) }
-    ensures err { IfErr result
-        (IsRefused (ViewSays Picture script.now after) (W.contents writer.old) (W.contents writer.new)
-        (FileRefuses script.now after)) }
-{
-    show(alloc, View::Picture, script, after, writer)
-}
-
-/// Writes a row for each entry: which bytes it matches, what its rule allows, how it is frozen, and since which
-/// publications it is frozen and held.
-pub fn entries_of<W: Write>(
-    alloc: Global,
-    script: &[u8],
-    after: Option<u64>,
-    writer: &mut W,
-) -> Result<(), AuditFault>
-    ensures ok { IfOk result
-        (IsWritten (ViewSays Entries script.now after) (W.contents writer.old) (W.contents writer.new)) }
-    ensures err { IfErr result
-        (IsRefused (ViewSays Entries script.now after) (W.contents writer.old) (W.contents writer.new)
-        (FileRefuses script.now after)) }
-{
-    show(alloc, View::Entries, script, after, writer)
-}
-
 /// Writes this of the register file after the first `after` publications of the script, or after all of them where that
 /// is none.
 ///
@@ -117,8 +84,8 @@ pub fn show<W: Write>(
         (FileRefuses script.now after)) }
 {
     let mut text = Vec::new(alloc);
-    append_view(&mut GrowingLog::new(alloc), view, script, after, &mut text)?;
-    write_answer(writer, &text, ())
+    let shown = append_view(&mut GrowingLog::new(alloc), view, script, after, &mut text);
+    write_answer(writer, &text, shown)
 }
 
 /// Appends the text that `show` writes. The script's events are kept in the log, and `Memory` says that they have no
@@ -132,6 +99,7 @@ pub fn append_view<L: EventLog, S: Sink>(
 ) -> Result<(), AuditFault>
     ensures ok { IfOk result (IsAppended (ViewSays view script.now after) (S.text out.old) (S.text out.new)) }
     ensures err { IfErr result (Declines (FileRefuses script.now after)) }
+    ensures kept { OnErr result (S.text out.new ≡ S.text out.old) }
 {
     let script = read_script(log, script)?;
     let done = asked_count(&script, after)?;
@@ -149,8 +117,9 @@ fn write_view<S: Sink>(
 ) -> Result<(), AllocError>
     requires legal { IsLegal script.now.start }
     requires within { done ≤ length script.now.batches }
-    ensures { OnOk result ((text : List ℕ) × IsViewText view script.now done text
+    ensures ok { OnOk result ((text : List ℕ) × IsViewText view script.now done text
         × (S.text out.new ≡ S.text out.old ++ text)) }
+    ensures err { OnErr result (S.text out.new ≡ S.text out.old) }
 {
     match view {
         View::Registers => write_registers(out, Replay::after(script, done).file()),

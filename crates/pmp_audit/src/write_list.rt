@@ -1,11 +1,12 @@
 //! What each event of a script does to a register.
 
-ghost use Rattle.std.specs.Prelude.{◌≡◌, ◌+◌, ◌^◌, ◌<◌, ◌≤◌, IfOk, IfErr, ◌++◌, length, if◌then◌else◌};
+ghost use Rattle.std.specs.Prelude.{◌≡◌, ◌+◌, ◌^◌, ◌<◌, ◌≤◌, IfOk, IfErr, OnErr, ◌++◌, length, if◌then◌else◌};
 ghost use Rattle.pmp_core.specs.RegisterFile.{RegisterFile};
 ghost use Rattle.pmp_core.specs.RegisterWrite.{step};
 ghost use Rattle.pmp_text.specs.declared.script.reader.TheConstants.{MAX_SCRIPT};
 ghost use Rattle.pmp_text.specs.Sizes.{script_size};
 ghost use Rattle.pmp_audit.specs.Answers.{Declines, IsAppended, IsWritten, IsRefused};
+ghost use Rattle.pmp_audit.specs.Growing.{HasGrown};
 ghost use Rattle.pmp_audit.specs.EventRows.{AreWritten};
 ghost use Rattle.pmp_audit.specs.WriteList.{all_rows, placed, placed_events, rows_text, is_not_stored, event_summary};
 ghost use Rattle.pmp_audit.specs.WriteList.{WritesSay, WritesRefuse, write_summary};
@@ -46,7 +47,7 @@ pub fn writes<W: Write>(
         (WritesRefuse script.now)) }
 {
     let mut text = Vec::new(alloc);
-    let summary = append_writes(&mut GrowingLog::new(alloc), script, &mut text)?;
+    let summary = append_writes(&mut GrowingLog::new(alloc), script, &mut text);
     write_answer(writer, &text, summary)
 }
 
@@ -59,10 +60,16 @@ pub fn append_writes<L: EventLog, S: Sink>(
 ) -> Result<WriteSummary, AuditFault>
     ensures ok { IfOk result (IsAppended (WritesSay script.now) (S.text out.old) (S.text out.new)) }
     ensures err { IfErr result (Declines (WritesRefuse script.now)) }
+    ensures kept { OnErr result (S.text out.new ≡ S.text out.old) }
 {
     let script = read_script(log, script)?;
     law_script_size();
-    Ok(write_script(out, &script)?)
+    let before = out.position();
+    let summary = write_script(out, &script);
+    if summary.is_err() {
+        out.go_back(before);
+    }
+    Ok(summary?)
 }
 
 /// Appends the rows of a script's events, and behind them those of what it expects.
@@ -70,6 +77,7 @@ fn write_script<S: Sink>(out: &mut S, script: &Script) -> Result<WriteSummary, A
     requires { script_size script.now.batches ≤ MAX_SCRIPT }
     ensures rows { IfOk result (λ _. S.text out.new ≡ S.text out.old ++ all_rows script.now) }
     ensures counted { IfOk result (λ summary. summary ≡ write_summary script.now) }
+    ensures err { OnErr result (HasGrown (S.text out.old) (S.text out.new)) }
 {
     let EventSummary { events, not_stored } = write_events(out, script)?;
     let differing = write_expectations(out, script)?;
@@ -94,6 +102,7 @@ fn write_events<S: Sink>(out: &mut S, script: &Script) -> Result<EventSummary, A
         ++ rows_text script.now.start (placed_events script.now)) }
     ensures counted { IfOk result
         (λ summary. summary ≡ event_summary script.now.start (placed_events script.now)) }
+    ensures err { OnErr result (HasGrown (S.text out.old) (S.text out.new)) }
 {
     let mut file = script.start();
     let mut summary = EventSummary::default();
@@ -121,6 +130,7 @@ fn write_publication<S: Sink>(
         (record { text = S.text out.new; file = file.new; summary = after })
         (placed publication lines.now events.now)) }
     ensures within { IfOk result (λ after. after.not_stored ≤ after.events) }
+    ensures err { OnErr result (HasGrown (S.text out.old) (S.text out.new)) }
 {
     let mut summary = before;
     for (line, event) in lines.iter().zip(events) {

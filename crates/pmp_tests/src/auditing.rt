@@ -111,7 +111,8 @@ fn workers_overlap(rt: HostRuntime) {
         answer
             == Ok(Summary {
                 rows: 31,
-                faults: 11
+                faults: 11,
+                bare: None,
             })
     );
     assert!(rt;

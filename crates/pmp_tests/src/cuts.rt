@@ -1,7 +1,7 @@
 //! A long audit of a trace that is cut at every limit.
 
 use pmp_audit::{AuditFault, audit, audit_long};
-use pmp_text::{TraceFault, TraceKind};
+use pmp_text::{Refusal, TraceFault};
 
 /// One publication: entry 0 lets all modes read a page.
 const SCRIPT: &[u8] = b"pmp 1\nwrite pmpaddr0 0x200001ff\nwrite pmpcfg0 0x19\npublish\n";
@@ -21,8 +21,9 @@ const ROOM: usize = 30;
 
 /// Why a line that is longer than a piece is refused.
 const LONG_LINE: AuditFault = AuditFault::Trace(TraceFault {
-    kind: TraceKind::TooLong,
+    kind: Refusal::TooLong,
     row: 0,
+    field: None,
 });
 
 /// Wherever pieces end, and on however many the audit works at a time, it answers as an audit of the whole trace does,
@@ -60,8 +61,9 @@ fn cuts_show_nowhere(rt: HostRuntime) {
 #[test]
 fn order_goes_over_cuts(rt: HostRuntime) {
     let order = AuditFault::Trace(TraceFault {
-        kind: TraceKind::Order,
+        kind: Refusal::Order,
         row: 5,
+        field: Some(0),
     });
     let mut whole = Vec::new(rt.alloc());
     let sound = audit(rt.alloc(), SCRIPT, TRACE, &mut whole);

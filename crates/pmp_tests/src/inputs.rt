@@ -1,8 +1,7 @@
 //! Readers that never end, and readers that fail.
 
 use pmp_text::{
-    GrowingLog, InputFault, MAX_SCRIPT, MAX_TRACE, ScriptFault, ScriptKind, TraceFault, TraceKind,
-    read_bytes, read_script, read_trace,
+    GrowingLog, MAX_SCRIPT, MAX_TRACE, Refusal, ScriptFault, read_bytes, read_script, read_trace,
 };
 use std::alloc::Global;
 use std::io;
@@ -40,10 +39,10 @@ impl Read for Failing {
 #[test]
 fn takes_no_more_than_it_needs(rt: HostRuntime) {
     for (most, kind, given, reads, fault) in [
-        (u64::MAX, ErrorKind::Other, 101, 15, InputFault::TooLong),
-        (98, ErrorKind::Other, 98, 15, InputFault::Input),
-        (98, ErrorKind::Interrupted, 98, 15, InputFault::Input),
-        (0, ErrorKind::Other, 0, 1, InputFault::Input),
+        (u64::MAX, ErrorKind::Other, 101, 15, Refusal::TooLong),
+        (98, ErrorKind::Other, 98, 15, Refusal::Input),
+        (98, ErrorKind::Interrupted, 98, 15, Refusal::Input),
+        (0, ErrorKind::Other, 0, 1, Refusal::Input),
     ] {
         let mut reader = Failing {
             given: 0,
@@ -74,14 +73,15 @@ fn line_feeds(rt: &impl Abort, alloc: Global, blocks: usize) -> Vec<u8> {
 #[test]
 fn longer_texts_are_too_long(rt: HostRuntime) {
     let script = line_feeds(&rt, rt.alloc(), MAX_SCRIPT / 4096);
-    let (kind, line) = (ScriptKind::TooLong, 0);
+    let (kind, word) = (Refusal::TooLong, None);
     assert!(rt;
         read_script(&mut GrowingLog::new(rt.alloc()), script.as_slice()).err()
-            == Some(ScriptFault { kind, line })
+            == Some(ScriptFault {
+                kind,
+                line: 0,
+                word
+            })
     );
     let trace = line_feeds(&rt, rt.alloc(), MAX_TRACE / 4096);
-    let (kind, row) = (TraceKind::TooLong, 0);
-    assert!(rt;
-        read_trace(rt.alloc(), trace.as_slice(), 0).err() == Some(TraceFault { kind, row })
-    );
+    assert!(rt; read_trace(rt.alloc(), trace.as_slice(), 0).err() == Some(kind.whole().at_row(0)));
 }

@@ -1,22 +1,24 @@
 -- Texts that grow piece by piece.
-use Rattle.std.proofs.Common.{◌≡◌, ℕ, ◌+◌, List, [], ◌++◌, map, Option, None, Some, IfSome, sym, ap, ◌∙◌}
-use Rattle.std.proofs.Common.{arith}
+use Rattle.std.proofs.Common.{◌≡◌, ℕ, List, [], ◌++◌, Option, None, Some, IfSome, ◌∷◌, ap, ◌∙◌}
 use Rattle.arrayvec.specs.ArrayString.{ArrayString}
-use Rattle.std.specs.Fmt.{WritesText}
+use Rattle.std.specs.Fmt.{HasWritten, IsPlainFormatter, WritesText}
+use Rattle.std.specs.declared.fmt.Formatter.{Formatter}
+use Rattle.std.proofs.Output.{has_written_append, has_written_of_eq}
 use Rattle.std.proofs.lemmas.Fmt.{contents_after_writes}
-use Rattle.std.specs.List.{flat_map, range_with_len}
+use Rattle.std.specs.List.{flat_map}
 use Rattle.std.proofs.lemmas.List.{flat_map_more}
-use Rattle.std.proofs.lemmas.List.FromFn.{map-range_with_len_more}
-use Rattle.pmp_core.specs.declared.csr.Csr.{Csr}
 
-pub lines_grow : (line : Csr → List ℕ) (register : ℕ → Csr) (before text longer : List ℕ) (count : ℕ)
-    → longer ≡ text ++ line (register count) → text ≡ before ++ flat_map line (map register (range_with_len 0 count))
-    → longer ≡ before ++ flat_map line (map register (range_with_len 0 (count + 1)))
-lines_grow line register before text longer count one so_far =
-    one ∙ ap (λ (l : List ℕ). l ++ line (register count)) so_far
-    ∙ flat_map_more line before (map register (range_with_len 0 count)) (register count)
-    ∙ ap (λ registers. before ++ flat_map line registers)
-    (sym (map-range_with_len_more register 0 count count (omega arith)))
+module _ {W X : Type 0} (took : W → List ℕ → W → Type 0) (line : X → List ℕ) where
+  -- the lines of the items were written
+  abbrev pub HasLines : Formatter W → List X → Formatter W → Type 0
+  HasLines f items g = IsPlainFormatter f → HasWritten took f (flat_map line items) g
+
+  pub line_more : (f g h : Formatter W) (items : List X) (item : X) → HasLines f items g
+      → (IsPlainFormatter g → HasWritten took g (line item) h) → HasLines f (items ++ item ∷ []) h
+  line_more f g h items item so_far one plain =
+      let before = so_far plain in
+      has_written_of_eq _ _ _ _ _ (flat_map_more line [] items item)
+      (has_written_append _ _ _ _ _ _ before (one before.plain))
 
 -- a text that was written to an empty line
 pub line_written : (line : Option (List ℕ)) (empty full : ArrayString) → empty.bytes ≡ []

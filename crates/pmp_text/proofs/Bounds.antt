@@ -1,33 +1,35 @@
 -- A script has no more publications and events than lines, and no more lines than bytes.
 use Rattle.std.proofs.Common.{◌≡◌, ℕ, suc, ◌+◌, ◌<◌, ◌≤◌, Bool, true, false, cond, ltb, List, [], ◌∷◌, length}
-use Rattle.std.proofs.Common.{Option, Some, None, Result, Ok, Err, refl, sym, ap, ◌∙◌, arith, inl, inr}
+use Rattle.std.proofs.Common.{Option, Some, None, Result, Ok, Err, refl, sym, ap, ◌∙◌, arith}
 use Rattle.std.specs.List.{slice_split, onto_first}
 use Rattle.std.specs.Str.Lines.{strip_carriage_return}
-use Rattle.std.proofs.lemmas.Bool.{cases_lt}
 use Rattle.std.proofs.lemmas.List.{length-append, length-map}
 use Rattle.std.proofs.lemmas.List.Sums.{sum_by_push, length-filter, count_by-le-length}
 use Rattle.std.proofs.lemmas.List.Splits.{length-slice_split}
 use Rattle.pmp_core.specs.declared.event.Event.{Event}
 use Rattle.pmp_core.specs.declared.event.TheConstants.{BATCH_EVENTS}
-use Rattle.pmp_text.specs.declared.script.ScriptKind.{ScriptKind}
-use Rattle.pmp_text.specs.declared.script.ScriptKind.TheVariants.{BatchFull}
+use Rattle.pmp_text.specs.declared.flaw.Flaw.{Flaw}
+use Rattle.pmp_text.specs.declared.refusal.Refusal.TheVariants.{BatchFull}
 use Rattle.pmp_text.specs.declared.script.ScriptFault.{ScriptFault}
 use Rattle.pmp_text.specs.declared.script.statement.Statement.{Statement}
 use Rattle.pmp_text.specs.declared.script.statement.Statement.TheVariants as statement
 use Rattle.pmp_text.specs.Lines.{is_line_feed, has_bytes, without_empty_end, lines}
 use Rattle.pmp_text.specs.Statements.{statement_of}
-use Rattle.pmp_text.specs.Scripts.{Line, at_line, numbered_from, counts, significant_from, significant_lines}
-use Rattle.pmp_text.specs.Scripts.{head_fault, if_held, version_named, script_meaning}
+use Rattle.pmp_text.specs.Scripts.{Line, numbered_from, counts, significant_from, significant_lines}
+use Rattle.pmp_text.specs.Scripts.{head_fault, script_meaning}
 use Rattle.pmp_text.specs.Steps.Progress.{Progress, longer, published, HeadSoFar, says_in, longer_head, unless, Reading}
 use Rattle.pmp_text.specs.Steps.Progress.{Read, nothing_begun, with_publish, with_progress, with_head, with_expected}
-use Rattle.pmp_text.specs.Steps.Progress.{after_statement, all_published, read_in, resumed, concluded}
-use Rattle.pmp_text.specs.Heads.{first_not_held, start_said}
+use Rattle.pmp_text.specs.Steps.Progress.{after_statement, all_published, read_in, resumed}
 use Rattle.pmp_text.specs.declared.script.version.Version.{Version}
-use Rattle.pmp_text.specs.declared.script.version.Version.TheVariants.{Sized, Headed}
 use Rattle.pmp_text.specs.Sizes.{script_size}
 use Rattle.pmp_text.specs.Contents.{Publications, ScriptContents}
 use Rattle.pmp_text.specs.declared.script.reader.TheConstants.{MAX_SCRIPT}
-use Rattle.pmp_text.proofs.Meanings.{long_script, no_version, no_size, with_size}
+use Rattle.pmp_text.specs.Scripts.{expected_from, fault_or_publications, first_fault, first_unpublished, head_lines}
+use Rattle.pmp_text.specs.Scripts.{publications}
+use Rattle.pmp_text.proofs.MadeScripts.{faultless, is_read, published_in}
+use Rattle.pmp_text.proofs.Meanings.{read_from_nothing}
+use Rattle.pmp_text.proofs.Resumed.{read_of}
+use Rattle.pmp_text.specs.Flaws.{at_line, as_whole}
 
 -- what was read so far, with the open batch
 abbrev read : Progress → ℕ
@@ -59,19 +61,19 @@ module _ (version : Version) (more : List Line) (bounded : IsBounded version mor
     (all : Read) where
   with_room : (room : Bool) (event : Event)
       → on version more (with_progress so_far
-      (cond room (Ok (longer so_far.progress number event)) (Err (at_line number BatchFull)))) ≡ Ok all
+      (cond room (Ok (longer so_far.progress number event)) (Err (at_line number (as_whole BatchFull))))) ≡ Ok all
       → script_size all.published.batches ≤ suc (read so_far.progress) + length more
   with_room true event e = let n = bounded _ all e in
       let m = read_event so_far.progress number event in omega arith
   with_room false event e = absurd cc
 
-  with_fault : (fault : Option ScriptKind) (head : HeadSoFar)
+  with_fault : (fault : Option Flaw) (head : HeadSoFar)
       → on version more (with_head so_far (unless number fault head)) ≡ Ok all
       → script_size all.published.batches ≤ suc (read so_far.progress) + length more
   with_fault None head e = let n = bounded _ all e in omega arith
   with_fault (Some fault) head e = absurd cc
 
-  one_line : (says : Result Statement ScriptKind) → on version more (after_statement so_far number says) ≡ Ok all
+  one_line : (says : Result Statement Flaw) → on version more (after_statement so_far number says) ≡ Ok all
       → script_size all.published.batches ≤ suc (read so_far.progress) + length more
   one_line (Err kind) e = absurd cc
   one_line (Ok statement.Publish) e = let n = bounded (with_publish so_far) all e in
@@ -133,54 +135,20 @@ lines_and_bytes text =
 
 -- ---- the law
 
-abbrev pub published_in : ScriptContents → Publications
-published_in script = record { batches = script.batches; lines = script.lines }
-
--- what is concluded of what is read has the publications that are read
-abbrev ReadsAs : Result Read ScriptFault → ScriptContents → Type 0
-ReadsAs read script = (all : Read) × (read ≡ Ok all) × (all.published ≡ published_in script)
-
-of_contents : (all : Read) (made script : ScriptContents) → all.published ≡ published_in made → ◌≡◌ {A = Result ScriptContents ScriptFault} (Ok made) (Ok script)
-    → all.published ≡ published_in script
-of_contents all made script same e = let is : made ≡ script = cc in same ∙ ap published_in is
-
-if_held_is : (number : Option ℕ) (all : Read) (made script : ScriptContents) → all.published ≡ published_in made
-    → if_held number made ≡ Ok script → all.published ≡ published_in script
-if_held_is None all made script same e = of_contents all made script same e
-if_held_is (Some number) all made script same e = absurd cc
-
-pub concluded_as : (version : Version) (read : Result Read ScriptFault) (script : ScriptContents)
-    → concluded version read ≡ Ok script → ReadsAs read script
-concluded_as version (Err fault) script e = absurd cc
-concluded_as (Sized size) (Ok all) script e = (all, refl, of_contents all _ script refl e)
-concluded_as Headed (Ok all) script e =
-    (all, refl, if_held_is (first_not_held (start_said all.head) all.head) all _ script refl e)
-
-by_version : (version : Option Version) (text : List ℕ) (short : length text ≤ MAX_SCRIPT) (first : Line)
-    (more : List Line) (script : ScriptContents) → significant_lines text ≡ first ∷ more
-    → version_named first.words ≡ version → script_meaning text ≡ Ok script
-    → script_size script.batches ≤ length text
-by_version None text short first more script lines named e = let refused = sym e
-    ∙ no_size text short first more lines named in absurd cc
-by_version (Some version) text short first more script lines named e =
-    let was = concluded_as version (resumed version nothing_begun more) script
-    (sym (with_size text short first more lines version named) ∙ e) in
-    let n = bounded_by_lines version more nothing_begun was.0 was.1 in
-    let same = ap (λ (p : Publications). script_size p.batches) was.2 in
-    let m = lines_and_bytes text in
-    let k = ap length lines in
-    omega arith
-
-by_lines_read : (ls : List Line) (text : List ℕ) (short : length text ≤ MAX_SCRIPT) (script : ScriptContents)
-    → significant_lines text ≡ ls → script_meaning text ≡ Ok script → script_size script.batches ≤ length text
-by_lines_read [] text short script lines e = let refused = sym e ∙ no_version text short lines in absurd cc
-by_lines_read (version ∷ more) text short script lines e =
-    by_version (version_named version.words) text short version more script lines refl e
-
 pub size_at_most : (text : List ℕ) (script : ScriptContents) → script_meaning text ≡ Ok script
     → (script_size script.batches ≤ length text) × (length text ≤ MAX_SCRIPT)
 size_at_most text script e =
-    elim (cases_lt MAX_SCRIPT (length text)) [
-      | inl long ↦ let refused = sym e ∙ long_script text long in absurd cc
-      | inr short ↦ (by_lines_read (significant_lines text) text short script refl e, short)
-    ]
+    let it = is_read text script e in
+    let version = it.version in
+    let more = it.more in
+    let fine = faultless (first_fault (it.first ∷ []) more) (first_unpublished version more) (publications version more)
+    (published_in script) it.made.published in
+    let all = read_of version (publications version more) (head_lines version more) (expected_from version 0 more) in
+    let read : resumed version nothing_begun more ≡ Ok all =
+    sym (read_from_nothing text it.short it.first more it.lines version it.named)
+    ∙ (λ i. fault_or_publications (fine.0 i) (fine.1 i) all) in
+    let n = bounded_by_lines version more nothing_begun all read in
+    let same = ap (λ (p : Publications). script_size p.batches) fine.2 in
+    let m = lines_and_bytes text in
+    let k = ap length it.lines in
+    (omega arith, it.short)

@@ -1,6 +1,6 @@
 -- A record that has a line end in a field is neither a row nor a header.
-use Rattle.std.proofs.Common.{◌≡◌, ℕ, Bool, true, false, cond, List, [], ◌∷◌, ◌++◌, Option}
-use Rattle.std.proofs.Common.{Some, None, refl, sym, ap, ◌∙◌, inl, inr}
+use Rattle.std.proofs.Common.{◌≡◌, ℕ, Bool, true, false, cond, List, [], ◌∷◌, ◌++◌, Option, rules}
+use Rattle.std.proofs.Common.{Some, None, Result, Ok, Err, refl, sym, ap, ◌∙◌, inl, inr}
 use Rattle.std.specs.Prelude.{◌&&◌, ◌||◌, bytes_eq, codes, drop, take, length, nat_lt, nat_le, ◌^◌}
 use Rattle.std.specs.Str.Parse.{digits_value}
 use Rattle.std.specs.Char.{is_digit}
@@ -8,14 +8,16 @@ use Rattle.std.specs.List.{list_all, list_any}
 use Rattle.std.proofs.lemmas.List.{take-append-drop}
 use Rattle.std.proofs.lemmas.List.Folds.{list_any-append}
 use Rattle.std.proofs.lemmas.Slice.Eq.{bytes_eq-Decides}
-use Rattle.pmp_core.specs.declared.access.Kind.{Kind}
-use Rattle.pmp_core.specs.declared.access.Mode.{Mode}
 use Rattle.pmp_text.specs.AccessWords.{kind_named, mode_named}
-use Rattle.pmp_text.specs.LongTraces.{is_line_end}
+use Rattle.pmp_text.specs.Tables.{is_line_end}
 use Rattle.pmp_text.specs.Numbers.{is_numeral, numeral, word_number}
-use Rattle.pmp_text.specs.Traces.{five_fields, is_header, row_of_record, row_of_values}
+use Rattle.pmp_text.specs.Flaws.{of_part, as_whole}
+use Rattle.pmp_text.specs.Traces.{FiveFields, five_fields, is_header, row_in, row_of_fields}
+use Rattle.pmp_text.specs.declared.flaw.Flaw.{Flaw}
+use Rattle.pmp_text.specs.declared.refusal.Refusal.TheVariants.{BadRow}
 use Rattle.pmp_text.specs.declared.trace.row_fields.RowFields.{RowFields}
-use Rattle.pmp_text.proofs.LineCuts.{is_broken, line_ends}
+use Rattle.pmp_text.proofs.LineCuts.{line_ends}
+use Rattle.pmp_text.specs.Tables.{is_broken}
 
 abbrev has_end : List ℕ → Bool
 has_end word = list_any is_line_end word
@@ -97,60 +99,51 @@ no_kind word ends = rw (
 
 -- ---- five words
 
-module _ (after : Option ℕ) (mode : Option Mode) (kind : Option Kind) (start length : Option ℕ) where
-  without_after : after ≡ None → row_of_values after mode kind start length ≡ None
-  without_after e = rw e refl
+-- a field that is none of some form where it has a line end, has none where it is
+no_end : {X : Type 0} (says : List ℕ → Option X) → ((word : List ℕ) → has_end word ≡ true → says word ≡ None)
+    → (word : List ℕ) (x : X) → says word ≡ Some x → has_end word ≡ false
+no_end says none word x is = by (has_end word) refl
+  where
+    by : (ends : Bool) → has_end word ≡ ends → has_end word ≡ false
+    by false e = e
+    by true e = let both : None ≡ Some x = sym (none word e) ∙ is in absurd cc
 
-without_mode : (after : Option ℕ) (mode : Option Mode) (kind : Option Kind) (start length : Option ℕ) → mode ≡ None
-    → row_of_values after mode kind start length ≡ None
-without_mode None mode kind start length e = refl
-without_mode (Some after) mode kind start length e = rw e refl
+part_says : {X Y : Type 0} (index : ℕ) (says : Option X) (next : X → Result Y Flaw) (y : Y)
+    → of_part index says next ≡ Ok y → (x : X) × (says ≡ Some x) × (next x ≡ Ok y)
+part_says index None next y e = absurd cc
+part_says index (Some x) next y e = (x, refl, e)
 
-without_kind : (after : Option ℕ) (mode : Option Mode) (kind : Option Kind) (start length : Option ℕ) → kind ≡ None
-    → row_of_values after mode kind start length ≡ None
-without_kind None mode kind start length e = refl
-without_kind (Some after) None kind start length e = refl
-without_kind (Some after) (Some mode) kind start length e = rw e refl
+-- five fields that say a row have no line end
+pub in_one_line : (five : FiveFields) (row : RowFields) → row_of_fields five ≡ Ok row
+    → is_broken (five.after ∷ five.mode ∷ five.kind ∷ five.start ∷ five.length ∷ []) ≡ false
+in_one_line five row e =
+    let (after, after_is, e1) = part_says 0 (word_number five.after) _ row e in
+    let (mode, mode_is, e2) = part_says 1 (mode_named five.mode) _ row e1 in
+    let (kind, kind_is, e3) = part_says 2 (kind_named five.kind) _ row e2 in
+    let (start, start_is, e4) = part_says 3 (word_number five.start) _ row e3 in
+    let (length, length_is, e5) = part_says 4 (word_number five.length) _ row e4 in
+    rw (
+      no_end word_number no_number five.after after after_is,
+      no_end mode_named no_mode five.mode mode mode_is,
+      no_end kind_named no_kind five.kind kind kind_is,
+      no_end word_number no_number five.start start start_is,
+      no_end word_number no_number five.length length length_is,
+    ) refl
 
-without_start : (after : Option ℕ) (mode : Option Mode) (kind : Option Kind) (start length : Option ℕ) → start ≡ None
-    → row_of_values after mode kind start length ≡ None
-without_start None mode kind start length e = refl
-without_start (Some after) None kind start length e = refl
-without_start (Some after) (Some mode) None start length e = refl
-without_start (Some after) (Some mode) (Some kind) start length e = rw e refl
-
-without_length : (after : Option ℕ) (mode : Option Mode) (kind : Option Kind) (start length : Option ℕ)
-    → length ≡ None → row_of_values after mode kind start length ≡ None
-without_length None mode kind start length e = refl
-without_length (Some after) None kind start length e = refl
-without_length (Some after) (Some mode) None start length e = refl
-without_length (Some after) (Some mode) (Some kind) None length e = refl
-without_length (Some after) (Some mode) (Some kind) (Some start) length e = rw e refl
-
-module _ (after mode kind start length : List ℕ) where
-  abbrev values : Option RowFields
-  values = row_of_values (word_number after) (mode_named mode) (kind_named kind) (word_number start)
-      (word_number length)
-
-  no_values : (a m k s l : Bool) → has_end after ≡ a → has_end mode ≡ m → has_end kind ≡ k → has_end start ≡ s
-      → has_end length ≡ l → (a || (m || (k || (s || (l || false))))) ≡ true → values ≡ None
-  no_values true m k s l ea em ek es el e = without_after _ _ _ _ _ (no_number after ea)
-  no_values false true k s l ea em ek es el e = without_mode _ _ _ _ _ (no_mode mode em)
-  no_values false false true s l ea em ek es el e = without_kind _ _ _ _ _ (no_kind kind ek)
-  no_values false false false true l ea em ek es el e = without_start _ _ _ _ _ (no_number start es)
-  no_values false false false false true ea em ek es el e = without_length _ _ _ _ _ (no_number length el)
-  no_values false false false false false ea em ek es el e = absurd cc
-
-pub no_row : (fields : List (List ℕ)) → is_broken fields ≡ true → row_of_record fields ≡ None
+pub are_five : (fields : List (List ℕ)) (five : FiveFields) → five_fields fields ≡ Some five
+    → fields ≡ five.after ∷ five.mode ∷ five.kind ∷ five.start ∷ five.length ∷ []
 unfolding five_fields
-no_row [] e = refl
-no_row (after ∷ []) e = refl
-no_row (after ∷ mode ∷ []) e = refl
-no_row (after ∷ mode ∷ kind ∷ []) e = refl
-no_row (after ∷ mode ∷ kind ∷ start ∷ []) e = refl
-no_row (after ∷ mode ∷ kind ∷ start ∷ length ∷ []) e = no_values after mode kind start length
-    (has_end after) (has_end mode) (has_end kind) (has_end start) (has_end length) refl refl refl refl refl e
-no_row (after ∷ mode ∷ kind ∷ start ∷ length ∷ other ∷ more) e = refl
+are_five [] five e = absurd cc
+are_five (after ∷ []) five e = absurd cc
+are_five (after ∷ mode ∷ []) five e = absurd cc
+are_five (after ∷ mode ∷ kind ∷ []) five e = absurd cc
+are_five (after ∷ mode ∷ kind ∷ start ∷ []) five e = absurd cc
+are_five (after ∷ mode ∷ kind ∷ start ∷ length ∷ []) five e = search rules
+are_five (after ∷ mode ∷ kind ∷ start ∷ length ∷ other ∷ more) five e = absurd cc
+
+-- a record that goes over several lines is at fault as a whole
+pub no_row : (fields : List (List ℕ)) → is_broken fields ≡ true → row_in fields ≡ Err (as_whole BadRow)
+no_row fields e = rw e refl
 
 -- ---- a header
 

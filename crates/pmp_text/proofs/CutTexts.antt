@@ -10,7 +10,8 @@ use Rattle.csv.specs.Reading.{default_config, records, records_next, strip_bom, 
 use Rattle.pmp_text.specs.Steps.Records.{records_behind}
 use Rattle.std.proofs.lemmas.Bool.{cond-true, cond-false}
 use Rattle.pmp_text.proofs.RecordsLeft.{one_more, no_more}
-use Rattle.pmp_text.specs.LongTraces.{Records, is_line_end}
+use Rattle.pmp_text.specs.LongTraces.{Records}
+use Rattle.pmp_text.specs.Tables.{is_line_end}
 use Rattle.pmp_text.specs.Tables.{records_of}
 use Rattle.pmp_text.proofs.SplitRecords.{turn, split}
 use Rattle.pmp_text.proofs.LineCuts.{BeginsBroken, line_ends, cut_at}
@@ -67,21 +68,12 @@ by_split bytes = from_first st.StartRecord bytes ∙ read_as_split bytes st.Star
 
 -- ---- a byte-order mark
 
-no_mark_13 : (more : List ℕ) → strip_bom (13 ∷ more) ≡ 13 ∷ more
-unfolding strip_bom
-no_mark_13 [] = refl
-no_mark_13 (a ∷ []) = refl
-no_mark_13 (a ∷ b ∷ more) = refl
-
-no_mark_10 : (more : List ℕ) → strip_bom (10 ∷ more) ≡ 10 ∷ more
-unfolding strip_bom
-no_mark_10 [] = refl
-no_mark_10 (a ∷ []) = refl
-no_mark_10 (a ∷ b ∷ more) = refl
-
 module _ (e : ℕ) (ends : is_line_end e ≡ true) where
   no_mark : (more : List ℕ) → strip_bom (e ∷ more) ≡ e ∷ more
-  no_mark more = elim (line_ends e ends) [ inl cr ↦ rw cr (no_mark_13 more) | inr lf ↦ rw lf (no_mark_10 more) ]
+  unfolding strip_bom
+  no_mark [] = refl
+  no_mark (a ∷ []) = refl
+  no_mark (a ∷ b ∷ more) = elim (line_ends e ends) [ inl cr ↦ rw cr refl | inr lf ↦ rw lf refl ]
 
   skipped : (more : List ℕ) → split st.StartRecord [] [] (e ∷ more) ≡ split st.StartRecord [] [] more
   unfolding split

@@ -73,9 +73,6 @@ first_line text some =
           (without_empty_end (slice_split is_line_feed rest))) (sym (after_none is_line_feed text le))
     ]
 
-pub after_shorter : (text : List ℕ) → 0 < length text → length (after_first is_line_feed text) < length text
-after_shorter text some = omega (arith, length-drop (position_or_len is_line_feed text + 1) text)
-
 -- ---- words
 
 abbrev pub is_not_blank : ℕ → Bool

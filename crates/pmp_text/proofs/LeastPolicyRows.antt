@@ -4,13 +4,14 @@ use Rattle.std.proofs.Common.{arith}
 use Rattle.std.specs.Prelude.{filter_map, option_map, option_and_then, slice_get}
 use Rattle.pmp_text.specs.declared.trace.TraceFault.{TraceFault}
 use Rattle.pmp_text.specs.Faults.{IsLeastFault}
-use Rattle.pmp_text.specs.Policies.{first_policy_fault, is_policy_header, policy_meaning, policy_of_record}
+use Rattle.pmp_text.specs.Policies.{first_policy_fault, is_policy_header, policy_meaning, policy_of_record, policy_in}
 use Rattle.pmp_text.specs.Policies.{policy_row_fault, policy_rows_meaning}
 use Rattle.pmp_text.specs.PolicyFaults.{policy_fault_at}
-use Rattle.pmp_text.specs.Tables.{at_row, fault_or_rows, records_of}
+use Rattle.pmp_text.specs.Tables.{fault_or_rows, records_of}
 use Rattle.pmp_text.specs.declared.trace.reader.TheConstants.{MAX_TRACE}
 use Rattle.pmp_text.proofs.LeastFaults.{Judges, judged_here, judged_as, the_first}
 use Rattle.pmp_text.proofs.Rows.{by_records, policy_is, this_header}
+use Rattle.pmp_text.specs.Flaws.{at_row}
 
 abbrev Records : Type 0
 Records = List (List (List ℕ))
@@ -19,13 +20,13 @@ module _ (publications : ℕ) where
   -- the fault of a row, the first of which has this number
   abbrev fault_from : (number : ℕ) → Records → ℕ → Option TraceFault
   fault_from number rows index = option_and_then {T = List (List ℕ)} {U = TraceFault}
-      (λ row. option_map (at_row (number + index)) (policy_row_fault publications (policy_of_record publications row)))
+      (λ row. option_map (at_row (number + index)) (policy_row_fault publications (policy_in publications row)))
       (slice_get rows index)
 
   -- the same, by its number
   abbrev fault_with : Records → ℕ → (number : ℕ) → Option TraceFault
   fault_with rows index number = option_and_then {T = List (List ℕ)} {U = TraceFault}
-      (λ row. option_map (at_row number) (policy_row_fault publications (policy_of_record publications row)))
+      (λ row. option_map (at_row number) (policy_row_fault publications (policy_in publications row)))
       (slice_get rows index)
 
   one_behind : (number : ℕ) (row : List (List ℕ)) (more : Records) (index : ℕ)
@@ -35,7 +36,7 @@ module _ (publications : ℕ) where
       ap (fault_with more index) same
 
   here : (number : ℕ) (row : List (List ℕ)) (more : Records) → fault_from number (row ∷ more) 0
-      ≡ option_map (at_row number) (policy_row_fault publications (policy_of_record publications row))
+      ≡ option_map (at_row number) (policy_row_fault publications (policy_in publications row))
   here number row more =
       let same : number + 0 ≡ number = omega arith in
       ap (fault_with (row ∷ more) 0) same
@@ -45,7 +46,7 @@ module _ (publications : ℕ) where
   judged_from [] = λ number index. refl
   judged_from (row ∷ more) = λ number.
       judged_here (fault_from number (row ∷ more)) (fault_from (number + 1) more) (one_behind number row more)
-      (option_map (at_row number) (policy_row_fault publications (policy_of_record publications row)))
+      (option_map (at_row number) (policy_row_fault publications (policy_in publications row)))
       (first_policy_fault publications (number + 1) more) (here number row more) (judged_from more (number + 1))
 
   counted_from_one : (rows : Records) (index : ℕ) → policy_fault_at publications rows index ≡ fault_from 1 rows index

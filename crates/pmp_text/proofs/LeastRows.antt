@@ -1,25 +1,24 @@
 -- The first fault of a trace's rows is that of the least faulty row, and rows without a fault are in order.
-use Rattle.std.proofs.Common.{◌≡◌, ℕ, zero, suc, ◌+◌, ◌≤◌, Bool, true, false, cond, List, [], ◌∷◌, length, map, Global}
-use Rattle.std.proofs.Common.{Vec, Option, Some, None, IfOk, Result, Ok, Err, refl, ap, ◌∙◌, arith}
+use Rattle.std.proofs.Common.{◌≡◌, ℕ, zero, suc, ◌+◌, ◌≤◌, Bool, true, false, cond, List, [], ◌∷◌, length}
+use Rattle.std.proofs.Common.{Option, Some, None, Result, Ok, Err, refl, ap, ◌∙◌, arith}
 use Rattle.std.specs.Prelude.{filter_map, nat_lt, option_map, option_and_then, slice_get, unwrap_or}
 use Rattle.std.specs.Option.{option_or}
 use Rattle.std.proofs.lemmas.Bool.{ltb-false}
 use Rattle.pmp_core.specs.Access.{access_fault}
 use Rattle.pmp_text.specs.declared.trace.row_fields.RowFields.{RowFields}
-use Rattle.pmp_text.specs.declared.trace.TraceKind.{TraceKind}
-use Rattle.pmp_text.specs.declared.trace.TraceKind.TheVariants.{BadAfter, BadHeader, BadRow, Order, TooLong}
+use Rattle.pmp_text.specs.declared.flaw.Flaw.{Flaw}
+use Rattle.pmp_text.specs.declared.refusal.Refusal.TheVariants.{BadAfter, BadHeader, Order, TooLong}
 use Rattle.pmp_text.specs.declared.trace.TraceFault.{TraceFault}
-use Rattle.pmp_text.specs.declared.trace.Row.{Row}
 use Rattle.pmp_text.specs.Faults.{IsLeastFault}
-use Rattle.pmp_text.specs.Tables.{at_row, fault_or_rows, records_of}
-use Rattle.pmp_text.specs.Traces.{row_fields, access_kind, after_of, falls_behind, fields_fault}
+use Rattle.pmp_text.specs.Tables.{fault_or_rows, records_of}
+use Rattle.pmp_text.specs.Traces.{access_flaw, after_of, falls_behind, fields_fault, row_in}
 use Rattle.pmp_text.specs.Traces.{first_row_fault, is_header, records_meaning, row_fault, row_of_record}
 use Rattle.pmp_text.specs.Traces.{rows_meaning, trace_meaning}
-use Rattle.pmp_text.specs.Outcomes.{GivesRows}
 use Rattle.pmp_text.specs.TraceFaults.{after_before, row_fault_at, IsInOrder, afters}
 use Rattle.pmp_text.specs.declared.trace.reader.TheConstants.{MAX_TRACE}
 use Rattle.pmp_text.proofs.LeastFaults.{Judges, judged_here, judged_as, the_first}
 use Rattle.pmp_text.proofs.Rows.{by_records, this_header, trace_is}
+use Rattle.pmp_text.specs.Flaws.{at_row, part, as_whole}
 
 abbrev pub Records : Type 0
 Records = List (List (List ℕ))
@@ -28,8 +27,7 @@ module _ (publications : ℕ) where
   -- the fault of a row behind one that asks for `last`, the first with this number
   abbrev fault_behind : (last : Option ℕ) (number : ℕ) → Records → ℕ → Option TraceFault
   fault_behind last number rows index = option_and_then {T = List (List ℕ)} {U = TraceFault}
-      (λ row. option_map (at_row (number + index)) (row_fault publications (after_before last rows index)
-      (row_of_record row))) (slice_get rows index)
+      (λ row. option_map (at_row (number + index)) (row_fault publications (after_before last rows index) (row_in row))) (slice_get rows index)
 
   one_behind : (last : Option ℕ) (number : ℕ) (row : List (List ℕ)) (more : Records) (index : ℕ)
       → fault_behind last number (row ∷ more) (suc index)
@@ -37,19 +35,19 @@ module _ (publications : ℕ) where
   one_behind last number row more zero =
       let same : number + 1 ≡ number + 1 + 0 = omega arith in
       ap (λ (n : ℕ). option_and_then {T = List (List ℕ)} {U = TraceFault}
-      (λ next. option_map (at_row n) (row_fault publications (after_of (row_of_record row)) (row_of_record next)))
+      (λ next. option_map (at_row n) (row_fault publications (after_of (row_of_record row)) (row_in next)))
       (slice_get more 0)) same
   one_behind last number row more (suc index) =
       let same : number + suc (suc index) ≡ number + 1 + suc index = omega arith in
       ap (λ (n : ℕ). option_and_then {T = List (List ℕ)} {U = TraceFault}
       (λ next. option_map (at_row n) (row_fault publications (after_before last (row ∷ more) (suc (suc index)))
-      (row_of_record next))) (slice_get more (suc index))) same
+      (row_in next))) (slice_get more (suc index))) same
 
   here : (last : Option ℕ) (number : ℕ) (row : List (List ℕ)) (more : Records)
       → fault_behind last number (row ∷ more) 0 ≡ option_map (at_row number)
-      (row_fault publications last (row_of_record row))
+      (row_fault publications last (row_in row))
   here last number row more = let same : number + 0 ≡ number = omega arith in
-      ap (λ (n : ℕ). option_map (at_row n) (row_fault publications last (row_of_record row))) same
+      ap (λ (n : ℕ). option_map (at_row n) (row_fault publications last (row_in row))) same
 
   judged_behind : (rows : Records) (last : Option ℕ) (number : ℕ)
       → Judges (fault_behind last number rows) (first_row_fault publications last number rows)
@@ -57,7 +55,7 @@ module _ (publications : ℕ) where
   judged_behind (row ∷ more) = λ last number.
       judged_here (fault_behind last number (row ∷ more))
       (fault_behind (after_of (row_of_record row)) (number + 1) more) (one_behind last number row more)
-      (option_map (at_row number) (row_fault publications last (row_of_record row)))
+      (option_map (at_row number) (row_fault publications last (row_in row)))
       (first_row_fault publications (after_of (row_of_record row)) (number + 1) more) (here last number row more)
       (judged_behind more (after_of (row_of_record row)) (number + 1))
 
@@ -66,7 +64,7 @@ module _ (publications : ℕ) where
   counted_from_one rows index =
       let same : index + 1 ≡ 1 + index = omega arith in
       ap (λ (n : ℕ). option_and_then {T = List (List ℕ)} {U = TraceFault}
-      (λ row. option_map (at_row n) (row_fault publications (after_before None rows index) (row_of_record row)))
+      (λ row. option_map (at_row n) (row_fault publications (after_before None rows index) (row_in row)))
       (slice_get rows index)) same
 
   pub first_row_is_least : (rows : Records)
@@ -97,13 +95,13 @@ module _ (publications : ℕ) where
   no_fault None later e = (refl, e)
   no_fault (Some fault) later e = absurd cc
 
-  no_kind : (number : ℕ) (kind : Option TraceKind) → option_map (at_row number) kind ≡ None → kind ≡ None
+  no_kind : (number : ℕ) (kind : Option Flaw) → option_map (at_row number) kind ≡ None → kind ≡ None
   no_kind number None e = refl
   no_kind number (Some kind) e = absurd cc
 
   module _ (last : Option ℕ) (row : RowFields) where
     in_time : (beyond behind : Bool) → nat_lt publications row.after ≡ beyond → falls_behind last row.after ≡ behind
-        → cond beyond (Some BadAfter) (cond behind (Some Order) (access_kind (access_fault row.start row.length)))
+        → cond beyond (Some (part 0 BadAfter)) (cond behind (Some (part 0 Order)) (option_map access_flaw (access_fault row.start row.length)))
         ≡ None → (least_of last ≤ row.after) × (row.after ≤ publications)
     in_time true behind e f fine = absurd cc
     in_time false true e f fine = absurd cc
@@ -113,19 +111,19 @@ module _ (publications : ℕ) where
       → first_row_fault publications last number rows ≡ None
       → IsInOrder publications (least_of last) (afters (filter_map row_of_record rows))
   rows_in_order [] = λ last number e. tt
-  rows_in_order (row ∷ more) = λ last number e. by (row_of_record row) refl last number e (rows_in_order more)
+  rows_in_order (row ∷ more) = λ last number e. by (row_in row) refl last number e (rows_in_order more)
     where
-      by : (said : Option RowFields) → row_of_record row ≡ said → (last : Option ℕ) (number : ℕ)
+      by : (said : Result RowFields Flaw) → row_in row ≡ said → (last : Option ℕ) (number : ℕ)
           → first_row_fault publications last number (row ∷ more) ≡ None
           → ((last : Option ℕ) (number : ℕ) → first_row_fault publications last number more ≡ None
           → IsInOrder publications (least_of last) (afters (filter_map row_of_record more)))
           → IsInOrder publications (least_of last) (afters (filter_map row_of_record (row ∷ more)))
-      by None says last number e later =
-          let own : Some BadRow ≡ None = no_kind number (Some BadRow)
-          (no_fault (Some (at_row number BadRow)) (first_row_fault publications None (number + 1) more)
+      by (Err flaw) says last number e later =
+          let own : Some flaw ≡ None = no_kind number (Some flaw)
+          (no_fault (Some (at_row number flaw)) (first_row_fault publications None (number + 1) more)
           (rw says at e)).0 in
           absurd cc
-      by (Some fields) says last number e later =
+      by (Ok fields) says last number e later =
           let (own, rest) = no_fault (option_map (at_row number) (fields_fault publications last fields))
           (first_row_fault publications (Some fields.after) (number + 1) more) (rw says at e) in
           let time = in_time last fields (nat_lt publications fields.after) (falls_behind last fields.after) refl refl
@@ -146,7 +144,7 @@ module _ (publications : ℕ) where
         rw (← same) (rows_in_order records None 1 first)
 
     from_header : (named : Bool) (records : Records)
-        → cond named (rows_meaning publications records) (Err (at_row 0 BadHeader)) ≡ Ok rows
+        → cond named (rows_meaning publications records) (Err (at_row 0 (as_whole BadHeader))) ≡ Ok rows
         → IsInOrder publications 0 (afters rows)
     from_header true records e = from_rows records e
     from_header false records e = absurd cc
@@ -157,7 +155,7 @@ module _ (publications : ℕ) where
     from_records (header ∷ records) e = from_header (is_header header) records e
 
     from_text : (long : Bool) (text : List ℕ)
-        → cond long (Err (at_row 0 TooLong)) (records_meaning publications (records_of text)) ≡ Ok rows
+        → cond long (Err (at_row 0 (as_whole TooLong))) (records_meaning publications (records_of text)) ≡ Ok rows
         → IsInOrder publications 0 (afters rows)
     from_text true text e = absurd cc
     from_text false text e = from_records (records_of text) e
@@ -166,9 +164,3 @@ module _ (publications : ℕ) where
         → IsInOrder publications 0 (afters rows)
     unfolding trace_meaning
     trace_in_order text e = from_text (nat_lt MAX_TRACE (length text)) text e
-
-  pub given_in_order : (text : List ℕ) (result : Result (Vec Row Global) TraceFault)
-      → GivesRows (λ rows. map row_fields rows.items) result (trace_meaning publications text)
-      → IfOk result (λ rows. IsInOrder publications 0 (afters (map row_fields rows.items)))
-  given_in_order text (Ok rows) given = trace_in_order (map row_fields rows.items) text given
-  given_in_order text (Err fault) given = tt

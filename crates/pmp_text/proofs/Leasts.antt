@@ -8,8 +8,7 @@ use Rattle.std.proofs.lemmas.List.{append-nil, reverse-append}
 use Rattle.pmp_text.specs.declared.script.version.Version.{Version}
 use Rattle.pmp_text.specs.declared.script.version.Version.TheVariants.{Sized, Headed}
 use Rattle.pmp_text.specs.declared.script.ScriptFault.{ScriptFault}
-use Rattle.pmp_text.specs.declared.script.ScriptKind.TheVariants.{BadVersion}
-use Rattle.pmp_text.specs.Scripts.{Line, at_line, line_fault, first_fault, fault_or_publications, first_unpublished}
+use Rattle.pmp_text.specs.Scripts.{Line, line_fault, first_fault, fault_or_publications, first_unpublished, version_flaw}
 use Rattle.pmp_text.specs.Scripts.{publications, version_named, for_unit, for_head, head_lines, expected_from}
 use Rattle.pmp_text.specs.Scripts.{meaning_behind, lines_meaning}
 use Rattle.pmp_text.specs.Scripts.{significant_lines, script_meaning}
@@ -17,6 +16,7 @@ use Rattle.pmp_text.specs.Faults.{fault_at, IsLeastFault}
 use Rattle.pmp_text.specs.declared.script.reader.TheConstants.{MAX_SCRIPT}
 use Rattle.pmp_text.proofs.LeastFaults.{Judges, judged_here, judged_as, the_first}
 use Rattle.pmp_text.proofs.Meanings.{by_lines}
+use Rattle.pmp_text.specs.Flaws.{at_line}
 
 abbrev own_fault : (before : List Line) → Line → Option ScriptFault
 own_fault before line = option_map (at_line line.number) (line_fault before line)
@@ -59,9 +59,9 @@ by_fault version first more fault known e =
     (publications version more)) e
 
 refused_behind : (version : Option Version) (first : Line) (more : List Line) (fault : ScriptFault)
-    → option_or (option_map (at_line first.number) (cond (is_some version) None (Some BadVersion)))
+    → option_or (option_map (at_line first.number) (cond (is_some version) None (Some (version_flaw first.words))))
     (first_fault (first ∷ []) more) ≡ Some fault → meaning_behind first more version ≡ Err fault
-refused_behind None first more fault e = let same : at_line first.number BadVersion ≡ fault = cc in
+refused_behind None first more fault e = let same : at_line first.number (version_flaw first.words) ≡ fault = cc in
     ap (λ (f : ScriptFault). Err f) same
 refused_behind (Some (Sized size)) first more fault e =
     ap (for_unit size) (by_fault (Sized size) first more (first_fault (first ∷ []) more) fault e)

@@ -1,5 +1,5 @@
 -- The significant lines of a text, its first line taken off.
-use Rattle.std.proofs.Common.{◌≡◌, ℕ, ◌+◌, Bool, true, false, cond, List, [], ◌∷◌, ap, ◌∙◌}
+use Rattle.std.proofs.Common.{◌≡◌, ℕ, ◌+◌, true, false, cond, List, [], ◌∷◌, ap}
 use Rattle.std.specs.Prelude.{filter}
 use Rattle.pmp_text.specs.Lines.{words, lines}
 use Rattle.pmp_text.specs.Scripts.{numbered_from, counts, significant_from}
@@ -21,11 +21,7 @@ module _ (number : ℕ) (text : List ℕ) where
           number = number;
           words = words line;
         } ∷ significant_from (number + 1) rest
-    counting_left e = one_left
-        ∙ ap (λ (b : Bool). cond b (record { number = number; words = words line } ∷ significant_from (number + 1) rest)
-        (significant_from (number + 1) rest)) e
+    counting_left e = rw e at one_left
 
     pub skipping_left : counts (words line) ≡ false → significant_from number text ≡ significant_from (number + 1) rest
-    skipping_left e = one_left
-        ∙ ap (λ (b : Bool). cond b (record { number = number; words = words line } ∷ significant_from (number + 1) rest)
-        (significant_from (number + 1) rest)) e
+    skipping_left e = rw e at one_left

@@ -3,6 +3,7 @@ pub mod Bounds
 pub mod BrokenRows
 pub mod CutPieces
 pub mod CutTexts
+pub mod WholeTraces
 pub mod Cuts
 pub mod Digits
 pub mod EntryRows
@@ -14,11 +15,11 @@ pub mod LeastRows
 pub mod Leasts
 pub mod Lefts
 pub mod LineCuts
+pub mod MadeScripts
 pub mod Meanings
 pub mod NoExpectations
 pub mod Numbered
 pub mod Picture
-pub mod PictureTexts
 pub mod PieceFaults
 pub mod Pieces
 pub mod Prefixes

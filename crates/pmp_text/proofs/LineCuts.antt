@@ -13,12 +13,9 @@ use Rattle.csv.specs.declared.parser.State.{State}
 use Rattle.csv.specs.declared.parser.State.TheVariants as st
 use Rattle.csv.specs.Machine.{after_end, is_end, ends_at_end, fields_after, field_after, in_field, start_field}
 use Rattle.csv.specs.Reading.{default_config}
-use Rattle.pmp_text.specs.LongTraces.{Records, is_line_end}
+use Rattle.pmp_text.specs.LongTraces.{Records}
+use Rattle.pmp_text.specs.Tables.{is_line_end, is_broken}
 use Rattle.pmp_text.proofs.SplitRecords.{turn, split, Fits, fits_on}
-
--- a field has a line end
-abbrev pub is_broken : List (List ℕ) → Bool
-is_broken fields = list_any (λ field. list_any is_line_end field) fields
 
 -- ---- one byte
 

@@ -6,8 +6,8 @@ use Rattle.std.proofs.lemmas.Bool.{cond-true, cond-false, lt-ltb, le-ltb}
 use Rattle.std.proofs.lemmas.Slice.Eq.{bytes_eq-Decides}
 use Rattle.pmp_core.specs.declared.size.Size.{Size}
 use Rattle.pmp_core.specs.declared.size.Size.TheVariants.{Sixteen}
-use Rattle.pmp_text.specs.declared.script.ScriptKind.{ScriptKind}
-use Rattle.pmp_text.specs.declared.script.ScriptKind.TheVariants.{BadVersion, BadLine, TooLong}
+use Rattle.pmp_text.specs.declared.flaw.Flaw.{Flaw}
+use Rattle.pmp_text.specs.declared.refusal.Refusal.TheVariants.{BadVersion, BadLine, TooLong}
 use Rattle.pmp_text.specs.declared.script.ScriptFault.{ScriptFault}
 use Rattle.pmp_text.specs.declared.script.statement.Statement.{Statement}
 use Rattle.pmp_text.specs.declared.expectation.Expectation.{Expectation}
@@ -16,7 +16,7 @@ use Rattle.pmp_text.specs.declared.script.version.Version.{Version}
 use Rattle.pmp_text.specs.declared.script.version.Version.TheVariants.{Sized, Headed}
 use Rattle.pmp_text.specs.Contents.{Publications}
 use Rattle.pmp_text.specs.Statements.{statement_of}
-use Rattle.pmp_text.specs.Scripts.{Line, at_line, counted, ends_head, says_same}
+use Rattle.pmp_text.specs.Scripts.{Line, counted, ends_head, says_same, version_flaw}
 use Rattle.pmp_text.specs.Scripts.{first_fault}
 use Rattle.pmp_text.specs.Scripts.{head_lines, expected_from}
 use Rattle.pmp_text.specs.Scripts.{fault_or_publications}
@@ -29,24 +29,25 @@ use Rattle.pmp_text.specs.Steps.Progress.{concluded}
 use Rattle.pmp_text.specs.declared.script.reader.TheConstants.{MAX_SCRIPT}
 use Rattle.pmp_text.proofs.NoExpectations.{expects_nothing}
 use Rattle.pmp_text.proofs.Resumed.{Knows, meant_from-nothing, read_of, reading_means}
+use Rattle.pmp_text.specs.Flaws.{at_line, part, as_whole}
 
 -- ---- from the version line on
 
 two_words : (version : Version) (name number : List ℕ) → name ≡ codes "pmp"
-    → statement_of version (name ∷ number ∷ []) ≡ Err BadLine
+    → statement_of version (name ∷ number ∷ []) ≡ Err (part 0 BadLine)
 unfolding statement_of
 two_words (Sized size) name number e = ap (λ (word : List ℕ). statement_of (Sized size) (word ∷ number ∷ [])) e
 two_words Headed name number e = ap (λ (word : List ℕ). statement_of Headed (word ∷ number ∷ [])) e
 
 by_name : (is : Bool) (name number : List ℕ) (version : Version) → bytes_eq name (codes "pmp") ≡ is
     → cond is (version_numbered number) None ≡ Some version → (any : Version)
-    → statement_of any (name ∷ number ∷ []) ≡ Err BadLine
+    → statement_of any (name ∷ number ∷ []) ≡ Err (part 0 BadLine)
 by_name true name number version is e any = two_words any name number ((bytes_eq-Decides name (codes "pmp")).0 is)
 by_name false name number version is e any = absurd cc
 
 -- the version line is no statement
 no_statement : (words : List (List ℕ)) (version : Version) → version_named words ≡ Some version → (any : Version)
-    → statement_of any words ≡ Err BadLine
+    → statement_of any words ≡ Err (part 0 BadLine)
 unfolding version_named
 no_statement [] version e any = absurd cc
 no_statement (name ∷ []) version e any = absurd cc
@@ -88,7 +89,7 @@ as_concluded Headed first more =
     (first_fault (first ∷ []) more) (first_unpublished Headed more)
 
 module _ (text : List ℕ) where
-  pub long_script : MAX_SCRIPT < length text → script_meaning text ≡ Err (at_line 0 TooLong)
+  pub long_script : MAX_SCRIPT < length text → script_meaning text ≡ Err (at_line 0 (as_whole TooLong))
   unfolding script_meaning
   long_script long = cond-true _ _ _ (lt-ltb MAX_SCRIPT (length text) long)
 
@@ -97,11 +98,11 @@ module _ (text : List ℕ) where
     unfolding script_meaning
     by_lines = cond-false _ _ _ (le-ltb MAX_SCRIPT (length text) short)
 
-    pub no_version : significant_lines text ≡ [] → script_meaning text ≡ Err (at_line 1 BadVersion)
+    pub no_version : significant_lines text ≡ [] → script_meaning text ≡ Err (at_line 1 (as_whole BadVersion))
     no_version lines = by_lines ∙ ap lines_meaning lines
 
     module _ (first : Line) (more : List Line) (lines : significant_lines text ≡ first ∷ more) where
-      pub no_size : version_named first.words ≡ None → script_meaning text ≡ Err (at_line first.number BadVersion)
+      pub no_size : version_named first.words ≡ None → script_meaning text ≡ Err (at_line first.number (version_flaw first.words))
       no_size e = by_lines ∙ ap lines_meaning lines ∙ ap (meaning_behind first more) e
 
       module _ (version : Version) (named : version_named first.words ≡ Some version) where
@@ -109,12 +110,12 @@ module _ (text : List ℕ) where
         begins =
             let no = no_statement first.words version named version in
             record {
-              count = sym (ap (λ (r : Result Statement ScriptKind). counted r 0) no);
-              over = sym (ap (λ (r : Result Statement ScriptKind). ends_head r || false) no);
-              said = λ here. sym (ap (λ (r : Result Statement ScriptKind). says_same here r || false) no);
+              count = sym (ap (λ (r : Result Statement Flaw). counted r 0) no);
+              over = sym (ap (λ (r : Result Statement Flaw). ends_head r || false) no);
+              said = λ here. sym (ap (λ (r : Result Statement Flaw). says_same here r || false) no);
             }
 
-        read_from_nothing : fault_or_publications (first_fault (first ∷ []) more) (first_unpublished version more)
+        pub read_from_nothing : fault_or_publications (first_fault (first ∷ []) more) (first_unpublished version more)
             (read_of version (publications version more) (head_lines version more) (expected_from version 0 more))
             ≡ resumed version nothing_begun more
         read_from_nothing =

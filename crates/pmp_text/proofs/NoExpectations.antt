@@ -3,8 +3,8 @@ use Rattle.std.proofs.Common.{◌≡◌, ℕ, ◌+◌, Bool, true, false, cond, 
 use Rattle.std.proofs.Common.{Result, Ok, Err, refl}
 use Rattle.std.specs.Prelude.{codes, bytes_eq, ⊤}
 use Rattle.pmp_core.specs.declared.size.Size.{Size}
-use Rattle.pmp_text.specs.declared.script.ScriptKind.{ScriptKind}
-use Rattle.pmp_text.specs.declared.script.ScriptKind.TheVariants.{BadLine}
+use Rattle.pmp_text.specs.declared.flaw.Flaw.{Flaw}
+use Rattle.pmp_text.specs.declared.refusal.Refusal.TheVariants.{BadLine}
 use Rattle.pmp_text.specs.declared.script.statement.Statement.{Statement}
 use Rattle.pmp_text.specs.declared.script.statement.Statement.TheVariants as statement
 use Rattle.pmp_text.specs.declared.expectation.Expectation.{Expectation}
@@ -12,21 +12,22 @@ use Rattle.pmp_text.specs.declared.script.version.Version.TheVariants.{Sized}
 use Rattle.pmp_core.specs.declared.csr.Csr.{Csr}
 use Rattle.pmp_core.specs.declared.event.Event.TheVariants.{Write, Reset}
 use Rattle.pmp_text.specs.Statements.{assignment, statement_of, without_operands, write_statement}
+use Rattle.pmp_text.specs.Flaws.{part}
 use Rattle.pmp_text.specs.Scripts.{Line}
 use Rattle.pmp_text.specs.Scripts.{expected_by, expected_from}
 
-abbrev ExpectsNone : Result Statement ScriptKind → Type 0
+abbrev ExpectsNone : Result Statement Flaw → Type 0
 ExpectsNone (Ok (statement.Expect register value)) = ⊥
 ExpectsNone (Ok (statement.Event event)) = ⊤
 ExpectsNone (Ok statement.Publish) = ⊤
 ExpectsNone (Ok (statement.Head says)) = ⊤
 ExpectsNone (Err kind) = ⊤
 
-by_word : (is : Bool) (a b : Result Statement ScriptKind) → ExpectsNone a → ExpectsNone b → ExpectsNone (cond is a b)
+by_word : (is : Bool) (a b : Result Statement Flaw) → ExpectsNone a → ExpectsNone b → ExpectsNone (cond is a b)
 by_word true a b x y = x
 by_word false a b x y = y
 
-by_assignment : (r : Result (Csr × ℕ) ScriptKind) → ExpectsNone (elim r [
+by_assignment : (r : Result (Csr × ℕ) Flaw) → ExpectsNone (elim r [
   | Ok (csr, value) ↦ Ok (statement.Event (Write csr value))
   | Err kind ↦ Err kind
 ])
@@ -41,22 +42,13 @@ by_operands says (word ∷ more) none = tt
 expects_none : (size : Size) (words : List (List ℕ)) → ExpectsNone (statement_of (Sized size) words)
 unfolding statement_of
 expects_none size [] = tt
-expects_none size (word ∷ operands) =
-    let published : ExpectsNone (cond (bytes_eq word (codes "publish"))
-    (without_operands statement.Publish operands) (Err BadLine)) =
-    by_word (bytes_eq word (codes "publish")) (without_operands statement.Publish operands) (Err BadLine)
-    (by_operands statement.Publish operands tt) tt in
-    let reset : ExpectsNone (cond (bytes_eq word (codes "reset")) (without_operands (statement.Event Reset) operands)
-    (cond (bytes_eq word (codes "publish")) (without_operands statement.Publish operands) (Err BadLine))) =
-    by_word (bytes_eq word (codes "reset")) (without_operands (statement.Event Reset) operands)
-    (cond (bytes_eq word (codes "publish")) (without_operands statement.Publish operands) (Err BadLine))
-    (by_operands (statement.Event Reset) operands tt) published in
-    by_word (bytes_eq word (codes "write")) (write_statement operands)
-    (cond (bytes_eq word (codes "reset")) (without_operands (statement.Event Reset) operands)
-    (cond (bytes_eq word (codes "publish")) (without_operands statement.Publish operands) (Err BadLine)))
-    (by_assignment (assignment operands)) reset
+expects_none size (word ∷ operands) = by_word (bytes_eq word (codes "write")) (write_statement operands) _
+    (by_assignment (assignment operands)) (by_word (bytes_eq word (codes "reset"))
+    (without_operands (statement.Event Reset) operands) _ (by_operands (statement.Event Reset) operands tt)
+    (by_word (bytes_eq word (codes "publish")) (without_operands statement.Publish operands) (Err (part 0 BadLine))
+    (by_operands statement.Publish operands tt) tt))
 
-none_by : (events number : ℕ) (says : Result Statement ScriptKind) (rest : ℕ → List Expectation) → ExpectsNone says
+none_by : (events number : ℕ) (says : Result Statement Flaw) (rest : ℕ → List Expectation) → ExpectsNone says
     → ((events : ℕ) → rest events ≡ []) → expected_by events number says rest ≡ []
 none_by events number (Ok (statement.Event event)) rest none same = same (events + 1)
 none_by events number (Ok statement.Publish) rest none same = same events

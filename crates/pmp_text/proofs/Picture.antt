@@ -1,12 +1,10 @@
 -- The bands of a picture, one after another, and what stands above them.
-use Rattle.std.proofs.Common.{◌≡◌, ℕ, ◌+◌, ◌<◌, ◌≤◌, Bool, true, false, List, [], ◌∷◌, ◌++◌}
-use Rattle.std.proofs.Common.{length, get_or, take, refl, sym, ap, ◌∙◌, append_assoc, arith}
+use Rattle.std.proofs.Common.{◌≡◌, ℕ, ◌+◌, ◌<◌, ◌≤◌, List, [], ◌∷◌, ◌++◌}
+use Rattle.std.proofs.Common.{length, get_or, take, sym, ap, ◌∙◌, append_assoc, arith}
 use Rattle.std.specs.List.{enumerate_from, flat_map}
 use Rattle.std.proofs.lemmas.List.{flat_map_more, get_or_default, length-take-le, take_more}
-use Rattle.pmp_core.specs.declared.mseccfg.MseccfgFields.{MseccfgFields}
 use Rattle.pmp_core.specs.declared.access.TheConstants.{ADDRESS_LIMIT}
 use Rattle.pmp_core.specs.Decision.{IsOwner}
-use Rattle.pmp_core.specs.Mseccfg.{mseccfg_fields, mseccfg_value}
 use Rattle.pmp_core.specs.RegisterFile.{RegisterFile}
 use Rattle.pmp_map.specs.declared.run.Run.{Run}
 use Rattle.pmp_map.specs.Runs.{AreRuns, run_at}
@@ -15,40 +13,15 @@ use Rattle.pmp_text.specs.Picture.{band, bands}
 use Rattle.pmp_text.proofs.Numbered.{enumerate_from-push}
 
 -- a text that was appended after another
-pub joined : (old first last text more : List ℕ) → first ≡ old ++ text → last ≡ first ++ more
+joined : (old first last text more : List ℕ) → first ≡ old ++ text → last ≡ first ++ more
     → last ≡ old ++ (text ++ more)
 joined old first last text more one other = other ∙ ap (λ (l : List ℕ). l ++ more) one ∙ append_assoc old text more
-
--- six texts that were appended one after another
-pub six_texts : (old t₁ t₂ t₃ t₄ t₅ new a b c d e f : List ℕ) → t₁ ≡ old ++ a → t₂ ≡ t₁ ++ b → t₃ ≡ t₂ ++ c
-    → t₄ ≡ t₃ ++ d → t₅ ≡ t₄ ++ e → new ≡ t₅ ++ f → new ≡ old ++ (a ++ (b ++ (c ++ (d ++ (e ++ f)))))
-six_texts old t₁ t₂ t₃ t₄ t₅ new a b c d e f first second third fourth fifth last =
-    joined old t₁ new a (b ++ (c ++ (d ++ (e ++ f)))) first
-    (joined t₁ t₂ new b (c ++ (d ++ (e ++ f))) second
-    (joined t₂ t₃ new c (d ++ (e ++ f)) third
-    (joined t₃ t₄ new d (e ++ f) fourth (joined t₄ t₅ new e f fifth last))))
 
 -- three texts that were appended one after another
 pub three_appended : (old t₁ t₂ new a b c : List ℕ) → t₁ ≡ old ++ a → t₂ ≡ t₁ ++ b → new ≡ t₂ ++ c
     → new ≡ old ++ (a ++ (b ++ c))
 three_appended old t₁ t₂ new a b c first second last =
     joined old t₁ new a (b ++ c) first (joined t₁ t₂ new b c second last)
-
-by_bits : (mml mmwp rlb : Bool) → let mseccfg : MseccfgFields =
-    record { mml = mml; mmwp = mmwp; rlb = rlb } in mseccfg_fields (mseccfg_value mseccfg) ≡ mseccfg
-by_bits true true true = refl
-by_bits true true false = refl
-by_bits true false true = refl
-by_bits true false false = refl
-by_bits false true true = refl
-by_bits false true false = refl
-by_bits false false true = refl
-by_bits false false false = refl
-
--- the value of mseccfg has its bits
-pub bits_of_value : (bits : ℕ) (mseccfg : MseccfgFields) → bits ≡ mseccfg_value mseccfg
-    → mseccfg_fields bits ≡ mseccfg
-bits_of_value bits mseccfg is = ap mseccfg_fields is ∙ by_bits mseccfg.mml mseccfg.mmwp mseccfg.rlb
 
 -- a run isn't empty, and ends in memory
 module _ (file : RegisterFile) (runs : List Run) (are : AreRuns file runs) (k : ℕ) (inside : k < length runs)

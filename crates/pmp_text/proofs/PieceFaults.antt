@@ -2,22 +2,29 @@
 use Rattle.std.proofs.Common.{◌≡◌, ℕ, suc, ◌+◌, Bool, true, false, cond, List, [], ◌∷◌, ◌++◌, length, map, Option, Some}
 use Rattle.std.proofs.Common.{None, Ok, Err, IfOk, Result, refl, sym, ap, ◌∙◌, inl, inr, arith}
 use Rattle.std.specs.Prelude.{filter_map, option_map}
+use Rattle.std.specs.List.{position_from}
 use Rattle.std.specs.Option.{option_or}
 use Rattle.std.proofs.lemmas.List.{length-append}
 use Rattle.std.proofs.lemmas.List.Elements.{filter_map-append}
 use Rattle.pmp_text.specs.declared.trace.TraceFault.{TraceFault}
-use Rattle.pmp_text.specs.declared.trace.TraceKind.TheVariants.{BadHeader, BadRow}
+use Rattle.pmp_text.specs.declared.refusal.Refusal.TheVariants.{BadHeader, BadRow}
 use Rattle.pmp_text.specs.declared.trace.piece.Piece.{Piece}
 use Rattle.pmp_text.specs.declared.trace.piece.Place.{Place}
-use Rattle.pmp_text.specs.LongTraces.{IsReadAs, Records, first_fault_at, has_begun, is_line_end, last_after}
+use Rattle.pmp_text.specs.LongTraces.{IsReadAs, Records, first_fault_at, has_begun, is_bare_record, last_after}
+use Rattle.pmp_text.specs.Tables.{is_line_end}
 use Rattle.pmp_text.specs.LongTraces.{piece_fault, place_behind, row_records}
-use Rattle.pmp_text.specs.Tables.{at_row, records_of}
+use Rattle.pmp_text.specs.Tables.{records_of}
 use Rattle.pmp_text.specs.TraceFaults.{IsInOrder, afters}
-use Rattle.pmp_text.specs.Traces.{after_of, first_row_fault, is_header, row_fault, row_fields, row_of_record}
+use Rattle.pmp_text.specs.Traces.{after_of, first_row_fault, is_header, row_fault, row_fields, row_of_record, row_in}
 use Rattle.pmp_text.proofs.BrokenRows.{no_row, no_header}
 use Rattle.pmp_text.proofs.CutTexts.{IsApart, cut_in_two}
-use Rattle.pmp_text.proofs.LineCuts.{is_broken}
+use Rattle.pmp_text.specs.Tables.{is_broken}
 use Rattle.pmp_text.proofs.LeastRows.{least_of, rows_in_order}
+use Rattle.pmp_text.specs.Flaws.{at_row, as_whole}
+
+or_assoc : {X : Type 0} (x y z : Option X) → option_or x (option_or y z) ≡ option_or (option_or x y) z
+or_assoc None y z = refl
+or_assoc (Some fault) y z = refl
 
 module _ (publications : ℕ) where
   from_none : (least : ℕ) (order : List ℕ) → IsInOrder publications least order → IsInOrder publications 0 order
@@ -30,7 +37,7 @@ module _ (publications : ℕ) where
       (rows_in_order publications rows last next e)
 
   pub behind : (named : Bool) (last : Option ℕ) (next : ℕ) (rows : Records)
-      → cond named (first_row_fault publications last next rows) (Some (at_row 0 BadHeader)) ≡ None
+      → cond named (first_row_fault publications last next rows) (Some (at_row 0 (as_whole BadHeader))) ≡ None
       → first_row_fault publications last next rows ≡ None
   behind true last next rows e = e
   behind false last next rows e = absurd cc
@@ -53,10 +60,6 @@ module _ (publications : ℕ) where
 
   -- ---- records after records
 
-  or_assoc : (x y z : Option TraceFault) → option_or x (option_or y z) ≡ option_or (option_or x y) z
-  or_assoc None y z = refl
-  or_assoc (Some fault) y z = refl
-
   from_next : (rows : Records) (last : Option ℕ) (next : ℕ)
       → first_row_fault publications last next rows ≡ first_row_fault publications last (next + 0) rows
   from_next rows last next = let same : next ≡ next + 0 = omega arith in
@@ -68,7 +71,7 @@ module _ (publications : ℕ) where
       (first_row_fault publications (last_after last rows) (next + length rows) more)
   rows_in_turn [] more last next = from_next more last next
   rows_in_turn (row ∷ rows) more last next =
-      let here = option_map (at_row next) (row_fault publications last (row_of_record row)) in
+      let here = option_map (at_row next) (row_fault publications last (row_in row)) in
       let after = after_of (row_of_record row) in
       let number : next + 1 + length rows ≡ next + suc (length rows) = omega arith in
       ap (option_or here) (rows_in_turn rows more after (next + 1))
@@ -83,8 +86,8 @@ module _ (publications : ℕ) where
         (last_after last (row_records begun records)) (next + length (row_records begun records)) more
 
     by_header : (named : Bool) (rows more : Records)
-        → cond named (first_row_fault publications last next (rows ++ more)) (Some (at_row 0 BadHeader))
-        ≡ option_or (cond named (first_row_fault publications last next rows) (Some (at_row 0 BadHeader)))
+        → cond named (first_row_fault publications last next (rows ++ more)) (Some (at_row 0 (as_whole BadHeader)))
+        ≡ option_or (cond named (first_row_fault publications last next rows) (Some (at_row 0 (as_whole BadHeader))))
         (first_row_fault publications (last_after last rows) (next + length rows) more)
     by_header true rows more = rows_in_turn rows more last next
     by_header false rows more = refl
@@ -100,7 +103,7 @@ module _ (publications : ℕ) where
   -- ---- a broken record
 
   abbrev broken_fault : Bool → ℕ → TraceFault
-  broken_fault begun next = cond begun (at_row next BadRow) (at_row 0 BadHeader)
+  broken_fault begun next = cond begun (at_row next (as_whole BadRow)) (at_row 0 (as_whole BadHeader))
 
   broken_here : (begun : Bool) (last : Option ℕ) (next : ℕ) (one : List (List ℕ)) (rest : Records)
       → is_broken one ≡ true
@@ -169,6 +172,39 @@ last_apart : (rows more : Records) (last : Option ℕ)
 last_apart [] more last = refl
 last_apart (row ∷ rows) more last = last_apart rows more (after_of (row_of_record row))
 
+-- ---- the first place that passes
+
+module _ {X : Type 0} (test : X → Bool) where
+  pub position_apart : (xs more : List X) (next : ℕ) → position_from test next (xs ++ more)
+      ≡ option_or (position_from test next xs) (position_from test (next + length xs) more)
+  position_apart [] more next =
+      let same : next ≡ next + 0 = omega arith in ap (λ (n : ℕ). position_from test n more) same
+  position_apart (x ∷ xs) more next = by (test x) (position_apart xs more (next + 1))
+    where
+      by : (passes : Bool) → position_from test (next + 1) (xs ++ more)
+          ≡ option_or (position_from test (next + 1) xs) (position_from test (next + 1 + length xs) more)
+          → cond passes (Some next) (position_from test (next + 1) (xs ++ more))
+          ≡ option_or (cond passes (Some next) (position_from test (next + 1) xs))
+          (position_from test (next + suc (length xs)) more)
+      by true later = refl
+      by false later =
+          let number : next + 1 + length xs ≡ next + suc (length xs) = omega arith in
+          later ∙ ap (λ (n : ℕ). option_or (position_from test (next + 1) xs) (position_from test n more)) number
+
+  pub position_shifted : (by next : ℕ) (xs : List X)
+      → option_map (λ n. by + n) (position_from test next xs) ≡ position_from test (by + next) xs
+  position_shifted by next [] = refl
+  position_shifted by next (x ∷ xs) = at (test x) (position_shifted by (next + 1) xs)
+    where
+      at : (passes : Bool) → option_map (λ n. by + n) (position_from test (next + 1) xs)
+          ≡ position_from test (by + (next + 1)) xs
+          → option_map (λ n. by + n) (cond passes (Some next) (position_from test (next + 1) xs))
+          ≡ cond passes (Some (by + next)) (position_from test (by + next + 1) xs)
+      at true later = refl
+      at false later =
+          let number : by + (next + 1) ≡ by + next + 1 = omega arith in
+          later ∙ ap (λ (n : ℕ). position_from test n xs) number
+
 -- where records stand that follow on records
 pub places_in_turn : (place : Place) (records more : Records)
     → place_behind place (records ++ more) ≡ place_behind (place_behind place records) more
@@ -179,15 +215,21 @@ places_in_turn place records more =
     let all : row_records place.begun (records ++ more) ≡ rows ++ later = rows_apart place.begun records more in
     let number : place.next + length (rows ++ later) ≡ place.next + length rows + length later =
     let many = length-append rows later in omega arith in
+    let bare : option_or place.bare (position_from is_bare_record place.next (rows ++ later))
+    ≡ option_or (option_or place.bare (position_from is_bare_record place.next rows))
+    (position_from is_bare_record (place.next + length rows) later) =
+    ap (option_or place.bare) (position_apart is_bare_record rows later place.next) ∙ or_assoc place.bare _ _ in
     (λ i. record {
       begun = begun_apart place.begun records more i;
       last = last_after place.last (all i);
       next = place.next + length (all i);
+      bare = option_or place.bare (position_from is_bare_record place.next (all i));
     })
     ∙ (λ i. record {
       begun = has_begun begun more;
       last = last_apart rows later place.last i;
       next = number i;
+      bare = bare i;
     })
 
 pub rows_in_two : (begun : Bool) (records more : Records)

@@ -8,12 +8,12 @@ use Rattle.pmp_core.specs.declared.csr.Csr.{Csr}
 use Rattle.pmp_core.specs.declared.csr.Csr.TheVariants.{Cfg, Addr, Mseccfg}
 use Rattle.pmp_core.specs.declared.csr.CsrFault.{CsrFault}
 use Rattle.pmp_core.specs.Csr.{numbered}
-use Rattle.pmp_text.specs.declared.script.ScriptKind.{ScriptKind}
+use Rattle.pmp_text.specs.declared.refusal.Refusal.{Refusal}
 use Rattle.pmp_text.specs.Names.{register_name, register_named, register_number, plain_number}
 use Rattle.pmp_text.specs.Numbers.{numeral, is_numeral}
 
 -- the answer is this register
-is_answer : Csr → Result Csr ScriptKind → Bool
+is_answer : Csr → Result Csr Refusal → Bool
 is_answer csr (Err kind) = false
 is_answer (Cfg number) (Ok (Cfg other)) = other == number
 is_answer (Cfg number) (Ok (Addr other)) = false
@@ -25,7 +25,7 @@ is_answer Mseccfg (Ok Mseccfg) = true
 is_answer Mseccfg (Ok (Cfg other)) = false
 is_answer Mseccfg (Ok (Addr other)) = false
 
-answered : (csr : Csr) (answer : Result Csr ScriptKind) → is_answer csr answer ≡ true → answer ≡ Ok csr
+answered : (csr : Csr) (answer : Result Csr Refusal) → is_answer csr answer ≡ true → answer ≡ Ok csr
 unfolding is_answer
 answered csr (Err kind) e = cc
 answered (Cfg number) (Ok (Cfg other)) e = ap (λ n. Ok (Cfg n)) (eqb-true other number e)

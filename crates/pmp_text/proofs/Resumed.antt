@@ -8,8 +8,8 @@ use Rattle.std.proofs.lemmas.List.Folds.{list_any-append}
 use Rattle.std.proofs.lemmas.List.{append-nil, length-append}
 use Rattle.pmp_core.specs.declared.event.Event.{Event}
 use Rattle.pmp_core.specs.declared.event.TheConstants.{BATCH_EVENTS}
-use Rattle.pmp_text.specs.declared.script.ScriptKind.{ScriptKind}
-use Rattle.pmp_text.specs.declared.script.ScriptKind.TheVariants.{BatchFull}
+use Rattle.pmp_text.specs.declared.flaw.Flaw.{Flaw}
+use Rattle.pmp_text.specs.declared.refusal.Refusal.TheVariants.{BatchFull}
 use Rattle.pmp_text.specs.declared.script.ScriptFault.{ScriptFault}
 use Rattle.pmp_text.specs.declared.script.statement.Statement.{Statement}
 use Rattle.pmp_text.specs.declared.script.statement.Statement.TheVariants as statement
@@ -21,7 +21,7 @@ use Rattle.pmp_text.specs.Contents.{Publications}
 use Rattle.pmp_core.specs.declared.csr.Csr.{Csr}
 use Rattle.pmp_text.specs.Heads.{is_same}
 use Rattle.pmp_text.specs.Statements.{statement_of}
-use Rattle.pmp_text.specs.Scripts.{Line, at_line, counted, ends_head, says_same, open_events, is_over, is_said}
+use Rattle.pmp_text.specs.Scripts.{Line, counted, ends_head, says_same, open_events, is_over, is_said}
 use Rattle.pmp_text.specs.Scripts.{head_fault, statement_fault, fault_behind, line_fault, first_fault, event_of}
 use Rattle.pmp_text.specs.Scripts.{event_in, head_line_in, head_lines, expected_by, expected_from}
 use Rattle.pmp_text.specs.Scripts.{publishes, fault_or_publications}
@@ -34,6 +34,7 @@ use Rattle.pmp_text.specs.Steps.Progress.{with_head, with_expected, after_statem
 use Rattle.pmp_text.proofs.Published.{all_from, all_from-event, all_from-nothing, all_from-passed, all_from-published}
 use Rattle.pmp_text.proofs.Published.{pieces_of, same_publications, since_from, since_from-event, since_from-nothing}
 use Rattle.pmp_text.proofs.Published.{since_from-passed, since_from-published, some_piece}
+use Rattle.pmp_text.specs.Flaws.{at_line, as_whole}
 
 module _ (version : Version) where
   -- what is read in the end, where these lines follow, cut into these pieces
@@ -97,11 +98,11 @@ module _ (version : Version) where
     abbrev cut : Bool → List (List Line)
     cut publish = cond publish ([] ∷ pieces_of version more) (onto_first line (pieces_of version more))
 
-    abbrev faulty : Result Statement ScriptKind → Option ScriptKind
+    abbrev faulty : Result Statement Flaw → Option Flaw
     faulty says = statement_fault (open_events version (last ∷ front)) (is_over version (last ∷ front))
         (is_said version (last ∷ front)) says
 
-    abbrev means : Result Statement ScriptKind → Result Read ScriptFault
+    abbrev means : Result Statement Flaw → Result Read ScriptFault
     means says = meant_by so_far (option_or (option_map (at_line line.number) (faulty says)) later)
         (line ∷ more) (cut (publishes says))
 
@@ -109,25 +110,25 @@ module _ (version : Version) where
     own : line_fault (last ∷ front) line ≡ faulty (statement_of version line.words)
     own = ap (λ (v : Version). fault_behind v (last ∷ front) line) above
 
-    agree : (says : Result Statement ScriptKind) → statement_of version line.words ≡ says
+    agree : (says : Result Statement Flaw) → statement_of version line.words ≡ says
         → reads (after_statement so_far line.number says) ≡ means says
         → resumed version so_far (line ∷ more) ≡ meant_from so_far (last ∷ front) (line ∷ more)
-    agree says e same = ap (λ (r : Result Statement ScriptKind). reads (after_statement so_far line.number r)) e ∙ same
+    agree says e same = ap (λ (r : Result Statement Flaw). reads (after_statement so_far line.number r)) e ∙ same
         ∙ sym (ap means e)
-        ∙ sym (ap (λ (f : Option ScriptKind). meant_by so_far (option_or (option_map (at_line line.number) f) later)
+        ∙ sym (ap (λ (f : Option Flaw). meant_by so_far (option_or (option_map (at_line line.number) f) later)
         (line ∷ more) (cut (publishes (statement_of version line.words)))) own)
 
     -- what the line adds to the head and to what is expected
-    head_here : (says : Result Statement ScriptKind) → statement_of version line.words ≡ says
+    head_here : (says : Result Statement Flaw) → statement_of version line.words ≡ says
         → head_lines version (line ∷ more)
         ≡ cons_option (head_line_in line.number says) (head_lines version more)
-    head_here says e = ap (λ (r : Result Statement ScriptKind).
+    head_here says e = ap (λ (r : Result Statement Flaw).
         cons_option (head_line_in line.number r) (head_lines version more)) e
 
-    expected_here : (says : Result Statement ScriptKind) → statement_of version line.words ≡ says
+    expected_here : (says : Result Statement Flaw) → statement_of version line.words ≡ says
         → expected_from version so_far.events (line ∷ more)
         ≡ expected_by so_far.events line.number says (λ events. expected_from version events more)
-    expected_here says e = ap (λ (r : Result Statement ScriptKind).
+    expected_here says e = ap (λ (r : Result Statement Flaw).
         expected_by so_far.events line.number r (λ events. expected_from version events more)) e
 
     publish_agrees : statement_of version line.words ≡ Ok statement.Publish
@@ -172,10 +173,7 @@ module _ (version : Version) where
       abbrev next_head : Reading
       next_head = record so_far { head = longer_head so_far.head line.number says }
 
-      head_own : Option ScriptKind → Option ScriptFault
-      head_own fault = option_map (at_line line.number) fault
-
-      by_fault : (fault : Option ScriptKind)
+      by_fault : (fault : Option Flaw)
           → (fault ≡ None → resumed version next_head more ≡ meant_by so_far later (line ∷ more) (cut false))
           → reads (with_head so_far (unless line.number fault (longer_head so_far.head line.number says)))
           ≡ meant_by so_far (option_or (option_map (at_line line.number) fault) later) (line ∷ more) (cut false)
@@ -205,12 +203,12 @@ module _ (version : Version) where
 
       -- the fault of the event itself, by whether the open batch has room for it
       abbrev own_fault : (room : Bool) → Option ScriptFault
-      own_fault room = option_map (at_line line.number) (cond room None (Some BatchFull))
+      own_fault room = option_map (at_line line.number) (cond room None (Some (as_whole BatchFull)))
 
       by_room : (room : Bool)
           → (room ≡ true → resumed version next_one more ≡ meant_by so_far later (line ∷ more) (cut false))
           → reads (with_progress so_far
-          (cond room (Ok (longer so_far.progress line.number event)) (Err (at_line line.number BatchFull))))
+          (cond room (Ok (longer so_far.progress line.number event)) (Err (at_line line.number (as_whole BatchFull)))))
           ≡ meant_by so_far (option_or (own_fault room) later) (line ∷ more) (cut false)
       by_room true same = same refl
       by_room false same = refl
@@ -234,17 +232,17 @@ module _ (version : Version) where
   -- ---- what is known behind one line more
 
   module _ (so_far : Reading) (front : List Line) (knows : Knows so_far front) (line : Line) where
-    counted_as : (says : Result Statement ScriptKind) → statement_of version line.words ≡ says
+    counted_as : (says : Result Statement Flaw) → statement_of version line.words ≡ says
         → counted says (open_events version front) ≡ open_events version (line ∷ front)
-    counted_as says e = sym (ap (λ (r : Result Statement ScriptKind). counted r (open_events version front)) e)
+    counted_as says e = sym (ap (λ (r : Result Statement Flaw). counted r (open_events version front)) e)
 
-    over_as : (says : Result Statement ScriptKind) → statement_of version line.words ≡ says
+    over_as : (says : Result Statement Flaw) → statement_of version line.words ≡ says
         → (ends_head says || is_over version front) ≡ is_over version (line ∷ front)
-    over_as says e = sym (ap (λ (r : Result Statement ScriptKind). ends_head r || is_over version front) e)
+    over_as says e = sym (ap (λ (r : Result Statement Flaw). ends_head r || is_over version front) e)
 
-    said_as : (here : HeadStatement) (says : Result Statement ScriptKind) → statement_of version line.words ≡ says
+    said_as : (here : HeadStatement) (says : Result Statement Flaw) → statement_of version line.words ≡ says
         → (says_same here says || is_said version front here) ≡ is_said version (line ∷ front) here
-    said_as here says e = sym (ap (λ (r : Result Statement ScriptKind).
+    said_as here says e = sym (ap (λ (r : Result Statement Flaw).
         says_same here r || is_said version front here) e)
 
     knows_publish : statement_of version line.words ≡ Ok statement.Publish → Knows (with_publish so_far) (line ∷ front)
@@ -299,7 +297,7 @@ module _ (version : Version) where
   HoldsOf lines = (so_far : Reading) (last : Line) (front : List Line) → version_above (last ∷ front) ≡ version
       → Knows so_far (last ∷ front) → resumed version so_far lines ≡ meant_from so_far (last ∷ front) lines
 
-  by_saying : (says : Result Statement ScriptKind) (line : Line) (more : List Line)
+  by_saying : (says : Result Statement Flaw) (line : Line) (more : List Line)
       → statement_of version line.words ≡ says → HoldsOf more → HoldsOf (line ∷ more)
   by_saying (Err kind) line more says same so_far last front above knows =
       agree so_far last front above knows line more (Err kind) says refl

@@ -1,23 +1,17 @@
 -- Reading row by row gives what all rows mean.
-use Rattle.std.proofs.Common.{◌≡◌, ℕ, ◌+◌, ◌<◌, ◌≤◌, Bool, true, false, cond, List, [], ◌∷◌, ◌++◌, length, Option}
-use Rattle.std.proofs.Common.{Some, None, Result, Err, refl, sym, ap, ◌∙◌, append_assoc}
+use Rattle.std.proofs.Common.{◌≡◌, ℕ, ◌+◌, ◌<◌, ◌≤◌, Bool, true, cond, List, [], ◌∷◌, ◌++◌, length, Ok}
+use Rattle.std.proofs.Common.{None, Result, Err, refl, sym, ap, ◌∙◌, append_assoc}
 use Rattle.std.specs.Prelude.{filter_map}
 use Rattle.std.proofs.lemmas.Bool.{cond-true, cond-false, lt-ltb, le-ltb}
-use Rattle.pmp_text.specs.declared.trace.row_fields.RowFields.{RowFields}
-use Rattle.pmp_text.specs.declared.trace.TraceKind.TheVariants.{BadHeader, TooLong}
+use Rattle.pmp_text.specs.declared.refusal.Refusal.TheVariants.{BadHeader, TooLong}
 use Rattle.pmp_text.specs.declared.trace.TraceFault.{TraceFault}
-use Rattle.pmp_text.specs.Tables.{at_row, behind_header, fault_or_rows, records_of, within_limit}
-use Rattle.pmp_text.specs.Traces.{first_row_fault, is_header, row_of_record, rows_meaning, trace_meaning}
+use Rattle.pmp_text.specs.Tables.{behind_header, fault_or_rows, records_of, within_limit}
+use Rattle.pmp_text.specs.Traces.{is_header, rows_meaning, trace_meaning}
 use Rattle.pmp_text.specs.declared.policy.row_fields.PolicyFields.{PolicyFields}
-use Rattle.pmp_text.specs.Policies.{first_policy_fault, policy_meaning, policy_of_record, policy_rows_meaning}
+use Rattle.pmp_text.specs.Policies.{first_policy_fault, policy_meaning, policy_of_record, policy_rows_meaning, policy_in}
 use Rattle.pmp_text.specs.Policies.{is_policy_header, policy_row_fault}
 use Rattle.pmp_text.specs.declared.trace.reader.TheConstants.{MAX_TRACE}
-
--- what is meant where so many rows were read, which say this, the last one `last`, and these records are left
-abbrev pub with_rows_read : (publications : ℕ) → (last : Option ℕ) → (count : ℕ) → List RowFields → List (List (List ℕ))
-    → Result (List RowFields) TraceFault
-with_rows_read publications last count rows left =
-    fault_or_rows (first_row_fault publications last (count + 1) left) (rows ++ filter_map row_of_record left)
+use Rattle.pmp_text.specs.Flaws.{at_row, as_whole}
 
 -- what is meant where so many rows of a policy were read, which say this, and these records are left
 abbrev pub with_policy_read : (publications : ℕ) → (count : ℕ) → List PolicyFields → List (List (List ℕ))
@@ -27,8 +21,8 @@ with_policy_read publications count rows left = fault_or_rows (first_policy_faul
 
 -- one row more of it is read
 pub one_policy_row : (publications count : ℕ) (rows : List PolicyFields) (row : PolicyFields)
-    (fields : List (List ℕ)) (left : List (List (List ℕ))) → policy_of_record publications fields ≡ Some row
-    → policy_row_fault publications (policy_of_record publications fields) ≡ None
+    (fields : List (List ℕ)) (left : List (List (List ℕ))) → policy_in publications fields ≡ Ok row
+    → policy_row_fault publications (policy_in publications fields) ≡ None
     → with_policy_read publications count rows (fields ∷ left)
     ≡ with_policy_read publications (count + 1) (rows ++ row ∷ []) left
 one_policy_row publications count rows row fields left says fine =
@@ -45,7 +39,7 @@ one_policy_row publications count rows row fields left says fine =
 module _ {X : Type 0} (is_header : List (List ℕ) → Bool) (meaning : List (List (List ℕ)) → Result (List X) TraceFault)
   where
     pub long_text : (text : List ℕ) → MAX_TRACE < length text
-        → within_limit (behind_header is_header meaning) text ≡ Err (at_row 0 TooLong)
+        → within_limit (behind_header is_header meaning) text ≡ Err (at_row 0 (as_whole TooLong))
     long_text text long = cond-true _ _ _ (lt-ltb MAX_TRACE (length text) long)
 
     pub by_records : (text : List ℕ) → length text ≤ MAX_TRACE
@@ -53,16 +47,9 @@ module _ {X : Type 0} (is_header : List (List ℕ) → Bool) (meaning : List (Li
     by_records text short = cond-false _ _ _ (le-ltb MAX_TRACE (length text) short)
 
     module _ (records : List (List (List ℕ))) where
-      pub no_record : records ≡ [] → behind_header is_header meaning records ≡ Err (at_row 0 BadHeader)
-      no_record none = ap (behind_header is_header meaning) none
-
       module _ (header : List (List ℕ)) (rows : List (List (List ℕ))) (are : records ≡ header ∷ rows) where
         abbrev with_header : Bool → Result (List X) TraceFault
-        with_header is = cond is (meaning rows) (Err (at_row 0 BadHeader))
-
-        pub other_header : is_header header ≡ false
-            → behind_header is_header meaning records ≡ Err (at_row 0 BadHeader)
-        other_header e = ap (behind_header is_header meaning) are ∙ ap with_header e
+        with_header is = cond is (meaning rows) (Err (at_row 0 (as_whole BadHeader)))
 
         pub this_header : is_header header ≡ true → behind_header is_header meaning records ≡ meaning rows
         this_header e = ap (behind_header is_header meaning) are ∙ ap with_header e

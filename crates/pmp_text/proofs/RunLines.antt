@@ -6,6 +6,7 @@ use Rattle.pmp_text.specs.Steps.Marks.{perms_text}
 
 by_bits : (read write execute : Bool) → let rights : Rights =
     record { read = read; write = write; execute = execute } in perms_text (perms_of rights) ≡ rights_text rights
+unfolding perms_text
 by_bits true true true = refl
 by_bits true true false = refl
 by_bits true false true = refl

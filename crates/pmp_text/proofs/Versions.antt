@@ -1,9 +1,9 @@
 -- What the version of a script makes of it.
 use Rattle.std.proofs.Common.{◌≡◌, ℕ, zero, suc, ◌+◌, ◌≤◌, Bool, true, false, cond, ltb, List, [], ◌∷◌, ◌++◌, length}
-use Rattle.std.proofs.Common.{take, Result, Ok, Err, Some, refl, sym, ap, subst, ◌∙◌, arith, inl, inr}
+use Rattle.std.proofs.Common.{take, Option, Result, Ok, Err, Some, refl, sym, ap, subst, ◌∙◌, arith}
 use Rattle.std.specs.Prelude.{◌↔◌, All, filter, codes}
 use Rattle.std.specs.List.{list_all}
-use Rattle.std.proofs.lemmas.Bool.{and_parts, and_from, cases_lt, cond-true, cond-false}
+use Rattle.std.proofs.lemmas.Bool.{and_parts, and_from, cond-true, cond-false}
 use Rattle.std.proofs.lemmas.List.Elements.{All-head, All-tail}
 use Rattle.std.proofs.lemmas.List.Folds.{list_all-append}
 use Rattle.pmp_core.specs.declared.decision.Decision.{Decision}
@@ -13,27 +13,31 @@ use Rattle.pmp_core.specs.declared.size.Size.TheVariants.{Sixteen, SixtyFour}
 use Rattle.pmp_core.specs.Histories.{joined}
 use Rattle.pmp_core.specs.SizeLaw.{DecideAlike, SizeLaw, writes_first}
 use Rattle.pmp_text.specs.declared.script.ScriptFault.{ScriptFault}
-use Rattle.pmp_text.specs.declared.script.ScriptKind.TheVariants.{BadVersion, TooLong}
+use Rattle.pmp_text.specs.declared.refusal.Refusal.TheVariants.{TooLong}
 use Rattle.pmp_text.specs.declared.trace.Row.{Row}
 use Rattle.pmp_text.specs.Contents.{Publications, ScriptContents}
 use Rattle.pmp_text.specs.declared.script.reader.TheConstants.{MAX_SCRIPT}
 use Rattle.pmp_text.specs.Lines.{words, lines}
 use Rattle.pmp_text.specs.Reports.{AreDecided, IsReport, file_of_script}
-use Rattle.pmp_text.specs.Scripts.{Line, at_line, counts, numbered_from, significant_from, significant_lines}
+use Rattle.pmp_text.specs.Scripts.{Line, counts, numbered_from, significant_from, significant_lines, version_flaw}
 use Rattle.pmp_text.specs.Scripts.{published_behind, version_named, for_unit}
 use Rattle.pmp_text.specs.Scripts.{meaning_behind, lines_meaning, script_meaning}
 use Rattle.pmp_text.specs.Statements.{statement_of}
 use Rattle.pmp_text.specs.Steps.Progress.{Reading, Read, nothing_begun, after_statement, resumed, concluded}
-use Rattle.pmp_text.specs.declared.script.ScriptKind.{ScriptKind}
+use Rattle.pmp_text.specs.declared.flaw.Flaw.{Flaw}
 use Rattle.pmp_text.specs.declared.script.statement.Statement.{Statement}
 use Rattle.pmp_text.specs.declared.script.version.Version.TheVariants.{Sized}
+use Rattle.pmp_core.specs.Decision.{IsDecision}
 use Rattle.pmp_core.specs.Hart.{profile_of, profile_with}
 use Rattle.pmp_core.specs.RegisterFile.{reset_file}
 use Rattle.pmp_text.specs.Versions.{is_version_one, lines_meaning_in_one, meaning_in_one, in_sixteen}
 use Rattle.pmp_text.specs.Versions.{IsReportInOne, VersionOneLaw, IsSameInTwo, in_sixty_four, VersionTwoLaw}
 use Rattle.pmp_text.specs.Versions.{HasNoHead, NoHeadLaw}
 use Rattle.pmp_core.proofs.HartNumbers.{usual}
-use Rattle.pmp_text.proofs.Meanings.{by_lines, long_script, with_size}
+use Rattle.pmp_text.proofs.MadeScripts.{Begins, is_read}
+use Rattle.pmp_text.proofs.Meanings.{with_size}
+use Rattle.pmp_text.specs.declared.script.version.Version.{Version}
+use Rattle.pmp_text.specs.Flaws.{at_line, as_whole}
 
 abbrev one_says : List (List ℕ)
 one_says = codes "pmp" ∷ codes "1" ∷ []
@@ -62,12 +66,12 @@ lines_in_one : (version : Line) (more : List Line) → version.words ≡ one_say
     → lines_meaning (version ∷ more) ≡ for_unit Sixteen (lines_meaning_in_one (version ∷ more))
 lines_in_one version more says =
     ap (meaning_behind version more) (ap version_named says ∙ names_sixteen)
-    ∙ ap (for_unit Sixteen) (sym (cond-true _ (read_lines version more) (Err (at_line version.number BadVersion))
+    ∙ ap (for_unit Sixteen) (sym (cond-true _ (read_lines version more) (Err (at_line version.number (version_flaw version.words)))
     (ap is_version_one says ∙ names_one)))
 
 by_length : (long : Bool) (ls : List Line) → lines_meaning ls ≡ for_unit Sixteen (lines_meaning_in_one ls)
-    → cond long (Err (at_line 0 TooLong)) (lines_meaning ls)
-    ≡ for_unit Sixteen (cond long (Err (at_line 0 TooLong)) (lines_meaning_in_one ls))
+    → cond long (Err (at_line 0 (as_whole TooLong))) (lines_meaning ls)
+    ≡ for_unit Sixteen (cond long (Err (at_line 0 (as_whole TooLong))) (lines_meaning_in_one ls))
 by_length true ls same = refl
 by_length false ls same = same
 
@@ -154,14 +158,6 @@ lines_behind : (text : List ℕ) (ls : List (List ℕ)) → lines text ≡ ls �
 unfolding significant_from
 lines_behind text ls e = ap (significant 1) e
 
--- a script that has a meaning isn't too long
-short_script : (text : List ℕ) (script : ScriptContents) → script_meaning text ≡ Ok script → length text ≤ MAX_SCRIPT
-short_script text script e =
-    elim (cases_lt MAX_SCRIPT (length text)) [
-      | inl long ↦ let refused = sym e ∙ long_script text long in absurd cc
-      | inr short ↦ short
-    ]
-
 -- what comes of a step and these lines behind it
 abbrev on : Size → List Line → Result Reading ScriptFault → Result Read ScriptFault
 on size more step = elim step [ Ok next ↦ resumed (Sized size) next more | Err fault ↦ Err fault ]
@@ -182,7 +178,7 @@ reads_alike : (lines : List Line) (so_far : Reading)
     → resumed (Sized Sixteen) so_far lines ≡ resumed (Sized SixtyFour) so_far lines
 reads_alike [] so_far = refl
 reads_alike (line ∷ more) so_far =
-    ap (λ (says : Result Statement ScriptKind). on Sixteen more (after_statement so_far line.number says))
+    ap (λ (says : Result Statement Flaw). on Sixteen more (after_statement so_far line.number says))
     (says_alike line.words)
     ∙ goes_alike (after_statement so_far line.number (statement_of (Sized SixtyFour) line.words)) more
     (reads_alike more)
@@ -214,7 +210,7 @@ module _ (one two : List ℕ) (script : ScriptContents) (same : IsSameInTwo one 
   behind = stands_behind 1 same.before same.after same.insignificant
 
   short : length one ≤ MAX_SCRIPT
-  short = short_script one script means
+  short = (is_read one script means).short
 
   in_one : script_meaning one ≡ concluded (Sized Sixteen) (resumed (Sized Sixteen) nothing_begun behind.more)
   in_one = with_size one short (record { number = behind.at; words = one_says }) behind.more
@@ -258,39 +254,33 @@ module _ (law : SizeLaw) (read : Read) (all : list_all (writes_first 16) (joined
   alike row = law (profile_with 16) 16 64 (joined (take row.after batches)) row.access (omega arith) (omega arith)
       (usual 64 (omega arith)) (fewer_events batches row.after all)
 
-  decided_in_two : (rows : List Row) (decisions : List Decision)
-      → AreDecided (sized Sixteen) rows decisions → AreDecided (sized SixtyFour) rows decisions
-  decided_in_two [] [] decided = tt
-  decided_in_two [] (decision ∷ decisions) decided = absurd decided
-  decided_in_two (row ∷ rows) [] decided = absurd decided
-  decided_in_two (row ∷ rows) (decision ∷ decisions) decided =
-      (((alike row).by_bytes decision).0 decided.0, decided_in_two rows decisions decided.1)
+  abbrev Decides : Size → Row → Decision → Type 0
+  Decides size row decision = IsDecision (file_of_script (sized size) row.after) row.access decision
 
-  decided_in_one : (rows : List Row) (decisions : List Decision)
-      → AreDecided (sized SixtyFour) rows decisions → AreDecided (sized Sixteen) rows decisions
-  decided_in_one [] [] decided = tt
-  decided_in_one [] (decision ∷ decisions) decided = absurd decided
-  decided_in_one (row ∷ rows) [] decided = absurd decided
-  decided_in_one (row ∷ rows) (decision ∷ decisions) decided =
-      (((alike row).by_bytes decision).1 decided.0, decided_in_one rows decisions decided.1)
+  module _ (size other : Size) (passes : (row : Row) (decision : Decision) → Decides size row decision
+      → Decides other row decision) where
+    decided_in : (rows : List Row) (decisions : List Decision)
+        → AreDecided (sized size) rows decisions → AreDecided (sized other) rows decisions
+    decided_in [] [] decided = tt
+    decided_in [] (decision ∷ decisions) decided = absurd decided
+    decided_in (row ∷ rows) [] decided = absurd decided
+    decided_in (row ∷ rows) (decision ∷ decisions) decided =
+        (passes row decision decided.0, decided_in rows decisions decided.1)
+
+    report_in : (trace text : List ℕ) → IsReport (sized size) trace text → IsReport (sized other) trace text
+    report_in trace text said = record {
+      rows = said.rows;
+      decisions = said.decisions;
+      trace_means = said.trace_means;
+      decided = decided_in said.rows said.decisions said.decided;
+      report = said.report;
+    }
 
   reports_alike : (trace text : List ℕ)
       → IsReport (sized Sixteen) trace text ↔ IsReport (sized SixtyFour) trace text
   reports_alike trace text = (
-    (λ said. record {
-      rows = said.rows;
-      decisions = said.decisions;
-      trace_means = said.trace_means;
-      decided = decided_in_two said.rows said.decisions said.decided;
-      report = said.report;
-    }),
-    (λ said. record {
-      rows = said.rows;
-      decisions = said.decisions;
-      trace_means = said.trace_means;
-      decided = decided_in_one said.rows said.decisions said.decided;
-      report = said.report;
-    }),
+    report_in Sixteen SixtyFour (λ row decision. ((alike row).by_bytes decision).0) trace text,
+    report_in SixtyFour Sixteen (λ row decision. ((alike row).by_bytes decision).1) trace text,
   )
 
 pub version_two : SizeLaw → VersionTwoLaw
@@ -306,28 +296,15 @@ version_two law one two script same means all =
 
 -- ---- versions without a head
 
-abbrev for_unit_of : Size → Publications → ScriptContents
-for_unit_of size all = record {
-  size = size;
-  start = reset_file (profile_of size);
-  batches = all.batches;
-  lines = all.lines;
-  expectations = [];
-}
-
-of_unit : (size : Size) (read : Result Publications ScriptFault) (script : ScriptContents)
-    → for_unit size read ≡ Ok script → HasNoHead size script
-of_unit size (Ok all) script e =
-    let is : for_unit_of size all ≡ script = cc in
-    record {
-      sized = sym (ap (λ (s : ScriptContents). s.size) is);
-      start = sym (ap (λ (s : ScriptContents). s.start) is);
-      nothing = sym (ap (λ (s : ScriptContents). s.expectations) is);
-    }
-of_unit size (Err fault) script e = absurd cc
+same_version : (size : Size) (version : Version) (more : List Line) (script : ScriptContents)
+    → ◌≡◌ {A = Option Version} (Some version) (Some (Sized size)) → Begins version more script → HasNoHead size script
+same_version size version more script e begins =
+    let same : version ≡ Sized size = cc in
+    subst (λ (v : Version). Begins v more script) same begins
 
 pub no_head_law : NoHeadLaw
 no_head_law text size script is means =
-    of_unit size (published_behind is.first is.more (Sized size)) script
-    (sym (by_lines text (short_script text script means) ∙ ap lines_meaning is.lines_are
-    ∙ ap (meaning_behind is.first is.more) is.says) ∙ means)
+    let it = is_read text script means in
+    let same : it.first ≡ is.first = let e = sym it.lines ∙ is.lines_are in cc in
+    same_version size it.version it.more script
+    (sym it.named ∙ ap (λ (line : Line). version_named line.words) same ∙ is.says) it.made.begins

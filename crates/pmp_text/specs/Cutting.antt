@@ -4,9 +4,10 @@ use Rattle.std.specs.Prelude.{Ok, Err, ⊤}
 use Rattle.std.specs.Io.KnownBytes.{Consumes, IsAtEnd}
 use Rattle.pmp_text.specs.declared.cutter.Cut.{Cut}
 use Rattle.pmp_text.specs.declared.cutter.Cut.TheVariants.{Front, Last}
-use Rattle.pmp_text.specs.declared.input.InputFault.{InputFault}
-use Rattle.pmp_text.specs.declared.input.InputFault.TheVariants.{TooLong, Input, Memory}
-use Rattle.pmp_text.specs.LongTraces.{HasLongLine, is_line_end}
+use Rattle.pmp_text.specs.declared.refusal.Refusal.{Refusal}
+use Rattle.pmp_text.specs.declared.refusal.Refusal.TheVariants.{TooLong, Input, Memory}
+use Rattle.pmp_text.specs.LongTraces.{HasLongLine}
+use Rattle.pmp_text.specs.Tables.{is_line_end}
 
 -- bytes were taken, behind which `limit` are held, or none is left
 pub record IsFilled (limit : ℕ) (held : List ℕ) (old new : Option (List ℕ)) (filled : List ℕ) (at_end : Bool)
@@ -46,9 +47,10 @@ pub record IsUncut (limit : ℕ) (held : List ℕ) (old new : Option (List ℕ))
   pub line : HasLongLine (held ++ taken) (limit - 1)
 
 abbrev pub IsCut : (limit : ℕ) (held : List ℕ) (old new : Option (List ℕ)) (left : List ℕ)
-    → Result Cut InputFault → Type 0
+    → Result Cut Refusal → Type 0
 IsCut limit held old new left (Ok (Front piece)) = IsFront limit held old new left piece.items
 IsCut limit held old new left (Ok (Last piece)) = IsLast held old new piece.items
 IsCut limit held old new left (Err TooLong) = IsUncut limit held old new
 IsCut limit held old new left (Err Input) = ⊤
 IsCut limit held old new left (Err Memory) = ⊤
+IsCut limit held old new left (Err _) = ⊥

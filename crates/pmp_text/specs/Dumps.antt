@@ -1,24 +1,25 @@
 -- The text of a register file's registers.
-use Rattle.std.specs.Prelude.{ℕ, ◌*◌, List, [], ◌∷◌, ◌++◌, length, map, codes}
+use Rattle.std.specs.Prelude.{ℕ, ◌*◌, List, [], ◌∷◌, ◌++◌, length, map, codes, ◌==◌, if◌then◌else◌}
 use Rattle.std.specs.Int.{div_ceil}
 use Rattle.std.specs.List.{flat_map, range_with_len}
 use Rattle.pmp_core.specs.declared.csr.Csr.{Csr}
 use Rattle.pmp_core.specs.declared.csr.Csr.TheVariants.{Cfg, Addr, Mseccfg}
 use Rattle.pmp_core.specs.declared.register_write.TheConstants.{ENTRIES_PER_CFG}
-use Rattle.pmp_text.specs.declared.lines.hexadecimal.TheConstants.{VALUE_DIGITS}
+use Rattle.pmp_text.specs.declared.lines.registers.Form.{Form}
+use Rattle.pmp_text.specs.declared.lines.registers.Form.TheVariants.{Dump, Script}
 use Rattle.pmp_core.specs.RegisterFile.{RegisterFile}
 use Rattle.pmp_core.specs.RegisterValue.{register_value}
-use Rattle.pmp_text.specs.Hexadecimal.{hex_text}
+use Rattle.pmp_text.specs.Effects.{value_text}
+use Rattle.pmp_text.specs.Heads.{kept_value}
 use Rattle.pmp_text.specs.Names.{register_name}
 
--- the name, a blank, `0x` and sixteen digits
-unfoldable pub register_line : RegisterFile → Csr → List ℕ
-register_line file csr =
-    register_name csr ++ (codes " 0x" ++ (hex_text VALUE_DIGITS (register_value file csr) ++ 10 ∷ []))
+-- the configuration register in this place: the odd numbers are left out
+abbrev pub cfg_at : (place : ℕ) → Csr
+cfg_at place = Cfg (2 * place)
 
--- the configuration registers that hold the bytes of n entries: eight each, and the odd numbers are left out
+-- the configuration registers that hold the bytes of n entries, eight each
 abbrev pub cfg_registers : (n : ℕ) → List Csr
-cfg_registers n = map (λ place. Cfg (2 * place)) (range_with_len 0 (div_ceil n ENTRIES_PER_CFG))
+cfg_registers n = map cfg_at (range_with_len 0 (div_ceil n ENTRIES_PER_CFG))
 
 -- an address register for each entry
 abbrev pub addr_registers : (n : ℕ) → List Csr
@@ -28,6 +29,26 @@ addr_registers n = map Addr (range_with_len 0 n)
 abbrev pub registers_of : (n : ℕ) → List Csr
 registers_of n = cfg_registers n ++ (addr_registers n ++ Mseccfg ∷ [])
 
+-- what a dump shows of a register is what it reads, and what a script sets it to is all that it keeps
+abbrev pub form_value : Form → RegisterFile → Csr → ℕ
+form_value Dump file csr = register_value file csr
+form_value Script file csr = kept_value file csr
+
+-- the name, a blank, `0x` and sixteen digits
+abbrev pub register_line : Csr → ℕ → List ℕ
+register_line csr value = register_name csr ++ (codes " " ++ (value_text value ++ 10 ∷ []))
+
+-- a script has `set` before it, and nothing for a register that keeps zero
+abbrev pub form_line : Form → Csr → ℕ → List ℕ
+form_line Dump csr value = register_line csr value
+form_line Script csr value = if value == 0 then [] else codes "set " ++ register_line csr value
+
+abbrev pub line_of : Form → RegisterFile → Csr → List ℕ
+line_of form file csr = form_line form csr (form_value form file csr)
+
 -- a line for each register
+unfoldable pub lines_of : Form → RegisterFile → List ℕ
+lines_of form file = flat_map (line_of form file) (registers_of (length file.entries))
+
 unfoldable pub dump_text : RegisterFile → List ℕ
-dump_text file = flat_map (register_line file) (registers_of (length file.entries))
+dump_text file = lines_of Dump file

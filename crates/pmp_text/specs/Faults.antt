@@ -2,8 +2,9 @@
 use Rattle.std.specs.Prelude.{◌≡◌, ℕ, ◌<◌, ◌≤◌, List, [], length, reverse, take, Option, Some, None, Err, MatchOption}
 use Rattle.std.specs.Prelude.{option_map, option_and_then, slice_get}
 use Rattle.pmp_text.specs.declared.script.ScriptFault.{ScriptFault}
-use Rattle.pmp_text.specs.Scripts.{Line, at_line, line_fault, first_fault, significant_lines, script_meaning}
+use Rattle.pmp_text.specs.Scripts.{Line, line_fault, first_fault, significant_lines, script_meaning}
 use Rattle.pmp_text.specs.declared.script.reader.TheConstants.{MAX_SCRIPT}
+use Rattle.pmp_text.specs.Flaws.{at_line}
 
 -- the fault of the significant line with this index, by the lines before it
 abbrev pub fault_at : List Line → (index : ℕ) → Option ScriptFault

@@ -1,11 +1,27 @@
 -- A register file that a script gives back.
-use Rattle.std.specs.Prelude.{◌≡◌, ℕ, List, [], Ok}
+use Rattle.std.specs.Prelude.{◌≡◌, ℕ, ◌+◌, ◌^◌, List, [], ◌∷◌, ◌++◌, Ok, codes, decimal, if◌then◌else◌}
 use Rattle.pmp_core.specs.RegisterFile.{RegisterFile}
 use Rattle.pmp_text.specs.Contents.{ScriptContents}
+use Rattle.pmp_text.specs.Dumps.{lines_of}
+use Rattle.pmp_text.specs.declared.lines.registers.Form.TheVariants.{Script}
 use Rattle.pmp_text.specs.Scripts.{script_meaning}
 
--- the text means a script that begins with this file, publishes nothing, and expects nothing
+-- what a line says of the hart, and what stands behind it
+abbrev pub hart_line : (name value behind : List ℕ) → List ℕ
+hart_line name value behind = codes "hart " ++ (name ++ (codes " " ++ (value ++ 10 ∷ behind)))
+
+-- the version, what the hart is, with its grain of 2^(G + 2) bytes, and a line for each register that doesn't keep zero
+unfoldable pub script_text : RegisterFile → List ℕ
+script_text file =
+    let hart = file.profile in
+    codes "pmp 3" ++ 10 ∷ hart_line (codes "entries") (decimal hart.entries)
+    (hart_line (codes "grain") (decimal (2 ^ (hart.grain + 2)))
+    (hart_line (codes "bits") (decimal hart.address_bits)
+    (hart_line (codes "smepmp") (if hart.has_smepmp then codes "yes" else codes "no") (lines_of Script file))))
+
+-- the text is that one, and means a script that begins with this file, publishes nothing, and expects nothing
 pub record GivesBack (file : RegisterFile) (text : List ℕ) : Type 0 where
+  pub written : text ≡ script_text file
   pub contents : ScriptContents
   pub means : script_meaning text ≡ Ok contents
   pub begins : contents.start ≡ file

@@ -16,13 +16,15 @@ use Rattle.pmp_core.specs.Hart.{Profile, hart_fault, profile_of}
 use Rattle.pmp_core.specs.RegisterFile.{RegisterFile, entry_at, reset_file}
 use Rattle.pmp_core.specs.RegisterValue.{register_value}
 use Rattle.pmp_core.specs.SavedRegisters.{restored_file, saved_registers}
-use Rattle.pmp_text.specs.declared.script.ScriptKind.{ScriptKind}
-use Rattle.pmp_text.specs.declared.script.ScriptKind.TheVariants as kind
+use Rattle.pmp_text.specs.declared.flaw.Flaw.{Flaw}
+use Rattle.pmp_text.specs.declared.refusal.Refusal.{Refusal}
+use Rattle.pmp_text.specs.declared.refusal.Refusal.TheVariants as kind
 use Rattle.pmp_text.specs.declared.script.hart_field.HartField.{HartField}
 use Rattle.pmp_text.specs.declared.script.hart_field.HartField.TheVariants.{Entries, Grain, Bits, Smepmp}
 use Rattle.pmp_text.specs.declared.script.statement.HeadStatement.{HeadStatement}
 use Rattle.pmp_text.specs.declared.script.statement.HeadStatement.TheVariants.{Hart, Set}
 use Rattle.pmp_text.specs.declared.script.head.HeadLine.{HeadLine}
+use Rattle.pmp_text.specs.Flaws.{part}
 
 -- ---- the hart
 
@@ -37,24 +39,24 @@ with_field hart (Grain n) = record hart { grain = n }
 with_field hart (Bits n) = record hart { address_bits = n }
 with_field hart (Smepmp has) = record hart { has_smepmp = has }
 
-abbrev pub hart_kind : HartFault → ScriptKind
+abbrev pub hart_kind : HartFault → Refusal
 hart_kind hart_fault.Entries = kind.BadEntries
 hart_kind hart_fault.Grain = kind.BadGrain
 hart_kind hart_fault.AddressBits = kind.BadBits
 
 -- a number that no hart has
-abbrev pub field_fault : HartField → Option ScriptKind
+abbrev pub field_fault : HartField → Option Refusal
 field_fault field = option_map hart_kind (hart_fault (with_field usual_hart field))
 
-abbrev pub own_fault : HeadStatement → Option ScriptKind
-own_fault (Hart field) = field_fault field
+abbrev pub own_fault : HeadStatement → Option Flaw
+own_fault (Hart field) = option_map (part 2) (field_fault field)
 own_fault (Set register value) = None
 
-abbrev pub checked : Option ScriptKind → Profile → Result Profile ScriptKind
+abbrev pub checked : {F : Type 0} → Option F → Profile → Result Profile F
 checked (Some fault) hart = Err fault
 checked None hart = Ok hart
 
-abbrev pub hart_with : Profile → HartField → Result Profile ScriptKind
+abbrev pub hart_with : Profile → HartField → Result Profile Refusal
 hart_with hart field = checked (field_fault field) (with_field hart field)
 
 abbrev pub with_statement : Profile → HeadStatement → Profile

@@ -10,6 +10,7 @@ pub mod Effects
 pub mod EntryRows
 pub mod EventLogs
 pub mod Expected
+pub mod Flaws
 pub mod Heads
 pub mod Hexadecimal
 pub mod Inputs
@@ -21,6 +22,7 @@ pub mod Outcomes
 pub mod Picture
 pub mod PictureTexts
 pub mod Policies
+pub mod Refusals
 pub mod Reports
 pub mod RunLines
 pub mod Scripts

@@ -1,20 +1,22 @@
 -- What a trace of any length means, what a piece of it means where it stands, and how both are reported.
 use Rattle.std.specs.Prelude.{◌≡◌, ◌⊎◌, ℕ, ◌+◌, ◌^◌, ◌<◌, ◌≤◌, List, [], ◌∷◌, ◌++◌, length, map, filter_map, Bool}
 use Rattle.std.specs.Prelude.{true, false}
-use Rattle.std.specs.Prelude.{◌==◌, ◌||◌, Option, Some, None, Result, Ok, Err, if◌then◌else◌}
-use Rattle.std.specs.List.{zip, enumerate_from, flat_map, list_any}
+use Rattle.std.specs.Prelude.{Option, Some, None, Result, Ok, Err, if◌then◌else◌}
+use Rattle.std.specs.List.{zip, enumerate_from, flat_map, list_any, position_from}
+use Rattle.std.specs.Option.{option_or}
 use Rattle.pmp_core.specs.declared.decision.Decision.{Decision}
 use Rattle.pmp_text.specs.declared.trace.Row.{Row}
 use Rattle.pmp_text.specs.declared.trace.TraceFault.{TraceFault}
-use Rattle.pmp_text.specs.declared.trace.TraceKind.TheVariants.{BadHeader, TooLong}
+use Rattle.pmp_text.specs.declared.refusal.Refusal.TheVariants.{BadHeader, TooLong}
 use Rattle.pmp_text.specs.declared.trace.piece.Piece.{Piece}
 use Rattle.pmp_text.specs.declared.trace.piece.Place.{Place}
 use Rattle.pmp_text.specs.declared.trace.row_fields.RowFields.{RowFields}
 use Rattle.pmp_text.specs.Contents.{ScriptContents}
 use Rattle.pmp_text.specs.Outcomes.{no_input_for_rows, no_memory_for_rows}
 use Rattle.pmp_text.specs.Reports.{AreDecided, report_row}
-use Rattle.pmp_text.specs.Tables.{at_row, behind_header, fault_or_rows}
+use Rattle.pmp_text.specs.Tables.{behind_header, fault_or_rows, is_line_end}
 use Rattle.pmp_text.specs.Traces.{after_of, first_row_fault, is_header, row_fields, row_of_record}
+use Rattle.pmp_text.specs.Flaws.{at_row, as_whole}
 
 abbrev pub Records : Type 0
 Records = List (List (List ℕ))
@@ -43,11 +45,7 @@ pub record IsReportOf (script : ScriptContents) (first : ℕ) (records : Records
   pub decided : AreDecided script rows decisions
   pub report : text ≡ report_text_from first rows decisions
 
--- ---- where a line ends
-
--- CR and LF
-abbrev pub is_line_end : ℕ → Bool
-is_line_end byte = (byte == 13) || (byte == 10)
+-- ---- lines
 
 -- so many bytes in a row have no line end
 abbrev pub HasLongLine : (text : List ℕ) → (most : ℕ) → Type 0
@@ -73,10 +71,18 @@ abbrev pub last_after : (last : Option ℕ) → Records → Option ℕ
 last_after last [] = last
 last_after last (row ∷ more) = last_after (after_of (row_of_record row)) more
 
+-- the record is a row, and its start is bare
+abbrev pub is_bare_record : List (List ℕ) → Bool
+is_bare_record fields = elim (row_of_record fields) [ Some row ↦ row.is_bare | None ↦ false ]
+
 -- where the records stand that follow on rows
 abbrev pub rows_behind : Place → Records → Place
-rows_behind place rows =
-    record { begun = true; last = last_after place.last rows; next = place.next + length rows }
+rows_behind place rows = record {
+  begun = true;
+  last = last_after place.last rows;
+  next = place.next + length rows;
+  bare = option_or place.bare (position_from is_bare_record place.next rows);
+}
 
 -- where the records stand that follow on these
 abbrev pub place_behind : Place → Records → Place
@@ -84,6 +90,7 @@ place_behind place records = record {
   begun = has_begun place.begun records;
   last = last_after place.last (row_records place.begun records);
   next = place.next + length (row_records place.begun records);
+  bare = option_or place.bare (position_from is_bare_record place.next (row_records place.begun records));
 }
 
 -- the first fault of records that stand there; of no header only the end of a trace tells
@@ -92,18 +99,18 @@ abbrev pub first_fault_at : (publications : ℕ) → (begun : Bool) → (last : 
 first_fault_at publications true last next rows = first_row_fault publications last next rows
 first_fault_at publications false last next [] = None
 first_fault_at publications false last next (header ∷ rows) =
-    if is_header header then first_row_fault publications last next rows else Some (at_row 0 BadHeader)
+    if is_header header then first_row_fault publications last next rows else Some (at_row 0 (as_whole BadHeader))
 
 abbrev pub piece_fault : (publications : ℕ) → Place → Records → Option TraceFault
 piece_fault publications place = first_fault_at publications place.begun place.last place.next
 
 -- where a trace begins whose first row has this number
 abbrev pub beginning : (first : ℕ) → Place
-beginning first = record { begun = false; last = None; next = first }
+beginning first = record { begun = false; last = None; next = first; bare = None }
 
 -- a row or a line is too long, which is the fault of no row
 abbrev pub too_long_for_rows : TraceFault
-too_long_for_rows = at_row 0 TooLong
+too_long_for_rows = at_row 0 (as_whole TooLong)
 
 -- the records have this first fault, or they are those of the piece and the next one stands there; else memory ran out,
 -- the input failed, or the number of a row is 2^64 or more

@@ -7,8 +7,8 @@ use Rattle.pmp_core.specs.declared.csr.CsrFault.{CsrFault}
 use Rattle.pmp_core.specs.declared.csr.CsrFault.TheVariants as csr_fault
 use Rattle.pmp_core.specs.declared.size.TheConstants.{MAX_ENTRIES}
 use Rattle.pmp_core.specs.Csr.{numbered}
-use Rattle.pmp_text.specs.declared.script.ScriptKind.{ScriptKind}
-use Rattle.pmp_text.specs.declared.script.ScriptKind.TheVariants.{BadName, OddCfg}
+use Rattle.pmp_text.specs.declared.refusal.Refusal.{Refusal}
+use Rattle.pmp_text.specs.declared.refusal.Refusal.TheVariants.{BadName, OddCfg}
 use Rattle.pmp_text.specs.Numbers.{numeral}
 
 -- ---- written
@@ -46,16 +46,16 @@ register_number word =
     else (if bytes_eq (take 2 word) (codes "0x") then numeral 16 16 (drop 2 word) else None)))
 
 -- how a script refuses a number of no register
-abbrev pub named : Result Csr CsrFault → Result Csr ScriptKind
+abbrev pub named : Result Csr CsrFault → Result Csr Refusal
 named (Ok csr) = Ok csr
 named (Err csr_fault.OddCfg) = Err OddCfg
 named (Err csr_fault.NotPmp) = Err BadName
 
-abbrev pub register_numbered : Option ℕ → Result Csr ScriptKind
+abbrev pub register_numbered : Option ℕ → Result Csr Refusal
 register_numbered None = Err BadName
 register_numbered (Some number) = named (numbered number)
 
-abbrev pub register_named : List ℕ → Result Csr ScriptKind
+abbrev pub register_named : List ℕ → Result Csr Refusal
 register_named word = register_numbered (register_number word)
 
 -- the written name of a register that has a number is read as that register

@@ -1,6 +1,6 @@
 -- Numbers as words.
 use Rattle.std.specs.Prelude.{ℕ, ◌^◌, List, length, take, drop, Bool, ◌&&◌, Option, Some, None, nat_lt, nat_le, codes}
-use Rattle.std.specs.Prelude.{bytes_eq, if◌then◌else◌}
+use Rattle.std.specs.Prelude.{bytes_eq, ◌==◌, not, if◌then◌else◌}
 use Rattle.std.specs.List.{list_all}
 use Rattle.std.specs.Char.{is_digit}
 use Rattle.std.specs.Str.Parse.{digits_value}
@@ -18,3 +18,7 @@ numeral radix most bytes = if is_numeral radix most bytes && nat_lt (digits_valu
 -- a word's number: `0x` and 1 to 16 hexadecimal digits of either case, or 1 to 20 decimal digits
 abbrev pub word_number : List ℕ → Option ℕ
 word_number word = if bytes_eq (take 2 word) (codes "0x") then numeral 16 16 (drop 2 word) else numeral 10 20 word
+
+-- a number of as many digits as rows have for an address in hexadecimal, and like those without `0x`
+abbrev pub is_bare : List ℕ → Bool
+is_bare word = (length word == 14) && not (bytes_eq (take 2 word) (codes "0x"))

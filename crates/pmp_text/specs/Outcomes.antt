@@ -2,14 +2,14 @@
 use Rattle.std.specs.Prelude.{◌≡◌, ◌⊎◌, Result, Ok, Err}
 use Rattle.csv.specs.declared.error.ErrorKind.{ErrorKind}
 use Rattle.csv.specs.declared.error.ErrorKind.TheVariants as csv_error
-use Rattle.pmp_text.specs.declared.script.ScriptKind.TheVariants.{Memory}
+use Rattle.pmp_text.specs.declared.refusal.Refusal.TheVariants.{Input, Memory}
 use Rattle.pmp_text.specs.declared.script.ScriptFault.{ScriptFault}
 use Rattle.pmp_text.specs.declared.trace.TraceFault.{TraceFault}
-use Rattle.pmp_text.specs.declared.trace.TraceKind.TheVariants as trace
+use Rattle.pmp_text.specs.Flaws.{at_line, at_row, as_whole}
 
 -- memory ran out, which is the fault of no line
 abbrev pub out_of_memory : ScriptFault
-out_of_memory = record { kind = Memory; line = 0 }
+out_of_memory = at_line 0 (as_whole Memory)
 
 -- the answer, seen by view, is what is meant, or memory ran out
 abbrev pub Gives : {X Y : Type 0} → (X → Y) → Result X ScriptFault → Result Y ScriptFault → Type 0
@@ -18,11 +18,11 @@ Gives view (Err fault) meant = (meant ≡ Err fault) ⊎ (fault ≡ out_of_memor
 
 -- memory ran out, which is the fault of no row
 abbrev pub no_memory_for_rows : TraceFault
-no_memory_for_rows = record { kind = trace.Memory; row = 0 }
+no_memory_for_rows = at_row 0 (as_whole Memory)
 
 -- the crate `csv` reports a failed input
 abbrev pub no_input_for_rows : TraceFault
-no_input_for_rows = record { kind = trace.Input; row = 0 }
+no_input_for_rows = at_row 0 (as_whole Input)
 
 -- the fault of a trace at an error of the crate `csv`: memory ran out, or else the input failed
 abbrev pub csv_fault : ErrorKind → TraceFault

@@ -1,9 +1,10 @@
 -- What a policy means: its rows, or its fault.
 use Rattle.std.specs.Prelude.{ℕ, ◌+◌, List, [], ◌∷◌, length, filter_map, Bool, false, true, ◌&&◌, ◌||◌, ◌==◌, Option}
-use Rattle.std.specs.Prelude.{Some, None, Result, option_map, option_and_then, nat_lt, nat_le, codes, bytes_eq}
+use Rattle.std.specs.Prelude.{Some, None, Result, Ok, Err, option_map, nat_lt, nat_le, codes, bytes_eq}
 use Rattle.std.specs.Prelude.{if◌then◌else◌}
 use Rattle.std.specs.List.{count_by}
 use Rattle.std.specs.Option.{option_or}
+use Rattle.std.specs.Result.{result_ok}
 use Rattle.pmp_core.specs.declared.access.Mode.{Mode}
 use Rattle.pmp_core.specs.declared.access.Mode.TheVariants.{M, S, U}
 use Rattle.pmp_core.specs.declared.access.Kind.{Kind}
@@ -16,12 +17,13 @@ use Rattle.pmp_text.specs.declared.policy.Kinds.TheVariants.{One, Any}
 use Rattle.pmp_text.specs.declared.policy.Modes.{Modes}
 use Rattle.pmp_text.specs.declared.policy.PolicyRow.{PolicyRow}
 use Rattle.pmp_text.specs.declared.policy.row_fields.PolicyFields.{PolicyFields}
-use Rattle.pmp_text.specs.declared.trace.TraceKind.{TraceKind}
-use Rattle.pmp_text.specs.declared.trace.TraceKind.TheVariants.{BadRow, BadAfter, PastEnd}
+use Rattle.pmp_text.specs.declared.flaw.Flaw.{Flaw}
+use Rattle.pmp_text.specs.declared.refusal.Refusal.TheVariants.{BadRow, BadAfter, PastEnd}
 use Rattle.pmp_text.specs.declared.trace.TraceFault.{TraceFault}
 use Rattle.pmp_text.specs.AccessWords.{kind_named}
-use Rattle.pmp_text.specs.Numbers.{word_number}
-use Rattle.pmp_text.specs.Tables.{at_row, behind_header, fault_or_rows, within_limit}
+use Rattle.pmp_text.specs.Numbers.{is_bare, word_number}
+use Rattle.pmp_text.specs.Tables.{behind_header, fault_or_rows, within_limit}
+use Rattle.pmp_text.specs.Flaws.{at_row, of_part, part, as_whole}
 
 -- ---- words
 
@@ -122,56 +124,52 @@ policy_fields row = record {
   first = row.first;
   last = row.last;
   demand = row.demand;
+  is_bare = row.is_bare;
 }
 
--- from how many publications to how many
-abbrev pub span_named : (publications : ℕ) → SevenFields → Option (ℕ × ℕ)
-span_named publications words = option_and_then
-    (λ from. option_map (λ to. (from, to)) (to_named publications from words.to)) (word_number words.from)
+-- what seven words say beside a script with so many publications: from how many publications to how many, modes,
+-- kinds, the first byte and the last, and a demand
+abbrev pub policy_of_fields : (publications : ℕ) → SevenFields → Result PolicyFields Flaw
+policy_of_fields publications words =
+    of_part 0 (word_number words.from) (λ from. of_part 1 (to_named publications from words.to) (λ to.
+    of_part 2 (modes_named words.modes) (λ modes. of_part 3 (kinds_named words.kind) (λ kinds.
+    of_part 4 (word_number words.first) (λ first. of_part 5 (at_least first (word_number words.last)) (λ last.
+    of_part 6 (demand_named words.demand) (λ demand. Ok (record {
+      from = from;
+      to = to;
+      modes = modes;
+      kinds = kinds;
+      first = first;
+      last = last;
+      demand = demand;
+      is_bare = is_bare words.first || is_bare words.last;
+    }))))))))
 
--- the first byte and the last
-abbrev pub bytes_named : SevenFields → Option (ℕ × ℕ)
-bytes_named words = option_and_then
-    (λ first. option_map (λ last. (first, last)) (at_least first (word_number words.last))) (word_number words.first)
+-- what a record says as a row, or what of it says nothing
+abbrev pub policy_in : (publications : ℕ) → List (List ℕ) → Result PolicyFields Flaw
+policy_in publications fields =
+    elim (seven_fields fields) [ Some words ↦ policy_of_fields publications words | None ↦ Err (as_whole BadRow) ]
 
--- what seven words say, where each is what its place asks for
-abbrev pub policy_of_values : Option (ℕ × ℕ) → Option Modes → Option Kinds → Option (ℕ × ℕ) → Option Demand
-    → Option PolicyFields
-policy_of_values (Some (from, to)) (Some modes) (Some kinds) (Some (first, last)) (Some demand) = Some (record {
-  from = from;
-  to = to;
-  modes = modes;
-  kinds = kinds;
-  first = first;
-  last = last;
-  demand = demand;
-})
-policy_of_values _ _ _ _ _ = None
-
-abbrev pub policy_of_fields : (publications : ℕ) → SevenFields → Option PolicyFields
-policy_of_fields publications words = policy_of_values (span_named publications words) (modes_named words.modes)
-    (kinds_named words.kind) (bytes_named words) (demand_named words.demand)
-
--- what a record says as a row, beside a script with so many publications
 abbrev pub policy_of_record : (publications : ℕ) → List (List ℕ) → Option PolicyFields
-policy_of_record publications fields = option_and_then (λ words. policy_of_fields publications words)
-    (seven_fields fields)
+policy_of_record publications fields = result_ok (policy_in publications fields)
 
 -- the fault of what a row says: more publications than there are, then a last byte that is none
-abbrev pub policy_fields_fault : (publications : ℕ) → PolicyFields → Option TraceKind
+abbrev pub policy_fields_fault : (publications : ℕ) → PolicyFields → Option Flaw
 policy_fields_fault publications row =
-    if nat_lt publications row.from || nat_lt publications row.to then Some BadAfter
-    else (if nat_le ADDRESS_LIMIT row.last then Some PastEnd else None)
+    if nat_lt publications row.from then Some (part 0 BadAfter)
+    else (if nat_lt publications row.to then Some (part 1 BadAfter)
+    else (if nat_le ADDRESS_LIMIT row.last then Some (part 5 PastEnd) else None))
 
 -- the same of fields that may end before they begin, of which the first fault is that they do
-abbrev pub proper_fields_fault : (publications : ℕ) → PolicyFields → Option TraceKind
+abbrev pub proper_fields_fault : (publications : ℕ) → PolicyFields → Option Flaw
 proper_fields_fault publications row =
-    if nat_lt row.to row.from || nat_lt row.last row.first then Some BadRow else policy_fields_fault publications row
+    if nat_lt row.to row.from then Some (part 1 BadRow)
+    else (if nat_lt row.last row.first then Some (part 5 BadRow) else policy_fields_fault publications row)
 
 -- the fault of a row, of which the first is that it says nothing
-abbrev pub policy_row_fault : (publications : ℕ) → Option PolicyFields → Option TraceKind
-policy_row_fault publications None = Some BadRow
-policy_row_fault publications (Some row) = policy_fields_fault publications row
+abbrev pub policy_row_fault : (publications : ℕ) → Result PolicyFields Flaw → Option Flaw
+policy_row_fault publications (Err flaw) = Some flaw
+policy_row_fault publications (Ok row) = policy_fields_fault publications row
 
 -- ---- all rows
 
@@ -179,7 +177,7 @@ policy_row_fault publications (Some row) = policy_fields_fault publications row
 abbrev pub first_policy_fault : (publications number : ℕ) → List (List (List ℕ)) → Option TraceFault
 first_policy_fault publications number [] = None
 first_policy_fault publications number (row ∷ more) =
-    option_or (option_map (at_row number) (policy_row_fault publications (policy_of_record publications row)))
+    option_or (option_map (at_row number) (policy_row_fault publications (policy_in publications row)))
     (first_policy_fault publications (number + 1) more)
 
 -- the rows are numbered from 1

@@ -3,15 +3,16 @@ use Rattle.std.specs.Prelude.{◌≡◌, ℕ, ◌+◌, ◌≤◌, List, ◌∷�
 use Rattle.std.specs.Prelude.{option_and_then, slice_get}
 use Rattle.pmp_text.specs.declared.trace.TraceFault.{TraceFault}
 use Rattle.pmp_text.specs.Faults.{IsLeastFault}
-use Rattle.pmp_text.specs.Policies.{first_policy_fault, is_policy_header, policy_meaning, policy_of_record}
+use Rattle.pmp_text.specs.Policies.{first_policy_fault, is_policy_header, policy_meaning, policy_in}
 use Rattle.pmp_text.specs.Policies.{policy_row_fault}
-use Rattle.pmp_text.specs.Tables.{at_row, records_of}
+use Rattle.pmp_text.specs.Tables.{records_of}
 use Rattle.pmp_text.specs.declared.trace.reader.TheConstants.{MAX_TRACE}
+use Rattle.pmp_text.specs.Flaws.{at_row}
 
 -- the fault of the row with this index, by itself
 abbrev pub policy_fault_at : (publications : ℕ) → List (List (List ℕ)) → (index : ℕ) → Option TraceFault
 policy_fault_at publications rows index = option_and_then
-    (λ row. option_map (at_row (index + 1)) (policy_row_fault publications (policy_of_record publications row)))
+    (λ row. option_map (at_row (index + 1)) (policy_row_fault publications (policy_in publications row)))
     (slice_get rows index)
 
 -- the first fault is that of the least faulty row, and where there is none, no row is faulty

@@ -11,9 +11,9 @@ use Rattle.pmp_core.specs.declared.size.Size.TheVariants.{Sixteen, SixtyFour}
 use Rattle.pmp_core.specs.Hart.{profile_of}
 use Rattle.pmp_core.specs.RegisterFile.{reset_file}
 use Rattle.pmp_text.specs.declared.expectation.Expectation.{Expectation}
-use Rattle.pmp_text.specs.declared.script.ScriptKind.{ScriptKind}
-use Rattle.pmp_text.specs.declared.script.ScriptKind.TheVariants.{BadVersion, BatchFull, Unpublished, TooLong}
-use Rattle.pmp_text.specs.declared.script.ScriptKind.TheVariants.{LateHead, Twice, NotHeld}
+use Rattle.pmp_text.specs.declared.flaw.Flaw.{Flaw}
+use Rattle.pmp_text.specs.declared.refusal.Refusal.TheVariants.{BadVersion, BatchFull, Unpublished, TooLong}
+use Rattle.pmp_text.specs.declared.refusal.Refusal.TheVariants.{LateHead, Twice, NotHeld}
 use Rattle.pmp_text.specs.declared.script.ScriptFault.{ScriptFault}
 use Rattle.pmp_text.specs.declared.script.statement.Statement.{Statement}
 use Rattle.pmp_text.specs.declared.script.statement.Statement.TheVariants as statement
@@ -26,6 +26,7 @@ use Rattle.pmp_text.specs.Lines.{words, lines}
 use Rattle.pmp_text.specs.Statements.{statement_of}
 use Rattle.pmp_text.specs.Contents.{Publications, ScriptContents}
 use Rattle.pmp_text.specs.declared.script.reader.TheConstants.{MAX_SCRIPT}
+use Rattle.pmp_text.specs.Flaws.{at_line, part, as_whole}
 
 -- a line with its number in the text
 pub record Line : Type 0 where
@@ -64,6 +65,14 @@ unfoldable pub version_named : List (List ℕ) → Option Version
 version_named (name ∷ number ∷ []) = if bytes_eq name (codes "pmp") then version_numbered number else None
 version_named _ = None
 
+-- what makes the words no version: a first one that isn't `pmp`, or a second that is no version's number, or a third
+abbrev pub version_flaw : List (List ℕ) → Flaw
+version_flaw [] = as_whole BadVersion
+version_flaw (name ∷ []) = if bytes_eq name (codes "pmp") then as_whole BadVersion else part 0 BadVersion
+version_flaw (name ∷ number ∷ more) =
+    if bytes_eq name (codes "pmp")
+    then (if is_some (version_numbered number) then part 2 BadVersion else part 1 BadVersion) else part 0 BadVersion
+
 -- the version that the farthest of these lines names
 abbrev pub version_above : List Line → Version
 version_above [] = Sized Sixteen
@@ -71,12 +80,12 @@ version_above (line ∷ []) = unwrap_or (version_named line.words) (Sized Sixtee
 version_above (line ∷ next ∷ before) = version_above (next ∷ before)
 
 -- one event line more, or none since a `publish`
-abbrev pub counted : Result Statement ScriptKind → ℕ → ℕ
+abbrev pub counted : Result Statement Flaw → ℕ → ℕ
 counted (Ok (statement.Event event)) count = count + 1
 counted (Ok statement.Publish) count = 0
 counted (Ok (statement.Head says)) count = count
 counted (Ok (statement.Expect register value)) count = count
-counted (Err kind) count = count
+counted (Err flaw) count = count
 
 -- how many event lines stand since the last `publish`, from the nearest line back
 abbrev pub open_events : Version → List Line → ℕ
@@ -84,53 +93,49 @@ open_events version [] = 0
 open_events version (line ∷ before) = counted (statement_of version line.words) (open_events version before)
 
 -- an event or a `publish` ends the head
-abbrev pub ends_head : Result Statement ScriptKind → Bool
+abbrev pub ends_head : Result Statement Flaw → Bool
 ends_head (Ok (statement.Event event)) = true
 ends_head (Ok statement.Publish) = true
 ends_head (Ok (statement.Head says)) = false
 ends_head (Ok (statement.Expect register value)) = false
-ends_head (Err kind) = false
+ends_head (Err flaw) = false
 
 abbrev pub is_over : Version → List Line → Bool
 is_over version before = list_any (λ line. ends_head (statement_of version line.words)) before
 
 -- a line says the same of the hart, or sets the same register
-abbrev pub says_same : HeadStatement → Result Statement ScriptKind → Bool
+abbrev pub says_same : HeadStatement → Result Statement Flaw → Bool
 says_same says (Ok (statement.Event event)) = false
 says_same says (Ok statement.Publish) = false
 says_same says (Ok (statement.Head other)) = is_same says other
 says_same says (Ok (statement.Expect register value)) = false
-says_same says (Err kind) = false
+says_same says (Err flaw) = false
 
 abbrev pub is_said : Version → List Line → HeadStatement → Bool
 is_said version before says = list_any (λ line. says_same says (statement_of version line.words)) before
 
 -- a line of the head is at fault where the head is over, or the same was said, or there is no such hart
-abbrev pub head_fault : (over said : Bool) → HeadStatement → Option ScriptKind
-head_fault over said says = if over then Some LateHead else (if said then Some Twice else own_fault says)
+abbrev pub head_fault : (over said : Bool) → HeadStatement → Option Flaw
+head_fault over said says = if over then Some (as_whole LateHead) else (if said then Some (part 1 Twice) else own_fault says)
 
 -- a line that is no statement is at fault by itself, an event where as many are open before it as a batch holds
-abbrev pub statement_fault : (count : ℕ) → (over : Bool) → (said : HeadStatement → Bool) → Result Statement ScriptKind
-    → Option ScriptKind
-statement_fault count over said (Err kind) = Some kind
+abbrev pub statement_fault : (count : ℕ) → (over : Bool) → (said : HeadStatement → Bool) → Result Statement Flaw
+    → Option Flaw
+statement_fault count over said (Err flaw) = Some flaw
 statement_fault count over said (Ok statement.Publish) = None
-statement_fault count over said (Ok (statement.Event event)) = if nat_lt count BATCH_EVENTS then None else Some BatchFull
+statement_fault count over said (Ok (statement.Event event)) = if nat_lt count BATCH_EVENTS then None else Some (as_whole BatchFull)
 statement_fault count over said (Ok (statement.Head says)) = head_fault over (said says) says
 statement_fault count over said (Ok (statement.Expect register value)) = None
 
-abbrev pub fault_behind : Version → (before : List Line) → Line → Option ScriptKind
+abbrev pub fault_behind : Version → (before : List Line) → Line → Option Flaw
 fault_behind version before line =
     statement_fault (open_events version before) (is_over version before) (is_said version before)
     (statement_of version line.words)
 
 -- the fault of a significant line, by its words and the significant lines before it, the nearest first
-abbrev pub line_fault : (before : List Line) → Line → Option ScriptKind
-line_fault [] line = if is_some (version_named line.words) then None else Some BadVersion
+abbrev pub line_fault : (before : List Line) → Line → Option Flaw
+line_fault [] line = if is_some (version_named line.words) then None else Some (version_flaw line.words)
 line_fault (last ∷ before) line = fault_behind (version_above (last ∷ before)) (last ∷ before) line
-
--- the fault of a line with this number
-abbrev pub at_line : ℕ → ScriptKind → ScriptFault
-at_line number kind = record { kind = kind; line = number }
 
 -- the fault of the first line that has one
 abbrev pub first_fault : (before : List Line) → List Line → Option ScriptFault
@@ -141,12 +146,12 @@ first_fault before (line ∷ more) =
 -- ---- publications
 
 -- the event that a line adds, if any
-abbrev pub event_in : Result Statement ScriptKind → Option Event
+abbrev pub event_in : Result Statement Flaw → Option Event
 event_in (Ok (statement.Event event)) = Some event
 event_in (Ok statement.Publish) = None
 event_in (Ok (statement.Head says)) = None
 event_in (Ok (statement.Expect register value)) = None
-event_in (Err kind) = None
+event_in (Err flaw) = None
 
 abbrev pub event_of : Version → Line → Option Event
 event_of version line = event_in (statement_of version line.words)
@@ -155,12 +160,12 @@ event_of version line = event_in (statement_of version line.words)
 abbrev pub event_line_of : Version → Line → Option ℕ
 event_line_of version line = option_map (λ _. line.number) (event_of version line)
 
-abbrev pub publishes : Result Statement ScriptKind → Bool
+abbrev pub publishes : Result Statement Flaw → Bool
 publishes (Ok (statement.Event event)) = false
 publishes (Ok statement.Publish) = true
 publishes (Ok (statement.Head says)) = false
 publishes (Ok (statement.Expect register value)) = false
-publishes (Err kind) = false
+publishes (Err flaw) = false
 
 abbrev pub is_publish : Version → Line → Bool
 is_publish version line = publishes (statement_of version line.words)
@@ -192,26 +197,26 @@ first_unpublished version lines =
 
 -- ---- the head and what is expected
 
-abbrev pub head_line_in : (number : ℕ) → Result Statement ScriptKind → Option HeadLine
+abbrev pub head_line_in : (number : ℕ) → Result Statement Flaw → Option HeadLine
 head_line_in number (Ok (statement.Event event)) = None
 head_line_in number (Ok statement.Publish) = None
 head_line_in number (Ok (statement.Head says)) = Some (record { line = number; statement = says })
 head_line_in number (Ok (statement.Expect register value)) = None
-head_line_in number (Err kind) = None
+head_line_in number (Err flaw) = None
 
 -- the lines of the head
 abbrev pub head_lines : Version → List Line → List HeadLine
 head_lines version lines = filter_map (λ line. head_line_in line.number (statement_of version line.words)) lines
 
 -- what these lines expect, behind so many events
-abbrev pub expected_by : (events number : ℕ) → Result Statement ScriptKind → (later : ℕ → List Expectation)
+abbrev pub expected_by : (events number : ℕ) → Result Statement Flaw → (later : ℕ → List Expectation)
     → List Expectation
 expected_by events number (Ok (statement.Event event)) later = later (events + 1)
 expected_by events number (Ok statement.Publish) later = later events
 expected_by events number (Ok (statement.Head says)) later = later events
 expected_by events number (Ok (statement.Expect register value)) later =
     record { register = register; value = value; line = number; events = events } ∷ later events
-expected_by events number (Err kind) later = later events
+expected_by events number (Err flaw) later = later events
 
 abbrev pub expected_from : Version → (events : ℕ) → List Line → List Expectation
 expected_from version events [] = []
@@ -223,7 +228,7 @@ expected_from version events (line ∷ more) =
 -- the fault of a line comes first, then events that are never published
 abbrev pub fault_or_publications : {X : Type 0} → Option ScriptFault → Option ℕ → X → Result X ScriptFault
 fault_or_publications (Some fault) unpublished published = Err fault
-fault_or_publications None (Some number) published = Err (at_line number Unpublished)
+fault_or_publications None (Some number) published = Err (at_line number (as_whole Unpublished))
 fault_or_publications None None published = Ok published
 
 -- these publications are for the usual hart of this size, from its reset on
@@ -239,7 +244,7 @@ for_unit size (Err fault) = Err fault
 
 -- the first line of the head with a value that its register doesn't keep is at fault
 abbrev pub if_held : Option ℕ → ScriptContents → Result ScriptContents ScriptFault
-if_held (Some number) script = Err (at_line number NotHeld)
+if_held (Some number) script = Err (at_line number (part 2 NotHeld))
 if_held None script = Ok script
 
 -- these publications are for the hart of a head, from the registers on that it sets
@@ -263,17 +268,17 @@ published_behind first more version =
 
 -- what lines mean behind a line that names a version, or none
 abbrev pub meaning_behind : Line → List Line → Option Version → Result ScriptContents ScriptFault
-meaning_behind first more None = Err (at_line first.number BadVersion)
+meaning_behind first more None = Err (at_line first.number (version_flaw first.words))
 meaning_behind first more (Some (Sized size)) = for_unit size (published_behind first more (Sized size))
 meaning_behind first more (Some Headed) =
     for_head (head_lines Headed more) (expected_from Headed 0 more) (published_behind first more Headed)
 
 -- the first line is the version; the head and publications stand behind it
 abbrev pub lines_meaning : List Line → Result ScriptContents ScriptFault
-lines_meaning [] = Err (at_line 1 BadVersion)
+lines_meaning [] = Err (at_line 1 (as_whole BadVersion))
 lines_meaning (version ∷ more) = meaning_behind version more (version_named version.words)
 
 -- what a text means; one of more bytes than the limit is too long, whatever it says
 unfoldable pub script_meaning : List ℕ → Result ScriptContents ScriptFault
 script_meaning text =
-    if nat_lt MAX_SCRIPT (length text) then Err (at_line 0 TooLong) else lines_meaning (significant_lines text)
+    if nat_lt MAX_SCRIPT (length text) then Err (at_line 0 (as_whole TooLong)) else lines_meaning (significant_lines text)

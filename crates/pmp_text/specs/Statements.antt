@@ -3,8 +3,9 @@ use Rattle.std.specs.Prelude.{ℕ, List, [], ◌∷◌, true, false, ◌==◌, O
 use Rattle.std.specs.Prelude.{bytes_eq, nat_lt, position, if◌then◌else◌}
 use Rattle.pmp_core.specs.declared.csr.Csr.{Csr}
 use Rattle.pmp_core.specs.declared.event.Event.TheVariants.{Write, Reset}
-use Rattle.pmp_text.specs.declared.script.ScriptKind.{ScriptKind}
-use Rattle.pmp_text.specs.declared.script.ScriptKind.TheVariants.{BadLine, BadNumber, BadEntries, BadBits, BadGrain}
+use Rattle.pmp_text.specs.declared.flaw.Flaw.{Flaw}
+use Rattle.pmp_text.specs.declared.refusal.Refusal.{Refusal}
+use Rattle.pmp_text.specs.declared.refusal.Refusal.TheVariants.{BadLine, BadNumber, BadEntries, BadBits, BadGrain}
 use Rattle.pmp_text.specs.declared.script.hart_field.HartField.{HartField}
 use Rattle.pmp_text.specs.declared.script.hart_field.HartField.TheVariants.{Entries, Grain, Bits, Smepmp}
 use Rattle.pmp_text.specs.declared.script.hart_field.TheConstants.{GRAINS}
@@ -15,102 +16,110 @@ use Rattle.pmp_text.specs.declared.script.version.Version.{Version}
 use Rattle.pmp_text.specs.declared.script.version.Version.TheVariants.{Sized, Headed}
 use Rattle.pmp_text.specs.Numbers.{word_number}
 use Rattle.pmp_text.specs.Names.{register_named}
+use Rattle.pmp_text.specs.Flaws.{part, as_whole}
 
 -- ---- a register and a value
 
+-- two operands; at fault is the first one too many, or the line that lacks one
+abbrev pub two_of : List (List ℕ) → Result (List ℕ × List ℕ) Flaw
+two_of (name ∷ value ∷ []) = Ok (name, value)
+two_of (name ∷ value ∷ word ∷ more) = Err (part 3 BadLine)
+two_of _ = Err (as_whole BadLine)
+
 -- a faulty name comes before a faulty value
-abbrev pub assigned : Result Csr ScriptKind → Option ℕ → Result (Csr × ℕ) ScriptKind
-assigned (Err kind) value = Err kind
-assigned (Ok csr) None = Err BadNumber
+abbrev pub assigned : Result Csr Refusal → Option ℕ → Result (Csr × ℕ) Flaw
+assigned (Err kind) value = Err (part 1 kind)
+assigned (Ok csr) None = Err (part 2 BadNumber)
 assigned (Ok csr) (Some value) = Ok (csr, value)
 
 -- a name and a value, and nothing else
-abbrev pub assignment : List (List ℕ) → Result (Csr × ℕ) ScriptKind
-assignment (name ∷ value ∷ []) = assigned (register_named name) (word_number value)
-assignment _ = Err BadLine
+abbrev pub assignment : List (List ℕ) → Result (Csr × ℕ) Flaw
+assignment operands = elim (two_of operands) [
+  | Ok (name, value) ↦ assigned (register_named name) (word_number value)
+  | Err flaw ↦ Err flaw
+]
 
-abbrev pub write_statement : List (List ℕ) → Result Statement ScriptKind
+abbrev pub write_statement : List (List ℕ) → Result Statement Flaw
 write_statement operands = elim (assignment operands) [
   | Ok (csr, value) ↦ Ok (statement.Event (Write csr value))
-  | Err kind ↦ Err kind
+  | Err flaw ↦ Err flaw
 ]
 
-abbrev pub set_statement : List (List ℕ) → Result Statement ScriptKind
+abbrev pub set_statement : List (List ℕ) → Result Statement Flaw
 set_statement operands = elim (assignment operands) [
   | Ok (csr, value) ↦ Ok (statement.Head (Set csr value))
-  | Err kind ↦ Err kind
+  | Err flaw ↦ Err flaw
 ]
 
-abbrev pub expect_statement : List (List ℕ) → Result Statement ScriptKind
+abbrev pub expect_statement : List (List ℕ) → Result Statement Flaw
 expect_statement operands = elim (assignment operands) [
   | Ok (csr, value) ↦ Ok (statement.Expect csr value)
-  | Err kind ↦ Err kind
+  | Err flaw ↦ Err flaw
 ]
 
 -- ---- the hart
 
 -- a number below 256; a larger one is of this kind
-abbrev pub byte_number : ScriptKind → List ℕ → Result ℕ ScriptKind
+abbrev pub byte_number : Refusal → List ℕ → Result ℕ Refusal
 byte_number kind word = elim (word_number word) [
   | Some number ↦ if nat_lt number 256 then Ok number else Err kind
   | None ↦ Err BadNumber
 ]
 
 -- G of a grain in bytes, which is one of those that there are
-abbrev pub grain_number : List ℕ → Result ℕ ScriptKind
+abbrev pub grain_number : List ℕ → Result ℕ Refusal
 grain_number word = elim (word_number word) [
   | Some number ↦ elim (position (λ grain. grain == number) GRAINS) [ Some place ↦ Ok place | None ↦ Err BadGrain ]
   | None ↦ Err BadNumber
 ]
 
 -- `yes` or `no`
-abbrev pub smepmp_field : List ℕ → Result HartField ScriptKind
+abbrev pub smepmp_field : List ℕ → Result HartField Flaw
 smepmp_field word =
     if bytes_eq word (codes "yes") then Ok (Smepmp true)
-    else (if bytes_eq word (codes "no") then Ok (Smepmp false) else Err BadLine)
+    else (if bytes_eq word (codes "no") then Ok (Smepmp false) else Err (part 2 BadLine))
 
-abbrev pub numbered : (ℕ → HartField) → Result ℕ ScriptKind → Result HartField ScriptKind
+abbrev pub numbered : (ℕ → HartField) → Result ℕ Refusal → Result HartField Flaw
 numbered field (Ok number) = Ok (field number)
-numbered field (Err kind) = Err kind
+numbered field (Err kind) = Err (part 2 kind)
 
 -- `entries`, `grain`, `bits` or `smepmp`, and its value
-abbrev pub field_of : (name value : List ℕ) → Result HartField ScriptKind
+abbrev pub field_of : (name value : List ℕ) → Result HartField Flaw
 field_of name value =
     if bytes_eq name (codes "entries") then numbered (λ n. Entries n) (byte_number BadEntries value)
     else (if bytes_eq name (codes "grain") then numbered (λ n. Grain n) (grain_number value)
     else (if bytes_eq name (codes "bits") then numbered (λ n. Bits n) (byte_number BadBits value)
-    else (if bytes_eq name (codes "smepmp") then smepmp_field value else Err BadLine)))
+    else (if bytes_eq name (codes "smepmp") then smepmp_field value else Err (part 1 BadLine))))
 
-abbrev pub hart_said : Result HartField ScriptKind → Result Statement ScriptKind
+abbrev pub hart_said : Result HartField Flaw → Result Statement Flaw
 hart_said (Ok field) = Ok (statement.Head (Hart field))
-hart_said (Err kind) = Err kind
+hart_said (Err flaw) = Err flaw
 
-abbrev pub hart_statement : List (List ℕ) → Result Statement ScriptKind
-hart_statement (name ∷ value ∷ []) = hart_said (field_of name value)
-hart_statement _ = Err BadLine
+abbrev pub hart_statement : List (List ℕ) → Result Statement Flaw
+hart_statement operands = elim (two_of operands) [ Ok (name, value) ↦ hart_said (field_of name value) | Err flaw ↦ Err flaw ]
 
 -- ---- all lines
 
 -- a statement of one word has no operands
-abbrev pub without_operands : Statement → List (List ℕ) → Result Statement ScriptKind
+abbrev pub without_operands : Statement → List (List ℕ) → Result Statement Flaw
 without_operands statement [] = Ok statement
-without_operands statement (word ∷ more) = Err BadLine
+without_operands statement (word ∷ more) = Err (part 1 BadLine)
 
 -- what only version 3 has: `hart` with a field, and `set` and `expect` with a register and a value
-abbrev pub head_statement : List ℕ → List (List ℕ) → Result Statement ScriptKind
+abbrev pub head_statement : List ℕ → List (List ℕ) → Result Statement Flaw
 head_statement word operands =
     if bytes_eq word (codes "hart") then hart_statement operands
     else (if bytes_eq word (codes "set") then set_statement operands
-    else (if bytes_eq word (codes "expect") then expect_statement operands else Err BadLine))
+    else (if bytes_eq word (codes "expect") then expect_statement operands else Err (part 0 BadLine)))
 
-abbrev pub further_statement : Version → List ℕ → List (List ℕ) → Result Statement ScriptKind
-further_statement (Sized size) word operands = Err BadLine
+abbrev pub further_statement : Version → List ℕ → List (List ℕ) → Result Statement Flaw
+further_statement (Sized size) word operands = Err (part 0 BadLine)
 further_statement Headed word operands = head_statement word operands
 
 -- the statement of a line, by its words: `write` with a register and a value, `reset`, or `publish`, and in version 3
 -- some more
-unfoldable pub statement_of : Version → List (List ℕ) → Result Statement ScriptKind
-statement_of version [] = Err BadLine
+unfoldable pub statement_of : Version → List (List ℕ) → Result Statement Flaw
+statement_of version [] = Err (as_whole BadLine)
 statement_of version (word ∷ operands) =
     if bytes_eq word (codes "write") then write_statement operands
     else (if bytes_eq word (codes "reset") then without_operands (statement.Event Reset) operands

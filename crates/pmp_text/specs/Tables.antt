@@ -1,20 +1,25 @@
 -- Texts of rows behind a header, as traces and policies are.
 use Rattle.std.specs.Prelude.{ℕ, List, [], ◌∷◌, length, Bool, Option, Some, None, Result, Ok, Err}
-use Rattle.std.specs.Prelude.{nat_lt, if◌then◌else◌}
+use Rattle.std.specs.Prelude.{nat_lt, if◌then◌else◌, ◌==◌, ◌||◌}
+use Rattle.std.specs.List.{list_any}
 use Rattle.csv.specs.Reading.{default_config, records, strip_bom}
-use Rattle.pmp_text.specs.declared.trace.TraceKind.{TraceKind}
-use Rattle.pmp_text.specs.declared.trace.TraceKind.TheVariants.{BadHeader, TooLong}
+use Rattle.pmp_text.specs.declared.refusal.Refusal.TheVariants.{BadHeader, TooLong}
 use Rattle.pmp_text.specs.declared.trace.TraceFault.{TraceFault}
 use Rattle.pmp_text.specs.declared.trace.reader.TheConstants.{MAX_TRACE}
+use Rattle.pmp_text.specs.Flaws.{at_row, as_whole}
 
 -- the records of a text, each a list of fields, as the crate `csv` reads them with its defaults: no byte-order mark
 -- is part of the first one
 abbrev pub records_of : List ℕ → List (List (List ℕ))
 records_of text = records default_config (strip_bom text)
 
--- the fault of a row with this number
-abbrev pub at_row : ℕ → TraceKind → TraceFault
-at_row number kind = record { kind = kind; row = number }
+-- CR and LF
+abbrev pub is_line_end : ℕ → Bool
+is_line_end byte = (byte == 13) || (byte == 10)
+
+-- a field has a line end, so that the record goes over several lines
+abbrev pub is_broken : List (List ℕ) → Bool
+is_broken fields = list_any (λ field. list_any is_line_end field) fields
 
 -- a fault of a row, else what the rows say
 abbrev pub fault_or_rows : {X : Type 0} → Option TraceFault → List X → Result (List X) TraceFault
@@ -25,12 +30,12 @@ fault_or_rows None rows = Ok rows
 abbrev pub behind_header : {X : Type 0} → (is_header : List (List ℕ) → Bool)
     → (meaning : List (List (List ℕ)) → Result (List X) TraceFault) → List (List (List ℕ))
     → Result (List X) TraceFault
-behind_header is_header meaning [] = Err (at_row 0 BadHeader)
+behind_header is_header meaning [] = Err (at_row 0 (as_whole BadHeader))
 behind_header is_header meaning (header ∷ rows) =
-    if is_header header then meaning rows else Err (at_row 0 BadHeader)
+    if is_header header then meaning rows else Err (at_row 0 (as_whole BadHeader))
 
 -- what a text means by its records; one of more bytes than the limit is too long, whatever it says
 abbrev pub within_limit : {X : Type 0} → (meaning : List (List (List ℕ)) → Result (List X) TraceFault) → List ℕ
     → Result (List X) TraceFault
 within_limit meaning text =
-    if nat_lt MAX_TRACE (length text) then Err (at_row 0 TooLong) else meaning (records_of text)
+    if nat_lt MAX_TRACE (length text) then Err (at_row 0 (as_whole TooLong)) else meaning (records_of text)

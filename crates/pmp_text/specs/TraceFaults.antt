@@ -4,9 +4,10 @@ use Rattle.std.specs.Prelude.{MatchOption, option_map, option_and_then, slice_ge
 use Rattle.pmp_text.specs.declared.trace.row_fields.RowFields.{RowFields}
 use Rattle.pmp_text.specs.declared.trace.TraceFault.{TraceFault}
 use Rattle.pmp_text.specs.Faults.{IsLeastFault}
-use Rattle.pmp_text.specs.Tables.{at_row, records_of}
-use Rattle.pmp_text.specs.Traces.{after_of, first_row_fault, is_header, row_fault, row_of_record, trace_meaning}
+use Rattle.pmp_text.specs.Tables.{records_of}
+use Rattle.pmp_text.specs.Traces.{after_of, first_row_fault, is_header, row_fault, row_in, row_of_record, trace_meaning}
 use Rattle.pmp_text.specs.declared.trace.reader.TheConstants.{MAX_TRACE}
+use Rattle.pmp_text.specs.Flaws.{at_row}
 
 -- how many publications the row before this one asks for; before the first row that is `last`
 abbrev pub after_before : (last : Option ℕ) → List (List (List ℕ)) → (index : ℕ) → Option ℕ
@@ -16,7 +17,7 @@ after_before last rows (suc index) = option_and_then (λ row. after_of (row_of_r
 -- the fault of the row with this index, by itself and the row before
 abbrev pub row_fault_at : (publications : ℕ) → List (List (List ℕ)) → (index : ℕ) → Option TraceFault
 row_fault_at publications rows index = option_and_then
-    (λ row. option_map (at_row (index + 1)) (row_fault publications (after_before None rows index) (row_of_record row)))
+    (λ row. option_map (at_row (index + 1)) (row_fault publications (after_before None rows index) (row_in row)))
     (slice_get rows index)
 
 -- the first fault is that of the least faulty row, and where there is none, no row is faulty

@@ -1,20 +1,21 @@
 -- What a trace means: its rows, or its fault.
 use Rattle.std.specs.Prelude.{ℕ, ◌+◌, List, [], ◌∷◌, filter_map, Bool, false, ◌&&◌, Option, Some, None, Result}
-use Rattle.std.specs.Prelude.{option_map, option_and_then, nat_lt, codes, bytes_eq, if◌then◌else◌}
+use Rattle.std.specs.Prelude.{option_map, nat_lt, codes, bytes_eq, if◌then◌else◌, Ok, Err}
+use Rattle.std.specs.Result.{result_ok}
+use Rattle.std.specs.List.{position_from}
 use Rattle.std.specs.Option.{option_or}
-use Rattle.pmp_core.specs.declared.access.Mode.{Mode}
-use Rattle.pmp_core.specs.declared.access.Kind.{Kind}
 use Rattle.pmp_core.specs.declared.access.AccessFault.{AccessFault}
 use Rattle.pmp_core.specs.declared.access.AccessFault.TheVariants as access
 use Rattle.pmp_core.specs.Access.{access_fault}
 use Rattle.pmp_text.specs.declared.trace.row_fields.RowFields.{RowFields}
 use Rattle.pmp_text.specs.declared.trace.Row.{Row}
-use Rattle.pmp_text.specs.declared.trace.TraceKind.{TraceKind}
-use Rattle.pmp_text.specs.declared.trace.TraceKind.TheVariants.{BadRow, BadAfter, Order, BadLength, PastEnd}
+use Rattle.pmp_text.specs.declared.flaw.Flaw.{Flaw}
+use Rattle.pmp_text.specs.declared.refusal.Refusal.TheVariants.{BadRow, BadAfter, Order, BadLength, PastEnd}
 use Rattle.pmp_text.specs.declared.trace.TraceFault.{TraceFault}
 use Rattle.pmp_text.specs.AccessWords.{mode_named, kind_named}
-use Rattle.pmp_text.specs.Numbers.{word_number}
-use Rattle.pmp_text.specs.Tables.{at_row, behind_header, fault_or_rows, within_limit}
+use Rattle.pmp_text.specs.Numbers.{is_bare, word_number}
+use Rattle.pmp_text.specs.Tables.{behind_header, fault_or_rows, is_broken, within_limit}
+use Rattle.pmp_text.specs.Flaws.{at_row, of_part, part, as_whole}
 
 -- the fields of a record that has five
 pub record FiveFields : Type 0 where
@@ -47,21 +48,36 @@ row_fields row = record {
   kind = row.access.kind;
   start = row.access.start;
   length = row.access.length;
+  is_bare = row.is_bare;
 }
 
--- what five words say, where each is what its place asks for
-abbrev pub row_of_values : Option ℕ → Option Mode → Option Kind → Option ℕ → Option ℕ → Option RowFields
-row_of_values (Some after) (Some mode) (Some kind) (Some start) (Some length) =
-    Some (record { after = after; mode = mode; kind = kind; start = start; length = length })
-row_of_values _ _ _ _ _ = None
+-- the number of the first of these rows whose start is bare, where the first row has the number `first`
+abbrev pub first_bare : (first : ℕ) → List Row → Option ℕ
+first_bare = position_from (λ row. row.is_bare)
 
--- what a record says as a row: three numbers, a mode and a kind
-abbrev pub row_of_fields : FiveFields → Option RowFields
-row_of_fields words = row_of_values (word_number words.after) (mode_named words.mode) (kind_named words.kind)
-    (word_number words.start) (word_number words.length)
+-- what five words say: a number, a mode, a kind and two numbers
+abbrev pub row_of_fields : FiveFields → Result RowFields Flaw
+row_of_fields words =
+    of_part 0 (word_number words.after) (λ after. of_part 1 (mode_named words.mode) (λ mode.
+    of_part 2 (kind_named words.kind) (λ kind. of_part 3 (word_number words.start) (λ start.
+    of_part 4 (word_number words.length) (λ length.
+    Ok (record {
+      after = after;
+      mode = mode;
+      kind = kind;
+      start = start;
+      length = length;
+      is_bare = is_bare words.start;
+    }))))))
+
+-- what a record says as a row, or what of it says nothing: the whole where it goes over several lines
+abbrev pub row_in : List (List ℕ) → Result RowFields Flaw
+row_in fields =
+    if is_broken fields then Err (as_whole BadRow)
+    else elim (five_fields fields) [ Some words ↦ row_of_fields words | None ↦ Err (as_whole BadRow) ]
 
 abbrev pub row_of_record : List (List ℕ) → Option RowFields
-row_of_record fields = option_and_then row_of_fields (five_fields fields)
+row_of_record fields = result_ok (row_in fields)
 
 -- how many publications a row asks for
 abbrev pub after_of : Option RowFields → Option ℕ
@@ -72,22 +88,22 @@ abbrev pub falls_behind : (last : Option ℕ) → (after : ℕ) → Bool
 falls_behind None after = false
 falls_behind (Some last) after = nat_lt after last
 
--- how a trace refuses an access
-abbrev pub access_kind : Option AccessFault → Option TraceKind
-access_kind None = None
-access_kind (Some access.BadLength) = Some BadLength
-access_kind (Some access.PastEnd) = Some PastEnd
+-- how a trace refuses an access: by its length, or by its first byte
+abbrev pub access_flaw : AccessFault → Flaw
+access_flaw access.BadLength = part 4 BadLength
+access_flaw access.PastEnd = part 3 PastEnd
 
 -- the fault of what a row says: more publications than there are, then fewer than the row before, then the access
-abbrev pub fields_fault : (publications : ℕ) → (last : Option ℕ) → RowFields → Option TraceKind
+abbrev pub fields_fault : (publications : ℕ) → (last : Option ℕ) → RowFields → Option Flaw
 fields_fault publications last row =
-    if nat_lt publications row.after then Some BadAfter
-    else (if falls_behind last row.after then Some Order else access_kind (access_fault row.start row.length))
+    if nat_lt publications row.after then Some (part 0 BadAfter)
+    else (if falls_behind last row.after then Some (part 0 Order)
+    else option_map access_flaw (access_fault row.start row.length))
 
 -- the fault of a row, of which the first is that it says nothing
-abbrev pub row_fault : (publications : ℕ) → (last : Option ℕ) → Option RowFields → Option TraceKind
-row_fault publications last None = Some BadRow
-row_fault publications last (Some row) = fields_fault publications last row
+abbrev pub row_fault : (publications : ℕ) → (last : Option ℕ) → Result RowFields Flaw → Option Flaw
+row_fault publications last (Err flaw) = Some flaw
+row_fault publications last (Ok row) = fields_fault publications last row
 
 -- ---- all rows
 
@@ -96,7 +112,7 @@ abbrev pub first_row_fault : (publications : ℕ) → (last : Option ℕ) → (n
     → Option TraceFault
 first_row_fault publications last number [] = None
 first_row_fault publications last number (row ∷ more) =
-    option_or (option_map (at_row number) (row_fault publications last (row_of_record row)))
+    option_or (option_map (at_row number) (row_fault publications last (row_in row)))
     (first_row_fault publications (after_of (row_of_record row)) (number + 1) more)
 
 -- the rows are numbered from 1, and no row stands before the first one

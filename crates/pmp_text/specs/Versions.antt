@@ -12,16 +12,17 @@ use Rattle.pmp_core.specs.Histories.{joined, file_after}
 use Rattle.pmp_core.specs.RegisterFile.{IsLegal, reset_file}
 use Rattle.pmp_core.specs.SizeLaw.{writes_first}
 use Rattle.pmp_text.specs.declared.script.ScriptFault.{ScriptFault}
-use Rattle.pmp_text.specs.declared.script.ScriptKind.TheVariants.{BadVersion, TooLong}
+use Rattle.pmp_text.specs.declared.refusal.Refusal.TheVariants.{BadVersion, TooLong}
 use Rattle.pmp_text.specs.declared.script.version.Version.TheVariants.{Sized}
 use Rattle.pmp_text.specs.declared.trace.Row.{Row}
 use Rattle.pmp_text.specs.Contents.{Publications, ScriptContents}
 use Rattle.pmp_text.specs.declared.script.reader.TheConstants.{MAX_SCRIPT}
 use Rattle.pmp_text.specs.Lines.{words, lines}
 use Rattle.pmp_text.specs.Reports.{IsReport, file_of_script, report_text}
-use Rattle.pmp_text.specs.Scripts.{Line, at_line, counts, significant_lines, published_behind, for_unit}
+use Rattle.pmp_text.specs.Scripts.{Line, counts, significant_lines, published_behind, for_unit, version_flaw}
 use Rattle.pmp_text.specs.Scripts.{script_meaning, version_named}
 use Rattle.pmp_text.specs.Traces.{row_fields, trace_meaning}
+use Rattle.pmp_text.specs.Flaws.{at_line, as_whole}
 
 -- ---- version 1
 
@@ -32,16 +33,16 @@ is_version_one _ = false
 
 -- what lines mean where version 1 is the only one
 abbrev pub lines_meaning_in_one : List Line → Result Publications ScriptFault
-lines_meaning_in_one [] = Err (at_line 1 BadVersion)
+lines_meaning_in_one [] = Err (at_line 1 (as_whole BadVersion))
 lines_meaning_in_one (version ∷ more) =
     if is_version_one version.words
     then published_behind version more (Sized Sixteen)
-    else Err (at_line version.number BadVersion)
+    else Err (at_line version.number (version_flaw version.words))
 
 -- what a text means where version 1 is the only one
 abbrev pub meaning_in_one : List ℕ → Result Publications ScriptFault
 meaning_in_one text =
-    if nat_lt MAX_SCRIPT (length text) then Err (at_line 0 TooLong)
+    if nat_lt MAX_SCRIPT (length text) then Err (at_line 0 (as_whole TooLong))
     else lines_meaning_in_one (significant_lines text)
 
 -- the first significant line of the text has the words `pmp` and `1`

@@ -9,14 +9,11 @@ use pmp_core::{Kind, Mode};
 pub fn read_mode(word: &[u8]) -> Option<Mode>
     ensures { result ≡ mode_named word.now }
 {
-    if word == b"M".as_slice() {
-        Some(Mode::M)
-    } else if word == b"S".as_slice() {
-        Some(Mode::S)
-    } else if word == b"U".as_slice() {
-        Some(Mode::U)
-    } else {
-        None
+    match word {
+        b"M" => Some(Mode::M),
+        b"S" => Some(Mode::S),
+        b"U" => Some(Mode::U),
+        _ => None,
     }
 }
 
@@ -24,13 +21,10 @@ pub fn read_mode(word: &[u8]) -> Option<Mode>
 pub fn read_kind(word: &[u8]) -> Option<Kind>
     ensures { result ≡ kind_named word.now }
 {
-    if word == b"fetch".as_slice() {
-        Some(Kind::Fetch)
-    } else if word == b"load".as_slice() {
-        Some(Kind::Load)
-    } else if word == b"store".as_slice() {
-        Some(Kind::Store)
-    } else {
-        None
+    match word {
+        b"fetch" => Some(Kind::Fetch),
+        b"load" => Some(Kind::Load),
+        b"store" => Some(Kind::Store),
+        _ => None,
     }
 }

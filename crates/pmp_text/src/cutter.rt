@@ -1,13 +1,13 @@
 //! What a reader gives, in pieces that end at a line's end.
 
-ghost use Rattle.std.specs.Prelude.{◌≡◌, ◌≢◌, ◌<◌, ◌≤◌, IfErr, IfOk, MatchOption, drop, false, length, slice_index};
+ghost use Rattle.std.specs.Prelude.{◌≡◌, ◌⊎◌, ◌<◌, ◌≤◌, IfErr, IfOk, MatchOption, drop, false, length, slice_index};
 ghost use Rattle.std.specs.Prelude.{true, vec_len};
 ghost use Rattle.std.specs.List.{list_any};
 ghost use Rattle.pmp_text.specs.Cutting.{IsCut, IsFilled};
-ghost use Rattle.pmp_text.specs.LongTraces.{is_line_end};
-ghost use Rattle.pmp_text.specs.declared.input.InputFault.TheVariants.{TooLong};
+ghost use Rattle.pmp_text.specs.Tables.{is_line_end};
+ghost use Rattle.pmp_text.specs.declared.refusal.Refusal.TheVariants.{Input, Memory};
 
-use crate::input::InputFault;
+use crate::refusal::{InputFault, Refusal};
 use std::alloc::Global;
 use std::io::Read;
 use std::mem;
@@ -40,7 +40,7 @@ pub fn cut_piece<R: Read>(
     if fill(reader, held, limit)? {
         return Ok(Cut::Last(mem::replace(held, Vec::new(alloc))));
     }
-    let end = last_line_end(held).ok_or(InputFault::TooLong)?;
+    let end = last_line_end(held).ok_or(Refusal::TooLong)?;
     let rest = Vec::from_slice(alloc, &held[end..])?;
     held.truncate(end + 1);
     Ok(Cut::Front(mem::replace(held, rest)))
@@ -51,7 +51,7 @@ fn fill<R: Read>(reader: &mut R, held: &mut Vec<u8>, limit: usize) -> Result<boo
     requires { vec_len held.old ≤ limit }
     ensures filled { IfOk result
         (IsFilled limit held.old.items (R.remaining reader.old) (R.remaining reader.new) held.new.items) }
-    ensures failed { IfErr result (λ fault. fault ≢ TooLong) }
+    ensures failed { IfErr result (λ fault. (fault ≡ Input) ⊎ (fault ≡ Memory)) }
 {
     let mut chunk = [0; CHUNK];
     while held.len() < limit {

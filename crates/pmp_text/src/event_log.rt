@@ -3,12 +3,11 @@
 ghost use Rattle.std.specs.Prelude.{◌≡◌, ◌++◌, ◌∷◌, [], OnErr, OnOk, length};
 ghost use Rattle.pmp_text.specs.EventLogs.{Kept, nothing_kept, with_end, with_event, with_expectation};
 
-mod fixed;
-mod growing;
+mod log;
+mod store;
 
 use crate::expectation::Expectation;
-pub use fixed::FixedLog;
-pub use growing::GrowingLog;
+pub use log::{FixedLog, GrowingLog};
 use pmp_core::Event;
 use std::alloc::AllocError;
 

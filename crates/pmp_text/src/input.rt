@@ -1,45 +1,16 @@
 //! Reading all bytes of an input.
 
-ghost use Rattle.std.specs.Prelude.{◌≡◌, ◌≢◌, ◌+◌, ◌<◌, ◌≤◌, length, take, Err, IfOk};
-ghost use Rattle.std.specs.Io.KnownBytes.{Consumes, IsAtEnd, Keeps};
-ghost use Rattle.pmp_text.specs.Bytes.{Takes};
-ghost use Rattle.pmp_text.specs.Inputs.{IsReadWhole};
+ghost use Rattle.std.specs.Prelude.{◌≡◌, ◌<◌, ◌≤◌, length, take, IfErr, IfOk};
+ghost use Rattle.std.specs.Io.KnownBytes.{Consumes, IsAtEnd};
+ghost use Rattle.pmp_text.specs.Inputs.{CantReadPart, IsReadWhole};
 ghost use Rattle.pmp_text.specs.declared.script.reader.TheConstants.{MAX_SCRIPT};
 ghost use Rattle.pmp_text.specs.declared.trace.reader.TheConstants.{MAX_TRACE};
-ghost use Rattle.pmp_text.specs.declared.input.InputFault.TheVariants.{Input, Memory};
 
+use crate::refusal::{InputFault, Refusal};
 use crate::script::MAX_SCRIPT;
 use crate::trace::MAX_TRACE;
-use std::alloc::{AllocError, Global};
-use std::io;
+use std::alloc::Global;
 use std::io::Read;
-
-/// Why an input gives no bytes. What was taken from a reader stays taken.
-#[derive(Clone, Copy, Debug, PartialEq, Eq)]
-pub enum InputFault {
-    /// There are more bytes than the limit.
-    TooLong,
-    /// The input can't be opened, or a read failed.
-    Input,
-    /// No memory for the bytes.
-    Memory,
-}
-
-impl From<AllocError> for InputFault {
-    ghost from_gives = { λ _ fault. fault ≡ Memory };
-
-    fn from(_: AllocError) -> InputFault {
-        InputFault::Memory
-    }
-}
-
-impl From<io::Error> for InputFault {
-    ghost from_gives = { λ _ fault. fault ≡ Input };
-
-    fn from(_: io::Error) -> InputFault {
-        InputFault::Input
-    }
-}
 
 /// The largest limit that `read_bytes` keeps.
 pub const MAX_LIMIT: u64 = MAX_TRACE as u64;
@@ -78,15 +49,12 @@ fn read_part<R: Read>(reader: &mut R, chunk: &mut [u8], room: u64) -> Result<usi
         (take count chunk.new)) }
     ensures end { IfOk result (λ count. count ≡ 0 → IsAtEnd (R.remaining reader.new)) }
 
-    ensures too_long { result ≡ Err InputFault.TooLong
-        → Takes (R.remaining reader.old) (R.remaining reader.new) (room + 1) }
-    ensures input { result ≡ Err InputFault.Input → Keeps (R.remaining reader.old) (R.remaining reader.new) }
-    ensures no_memory { result ≢ Err InputFault.Memory }
+    ensures failed { IfErr result (CantReadPart room (R.remaining reader.old) (R.remaining reader.new)) }
 {
     let most = (chunk.len() as u64).min(room + 1) as usize;
     let count = reader.read(&mut chunk[..most])?;
     if count as u64 > room {
-        return Err(InputFault::TooLong);
+        return Err(Refusal::TooLong);
     }
     Ok(count)
 }

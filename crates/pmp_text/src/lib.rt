@@ -6,6 +6,7 @@ mod access_words;
 mod cutter;
 mod event_log;
 mod expectation;
+mod flaw;
 mod input;
 pub mod laws;
 mod lines;
@@ -13,6 +14,7 @@ mod names;
 mod numbers;
 mod output;
 mod policy;
+mod refusal;
 mod script;
 mod sink;
 mod trace;
@@ -21,15 +23,17 @@ pub use access_words::{read_kind, read_mode};
 pub use cutter::{Cut, cut_piece};
 pub use event_log::{EventLog, FixedLog, GrowingLog};
 pub use expectation::Expectation;
-pub use input::{InputFault, MAX_LIMIT, read_bytes, read_script_bytes, read_trace_bytes};
+pub use flaw::Flaw;
+pub use input::{MAX_LIMIT, read_bytes, read_script_bytes, read_trace_bytes};
 pub use lines::{
     Breach, Change, EventPlace, NoMemory, Only, Since, write_change, write_effect, write_entries,
     write_expected, write_picture, write_registers, write_row, write_runs, write_script,
     write_verdict,
 };
-pub use numbers::read_word_number;
+pub use numbers::{is_bare, read_word_number};
 pub use output::{OutputFault, write_out};
 pub use policy::{Demand, Kinds, Modes, PolicyFields, PolicyRow, read_policy};
-pub use script::{MAX_SCRIPT, Script, ScriptFault, ScriptKind, read_script};
+pub use refusal::{InputFault, Refusal, ScriptKind, TraceKind};
+pub use script::{MAX_SCRIPT, Script, ScriptFault, read_script};
 pub use sink::Sink;
-pub use trace::{MAX_TRACE, Piece, Place, Row, TraceFault, TraceKind, read_piece, read_trace};
+pub use trace::{MAX_TRACE, Piece, Place, Row, TraceFault, read_piece, read_trace};

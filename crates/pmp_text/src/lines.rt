@@ -1,6 +1,6 @@
 //! Lines that join an output.
 
-ghost use Rattle.std.specs.Prelude.{◌≡◌, ◌++◌, IfOk, IfSome, OnErr, OnOk};
+ghost use Rattle.std.specs.Prelude.{◌≡◌, ◌++◌, ◌<◌, ◌^◌, IfOk, IfSome, OnErr, OnOk};
 
 mod changes;
 mod effects;
@@ -20,6 +20,7 @@ pub use changes::{Change, Only, write_change};
 pub use effects::{EventPlace, write_effect};
 pub use entries::write_entries;
 pub use expected::write_expected;
+pub use hexadecimal::ADDRESS_DIGITS;
 pub use picture::write_picture;
 pub use registers::write_registers;
 pub use report::write_row;
@@ -34,26 +35,39 @@ pub use std::alloc::AllocError as NoMemory;
 use std::alloc::AllocError;
 use std::fmt::{Display, Write};
 
-/// The most bytes of a line, or of a part of one that is appended at once: one of a picture has at most 107 bytes, and
-/// no other has more. For a longer one there would be no room.
-const LINE: usize = 128;
+/// The most bytes of a line. No line of what this crate writes has more than some four hundred; for a longer one there
+/// would be no room.
+const LINE: usize = 512;
 
 /// Appends a line, or nothing.
 pub fn append_line<S: Sink, L: Display + Drop>(out: &mut S, line: L) -> Result<(), AllocError>
     ensures ok { OnOk result (IfSome (L.output line) (λ text. S.text out.new ≡ S.text out.old ++ text)) }
     ensures err { OnErr result (S.text out.new ≡ S.text out.old) }
 {
-    let text = line_of(line)?;
+    append_text::<LINE, S, L>(out, line)
+}
+
+/// Appends a text of at most so many bytes, or nothing.
+fn append_text<const MOST: usize, S: Sink, L: Display + Drop>(
+    out: &mut S,
+    text: L,
+) -> Result<(), AllocError>
+    requires { MOST < 2 ^ 16 }
+    ensures ok { OnOk result (IfSome (L.output text) (λ bytes. S.text out.new ≡ S.text out.old ++ bytes)) }
+    ensures err { OnErr result (S.text out.new ≡ S.text out.old) }
+{
+    let text = text_of::<MOST, L>(text)?;
     out.append(text.as_str().as_bytes())
 }
 
-/// The line by itself.
-fn line_of<L: Display + Drop>(line: L) -> Result<ArrayString<LINE>, AllocError>
-    ensures { IfOk result (λ text. IfSome (L.output line) (λ bytes. text.bytes ≡ bytes)) }
+/// The text by itself.
+fn text_of<const MOST: usize, L: Display + Drop>(text: L) -> Result<ArrayString<MOST>, AllocError>
+    requires { MOST < 2 ^ 16 }
+    ensures { IfOk result (λ written. IfSome (L.output text) (λ bytes. written.bytes ≡ bytes)) }
 {
-    let mut text = ArrayString::new();
-    match text.write(line) {
-        Ok(()) => Ok(text),
+    let mut written = ArrayString::new();
+    match written.write(text) {
+        Ok(()) => Ok(written),
         Err(_) => Err(AllocError),
     }
 }

@@ -4,7 +4,7 @@ ghost use Rattle.std.specs.Prelude.{◌≡◌, ◌≤◌, IfSome, Some};
 ghost use Rattle.pmp_text.specs.Names.{plain_number, register_name, register_number, register_named};
 
 use crate::numbers::read_numeral;
-use crate::script::ScriptKind;
+use crate::refusal::Refusal;
 use pmp_core::{Csr, CsrFault};
 use std::fmt;
 
@@ -43,14 +43,14 @@ fn read_register_number(word: &[u8]) -> Option<u64>
 }
 
 /// The register that a word names.
-pub fn read_register(word: &[u8]) -> Result<Csr, ScriptKind>
+pub fn read_register(word: &[u8]) -> Result<Csr, Refusal>
     ensures { result ≡ register_named word.now }
 {
-    let number = read_register_number(word).ok_or(ScriptKind::BadName)?;
-    let number = u16::try_from(number).map_err(|_| ScriptKind::BadName)?;
+    let number = read_register_number(word).ok_or(Refusal::BadName)?;
+    let number = u16::try_from(number).map_err(|_| Refusal::BadName)?;
     Csr::from_number(number).map_err(|fault| match fault {
-        CsrFault::OddCfg => ScriptKind::OddCfg,
-        CsrFault::NotPmp => ScriptKind::BadName,
+        CsrFault::OddCfg => Refusal::OddCfg,
+        CsrFault::NotPmp => Refusal::BadName,
     })
 }
 

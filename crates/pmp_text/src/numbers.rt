@@ -1,7 +1,9 @@
 //! Numbers as scripts, traces and command lines write them.
 
 ghost use Rattle.std.specs.Prelude.{◌≡◌, ◌+◌, ◌*◌, ◌^◌, ◌<◌, ◌≤◌, MatchOption};
-ghost use Rattle.pmp_text.specs.Numbers.{word_number, numeral};
+ghost use Rattle.pmp_text.specs.Numbers.{is_bare, numeral, word_number};
+
+use crate::lines::ADDRESS_DIGITS;
 
 /// The number with one more digit at its end, if it is below `2^64`.
 fn with_digit(number: u64, radix: u32, digit: u32) -> Option<u64>
@@ -40,4 +42,12 @@ pub fn read_word_number(word: &[u8]) -> Option<u64>
         Some(digits) => read_numeral(digits, 16, 16),
         None => read_numeral(word, 10, 20),
     }
+}
+
+/// Whether a number has as many digits as rows have for an address, and no `0x`: it is read in decimal, where rows mean
+/// hexadecimal.
+pub fn is_bare(word: &[u8]) -> bool
+    ensures { result ≡ is_bare word.now }
+{
+    word.len() == ADDRESS_DIGITS && !word.starts_with(b"0x")
 }

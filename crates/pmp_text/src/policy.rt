@@ -7,7 +7,8 @@ mod reader;
 mod row_fields;
 mod words;
 
-use crate::trace::TraceKind;
+use crate::flaw::Flaw;
+use crate::refusal::Refusal;
 use pmp_core::{Kind, Mode};
 pub use reader::read_policy;
 pub use row_fields::PolicyFields;
@@ -87,6 +88,8 @@ pub struct PolicyRow {
     /// The byte address of the last byte.
     pub last: u64,
     pub demand: Demand,
+    /// Whether `first` or `last` is 14 digits without `0x`: a decimal number, where rows mean hexadecimal.
+    pub is_bare: bool,
     pub ghost forward: { from ≤ to },
     pub ghost ordered: { first ≤ last },
     pub ghost inside: { last < ADDRESS_LIMIT },
@@ -99,14 +102,17 @@ impl PolicyRow {
     /// The row that these fields say beside a script with so many publications. `BadRow` where `to` or `last` lies
     /// before its beginning, then `BadAfter` where there are fewer publications, then `PastEnd` where `last` is no
     /// byte.
-    pub fn new(publications: u64, fields: PolicyFields) -> Result<PolicyRow, TraceKind>
+    pub fn new(publications: u64, fields: PolicyFields) -> Result<PolicyRow, Flaw>
         ensures ok { IfOk result (λ row.
             (proper_fields_fault publications fields ≡ None) × (policy_fields row ≡ fields)) }
         ensures within { IfOk result (λ row. row.to ≤ publications) }
-        ensures err { IfErr result (λ kind. proper_fields_fault publications fields ≡ Some kind) }
+        ensures err { IfErr result (λ flaw. proper_fields_fault publications fields ≡ Some flaw) }
     {
-        if fields.to < fields.from || fields.last < fields.first {
-            return Err(TraceKind::BadRow);
+        if fields.to < fields.from {
+            return Err(Refusal::BadRow.part(1));
+        }
+        if fields.last < fields.first {
+            return Err(Refusal::BadRow.part(5));
         }
         fields.check(publications)
     }

@@ -7,7 +7,7 @@ ghost use Rattle.pmp_core.specs.Histories.{joined};
 ghost use Rattle.pmp_text.specs.Contents.{ScriptContents};
 ghost use Rattle.pmp_text.specs.Heads.{size_for};
 ghost use Rattle.pmp_text.specs.Steps.Cuts.{AreCut, AreEnds, cut_from, last_end};
-ghost use Rattle.pmp_text.specs.declared.script.ScriptKind.TheVariants.{Memory};
+ghost use Rattle.pmp_text.specs.Outcomes.{out_of_memory};
 
 mod hart_field;
 mod head;
@@ -23,45 +23,11 @@ mod words;
 
 use crate::event_log::EventLog;
 use crate::expectation::Expectation;
+use crate::refusal::{Refusal, ScriptKind};
 use pmp_core::{BATCH_EVENTS, ENTRIES, Event, RegFile, Size};
 pub use reader::{MAX_SCRIPT, read_script};
 use std::alloc::AllocError;
 use std::marker::Model;
-
-/// What is wrong with a script.
-#[derive(Clone, Copy, Debug, PartialEq, Eq)]
-pub enum ScriptKind {
-    /// The first significant line is none of `pmp 1`, `pmp 2` and `pmp 3`, or there is none.
-    BadVersion,
-    /// A later line is no statement.
-    BadLine,
-    /// A name or number of no register.
-    BadName,
-    /// A `pmpcfg` register with an odd number.
-    OddCfg,
-    /// A value that is no number below `2^64`.
-    BadNumber,
-    /// The open batch is full.
-    BatchFull,
-    /// Events stand after the last `publish`.
-    Unpublished,
-    /// The text has more than 1,048,576 bytes.
-    TooLong,
-    /// The log had no room for more.
-    Memory,
-    /// A `hart` or `set` line stands behind the first `write`, `reset` or `publish`.
-    LateHead,
-    /// The same is said of the hart twice, or the same register is set twice.
-    Twice,
-    /// A number of entries that no hart has.
-    BadEntries,
-    /// A number of address bits that no hart has.
-    BadBits,
-    /// A grain that no hart has.
-    BadGrain,
-    /// A register doesn't keep the value that it is set to.
-    NotHeld,
-}
 
 /// What is wrong with a script, and where.
 #[derive(Clone, Copy, Debug, PartialEq, Eq)]
@@ -69,22 +35,15 @@ pub struct ScriptFault {
     pub kind: ScriptKind,
     /// The line, counted from 1, or 0 where the fault is of no line: `TooLong` and `Memory`.
     pub line: u64,
-}
-
-impl ScriptKind {
-    /// The fault of this kind at a line.
-    pub(crate) fn at(self, line: u64) -> ScriptFault
-        ensures { result ≡ record { kind = self; line = line } }
-    {
-        ScriptFault { kind: self, line }
-    }
+    /// The word of the line, counted from 0, or none where the whole line is at fault.
+    pub word: Option<usize>,
 }
 
 impl From<AllocError> for ScriptFault {
-    ghost from_gives = { λ _ fault. fault ≡ record { kind = Memory; line = 0 } };
+    ghost from_gives = { λ _ fault. fault ≡ out_of_memory };
 
     fn from(_: AllocError) -> ScriptFault {
-        ScriptKind::Memory.at(0)
+        Refusal::Memory.whole().at_line(0)
     }
 }
 

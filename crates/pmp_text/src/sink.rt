@@ -27,8 +27,7 @@ impl Sink for Vec<u8> {
     ghost text = { λ bytes. bytes.items };
 
     fn append(&mut self, bytes: &[u8]) -> Result<(), AllocError> {
-        self.extend_from_slice(bytes)?;
-        Ok(())
+        Ok(self.extend_from_slice(bytes)?)
     }
 
     fn position(&self) -> usize {
@@ -44,10 +43,7 @@ impl<const N: usize> Sink for ArrayVec<u8, N> {
     ghost text = { λ bytes. bytes.items };
 
     fn append(&mut self, bytes: &[u8]) -> Result<(), AllocError> {
-        match self.try_extend_from_slice(bytes) {
-            Ok(()) => Ok(()),
-            Err(_) => Err(AllocError),
-        }
+        self.try_extend_from_slice(bytes).map_err(|_| AllocError)
     }
 
     fn position(&self) -> usize {

@@ -1,18 +1,17 @@
 //! Traces: the accesses that a text lists, and why a text, of these or of a policy, lists none.
 
-ghost use Rattle.std.specs.Prelude.{◌≡◌, Some};
+ghost use Rattle.std.specs.Prelude.{◌≡◌};
 ghost use Rattle.csv.specs.Reading.{error_kind};
 ghost use Rattle.pmp_text.specs.Outcomes.{no_memory_for_rows, csv_fault};
-ghost use Rattle.pmp_text.specs.Tables.{at_row};
-ghost use Rattle.pmp_text.specs.Traces.{access_kind};
 
 mod piece;
 mod reader;
 mod records;
 mod row_fields;
 
+use crate::refusal::{Refusal, TraceKind};
 pub use piece::{Piece, Place, read_piece};
-use pmp_core::{Access, AccessFault};
+use pmp_core::Access;
 pub use reader::{MAX_TRACE, read_trace};
 pub(crate) use records::{open_records, read_record};
 use std::alloc::AllocFailed;
@@ -22,29 +21,8 @@ use std::alloc::AllocFailed;
 pub struct Row {
     pub after: u64,
     pub access: Access,
-}
-
-/// What is wrong with a trace or a policy.
-#[derive(Clone, Copy, Debug, PartialEq, Eq)]
-pub enum TraceKind {
-    /// The first record doesn't name the fields, or there is none.
-    BadHeader,
-    /// A row that hasn't as many fields as the header, or a field that isn't what its place asks for.
-    BadRow,
-    /// A row that asks for more publications than there are.
-    BadAfter,
-    /// A row of a trace that asks for fewer publications than the row before.
-    Order,
-    /// An access of 0 bytes, or of more than 4,096.
-    BadLength,
-    /// An access that ends above `2^56`, or a last byte of a policy at or above it.
-    PastEnd,
-    /// The text has more than 16,777,216 bytes.
-    TooLong,
-    /// A vector couldn't grow.
-    Memory,
-    /// The crate `csv` reports a failed input.
-    Input,
+    /// Whether the start is 14 digits without `0x`: a decimal number, where rows mean hexadecimal.
+    pub is_bare: bool,
 }
 
 /// What is wrong with a trace or a policy, and where.
@@ -54,22 +32,15 @@ pub struct TraceFault {
     /// The row, counted from 1 behind the header, or 0 where the fault is of no row: `BadHeader`, `TooLong`, `Memory`
     /// and `Input`.
     pub row: u64,
-}
-
-impl TraceKind {
-    /// The fault of this kind at a row.
-    pub(crate) fn at(self, row: u64) -> TraceFault
-        ensures { result ≡ at_row row self }
-    {
-        TraceFault { kind: self, row }
-    }
+    /// The field of the row, counted from 0, or none where the whole row is at fault.
+    pub field: Option<usize>,
 }
 
 impl<T: Drop> From<AllocFailed<T>> for TraceFault {
     ghost from_gives = { λ _ fault. fault ≡ no_memory_for_rows };
 
     fn from(_failed: AllocFailed<T>) -> TraceFault {
-        TraceKind::Memory.at(0)
+        Refusal::Memory.whole().at_row(0)
     }
 }
 
@@ -78,19 +49,8 @@ impl From<csv::Error> for TraceFault {
 
     fn from(error: csv::Error) -> TraceFault {
         match error.kind() {
-            csv::ErrorKind::OutOfMemory => TraceKind::Memory.at(0),
-            _ => TraceKind::Input.at(0),
-        }
-    }
-}
-
-impl From<AccessFault> for TraceKind {
-    ghost from_gives = { λ fault kind. access_kind (Some fault) ≡ Some kind };
-
-    fn from(fault: AccessFault) -> TraceKind {
-        match fault {
-            AccessFault::BadLength => TraceKind::BadLength,
-            AccessFault::PastEnd => TraceKind::PastEnd,
+            csv::ErrorKind::OutOfMemory => Refusal::Memory.whole().at_row(0),
+            _ => Refusal::Input.whole().at_row(0),
         }
     }
 }

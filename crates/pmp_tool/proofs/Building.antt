@@ -1,37 +1,32 @@
 -- What clap reads of a command that is built up step by step.
 use Rattle.std.proofs.Common.{◌≡◌, ◌||◌, ap, refl, ◌∙◌, Bool, true, false, List, Result, Ok, Err, IfOk, IfErr, subst}
 use Rattle.std.proofs.Math.Bool.{or-false}
-use Rattle.std.proofs.lemmas.Result.{IfOk-weaker}
-use Rattle.std.specs.declared.alloc.AllocError.{AllocError}
-use Rattle.clap.specs.Words.{AddsArg, AddsSubcommand, App, FailsBy, HasKind, HasMatchesOf, Rule, Text, app_of}
-use Rattle.clap.specs.Words.{fault_of, is_simple, is_simple_and_free, rule_of, with_rule, with_subcommand}
+use Rattle.clap.specs.Words.{AddsArg, AddsSubcommand, App, FailsBy, HasKind, HasMatchesOf, Text, app_of, fault_of}
+use Rattle.clap.specs.Words.{is_simple, is_simple_and_free, rule_of, with_rule, with_subcommand}
 use Rattle.clap.specs.declared.error.Error.{Error}
 use Rattle.clap.specs.declared.parser.matches.ArgMatches.{ArgMatches}
 use Rattle.clap.proofs.OnLiterals.{clap_on_literals}
 use Rattle.clap.specs.declared.builder.arg.Arg.{Arg}
 use Rattle.clap.specs.declared.builder.command.Command.{Command}
-use Rattle.pmp_tool.specs.Building.{Builds, IsCommand, IsTaken}
-use Rattle.pmp_tool.specs.CommandLines.{pmp_app, with_command, with_count, with_flag, with_option}
-use Rattle.pmp_tool.specs.CommandLines.{with_script, with_topics, with_views, with_word}
+use Rattle.pmp_tool.specs.declared.argument.Argument.{Argument}
+use Rattle.pmp_tool.specs.Arguments.{rule_in}
+use Rattle.pmp_tool.specs.Building.{IsCommand, IsTaken}
+use Rattle.pmp_tool.specs.CommandLines.{command_app, commands_app, pmp_app, with_argument, with_command}
 
 same_globals : (old added : Bool) → added ≡ false → (old || added) ≡ old
 same_globals old added none = rw none (or-false old)
 
 -- an argument more is a rule more
-module _ (arg : Arg) (rule : Rule) (is : rule_of arg ≡ rule) (local : arg.global ≡ false) where
-  rule_added : (old new : Command) (app : App) → IsCommand old app → AddsArg old arg new
-      → IsCommand new (with_rule app rule)
-  rule_added old new app command added = (
-    added.shape local ∙ ap (λ app. with_rule app (rule_of arg)) command.0 ∙ ap (with_rule app) is,
-    added.globals ∙ same_globals _ _ local ∙ command.1,
-  )
+pub argument_added : (arg : Arg) (argument : Argument) → rule_of arg ≡ rule_in argument → arg.global ≡ false
+    → (old new : Command) (app : App) → IsCommand old app → AddsArg old arg new
+    → IsCommand new (with_argument app argument)
+unfolding with_argument
+argument_added arg argument is local old new app command added = (
+  added.shape local ∙ ap (λ app. with_rule app (rule_of arg)) command.0 ∙ ap (with_rule app) is,
+  added.globals ∙ same_globals _ _ local ∙ command.1,
+)
 
-  pub rule_built : (old : Command) (new : Result Command AllocError) → IfOk new (AddsArg old arg)
-      → Builds (λ app. with_rule app rule) (Ok old) new
-  rule_built old new added app command =
-      IfOk-weaker new _ _ (λ new added. rule_added old new app command added) added
-
-command_added : (old sub new : Command) (program app : App) → IsCommand old program → IsCommand sub app
+pub command_added : (old sub new : Command) (program app : App) → IsCommand old program → IsCommand sub app
     → AddsSubcommand old sub new → IsCommand new (with_command program app)
 unfolding with_command
 command_added old sub new program app command given added = (
@@ -40,18 +35,13 @@ command_added old sub new program app command given added = (
   added.globals ∙ same_globals _ _ given.1 ∙ command.1,
 )
 
-pub command_built : (old sub : Command) (new : Result Command AllocError) → IfOk new (AddsSubcommand old sub)
-    → (app : App) → IsCommand sub app → Builds (λ program. with_command program app) (Ok old) new
-command_built old sub new added app given program command =
-    IfOk-weaker new _ _ (λ new added. command_added old sub new program app command given added) added
-
 -- clap's exact statements hold of the program's command
 is_exact : is_simple_and_free pmp_app ≡ true
-unfolding clap_on_literals with_word with_option with_flag with_script with_count with_command with_views with_topics
+unfolding clap_on_literals rule_in with_argument command_app with_command commands_app
 is_exact = refl
 
 is_read : is_simple pmp_app ≡ true
-unfolding clap_on_literals with_word with_option with_flag with_script with_count with_command with_views with_topics
+unfolding clap_on_literals rule_in with_argument command_app with_command commands_app
 is_read = refl
 
 abbrev Fails : List Text → Result ArgMatches Error → App → Type 0

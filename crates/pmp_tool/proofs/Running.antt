@@ -1,26 +1,28 @@
 -- Why a run gives no answer.
-use Rattle.std.proofs.Common.{◌≡◌, ◌≢◌, ◌⊎◌, ◌∙◌, refl, sym, ap, subst, inl, inr, ℕ, List, Option, option_map, Ok}
-use Rattle.std.specs.Borrow.{Bor}
+use Rattle.std.proofs.Common.{◌≡◌, ◌≢◌, ◌⊎◌, ◌∙◌, refl, sym, ap, subst, inl, inr, ℕ, List, Option, Result, Ok, Err}
+use Rattle.std.proofs.Common.{IfErr}
 use Rattle.std.specs.Io.KnownBytes.{Keeps}
 use Rattle.clap.specs.Words.{HasKind, IsAmong, Text, fault_of, kind_of}
 use Rattle.clap.specs.declared.error.Error.{Error}
 use Rattle.clap.specs.declared.error.kind.ErrorKind.{ErrorKind}
 use Rattle.clap.specs.declared.error.kind.ErrorKind.TheVariants.{DisplayHelp, DisplayVersion, OutOfMemory}
+use Rattle.pmp_text.specs.declared.refusal.Refusal.{Refusal}
 use Rattle.pmp_audit.specs.Answers.{IsRefused}
+use Rattle.pmp_audit.specs.declared.fault.Side.{Side}
 use Rattle.pmp_audit.specs.declared.fault.AuditFault.{AuditFault}
 use Rattle.pmp_audit.specs.declared.fault.AuditFault.TheVariants as audit
 use Rattle.pmp_tool.specs.declared.command.Command.{Command}
-use Rattle.pmp_tool.specs.declared.command.Request.{Request}
-use Rattle.pmp_tool.specs.declared.command.Request.TheVariants.{LongAudit}
 use Rattle.pmp_tool.specs.declared.failure.Failure.{Failure}
-use Rattle.pmp_tool.specs.declared.jobs.Jobs.{Jobs}
+use Rattle.pmp_tool.specs.declared.outcome.Outcome.{Outcome}
+use Rattle.pmp_tool.specs.declared.request.LongAudit.{LongAudit}
+use Rattle.pmp_tool.specs.declared.request.Request.{Request}
+use Rattle.pmp_tool.specs.declared.request.Request.TheVariants as request
 use Rattle.pmp_tool.specs.CommandLines.{AsksForLongAudit, MayAskForText, WordsAskFor, pmp_app}
 use Rattle.pmp_tool.specs.Commands.{asked, task_of}
 use Rattle.pmp_tool.specs.Failures.{failure_status, unaudited, unparsed, unparsed_as}
 use Rattle.pmp_tool.specs.Inputs.{Inputs}
-use Rattle.pmp_tool.specs.Requests.{RequestRefuses, RequestSays}
-use Rattle.pmp_tool.specs.Runs.{CommandFails, Fails, RequestFails, TextFails, no_script, no_request}
-use Rattle.pmp_tool.specs.Runs.{no_trace, no_policy, no_new, no_long_trace, no_end, no_answer}
+use Rattle.pmp_tool.specs.Requests.{Declines, InputFails, RequestFails, taken, untaken}
+use Rattle.pmp_tool.specs.Runs.{CommandFails, Fails, TextFails}
 use Rattle.pmp_tool.specs.Runs.{no_room, no_output, refused_words, refused_word, no_memory, no_text, no_command}
 
 module _ (words : List Text) (scripts traces : Inputs) (before after : Option (List ℕ)) (error : Error)
@@ -71,58 +73,79 @@ refused_keeps Says before after Refuses audit.Memory refused two = absurd cc
 refused_keeps Says before after Refuses audit.Output refused two = absurd cc
 refused_keeps Says before after Refuses fault refused two = refused.1
 
+declines_keep : {A : Type 0} {Says : A → List ℕ → Type 0} {Refuses : AuditFault → Type 0}
+    {before after : Option (List ℕ)} {failure : Failure} → Declines before after Says Refuses failure
+    → failure_status failure ≡ 2 → Keeps before after
+declines_keep {Says = Says} {Refuses = Refuses} {before = before} {after = after} declines two =
+    refused_keeps Says before after Refuses declines.fault declines.refused
+    (sym (ap failure_status declines.is) ∙ two)
+
+-- nor did an input that can't be taken
+input_keeps : {CantBeTaken : Refusal → Type 0} {known : Option (List ℕ)} {side : Option Side}
+    {Fails : List ℕ → Failure → Type 0} {before after : Option (List ℕ)} {failure : Failure}
+    → InputFails before after CantBeTaken known side Fails failure
+    → ((bytes : List ℕ) → Fails bytes failure → Keeps before after) → Keeps before after
+input_keeps (untaken fault cant keeps) rest = keeps
+input_keeps (taken bytes failure are fails) rest = rest bytes fails
+
 -- the request is a long audit
 abbrev IsLong : Request → Type 0
-IsLong request = (trace : Bor Text) × (jobs : Option Jobs) × (first : ℕ) × (request ≡ LongAudit trace jobs first)
+IsLong asked = (audit : LongAudit) × (asked ≡ request.LongAudit audit)
 
-request_keeps : {scripts traces : Inputs} {script : List ℕ} {request : Request} {before after : Option (List ℕ)}
-    {failure : Failure} → RequestFails scripts traces script request before after failure
-    → failure_status failure ≡ 2 → IsLong request ⊎ Keeps before after
-request_keeps (no_trace trace checkers fault asked unread keeps) two = inr keeps
-request_keeps (no_policy policy pace fault asked unread keeps) two = inr keeps
-request_keeps (no_new new old_after new_after only fault asked unread keeps) two = inr keeps
-request_keeps (no_long_trace trace jobs first fault asked unopened keeps) two = inr keeps
-request_keeps (no_end path jobs first trace fault asked read stops) two = inl (path, jobs, first, asked)
-request_keeps {scripts = scripts} {traces = traces} {script = script} {request = request} {before = before}
-    {after = after} (no_answer fault refused) two =
-    inr (refused_keeps (RequestSays scripts traces script request) before after
-    (RequestRefuses scripts traces script request) fault refused two)
+module _ (before after : Option (List ℕ)) (scripts traces : Inputs) where
+  request_keeps : (script : List ℕ) (request : Request) (failure : Failure)
+      → RequestFails before after scripts traces script request failure
+      → failure_status failure ≡ 2 → IsLong request ⊎ Keeps before after
+  request_keeps script (request.Check check) failure fails two = inr (declines_keep fails two)
+  request_keeps script (request.Audit audit) failure fails two =
+      inr (input_keeps fails (λ trace fails. declines_keep fails two))
+  request_keeps script (request.LongAudit audit) failure fails two = inl (audit, refl)
+  request_keeps script (request.Policy path pace) failure fails two =
+      inr (input_keeps fails (λ policy fails. declines_keep fails two))
+  request_keeps script (request.Show view count) failure fails two = inr (declines_keep fails two)
+  request_keeps script request.Writes failure fails two = inr (declines_keep fails two)
+  request_keeps script (request.Diff diff) failure fails two =
+      inr (input_keeps fails (λ new fails. declines_keep fails two))
 
-command_keeps : {scripts traces : Inputs} {command : Command} {before after : Option (List ℕ)} {failure : Failure}
-    → CommandFails scripts traces command before after failure → failure_status failure ≡ 2
-    → IsLong command.request ⊎ Keeps before after
-command_keeps (no_script fault unread keeps) two = inr keeps
-command_keeps (no_request script failure read fails) two = request_keeps fails two
+  command_keeps : (command : Command) (failure : Failure) → CommandFails scripts traces command before after failure
+      → failure_status failure ≡ 2 → IsLong command.request ⊎ Keeps before after
+  command_keeps command _ (untaken fault cant keeps) two = inr keeps
+  command_keeps command _ (taken script failure are fails) two =
+      request_keeps script command.request failure fails two
 
 text_keeps : {before after : Option (List ℕ)} {failure : Failure} → TextFails before after failure
     → failure_status failure ≡ 2 → Keeps before after
 text_keeps (no_room keeps) two = keeps
 text_keeps (no_output text front) two = absurd cc
 
--- a command of a long audit is what the words ask for
-long_asked : (words : List Text) (command : Command) → WordsAskFor words (asked command) → IsLong command.request
-    → AsksForLongAudit words
-long_asked words command asks (trace, jobs, first, is) =
-    record {
-      script = command.script.now;
-      trace = trace.now;
-      jobs = option_map (λ jobs. jobs.count) jobs;
-      first = first;
-      task = (asks.0, asks.1 ∙ ap (λ request. Ok (record { script = command.script.now; task = task_of request })) is);
-    }
+-- a command that the words ask for fails
+pub unanswered : (words : List Text) (scripts traces : Inputs) (command : Command) (before after : Option (List ℕ))
+    → WordsAskFor words (asked command) → (result : Result Outcome Failure)
+    → IfErr result (CommandFails scripts traces command before after)
+    → IfErr result (Fails words scripts traces before after)
+unanswered words scripts traces command before after asks (Ok outcome) fails = tt
+unanswered words scripts traces command before after asks (Err failure) fails = no_command command failure asks fails
 
-command_keeps_or_long : (words : List Text) (command : Command) (before after : Option (List ℕ))
+-- a command of a long audit is what the words ask for
+long_or_kept : (words : List Text) (command : Command) (before after : Option (List ℕ))
     → WordsAskFor words (asked command) → IsLong command.request ⊎ Keeps before after
     → AsksForLongAudit words ⊎ Keeps before after
-command_keeps_or_long words command before after asks (inl long) = inl (long_asked words command asks long)
-command_keeps_or_long words command before after asks (inr keeps) = inr keeps
+long_or_kept words command before after asks (inl (audit, is)) =
+    inl (record {
+      script = command.script.now;
+      trace = audit.trace.now;
+      jobs = audit.jobs;
+      first = audit.first;
+      task = (asks.0, asks.1 ∙ ap (λ asked. Ok (record { script = command.script.now; task = task_of asked })) is);
+    })
+long_or_kept words command before after asks (inr keeps) = inr keeps
 
 pub keeps_at_two : {words : List Text} {scripts traces : Inputs} {before after : Option (List ℕ)} {failure : Failure}
     → Fails words scripts traces before after failure → failure_status failure ≡ 2
     → AsksForLongAudit words ⊎ Keeps before after
 keeps_at_two (refused_words error refused keeps) two = inr keeps
-keeps_at_two (refused_word refusal refused keeps) two = inr keeps
+keeps_at_two (refused_word fault refused keeps) two = inr keeps
 keeps_at_two (no_memory keeps) two = inr keeps
 keeps_at_two (no_text failure asked fails) two = inr (text_keeps fails two)
 keeps_at_two {words = words} (no_command command failure asks fails) two =
-    command_keeps_or_long words command _ _ asks (command_keeps fails two)
+    long_or_kept words command _ _ asks (command_keeps _ _ _ _ command failure fails two)

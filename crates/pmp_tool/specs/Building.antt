@@ -15,10 +15,6 @@ IsCommand command app = (app_of command ≡ app) × ((out-Command command).has_g
 abbrev pub IsBuilt : Result Command AllocError → App → Type 0
 IsBuilt built app = IfOk built (λ command. IsCommand command app)
 
--- clap reads the new command as it does the old one with this change
-abbrev pub Builds : (change : App → App) (old new : Result Command AllocError) → Type 0
-Builds change old new = (app : App) → IsBuilt old app → IsBuilt new (change app)
-
 -- clap takes the words, and finds these matches in them
 abbrev pub IsTaken : List Text → ArgMatches → Type 0
 IsTaken words matches = (fault_of pmp_app words ≡ []) × (subcommand_rows_of matches ≡ subcommand_of pmp_app words)

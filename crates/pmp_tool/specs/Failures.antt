@@ -5,34 +5,32 @@ use Rattle.clap.specs.declared.error.Error.{Error}
 use Rattle.clap.specs.declared.error.kind.ErrorKind.{ErrorKind}
 use Rattle.clap.specs.declared.error.kind.ErrorKind.TheVariants.{OutOfMemory}
 use Rattle.pmp_text.specs.Bytes.{AppendsBeginning}
-use Rattle.pmp_text.specs.declared.input.InputFault.{InputFault}
+use Rattle.pmp_text.specs.Refusals.{status_of}
+use Rattle.pmp_text.specs.declared.refusal.Refusal.{Refusal}
+use Rattle.pmp_text.specs.declared.refusal.Refusal.TheVariants.{Memory}
+use Rattle.pmp_audit.specs.Fault.{refusal_of}
 use Rattle.pmp_audit.specs.declared.fault.AuditFault.{AuditFault}
-use Rattle.pmp_audit.specs.declared.fault.AuditFault.TheVariants as audit
 use Rattle.pmp_audit.specs.declared.fault.Side.{Side}
+use Rattle.pmp_tool.specs.FaultLines.{line_text, place_of}
 use Rattle.pmp_tool.specs.declared.failure.Failure.{Failure}
 use Rattle.pmp_tool.specs.declared.failure.Failure.TheVariants.{Words, Refused}
 use Rattle.pmp_tool.specs.declared.fault_line.Place.{Place}
-use Rattle.pmp_tool.specs.declared.fault_line.Place.TheVariants.{Script}
-use Rattle.pmp_tool.specs.declared.refusal.Refusal.{Refusal}
-use Rattle.pmp_tool.specs.declared.refusal.Refusal.TheVariants.{BadAfter, Memory, Moved, Output}
-use Rattle.pmp_tool.specs.Refusals.{line_text, place_on, policy_place, refusal_of_input, refusal_of_script}
-use Rattle.pmp_tool.specs.Refusals.{refusal_of_share, refusal_of_trace, script_place, status_of, trace_place}
+use Rattle.pmp_tool.specs.declared.fault_line.Place.TheVariants.{Nowhere, Script}
 
 abbrev pub failure_status : Failure → ℕ
 failure_status (Words error) = 2
 failure_status (Refused line) = status_of line.refusal
 
--- a refusal at a place, where one is known
-abbrev pub refused_at : Refusal → Option Place → Failure
+abbrev pub refused_at : Refusal → Place → Failure
 refused_at refusal place = Refused (record { refusal = refusal; place = place })
 
 abbrev pub refused : Refusal → Failure
-refused refusal = refused_at refusal None
+refused refusal = refused_at refusal Nowhere
 
 -- an input that can't be read: of two scripts, the one on a side
-abbrev pub unread : InputFault → Option Side → Failure
-unread fault None = refused (refusal_of_input fault)
-unread fault (Some side) = refused_at (refusal_of_input fault) (Some (Script side))
+abbrev pub unread : Refusal → Option Side → Failure
+unread refusal None = refused refusal
+unread refusal (Some side) = refused_at refusal (Script side)
 
 -- words that clap refuses; it may run out of memory, too
 abbrev pub unparsed_as : ErrorKind → Error → Failure
@@ -42,18 +40,9 @@ unparsed_as _ error = Words error
 abbrev pub unparsed : Error → Failure
 unparsed error = unparsed_as (kind_of error) error
 
+-- an answer's fault, where it is
 abbrev pub unaudited : AuditFault → Failure
-unaudited (audit.Script fault) = refused_at (refusal_of_script fault.kind) (script_place fault.line)
-unaudited (audit.Trace fault) = refused_at (refusal_of_trace fault.kind) (trace_place fault.row)
-unaudited (audit.Policy fault) = refused_at (refusal_of_trace fault.kind) (policy_place fault.row)
-unaudited (audit.Share fault) = refused (refusal_of_share fault)
-unaudited (audit.Moved moved) = refused Moved
-unaudited audit.BadAfter = refused BadAfter
-unaudited (audit.ScriptOf side fault) =
-    refused_at (refusal_of_script fault.kind) (Some (place_on side fault.line))
-unaudited (audit.BadAfterOf side) = refused_at BadAfter (Some (Script side))
-unaudited audit.Memory = refused Memory
-unaudited audit.Output = refused Output
+unaudited fault = refused_at (refusal_of fault) (place_of fault)
 
 -- a refusal's text is a line; clap's texts are its own
 abbrev pub failure_text : Failure → Option (List ℕ)

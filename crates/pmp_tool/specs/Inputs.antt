@@ -1,7 +1,7 @@
 -- What is known of the program's inputs, and what reading them answers.
-use Rattle.std.specs.Prelude.{◌≡◌, ℕ, ◌<◌, List, length, Option, Some, IfSome, ⊤}
-use Rattle.pmp_text.specs.declared.input.InputFault.{InputFault}
-use Rattle.pmp_text.specs.declared.input.InputFault.TheVariants.{TooLong, Input, Memory}
+use Rattle.std.specs.Prelude.{◌≡◌, ◌⊎◌, ℕ, ◌<◌, List, length, Option, Some, IfSome}
+use Rattle.pmp_text.specs.declared.refusal.Refusal.{Refusal}
+use Rattle.pmp_text.specs.declared.refusal.Refusal.TheVariants.{TooLong, Input, Memory}
 
 -- the bytes at each path, where it is known what they are
 abbrev pub Inputs : Type 0
@@ -15,14 +15,11 @@ AreBytesOf known bytes = IfSome known (λ those. bytes ≡ those)
 abbrev pub GivesBytesOf : (known remaining : Option (List ℕ)) → Type 0
 GivesBytesOf known remaining = IfSome known (λ those. remaining ≡ Some those)
 
--- an input can't be read; one that is too long has more bytes than the limit, as far as they are known
-abbrev pub CantBeRead : (limit : ℕ) (known : Option (List ℕ)) → InputFault → Type 0
-CantBeRead limit known TooLong = IfSome known (λ bytes. limit < length bytes)
-CantBeRead limit known Input = ⊤
-CantBeRead limit known Memory = ⊤
-
 -- an input can't be opened, however long it is
-abbrev pub CantBeOpened : InputFault → Type 0
-CantBeOpened TooLong = ⊥
-CantBeOpened Input = ⊤
-CantBeOpened Memory = ⊤
+abbrev pub CantBeOpened : Refusal → Type 0
+CantBeOpened refusal = (refusal ≡ Input) ⊎ (refusal ≡ Memory)
+
+-- an input can't be read; one that is too long has more bytes than the limit, as far as they are known
+abbrev pub CantBeRead : (limit : ℕ) (known : Option (List ℕ)) → Refusal → Type 0
+CantBeRead limit known refusal =
+    ((refusal ≡ TooLong) × IfSome known (λ bytes. limit < length bytes)) ⊎ CantBeOpened refusal

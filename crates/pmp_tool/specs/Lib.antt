@@ -1,17 +1,17 @@
 -- What a reader has to believe: what words ask for, what is answered, and how a failure is told.
+pub mod Arguments
 pub mod CommandLines
-pub mod Checkers
 pub mod Expected
 pub mod Explanations
 pub mod Commands
 pub mod Failures
 pub mod Inputs
-pub mod Jobs
-pub mod OnlyWord
-pub mod Refusals
+pub mod FaultLines
 pub mod Requests
 pub mod Runs
+pub mod Words
 -- A law of these definitions, which is proved.
 pub mod LineLengths
+pub mod Notes
 -- The rest, which only private contracts cite.
 pub mod Building

@@ -1,21 +1,32 @@
--- How long the line is that tells of a refusal.
-use Rattle.std.specs.Prelude.{◌<◌, ◌≤◌, ◌^◌, Option, Some, None, length, ⊤}
+-- How long the line is that tells of a refusal, and a note's.
+use Rattle.std.specs.Prelude.{◌<◌, ◌≤◌, ◌^◌, length, ⊤}
+use Rattle.pmp_text.specs.declared.refusal.Refusal.{Refusal}
+use Rattle.pmp_tool.specs.FaultLines.{line_text}
 use Rattle.pmp_tool.specs.declared.fault_line.Place.{Place}
-use Rattle.pmp_tool.specs.declared.fault_line.Place.TheVariants.{ScriptLine, TraceRow, PolicyRow, Script, LineOf}
+use Rattle.pmp_tool.specs.declared.fault_line.Place.TheVariants.{ScriptLine, TraceRow, PolicyRow, LineOf}
 use Rattle.pmp_tool.specs.declared.fault_line.TheConstants.{LONGEST_LINE}
-use Rattle.pmp_tool.specs.declared.refusal.Refusal.{Refusal}
-use Rattle.pmp_tool.specs.Refusals.{line_text}
+use Rattle.pmp_tool.specs.Notes.{note_line}
+use Rattle.pmp_tool.specs.declared.note.Note.{Note}
+use Rattle.pmp_tool.specs.declared.note.Note.TheVariants as note
+use Rattle.pmp_tool.specs.declared.note.TheConstants.{LONGEST_NOTE}
 
 -- the number of a line or a row has 64 bits
-abbrev pub IsNumbered : Option Place → Type 0
-IsNumbered None = ⊤
-IsNumbered (Some (ScriptLine line)) = line < 2 ^ 64
-IsNumbered (Some (TraceRow row)) = row < 2 ^ 64
-IsNumbered (Some (PolicyRow row)) = row < 2 ^ 64
-IsNumbered (Some (Script side)) = ⊤
-IsNumbered (Some (LineOf side line)) = line < 2 ^ 64
+abbrev pub IsNumbered : Place → Type 0
+IsNumbered (ScriptLine fault) = fault.line < 2 ^ 64
+IsNumbered (TraceRow fault) = fault.row < 2 ^ 64
+IsNumbered (PolicyRow fault) = fault.row < 2 ^ 64
+IsNumbered (LineOf side fault) = fault.line < 2 ^ 64
+IsNumbered _ = ⊤
 
 -- the line of a refusal, with its LF, fits the room that the program has for it
 abbrev pub LineFitsLaw : Type 0
-LineFitsLaw = (refusal : Refusal) (place : Option Place) → IsNumbered place
-    → length (line_text refusal place) ≤ LONGEST_LINE
+LineFitsLaw = (refusal : Refusal) (place : Place) → IsNumbered place → length (line_text refusal place) ≤ LONGEST_LINE
+
+abbrev pub IsNumberedNote : Note → Type 0
+IsNumberedNote note.Start = ⊤
+IsNumberedNote (note.TraceRow row) = row < 2 ^ 64
+IsNumberedNote (note.PolicyRow row) = row < 2 ^ 64
+
+-- and so does a note's
+abbrev pub NoteFitsLaw : Type 0
+NoteFitsLaw = (note : Note) → IsNumberedNote note → length (note_line note) ≤ LONGEST_NOTE

@@ -1,60 +1,107 @@
--- What is said of a request, and when it is refused.
+-- What is said of a request, and why one gets no answer.
 use Rattle.std.specs.Prelude.{◌≡◌, ℕ, List, Option, Some, None}
+use Rattle.std.specs.Io.KnownBytes.{Keeps}
+use Rattle.pmp_text.specs.declared.refusal.Refusal.{Refusal}
+use Rattle.pmp_text.specs.declared.script.reader.TheConstants.{MAX_SCRIPT}
+use Rattle.pmp_text.specs.declared.trace.reader.TheConstants.{MAX_TRACE}
 use Rattle.pmp_audit.specs.declared.fault.AuditFault.{AuditFault}
 use Rattle.pmp_audit.specs.AccessCheck.{CheckSays}
+use Rattle.pmp_audit.specs.Answers.{IsRefused}
 use Rattle.pmp_audit.specs.declared.fault.Side.{Side}
-use Rattle.pmp_audit.specs.declared.fault.Side.TheVariants.{Old}
+use Rattle.pmp_audit.specs.declared.fault.Side.TheVariants.{Old, New}
 use Rattle.pmp_audit.specs.AskedFile.{FileRefuses}
 use Rattle.pmp_audit.specs.RightsDiff.{DiffRefuses, DiffSays}
-use Rattle.pmp_audit.specs.LongAudit.{LongAuditSays}
+use Rattle.pmp_audit.specs.declared.long_audit.TheConstants.{PIECE}
+use Rattle.pmp_audit.specs.LongAudit.{LongAuditSays, StopsLong}
 use Rattle.pmp_audit.specs.PolicyCheck.{PolicyRefuses, PolicySays}
 use Rattle.pmp_audit.specs.SharedAudit.{SharedAuditRefuses}
 use Rattle.pmp_audit.specs.TraceAudit.{AuditRefuses, AuditSays}
 use Rattle.pmp_audit.specs.View.{ViewSays}
 use Rattle.pmp_audit.specs.WriteList.{WritesRefuse, WritesSay}
-use Rattle.pmp_tool.specs.declared.checkers.Checkers.{Checkers}
-use Rattle.pmp_tool.specs.declared.command.Request.{Request}
-use Rattle.pmp_tool.specs.declared.command.Request.TheVariants.{Check, Audit, LongAudit, Policy, Show, Writes, Diff}
+use Rattle.pmp_tool.specs.declared.failure.Failure.{Failure}
+use Rattle.pmp_tool.specs.declared.request.Request.{Request}
+use Rattle.pmp_tool.specs.declared.request.Request.TheVariants.{Check, Audit, LongAudit, Policy, Show, Writes, Diff}
 use Rattle.pmp_tool.specs.declared.outcome.Outcome.{Outcome}
 use Rattle.pmp_tool.specs.declared.outcome.Outcome.TheVariants.{Decided, Audited, Judged, Listed, Replayed, Compared}
-use Rattle.pmp_tool.specs.Inputs.{AreBytesOf, Inputs}
+use Rattle.pmp_tool.specs.Failures.{unaudited, unread}
+use Rattle.pmp_tool.specs.Inputs.{AreBytesOf, CantBeOpened, CantBeRead, Inputs}
 
 -- which side the command's script is on, where there are two
 abbrev pub old_side : Request → Option Side
-old_side (Diff path old_after new_after only) = Some Old
+old_side (Diff diff) = Some Old
 old_side _ = None
 
 -- which text goes with which outcome of a request of this script
 abbrev pub RequestSays : (scripts traces : Inputs) (script : List ℕ) → Request → Outcome → (text : List ℕ) → Type 0
-RequestSays scripts traces script (Check access after expected) (Decided decision asked) text =
-    (asked ≡ expected) × CheckSays script access after decision text
-RequestSays scripts traces script (Audit path checkers) (Audited summary) text =
-    (trace : List ℕ) × AreBytesOf (traces path.now) trace × AuditSays script trace summary text
-RequestSays scripts traces script (LongAudit path jobs first) (Audited summary) text =
-    (trace : List ℕ) × AreBytesOf (traces path.now) trace × LongAuditSays script first trace summary text
+RequestSays scripts traces script (Check check) (Decided decision asked) text =
+    (asked ≡ check) × CheckSays script check.access check.after decision text
+RequestSays scripts traces script (Audit audit) (Audited summary) text =
+    (trace : List ℕ) × AreBytesOf (traces audit.trace.now) trace × AuditSays script trace summary text
+RequestSays scripts traces script (LongAudit audit) (Audited summary) text =
+    (trace : List ℕ) × AreBytesOf (traces audit.trace.now) trace × LongAuditSays script audit.first trace summary text
 RequestSays scripts traces script (Policy path pace) (Judged summary) text =
     (policy : List ℕ) × AreBytesOf (traces path.now) policy × PolicySays pace script policy summary text
 RequestSays scripts traces script (Show view after) Listed text = ViewSays view script after tt text
 RequestSays scripts traces script Writes (Replayed summary) text = WritesSay script summary text
-RequestSays scripts traces script (Diff path old_after new_after only) (Compared rows) text =
-    (new : List ℕ) × AreBytesOf (scripts path.now) new × DiffSays script old_after new new_after only rows text
+RequestSays scripts traces script (Diff diff) (Compared rows) text =
+    (new : List ℕ) × AreBytesOf (scripts diff.new.now) new
+    × DiffSays script diff.old_after new diff.new_after diff.only rows text
 RequestSays _ _ _ _ _ _ = ⊥
 
 -- which faults an audit is refused for; several checkers may lack a place
-abbrev pub AuditByRefuses : Option Checkers → (script trace : List ℕ) → AuditFault → Type 0
+abbrev pub AuditByRefuses : (checkers : Option ℕ) (script trace : List ℕ) → AuditFault → Type 0
 AuditByRefuses None script trace fault = AuditRefuses script trace fault
-AuditByRefuses (Some checkers) script trace fault = SharedAuditRefuses script trace fault
+AuditByRefuses (Some count) script trace fault = SharedAuditRefuses script trace fault
 
--- which faults of the script, of the trace, of the policy or of the new script a request is refused for before a byte
--- is written; a long audit stops in its own way
-abbrev pub RequestRefuses : (scripts traces : Inputs) (script : List ℕ) → Request → AuditFault → Type 0
-RequestRefuses scripts traces script (Check access after expected) fault = FileRefuses script after fault
-RequestRefuses scripts traces script (Audit path checkers) fault =
-    (trace : List ℕ) × AreBytesOf (traces path.now) trace × AuditByRefuses checkers script trace fault
-RequestRefuses scripts traces script (LongAudit path jobs first) fault = ⊥
-RequestRefuses scripts traces script (Policy path pace) fault =
-    (policy : List ℕ) × AreBytesOf (traces path.now) policy × PolicyRefuses script policy fault
-RequestRefuses scripts traces script (Show view after) fault = FileRefuses script after fault
-RequestRefuses scripts traces script Writes fault = WritesRefuse script fault
-RequestRefuses scripts traces script (Diff path old_after new_after only) fault =
-    (new : List ℕ) × AreBytesOf (scripts path.now) new × DiffRefuses script old_after new new_after fault
+-- a script can't be read, which of two is the one on a side
+abbrev pub IsUnread : (known : Option (List ℕ)) (side : Option Side) → Failure → Type 0
+IsUnread known side failure = (fault : Refusal) × CantBeRead MAX_SCRIPT known fault × (failure ≡ unread fault side)
+
+module _ (before after : Option (List ℕ)) where
+  -- a call refuses what it is given before a byte is written, or memory or the output failed
+  pub record Declines {A : Type 0} (Says : A → List ℕ → Type 0) (Refuses : AuditFault → Type 0)
+      (failure : Failure) : Type 0 where
+    pub fault : AuditFault
+    pub is : failure ≡ unaudited fault
+    pub refused : IsRefused Says before after Refuses fault
+
+  -- an input can't be taken, of two scripts the one on a side, or what is done with its bytes fails
+  pub data InputFails (CantBeTaken : Refusal → Type 0) (known : Option (List ℕ)) (side : Option Side)
+      (Fails : List ℕ → Failure → Type 0) : Failure → Type 0 where
+    untaken : (fault : Refusal) → CantBeTaken fault → Keeps before after
+        → InputFails CantBeTaken known side Fails (unread fault side)
+    taken : (bytes : List ℕ) (failure : Failure) → AreBytesOf known bytes → Fails bytes failure
+        → InputFails CantBeTaken known side Fails failure
+
+  -- the same of a trace or a policy that is read whole
+  abbrev pub TraceFails : (known : Option (List ℕ)) → (List ℕ → Failure → Type 0) → Failure → Type 0
+  TraceFails known = InputFails (CantBeRead MAX_TRACE known) known None
+
+  -- and of a script, which of two is the one on a side
+  abbrev pub ScriptFails : (known : Option (List ℕ)) → Option Side → (List ℕ → Failure → Type 0) → Failure → Type 0
+  ScriptFails known = InputFails (CantBeRead MAX_SCRIPT known) known
+
+  -- a long audit stops, maybe behind whole rows
+  pub record Stops (script : List ℕ) (first : ℕ) (trace : List ℕ) (failure : Failure) : Type 0 where
+    pub fault : AuditFault
+    pub is : failure ≡ unaudited fault
+    pub stops : StopsLong PIECE script first trace before after fault
+
+  module _ (scripts traces : Inputs) (script : List ℕ) where
+    -- why what is asked for of a script gets no answer
+    abbrev pub RequestFails : Request → Failure → Type 0
+    RequestFails (Check check) =
+        Declines (CheckSays script check.access check.after) (FileRefuses script check.after)
+    RequestFails (Audit audit) =
+        TraceFails (traces audit.trace.now)
+        (λ trace. Declines (AuditSays script trace) (AuditByRefuses audit.checkers script trace))
+    RequestFails (LongAudit audit) =
+        InputFails CantBeOpened (traces audit.trace.now) None (Stops script audit.first)
+    RequestFails (Policy path pace) =
+        TraceFails (traces path.now) (λ policy. Declines (PolicySays pace script policy) (PolicyRefuses script policy))
+    RequestFails (Show view after_done) = Declines (ViewSays view script after_done) (FileRefuses script after_done)
+    RequestFails Writes = Declines (WritesSay script) (WritesRefuse script)
+    RequestFails (Diff diff) =
+        ScriptFails (scripts diff.new.now) (Some New)
+        (λ new. Declines (DiffSays script diff.old_after new diff.new_after diff.only)
+        (DiffRefuses script diff.old_after new diff.new_after))

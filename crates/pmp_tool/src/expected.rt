@@ -1,7 +1,7 @@
 //! Which answer to a check is expected.
 
 ghost use Rattle.std.specs.Prelude.{◌≡◌};
-ghost use Rattle.pmp_tool.specs.Expected.{expected_named, is_met};
+ghost use Rattle.pmp_tool.specs.Expected.{is_met};
 
 use pmp_core::Decision;
 
@@ -21,16 +21,5 @@ impl Expected {
             Expected::Allow => decision.allowed,
             Expected::Fault => !decision.allowed,
         }
-    }
-}
-
-/// The answer that a word names: `allow` or `fault`, as rows write them.
-pub fn read_expected(word: &str) -> Option<Expected>
-    ensures { result ≡ expected_named word.now }
-{
-    match word {
-        "allow" => Some(Expected::Allow),
-        "fault" => Some(Expected::Fault),
-        _ => None,
     }
 }

@@ -6,24 +6,26 @@ ghost use Rattle.std.specs.List.{list_any};
 ghost use Rattle.pmp_text.specs.Bytes.{AppendsBeginning};
 ghost use Rattle.pmp_tool.specs.Explanations.{TellsAndExplains, is_explain};
 
-mod advice;
-mod mark;
-mod row_mark;
+mod fields;
+mod shown;
 mod spot;
+mod unread;
 mod word;
 
+use crate::argument::Argument;
 use crate::failure::Failure;
 use crate::fault_line::{FaultLine, Place};
 use crate::inputs::Inputs;
 use crate::kept::{Kept, KeptInput};
-use crate::refusal::Refusal;
-use advice::{remedy, wanted};
+use fields::{is_policy_address, is_trace_address, policy_field, trace_field};
 use pmp_audit::Side;
-use pmp_text::{GrowingLog, read_script, write_out};
-use spot::{write_line, write_row};
+use pmp_text::{GrowingLog, Refusal, read_script, write_out};
+use shown::show_text;
+use spot::Spot;
 use std::alloc::{AllocError, Global};
 use std::io::Write;
-use word::write_word;
+pub use unread::explain_unread;
+use word::{word_of, write_word};
 
 fn is_explain(word: &str) -> bool
     ensures { result ≡ is_explain word.now }
@@ -75,65 +77,122 @@ fn explanation(
     kept: &Kept,
 ) -> Result<String, AllocError> {
     let mut text = String::new(alloc);
+    let mut has_bare_address = false;
     if let Some(input) = input_of(line, kept) {
-        write_place(&mut text, line, input)?;
+        let path = input.path.as_str();
+        match spot_of(line, input) {
+            Some(spot) => {
+                spot.write_to(&mut text, path)?;
+                has_bare_address = is_bare_address(spot.marked());
+            }
+            None => write_input(&mut text, path)?,
+        }
     }
-    if let Some(script) = counted_script(line, kept) {
+    if line.refusal == Refusal::BadAfter
+        && let Some(script) = counted_script(line, kept)
+    {
         write_count(alloc, &mut text, script)?;
     }
-    if line.refusal == Refusal::BadWord {
-        write_word(alloc, &mut text, words)?;
+    if let Place::Word(argument) = line.place
+        && let Some(word) = word_of(alloc, words, argument)
+    {
+        write_word(&mut text, word)?;
+        has_bare_address = is_bare_address(word.as_bytes());
     }
-    let wanted = wanted(line);
-    writeln!(text, "wanted: {wanted}")?;
-    let remedy = remedy(line.refusal);
+    write_wanted(&mut text, line)?;
+    let remedy = if has_bare_address && is_address(line.place) {
+        WITH_PREFIX
+    } else {
+        line.refusal.remedy()
+    };
     writeln!(text, "to do: {remedy}")?;
     Ok(text)
 }
 
-/// The input that is at fault.
-fn input_of<'a>(line: &FaultLine, kept: &'a Kept) -> Option<&'a KeptInput> {
-    match line.place {
-        Some(Place::ScriptLine(_) | Place::Script(Side::Old) | Place::LineOf(Side::Old, _)) =>
-            kept.first(),
-        Some(_) => kept.second(),
-        None => match line.refusal {
-            Refusal::TooLong | Refusal::BadHeader | Refusal::Input => kept.last(),
-            Refusal::BadAfter => kept.first(),
-            _ => None,
-        },
+/// What to do with an address as the program writes it.
+const WITH_PREFIX: &str =
+    "put 0x before the address: pmp writes its 14 digits without it, and reads them with it";
+
+/// Whether what is at fault has to be a byte address.
+fn is_address(place: Place) -> bool {
+    match place {
+        Place::Word(argument) => matches!(argument, Argument::Start),
+        Place::TraceRow(fault) => fault.field.is_some_and(is_trace_address),
+        Place::PolicyRow(fault) => fault.field.is_some_and(is_policy_address),
+        _ => false,
     }
 }
 
-/// Names the input, and shows the line at fault where there is one.
-fn write_place(text: &mut String, line: &FaultLine, input: &KeptInput) -> Result<(), AllocError> {
-    let path = input.path.as_str();
-    match line.place {
-        Some(Place::ScriptLine(number) | Place::LineOf(_, number)) => {
-            write_line(text, line.refusal, input, number)
+/// Whether an address stands there as the program writes it: 14 hexadecimal digits.
+fn is_bare_address(word: &[u8]) -> bool {
+    word.len() == 14 && word.iter().all(|byte| byte.is_ascii_hexdigit())
+}
+
+/// Says what was wanted: of a word or a field that isn't of its form, that form.
+fn write_wanted(text: &mut String, line: &FaultLine) -> Result<(), AllocError> {
+    let field = match (line.refusal, line.place) {
+        (Refusal::BadWord, Place::Word(argument)) => {
+            let ((_, name, _), form) = (argument.texts(), argument.wanted());
+            return Ok(writeln!(text, "wanted: {name}: {form}")?);
         }
-        Some(Place::TraceRow(row) | Place::PolicyRow(row)) => write_row(text, line, input, row),
-        _ if line.refusal == Refusal::BadHeader => write_row(text, line, input, 0),
-        _ => Ok(writeln!(text, "in {path}")?),
+        (Refusal::BadRow, Place::TraceRow(fault)) => fault.field.and_then(trace_field),
+        (Refusal::BadRow, Place::PolicyRow(fault)) => fault.field.and_then(policy_field),
+        _ => None,
+    };
+    let wanted = field.unwrap_or(line.refusal.wanted());
+    Ok(writeln!(text, "wanted: {wanted}")?)
+}
+
+/// The input that is at fault.
+fn input_of<'a>(line: &FaultLine, kept: &'a Kept) -> Option<&'a KeptInput> {
+    match (line.place, line.refusal) {
+        (Place::ScriptLine(_) | Place::Script(Side::Old) | Place::LineOf(Side::Old, _), _) => {
+            kept.first()
+        }
+        (Place::Nowhere, Refusal::TooLong | Refusal::BadHeader | Refusal::Input) => kept.last(),
+        (Place::Nowhere, Refusal::BadAfter) => kept.first(),
+        (Place::Nowhere | Place::Word(_), _) => None,
+        _ => kept.second(),
     }
+}
+
+/// The line at fault, where one is.
+fn spot_of<'a>(line: &FaultLine, input: &'a KeptInput) -> Option<Spot<'a>> {
+    match line.place {
+        Place::ScriptLine(fault) | Place::LineOf(_, fault) => {
+            Some(Spot::of_line(&input.bytes, fault.line, fault.word))
+        }
+        Place::TraceRow(fault) | Place::PolicyRow(fault) => {
+            Spot::of_row(&input.bytes, fault.row, fault.field)
+        }
+        _ if line.refusal == Refusal::BadHeader => Spot::of_row(&input.bytes, 0, None),
+        _ => None,
+    }
+}
+
+/// Names an input.
+fn write_input(text: &mut String, path: &str) -> Result<(), AllocError> {
+    text.push_str("in ")?;
+    show_text(text, path)?;
+    text.push('\n')
 }
 
 /// The script whose publications are counted where too many are asked for.
 fn counted_script<'a>(line: &FaultLine, kept: &'a Kept) -> Option<&'a KeptInput> {
-    match (line.refusal, line.place) {
-        (Refusal::BadAfter, Some(Place::Script(Side::New))) => kept.second(),
-        (Refusal::BadAfter, _) => kept.first(),
-        _ => None,
+    match line.place {
+        Place::Script(Side::New) => kept.second(),
+        _ => kept.first(),
     }
 }
 
 /// Says how many publications a script has.
 fn write_count(alloc: Global, text: &mut String, input: &KeptInput) -> Result<(), AllocError> {
-    let path = input.path.as_str();
     let mut log = GrowingLog::new(alloc);
     if let Ok(script) = read_script(&mut log, &input.bytes) {
         let count = script.batches();
-        writeln!(text, "publications of {path}: {count}")?;
+        text.push_str("publications of ")?;
+        show_text(text, input.path.as_str())?;
+        writeln!(text, ": {count}")?;
     }
     Ok(())
 }

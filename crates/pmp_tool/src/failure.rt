@@ -2,15 +2,14 @@
 
 ghost use Rattle.std.specs.Prelude.{◌≡◌, ◌≤◌, IfSome, OnOk};
 ghost use Rattle.std.specs.Io.KnownBytes.{Appends};
+ghost use Rattle.pmp_text.specs.declared.refusal.Refusal.TheVariants.{Memory, Output};
 ghost use Rattle.pmp_tool.specs.Failures.{Tells, failure_status, failure_text, refused, unaudited, unparsed, unread};
-ghost use Rattle.pmp_tool.specs.Refusals.{refusal_of_input};
-ghost use Rattle.pmp_tool.specs.declared.refusal.Refusal.TheVariants.{Memory, Output};
+ghost use Rattle.pmp_tool.specs.declared.failure.Failure.TheVariants.{Refused};
 
 use crate::fault_line::{FaultLine, Place};
-use crate::refusal::Refusal;
 use clap::error::ErrorKind;
 use pmp_audit::{AuditFault, Side};
-use pmp_text::{InputFault, OutputFault};
+use pmp_text::{InputFault, OutputFault, Refusal};
 use std::alloc::AllocError;
 use std::io::Write;
 
@@ -48,6 +47,17 @@ impl Failure {
             Failure::Refused(line) => line.write_to(writer),
         }
     }
+
+    /// An input that can't be read: of two scripts, the one on a side.
+    pub fn unread(refusal: InputFault, side: Option<Side>) -> Failure
+        ensures { result ≡ unread refusal side }
+    {
+        let place = match side {
+            Some(side) => Place::Script(side),
+            None => Place::Nowhere,
+        };
+        Failure::Refused(FaultLine { refusal, place })
+    }
 }
 
 impl From<clap::Error> for Failure {
@@ -69,6 +79,14 @@ impl From<Refusal> for Failure {
     }
 }
 
+impl From<FaultLine> for Failure {
+    ghost from_gives = { λ line failure. failure ≡ Refused line };
+
+    fn from(line: FaultLine) -> Failure {
+        Failure::Refused(line)
+    }
+}
+
 impl From<AllocError> for Failure {
     ghost from_gives = { λ _ failure. failure ≡ refused Memory };
 
@@ -85,56 +103,13 @@ impl From<OutputFault> for Failure {
     }
 }
 
-impl Failure {
-    /// An input that can't be read: of two scripts, the one on a side.
-    pub fn unread(fault: InputFault, side: Option<Side>) -> Failure
-        ensures { result ≡ unread fault side }
-    {
-        Failure::Refused(FaultLine {
-            refusal: Refusal::from(fault),
-            place: side.map(Place::Script),
-        })
-    }
-}
-
-impl From<InputFault> for Failure {
-    ghost from_gives = { λ fault failure. failure ≡ refused (refusal_of_input fault) };
-
-    fn from(fault: InputFault) -> Failure {
-        Failure::from(Refusal::from(fault))
-    }
-}
-
 impl From<AuditFault> for Failure {
     ghost from_gives = { λ fault failure. failure ≡ unaudited fault };
 
     fn from(fault: AuditFault) -> Failure {
-        match fault {
-            AuditFault::Script(fault) => Failure::Refused(FaultLine {
-                refusal: Refusal::from(fault.kind),
-                place: Place::script_line(fault.line),
-            }),
-            AuditFault::Trace(fault) => Failure::Refused(FaultLine {
-                refusal: Refusal::from(fault.kind),
-                place: Place::trace_row(fault.row),
-            }),
-            AuditFault::Policy(fault) => Failure::Refused(FaultLine {
-                refusal: Refusal::from(fault.kind),
-                place: Place::policy_row(fault.row),
-            }),
-            AuditFault::Share(fault) => Failure::from(Refusal::from(fault)),
-            AuditFault::Moved(_) => Failure::from(Refusal::Moved),
-            AuditFault::BadAfter => Failure::from(Refusal::BadAfter),
-            AuditFault::ScriptOf(side, fault) => Failure::Refused(FaultLine {
-                refusal: Refusal::from(fault.kind),
-                place: Some(Place::line_of(side, fault.line)),
-            }),
-            AuditFault::BadAfterOf(side) => Failure::Refused(FaultLine {
-                refusal: Refusal::BadAfter,
-                place: Some(Place::Script(side)),
-            }),
-            AuditFault::Memory => Failure::from(Refusal::Memory),
-            AuditFault::Output => Failure::from(Refusal::Output),
-        }
+        Failure::Refused(FaultLine {
+            refusal: fault.refusal(),
+            place: Place::of(fault),
+        })
     }
 }

@@ -1,65 +1,53 @@
 //! The line that tells of a refusal.
 
-ghost use Rattle.std.specs.Prelude.{◌≡◌, None, Some, OnOk, OnErr};
+ghost use Rattle.std.specs.Prelude.{◌≡◌, Some, OnOk, OnErr};
 ghost use Rattle.std.specs.Io.KnownBytes.{Appends};
 ghost use Rattle.pmp_text.specs.Bytes.{AppendsBeginning};
+ghost use Rattle.pmp_tool.specs.FaultLines.{fault_text, line_text, place_of, place_text, side_text};
 ghost use Rattle.pmp_tool.specs.LineLengths.{LineFitsLaw};
-ghost use Rattle.pmp_tool.specs.Refusals.{fault_text, line_text, place_on, policy_place, script_place};
-ghost use Rattle.pmp_tool.specs.Refusals.{side_text, trace_place};
+ghost use Rattle.pmp_tool.specs.Commands.{access_line};
+ghost use Rattle.pmp_tool.specs.declared.fault_line.Place.TheVariants.{Nowhere};
 
-use crate::refusal::Refusal;
+use crate::argument::Argument;
 use arrayvec::ArrayString;
-use pmp_audit::Side;
-use pmp_text::{OutputFault, write_out};
+use pmp_audit::{AuditFault, Side};
+use pmp_core::AccessFault;
+use pmp_text::{OutputFault, Refusal, ScriptFault, TraceFault, write_out};
 use std::fmt;
 use std::fmt::Write as TextWrite;
 use std::io::Write;
 
-/// Where an input is at fault.
+/// Where a fault is.
 #[derive(Clone, Copy)]
 pub enum Place {
-    /// A line of the script, from 1.
-    ScriptLine(u64),
-    /// A row of the trace, from 1.
-    TraceRow(u64),
-    /// A row of the policy, from 1.
-    PolicyRow(u64),
-    /// One of two scripts.
+    /// In no place that is known.
+    Nowhere,
+    /// In a word of the command line, which the line doesn't tell.
+    Word(Argument),
+    /// In a line of the script, from 1.
+    ScriptLine(ScriptFault),
+    /// In a row of the trace, from 1.
+    TraceRow(TraceFault),
+    /// In a row of the policy, from 1.
+    PolicyRow(TraceFault),
+    /// In one of two scripts.
     Script(Side),
-    /// A line of one of two scripts, from 1.
-    LineOf(Side, u64),
+    /// In a line of one of two scripts, from 1.
+    LineOf(Side, ScriptFault),
 }
 
 impl Place {
-    /// A line of the script, where 0 stands for none.
-    pub fn script_line(line: u64) -> Option<Place>
-        ensures { result ≡ script_place line }
+    /// Where this fault of an answer is.
+    pub fn of(fault: AuditFault) -> Place
+        ensures { result ≡ place_of fault }
     {
-        (line > 0).then_some(Place::ScriptLine(line))
-    }
-
-    /// A row of the trace, where 0 stands for none.
-    pub fn trace_row(row: u64) -> Option<Place>
-        ensures { result ≡ trace_place row }
-    {
-        (row > 0).then_some(Place::TraceRow(row))
-    }
-
-    /// A row of the policy, where 0 stands for none.
-    pub fn policy_row(row: u64) -> Option<Place>
-        ensures { result ≡ policy_place row }
-    {
-        (row > 0).then_some(Place::PolicyRow(row))
-    }
-
-    /// A line of one of two scripts, where 0 stands for none.
-    pub fn line_of(side: Side, line: u64) -> Place
-        ensures { result ≡ place_on side line }
-    {
-        if line > 0 {
-            Place::LineOf(side, line)
-        } else {
-            Place::Script(side)
+        match fault {
+            AuditFault::Script(fault) if fault.line > 0 => Place::ScriptLine(fault),
+            AuditFault::Trace(fault) if fault.row > 0 => Place::TraceRow(fault),
+            AuditFault::Policy(fault) if fault.row > 0 => Place::PolicyRow(fault),
+            AuditFault::ScriptOf(side, fault) if fault.line > 0 => Place::LineOf(side, fault),
+            AuditFault::ScriptOf(side, _) | AuditFault::BadAfterOf(side) => Place::Script(side),
+            _ => Place::Nowhere,
         }
     }
 }
@@ -70,6 +58,38 @@ fn side_word(side: Side) -> &'static str
     match side {
         Side::Old => "old",
         Side::New => "new",
+    }
+}
+
+/// What stands before the word `refused`.
+impl fmt::Display for Place {
+    ghost output = { λ place. Some (place_text place) };
+
+    fn fmt<W: fmt::Write>(&self, f: &mut fmt::Formatter<W>) -> fmt::Result {
+        match *self {
+            Place::Nowhere | Place::Word(_) => Ok(()),
+            Place::ScriptLine(fault) => {
+                let line = fault.line;
+                write!(f, "script line {line}: ")
+            }
+            Place::TraceRow(fault) => {
+                let row = fault.row;
+                write!(f, "trace row {row}: ")
+            }
+            Place::PolicyRow(fault) => {
+                let row = fault.row;
+                write!(f, "policy row {row}: ")
+            }
+            Place::Script(side) => {
+                let side = side_word(side);
+                write!(f, "{side}: ")
+            }
+            Place::LineOf(side, fault) => {
+                let side = side_word(side);
+                let line = fault.line;
+                write!(f, "{side} line {line}: ")
+            }
+        }
     }
 }
 
@@ -84,7 +104,7 @@ fn law_line_fits()
 #[derive(Clone, Copy)]
 pub struct FaultLine {
     pub refusal: Refusal,
-    pub place: Option<Place>,
+    pub place: Place,
 }
 
 impl FaultLine {
@@ -104,12 +124,27 @@ impl FaultLine {
 }
 
 impl From<Refusal> for FaultLine {
-    ghost from_gives = { λ refusal line. (line.refusal ≡ refusal) × (line.place ≡ None) };
+    ghost from_gives = { λ refusal line. (line.refusal ≡ refusal) × (line.place ≡ Nowhere) };
 
     fn from(refusal: Refusal) -> FaultLine {
         FaultLine {
             refusal,
-            place: None,
+            place: Place::Nowhere,
+        }
+    }
+}
+
+impl From<AccessFault> for FaultLine {
+    ghost from_gives = { λ fault line. line ≡ access_line fault };
+
+    fn from(fault: AccessFault) -> FaultLine {
+        let argument = match fault {
+            AccessFault::BadLength => Argument::Length,
+            AccessFault::PastEnd => Argument::Start,
+        };
+        FaultLine {
+            refusal: Refusal::from(fault),
+            place: Place::Word(argument),
         }
     }
 }
@@ -119,23 +154,7 @@ impl fmt::Display for FaultLine {
     ghost output = { λ line. Some (fault_text line.refusal line.place) };
 
     fn fmt<W: fmt::Write>(&self, f: &mut fmt::Formatter<W>) -> fmt::Result {
-        let refusal = self.refusal;
-        match self.place {
-            Some(Place::ScriptLine(line)) => write!(
-                f,
-                "pmp: script line {line}: refused {refusal}"
-            ),
-            Some(Place::TraceRow(row)) => write!(f, "pmp: trace row {row}: refused {refusal}"),
-            Some(Place::PolicyRow(row)) => write!(f, "pmp: policy row {row}: refused {refusal}"),
-            Some(Place::Script(side)) => {
-                let side = side_word(side);
-                write!(f, "pmp: {side}: refused {refusal}")
-            }
-            Some(Place::LineOf(side, line)) => {
-                let side = side_word(side);
-                write!(f, "pmp: {side} line {line}: refused {refusal}")
-            }
-            None => write!(f, "pmp: refused {refusal}"),
-        }
+        let FaultLine { refusal, place } = *self;
+        write!(f, "pmp: {place}refused {refusal}")
     }
 }

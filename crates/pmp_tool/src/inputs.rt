@@ -102,7 +102,8 @@ fn read_script_at<R: Files + Input + AllocGlobal>(
     runtime: &R,
     path: &str,
 ) -> Result<Vec<u8>, InputFault>
-    ensures { IfOk result (λ bytes. length bytes.items ≤ MAX_SCRIPT) }
+    ensures read { IfOk result (λ bytes. length bytes.items ≤ MAX_SCRIPT) }
+    ensures unread { IfErr result (CantBeRead MAX_SCRIPT None) }
 {
     match path {
         "stdin" => read_script_bytes(runtime.alloc(), &mut runtime.reader()),
@@ -115,7 +116,8 @@ fn read_trace_at<R: Files + Input + AllocGlobal>(
     runtime: &R,
     path: &str,
 ) -> Result<Vec<u8>, InputFault>
-    ensures { IfOk result (λ bytes. length bytes.items ≤ MAX_TRACE) }
+    ensures read { IfOk result (λ bytes. length bytes.items ≤ MAX_TRACE) }
+    ensures unread { IfErr result (CantBeRead MAX_TRACE None) }
 {
     match path {
         "stdin" => read_trace_bytes(runtime.alloc(), &mut runtime.reader()),

@@ -2,9 +2,10 @@
 #![tactic(auto)]
 
 mod answer;
-mod checkers;
+mod argument;
 mod command;
 mod command_line;
+mod command_name;
 mod expected;
 mod explanation;
 mod failure;
@@ -13,18 +14,19 @@ mod help;
 mod inputs;
 mod jobs;
 mod kept;
-mod only_word;
+mod note;
 mod outcome;
 mod progress;
-mod refusal;
+mod request;
 mod run;
 mod topics;
 mod trace_input;
+mod word;
 
-use explanation::asks_to_explain;
+use explanation::{asks_to_explain, explain_unread};
 use fault_line::FaultLine;
 use inputs::SystemInputs;
-use refusal::Refusal;
+use pmp_text::Refusal;
 use run::run_tool;
 use std::env;
 use std::io::{ErrorKind, IsTerminal};
@@ -34,7 +36,11 @@ fn main(rt: HostRuntime) -> ExitCode {
     let words = match arguments(&rt) {
         Ok(words) => words,
         Err(refusal) => {
-            let _ = FaultLine::from(refusal).write_to(&mut rt.stderr());
+            let mut err = rt.stderr();
+            let _ = FaultLine::from(refusal).write_to(&mut err);
+            if refusal == Refusal::BadWord {
+                let _ = explain_unread(&rt, &mut err);
+            }
             return ExitCode::from(refusal.status());
         }
     };

@@ -1,9 +1,11 @@
 //! What the program did, and the exit status of that.
 
 ghost use Rattle.std.specs.Prelude.{◌≡◌, ◌==◌, if◌then◌else◌};
+ghost use Rattle.pmp_tool.specs.Notes.{note_of};
 ghost use Rattle.pmp_tool.specs.Runs.{outcome_status};
 
-use crate::expected::Expected;
+use crate::note::Note;
+use crate::request::Check;
 use pmp_audit::{PolicySummary, Summary, WriteSummary};
 use pmp_core::Decision;
 
@@ -20,8 +22,8 @@ const OTHER: u8 = 1;
 /// What the program did.
 #[derive(Clone, Copy)]
 pub enum Outcome {
-    /// The decision on an access, and which answer to it is expected.
-    Decided(Decision, Expected),
+    /// The decision on an access, and what was asked.
+    Decided(Decision, Check),
     Audited(Summary),
     /// How many rows of a policy there are, and how many are broken.
     Judged(PolicySummary),
@@ -40,13 +42,25 @@ impl Outcome {
         ensures { result ≡ outcome_status self }
     {
         match self {
-            Outcome::Decided(decision, expected) if !expected.is_met(decision) => OTHER,
+            Outcome::Decided(decision, asked) if !asked.expected.is_met(decision) => OTHER,
             Outcome::Audited(summary) => status_of(summary.faults),
             Outcome::Judged(summary) => status_of(summary.broken),
             Outcome::Replayed(summary) if summary.differing > 0 => OTHER,
             Outcome::Replayed(summary) => status_of(summary.not_stored),
             Outcome::Compared(rows) => status_of(rows),
             _ => DONE,
+        }
+    }
+
+    /// What standard error tells beside it.
+    pub fn note(self) -> Option<Note>
+        ensures { result ≡ note_of self }
+    {
+        match self {
+            Outcome::Decided(_, asked) if asked.is_bare => Some(Note::Start),
+            Outcome::Audited(summary) => Some(Note::TraceRow(summary.bare?)),
+            Outcome::Judged(summary) => Some(Note::PolicyRow(summary.bare?)),
+            _ => None,
         }
     }
 }

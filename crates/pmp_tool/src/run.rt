@@ -5,6 +5,7 @@ ghost use Rattle.std.specs.Io.KnownBytes.{Appends, Keeps};
 ghost use Rattle.pmp_tool.specs.CommandLines.{AsksForLongAudit};
 ghost use Rattle.pmp_tool.specs.Explanations.{TellsAndExplains};
 ghost use Rattle.pmp_tool.specs.Failures.{failure_status};
+ghost use Rattle.pmp_tool.specs.Notes.{Notes};
 ghost use Rattle.pmp_tool.specs.Runs.{Answers, Fails, TextFails, outcome_status};
 ghost use Rattle.pmp_tool.specs.declared.failure.Failure.{Failure};
 ghost use Rattle.pmp_tool.specs.declared.outcome.Outcome.{Outcome};
@@ -16,6 +17,7 @@ use crate::command_line::parse_words;
 use crate::explanation::tell_and_explain;
 use crate::failure::Failure;
 use crate::inputs::Inputs;
+use crate::note::tell_note;
 use crate::outcome::Outcome;
 use pmp_text::write_out;
 use std::alloc::Global;
@@ -42,11 +44,11 @@ pub fn run_tool<R: Threads + Wait + Sync, I: Inputs, O: Write, E: Write>(
 ) -> u8
     ensures status { result ≤ 3 }
 
-    // What the words ask for was written, and nothing to standard error.
+    // What the words ask for was written, and to standard error only the answer's note.
     ensures answered { result ≤ 1 → (outcome : Outcome) × (result ≡ outcome_status outcome)
         × Answers (map string_bytes words.now) (I.scripts inputs.old) (I.traces inputs.old)
         (O.contents out.old) (O.contents out.new) outcome
-        × Keeps (E.contents err.old) (E.contents err.new) }
+        × Notes outcome (E.contents err.old) (E.contents err.new) }
 
     // Why it wasn't, or not wholly, and how standard error tells of that: behind its line stands an explanation, where
     // the words ask for one.
@@ -60,7 +62,10 @@ pub fn run_tool<R: Threads + Wait + Sync, I: Inputs, O: Write, E: Write>(
         ⊎ Keeps (O.contents out.old) (O.contents out.new) }
 {
     match run(rt, alloc, words, inputs, out) {
-        Ok(outcome) => outcome.status(),
+        Ok(outcome) => {
+            tell_note(outcome, err);
+            outcome.status()
+        }
         Err(failure) => {
             tell_and_explain(alloc, words, &failure, inputs, err);
             failure.status()

@@ -1,10 +1,16 @@
 -- What an export answers, by its status and the room of its answer.
-use Rattle.std.specs.Prelude.{◌≡◌, ◌⊎◌, ℕ, List, [], length, Ok, Option, Some, None, decimal}
+use Rattle.std.specs.Prelude.{◌≡◌, ◌⊎◌, ◌+◌, ℕ, List, [], length, Ok, Option, Some, None, decimal}
 use Rattle.pmp_core.specs.declared.access.Access.{Access}
 use Rattle.pmp_core.specs.declared.decision.Decision.{Decision}
 use Rattle.pmp_text.specs.Contents.{ScriptContents}
 use Rattle.pmp_text.specs.Scripts.{script_meaning}
+use Rattle.pmp_text.specs.Refusals.{number_of}
+use Rattle.pmp_text.specs.declared.refusal.Refusal.{Refusal}
+use Rattle.pmp_text.specs.declared.refusal.Refusal.TheVariants.{BadWord}
+use Rattle.pmp_audit.specs.Fault.{refusal_of}
 use Rattle.pmp_audit.specs.declared.fault.AuditFault.{AuditFault}
+use Rattle.pmp_audit.specs.declared.fault.AuditFault.TheVariants.{BadAfterOf, Script, ScriptOf}
+use Rattle.pmp_audit.specs.declared.fault.Side.TheVariants.{New}
 use Rattle.pmp_audit.specs.declared.write_list.WriteSummary.{WriteSummary}
 use Rattle.pmp_audit.specs.AccessCheck.{CheckSays}
 use Rattle.pmp_audit.specs.Answers.{Declines}
@@ -17,24 +23,40 @@ use Rattle.pmp_web.specs.declared.rooms.Answer.{Answer}
 use Rattle.pmp_web.specs.declared.request.Question.{Question}
 use Rattle.pmp_web.specs.Request.{IsNamed, no_access}
 use Rattle.pmp_web.specs.Rooms.{text_in}
-use Rattle.pmp_web.specs.Status.{line_of, number_of}
+
+-- which of two scripts is at fault
+abbrev pub side_number : AuditFault → ℕ
+side_number (ScriptOf New fault) = 256
+side_number (BadAfterOf New) = 256
+side_number _ = 0
+
+-- the number of a refusal, to which 256 is added where it is one of the new script
+abbrev pub told_number : AuditFault → ℕ
+told_number fault = side_number fault + number_of (refusal_of fault)
+
+abbrev pub line_of : AuditFault → ℕ
+line_of (Script fault) = fault.line
+line_of (ScriptOf side fault) = fault.line
+line_of _ = 0
 
 -- the call refuses, with the number of the refusal and its line, and the room is empty
 pub record IsRefusal (Refuses : AuditFault → Type 0) (status : ℕ) (answer : Answer) : Type 0 where
   pub fault : AuditFault
   pub why : Declines Refuses fault
-  pub number : status ≡ number_of fault
+  pub number : status ≡ told_number fault
   pub line : answer.line ≡ line_of fault
   pub empty : text_in answer ≡ []
 
--- the numbers of the question name nothing, and the room is empty
-pub record IsUnasked (number status : ℕ) (answer : Answer) : Type 0 where
-  pub status_is : status ≡ number
+-- the numbers of the question name nothing; no line is at fault, and the room is empty
+pub record IsUnasked (refusal : Refusal) (status : ℕ) (answer : Answer) : Type 0 where
+  pub status_is : status ≡ number_of refusal
+  pub line : answer.line ≡ 0
   pub empty : text_in answer ≡ []
 
--- the room holds a text of which Says is true, or the call refuses
+-- the room holds a text of which Says is true, and no line is at fault, or the call refuses
 abbrev pub Answers : (Says : List ℕ → Type 0) → (Refuses : AuditFault → Type 0) → (status : ℕ) → Answer → Type 0
-Answers Says Refuses status answer = ((status ≡ 0) × Says (text_in answer)) ⊎ IsRefusal Refuses status answer
+Answers Says Refuses status answer =
+    ((status ≡ 0) × (answer.line ≡ 0) × Says (text_in answer)) ⊎ IsRefusal Refuses status answer
 
 -- the script means this, and the text is the number of its publications
 pub record CountSays (script text : List ℕ) : Type 0 where
@@ -55,7 +77,7 @@ abbrev pub AnswersCheck : (script : List ℕ) → (after mode kind start length 
 AnswersCheck script after mode kind start length status answer =
     ((access : Access) × IsNamed access mode kind start length × (no_access mode kind start length ≡ None)
     × Answers (CheckAnswerSays script access after) (FileRefuses script (Some after)) status answer)
-    ⊎ ((number : ℕ) × (no_access mode kind start length ≡ Some number) × IsUnasked number status answer)
+    ⊎ ((refusal : Refusal) × (no_access mode kind start length ≡ Some refusal) × IsUnasked refusal status answer)
 
 -- the text has the verdict on the row
 abbrev pub VerdictAnswerSays : (script : List ℕ) → Question → (text : List ℕ) → Type 0
@@ -64,7 +86,7 @@ VerdictAnswerSays script it text =
 
 -- the row that the numbers name has its verdict, or they name none
 abbrev pub AnswersVerdict : (script : List ℕ) → Option Question → (status : ℕ) → Answer → Type 0
-AnswersVerdict script None status answer = IsUnasked 24 status answer
+AnswersVerdict script None status answer = IsUnasked BadWord status answer
 AnswersVerdict script (Some it) status answer =
     Answers (VerdictAnswerSays script it) (VerdictRefuses script it.number it.fields) status answer
 

@@ -1,11 +1,10 @@
 -- What a row of a policy by numbers demands, and when its numbers name nothing.
-use Rattle.std.specs.Prelude.{ℕ, ◌/◌, ◌%◌, ◌==◌, ◌||◌, nat_lt, Option, Some, None, if◌then◌else◌}
+use Rattle.std.specs.Prelude.{ℕ, ◌/◌, ◌%◌, ◌==◌, ◌||◌, nat_lt, Option, Some, None, if◌then◌else◌, false}
 use Rattle.pmp_core.specs.declared.access.Kind.TheVariants.{Fetch, Load, Store}
 use Rattle.pmp_text.specs.declared.policy.Demand.TheVariants as demand
 use Rattle.pmp_text.specs.declared.policy.Kinds.{Kinds}
 use Rattle.pmp_text.specs.declared.policy.Kinds.TheVariants.{One, Any}
 use Rattle.pmp_text.specs.declared.policy.Modes.{Modes}
-use Rattle.pmp_text.specs.declared.policy.row_fields.PolicyFields.{PolicyFields}
 use Rattle.pmp_audit.specs.declared.policy_check.steps.Pace.{Pace}
 use Rattle.pmp_audit.specs.declared.policy_check.steps.Pace.TheVariants.{Publications, Events}
 use Rattle.pmp_web.specs.declared.request.Question.{Question}
@@ -35,7 +34,7 @@ demand_of number =
 abbrev pub pace_of : ℕ → Option Pace
 pace_of number = if number == 0 then Some Publications else (if number == 1 then Some Events else None)
 
--- what the numbers name, if each does
+-- what the numbers name, if each does: numbers have no digits
 abbrev pub question_by : Demand → Option Modes → Option Kinds → Option policy.Demand → Option Pace → Option Question
 question_by room (Some modes) (Some kinds) (Some demand) (Some pace) = Some (record {
   pace = pace;
@@ -48,6 +47,7 @@ question_by room (Some modes) (Some kinds) (Some demand) (Some pace) = Some (rec
     first = room.first;
     last = room.last;
     demand = demand;
+    is_bare = false;
   };
 })
 question_by room _ _ _ _ = None

@@ -1,6 +1,5 @@
 -- What a reader has to believe: what each export answers.
 pub mod Rooms
-pub mod Status
 pub mod Request
 pub mod Demand
 pub mod Answers

@@ -1,8 +1,9 @@
 -- The numbers that name an access, and the refusal of those that name none.
 use Rattle.std.specs.Prelude.{◌≡◌, ◌==◌, ℕ, Option, Some, None, option_map, if◌then◌else◌}
 use Rattle.pmp_core.specs.declared.access.Access.{Access}
-use Rattle.pmp_core.specs.declared.access.AccessFault.{AccessFault}
-use Rattle.pmp_core.specs.declared.access.AccessFault.TheVariants.{BadLength, PastEnd}
+use Rattle.pmp_text.specs.Refusals.{refusal_of_access}
+use Rattle.pmp_text.specs.declared.refusal.Refusal.{Refusal}
+use Rattle.pmp_text.specs.declared.refusal.Refusal.TheVariants.{BadWord}
 use Rattle.pmp_core.specs.declared.access.Kind.{Kind}
 use Rattle.pmp_core.specs.declared.access.Kind.TheVariants.{Fetch, Load, Store}
 use Rattle.pmp_core.specs.declared.access.Mode.{Mode}
@@ -25,15 +26,11 @@ pub record IsNamed (access : Access) (mode kind start length : ℕ) : Type 0 whe
   pub start_is : access.start ≡ start
   pub length_is : access.length ≡ length
 
-abbrev pub access_number : AccessFault → ℕ
-access_number BadLength = 3
-access_number PastEnd = 4
-
-abbrev pub refusal_of : Option Mode → Option Kind → (start length : ℕ) → Option ℕ
-refusal_of None kind start length = Some 24
-refusal_of (Some mode) None start length = Some 24
-refusal_of (Some mode) (Some kind) start length = option_map access_number (access_fault start length)
+abbrev pub refusal_of : Option Mode → Option Kind → (start length : ℕ) → Option Refusal
+refusal_of None kind start length = Some BadWord
+refusal_of (Some mode) None start length = Some BadWord
+refusal_of (Some mode) (Some kind) start length = option_map refusal_of_access (access_fault start length)
 
 -- the refusal of numbers that name no access
-abbrev pub no_access : (mode kind start length : ℕ) → Option ℕ
+abbrev pub no_access : (mode kind start length : ℕ) → Option Refusal
 no_access mode kind start length = refusal_of (mode_of mode) (kind_of kind) start length

@@ -22,9 +22,10 @@ ghost use Rattle.pmp_web.specs.Rooms.{script_in, text_in};
 mod answering;
 mod request;
 mod rooms;
-mod status;
 
-use pmp_audit::View;
+use answering::{ANSWERED, Log, append_count, refuse, refuse_question, tell, view};
+use pmp_audit::{View, append_check, append_diff, append_verdict, append_writes};
+use pmp_text::Refusal;
 pub use rooms::{Answer, Demand, Script};
 
 /// How many publications the script has, in decimal.
@@ -33,7 +34,7 @@ pub extern "C" fn tilvenka_page_publications(script: &Script, answer: &mut Answe
     ensures { let script = script_in script.now in
         Answers (CountSays script) (WritesRefuse script) result answer.new }
 {
-    answering::count(script, answer)
+    tell!(answer, append_count(script.text(), answer))
 }
 
 /// The runs after so many publications, as `pmp map` writes them.
@@ -42,7 +43,7 @@ pub extern "C" fn tilvenka_page_map(script: &Script, after: u64, answer: &mut An
     ensures { let script = script_in script.now in
         Answers (ViewSays Runs script (Some after) tt) (FileRefuses script (Some after)) result answer.new }
 {
-    answering::view(View::Runs, script, after, answer)
+    view(View::Runs, script, after, answer)
 }
 
 /// The picture of the runs, as `pmp picture` writes it.
@@ -51,7 +52,7 @@ pub extern "C" fn tilvenka_page_picture(script: &Script, after: u64, answer: &mu
     ensures { let script = script_in script.now in
         Answers (ViewSays Picture script (Some after) tt) (FileRefuses script (Some after)) result answer.new }
 {
-    answering::view(View::Picture, script, after, answer)
+    view(View::Picture, script, after, answer)
 }
 
 /// The entries, as `pmp entries` writes them.
@@ -60,7 +61,7 @@ pub extern "C" fn tilvenka_page_entries(script: &Script, after: u64, answer: &mu
     ensures { let script = script_in script.now in
         Answers (ViewSays Entries script (Some after) tt) (FileRefuses script (Some after)) result answer.new }
 {
-    answering::view(View::Entries, script, after, answer)
+    view(View::Entries, script, after, answer)
 }
 
 /// The registers, as `pmp dump` writes them.
@@ -69,7 +70,7 @@ pub extern "C" fn tilvenka_page_registers(script: &Script, after: u64, answer: &
     ensures { let script = script_in script.now in
         Answers (ViewSays Registers script (Some after) tt) (FileRefuses script (Some after)) result answer.new }
 {
-    answering::view(View::Registers, script, after, answer)
+    view(View::Registers, script, after, answer)
 }
 
 /// What each event of the script did to a register, as `pmp writes` writes it.
@@ -78,7 +79,8 @@ pub extern "C" fn tilvenka_page_writes(script: &Script, answer: &mut Answer) -> 
     ensures { let script = script_in script.now in
         Answers (RowsSay script) (WritesRefuse script) result answer.new }
 {
-    answering::writes(script, answer)
+    let log = &mut Log::new();
+    tell!(answer, append_writes(log, script.text(), answer))
 }
 
 /// One access after so many publications, as `pmp check` writes its row. Numbers that name no access are told before
@@ -96,8 +98,11 @@ pub extern "C" fn tilvenka_page_check(
     ensures { AnswersCheck (script_in script.now) after mode kind start length result answer.new }
 {
     match request::access_of(mode, kind, start, length) {
-        Ok(access) => answering::check(script, after, &access, answer),
-        Err(number) => answering::refuse_question(answer, number),
+        Ok(access) => tell!(
+            answer,
+            append_check(&mut Log::new(), script.text(), &access, Some(after), answer)
+        ),
+        Err(refusal) => refuse_question(answer, refusal),
     }
 }
 
@@ -113,8 +118,18 @@ pub extern "C" fn tilvenka_page_verdict(
     ensures { AnswersVerdict (script_in script.now) (question_of demand.now) result answer.new }
 {
     match request::question_of(demand) {
-        Some(question) => answering::verdict(script, &question, answer),
-        None => answering::refuse_question(answer, request::BAD_WORD),
+        Some(asked) => tell!(
+            answer,
+            append_verdict(
+                &mut Log::new(),
+                asked.pace,
+                script.text(),
+                asked.number,
+                asked.fields,
+                answer,
+            )
+        ),
+        None => refuse_question(answer, Refusal::BadWord),
     }
 }
 
@@ -132,5 +147,16 @@ pub extern "C" fn tilvenka_page_diff(
         Answers (DiffAnswerSays old old_after new new_after)
         (DiffRefuses old (Some old_after) new (Some new_after)) result answer.new }
 {
-    answering::diff(old, old_after, new, new_after, answer)
+    tell!(
+        answer,
+        append_diff(
+            &mut Log::new(),
+            old.text(),
+            Some(old_after),
+            new.text(),
+            Some(new_after),
+            None,
+            answer,
+        )
+    )
 }

@@ -6,11 +6,8 @@ ghost use Rattle.pmp_web.specs.Request.{IsNamed, kind_of, mode_of, no_access};
 
 use crate::rooms::Demand;
 use pmp_audit::Pace;
-use pmp_core::{Access, AccessFault, Kind, Mode};
-use pmp_text::{Kinds, Modes, PolicyFields};
-
-/// A mode, a kind, a demand or a pace is none.
-pub const BAD_WORD: u32 = 24;
+use pmp_core::{Access, Kind, Mode};
+use pmp_text::{Kinds, Modes, PolicyFields, Refusal};
 
 fn mode_of(number: u32) -> Option<Mode>
     ensures { result ≡ mode_of number }
@@ -34,20 +31,16 @@ fn kind_of(number: u32) -> Option<Kind>
     }
 }
 
-/// The access that these numbers name, or the number of the refusal.
-pub fn access_of(mode: u32, kind: u32, start: u64, length: u64) -> Result<Access, u32>
+/// The access that these numbers name.
+pub fn access_of(mode: u32, kind: u32, start: u64, length: u64) -> Result<Access, Refusal>
     ensures ok { IfOk result (λ access. (no_access mode kind start length ≡ None)
         × IsNamed access mode kind start length) }
-    ensures err { IfErr result (λ number. no_access mode kind start length ≡ Some number) }
+    ensures err { IfErr result (λ refusal. no_access mode kind start length ≡ Some refusal) }
 {
     let (Some(mode), Some(kind)) = (mode_of(mode), kind_of(kind)) else {
-        return Err(BAD_WORD);
+        return Err(Refusal::BadWord);
     };
-    match Access::new(mode, kind, start, length) {
-        Ok(access) => Ok(access),
-        Err(AccessFault::BadLength) => Err(3),
-        Err(AccessFault::PastEnd) => Err(4),
-    }
+    Ok(Access::new(mode, kind, start, length)?)
 }
 
 /// A row of a policy that is asked about, with its number.
@@ -119,6 +112,7 @@ pub fn question_of(room: &Demand) -> Option<Question>
             first: room.first,
             last: room.last,
             demand: demand_of(room.demand)?,
+            is_bare: false,
         },
     })
 }

@@ -21,7 +21,7 @@ pub struct Script {
 #[repr(C)]
 #[derive(Clone, Copy)]
 pub struct Answer {
-    /// The line of the script's fault, or 0.
+    /// The line of the script's fault, or 0 where no line of a script is at fault.
     pub line: u64,
     /// How many bytes the answer has. A greater number means all that there is room for.
     pub length: u64,
@@ -55,7 +55,8 @@ pub struct Demand {
 impl Answer {
     /// Empties the room.
     pub fn clear(&mut self)
-        ensures { text_in self.new ≡ [] }
+        ensures line { self.new.line ≡ 0 }
+        ensures text { text_in self.new ≡ [] }
     {
         self.line = 0;
         self.length = 0;

@@ -1,15 +1,16 @@
 //! The rows of a piece, read by several threads.
 
-ghost use Rattle.std.specs.Prelude.{◌≡◌, ◌<◌, IfErr, IfOk, IfSome, IsTrue, length, map, slice_index, true};
+ghost use Rattle.std.specs.Prelude.{◌≡◌, ◌+◌, ◌^◌, ◌<◌, IfErr, IfOk, IfSome, IsTrue, length, map, slice_index, true};
 ghost use Rattle.std.specs.Thread.{IsSync};
-ghost use Rattle.pmp_text.specs.LongTraces.{is_line_end, piece_fault, place_behind, row_records};
+ghost use Rattle.pmp_text.specs.LongTraces.{piece_fault, place_behind, row_records};
+ghost use Rattle.pmp_text.specs.Tables.{is_line_end};
 ghost use Rattle.pmp_text.specs.Outcomes.{no_memory_for_rows};
 ghost use Rattle.pmp_text.specs.Tables.{records_of};
 ghost use Rattle.pmp_text.specs.TraceFaults.{IsInOrder, afters};
 ghost use Rattle.pmp_text.specs.Traces.{row_fields};
-ghost use Rattle.pmp_audit.specs.LongParts.{AreJoined, AreReadAs, Follows, items_of, within_trace};
+ghost use Rattle.pmp_audit.specs.LongParts.{AreJoined, AreReadAs, Follows, items_of, place_of_both, within_trace};
 
-use pmp_text::{Piece, Place, Row, TraceFault, TraceKind, read_piece};
+use pmp_text::{Piece, Place, Refusal, Row, TraceFault, read_piece};
 use std::alloc::Global;
 use std::thread;
 use std::thread::Threads;
@@ -26,11 +27,13 @@ const WITHIN: Place = Place {
     begun: true,
     last: None,
     next: 0,
+    bare: None,
 };
 
 const NO_MEMORY: TraceFault = TraceFault {
-    kind: TraceKind::Memory,
+    kind: Refusal::Memory,
     row: 0,
+    field: None,
 };
 
 /// Reads a piece as [`read_piece`] does, in so many parts at a time. Where a part has a fault, or doesn't go on from
@@ -125,31 +128,42 @@ fn joined(
     if !goes_on(front.place, &back.rows) {
         return Ok(None);
     }
-    let Some(next) = front.place.next.checked_add(back.place.next) else {
+    let Some(place) = behind_both(front.place, back.place) else {
         return Ok(None);
-    };
-    let last = match back.place.next {
-        0 => front.place.last,
-        _ => back.place.last,
     };
     if front.rows.append(&mut back.rows).is_err() {
         return Err(NO_MEMORY);
     }
-    let place = Place {
-        begun: true,
-        last,
-        next,
-    };
     Ok(Some(Parts {
         rows: front.rows,
         place,
     }))
 }
 
+/// The place behind two parts, where numbers do for it.
+fn behind_both(front: Place, back: Place) -> Option<Place>
+    ensures { IfSome result (λ place. (place ≡ place_of_both front back) × (front.next + back.next < 2 ^ 64)) }
+{
+    let next = front.next.checked_add(back.next)?;
+    let bare = match back.bare {
+        Some(number) => Some(front.next.checked_add(number)?),
+        None => None,
+    };
+    Some(Place {
+        begun: true,
+        last: match back.next {
+            0 => front.last,
+            _ => back.last,
+        },
+        next,
+        bare: front.bare.or(bare),
+    })
+}
+
 fn lacks_memory(part: &Result<Parts, TraceFault>) -> bool {
     match part {
         Ok(_) => false,
-        Err(fault) => matches!(fault.kind, TraceKind::Memory),
+        Err(fault) => matches!(fault.kind, Refusal::Memory),
     }
 }
 

@@ -35,7 +35,6 @@ pub fn report_piece<T: Threads + Sync>(
 ) -> Result<PieceReport, AuditFault>
     requires { standing.faults ≤ standing.place.next }
     ensures ok { IfOk result (IsPieceReported script.now (records_of text.now) standing) }
-    ensures within { IfOk result (λ report. report.behind.faults ≤ report.behind.place.next) }
     ensures err { IfErr result (PieceFails script.now (records_of text.now) standing) }
 {
     let parts = read_parts(rt, alloc, jobs, text, script.batches(), standing.place)?;
@@ -64,7 +63,6 @@ pub fn report_and_cut<T: Threads + Sync, R: Read>(
     requires standing { standing.faults ≤ standing.place.next }
     requires held { vec_len held.old ≤ limit }
     ensures ok { IfOk result.0 (IsPieceReported script.now (records_of text.now) standing) }
-    ensures within { IfOk result.0 (λ report. report.behind.faults ≤ report.behind.place.next) }
     ensures err { IfErr result.0 (PieceFails script.now (records_of text.now) standing) }
     ensures cut { IsCut limit held.old.items (R.remaining reader.old) (R.remaining reader.new) held.new.items
         result.1 }
@@ -76,7 +74,6 @@ pub fn report_and_cut<T: Threads + Sync, R: Read>(
     let mut report = || -> Result<PieceReport, AuditFault>
         requires { IsSync T.row × (standing.faults ≤ standing.place.next) }
         ensures { IfOk result (IsPieceReported script.entry.now (records_of text.entry.now) standing)
-            × IfOk result (λ report. report.behind.faults ≤ report.behind.place.next)
             × IfErr result (PieceFails script.entry.now (records_of text.entry.now) standing) }
     { report_piece(rt, alloc, jobs, script, text, standing) };
     let mut cut = || -> Result<Cut, InputFault>

@@ -2,14 +2,14 @@
 
 ghost use Rattle.std.specs.Prelude.{◌≡◌, ◌-◌, ◌≤◌, MatchResult, false, true};
 ghost use Rattle.pmp_text.specs.LongTraces.{beginning};
-ghost use Rattle.pmp_text.specs.Tables.{at_row};
-ghost use Rattle.pmp_text.specs.declared.trace.TraceKind.TheVariants.{BadHeader};
-ghost use Rattle.pmp_audit.specs.LongPieces.{fault_of_cut};
+ghost use Rattle.pmp_text.specs.Flaws.{at_row};
+ghost use Rattle.pmp_text.specs.declared.refusal.Refusal.TheVariants.{BadHeader};
+ghost use Rattle.pmp_text.specs.Flaws.{as_whole};
 ghost use Rattle.pmp_audit.specs.declared.fault.AuditFault.TheVariants.{Trace};
 
 use crate::fault::AuditFault;
 use crate::trace_audit::Summary;
-use pmp_text::{InputFault, Place, TraceFault, TraceKind};
+use pmp_text::{Place, Refusal};
 
 /// Where the next piece stands, and how many accesses were refused before it.
 #[derive(Clone, Copy)]
@@ -35,30 +35,16 @@ impl Standing {
         requires { first ≤ self.place.next }
         ensures { MatchResult result
             (λ summary. (self.place.begun ≡ true)
-            × (summary ≡ record { rows = self.place.next - first; faults = self.faults }))
-            (λ fault. (self.place.begun ≡ false) × (fault ≡ Trace (at_row 0 BadHeader))) }
+            × (summary ≡ record { rows = self.place.next - first; faults = self.faults; bare = self.place.bare }))
+            (λ fault. (self.place.begun ≡ false) × (fault ≡ Trace (at_row 0 (as_whole BadHeader)))) }
     {
         if !self.place.begun {
-            let kind = TraceKind::BadHeader;
-            return Err(AuditFault::Trace(TraceFault { kind, row: 0 }));
+            return Err(AuditFault::Trace(Refusal::BadHeader.whole().at_row(0)));
         }
         Ok(Summary {
             rows: self.place.next - first,
             faults: self.faults,
+            bare: self.place.bare,
         })
-    }
-}
-
-impl AuditFault {
-    /// No piece can be cut off for this.
-    pub(crate) fn of_cut(fault: InputFault) -> AuditFault
-        ensures { result ≡ fault_of_cut fault }
-    {
-        let kind = match fault {
-            InputFault::TooLong => TraceKind::TooLong,
-            InputFault::Input => TraceKind::Input,
-            InputFault::Memory => return AuditFault::Memory,
-        };
-        AuditFault::Trace(TraceFault { kind, row: 0 })
     }
 }

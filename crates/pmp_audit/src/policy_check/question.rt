@@ -1,11 +1,10 @@
 //! What a row of a policy asks of the bytes of one owner.
 
-ghost use Rattle.std.specs.Prelude.{◌≡◌, ◌<◌, ℕ, IfSome, None, Option, length};
+ghost use Rattle.std.specs.Prelude.{◌≡◌, ◌<◌, ℕ, IfSome, Option, length};
 ghost use Rattle.pmp_core.specs.RegisterFile.{RegisterFile};
 ghost use Rattle.pmp_core.specs.Rights.{Rights, perms_of};
 ghost use Rattle.pmp_map.specs.Answers.{rights_by};
 ghost use Rattle.pmp_map.specs.OpenBytes.{holds};
-ghost use Rattle.pmp_audit.specs.PolicyCheck.{is_broken_by};
 ghost use Rattle.pmp_audit.specs.PolicyQuestions.{finds_in, finds_kind, finds_mode, finds_owned, is_yes};
 
 use pmp_core::{Kind, Mode, Perms, Registers};
@@ -18,7 +17,7 @@ pub enum Question {
     /// Whether the row's demand is broken.
     IsBroken,
     /// Whether the byte isn't held.
-    IsLoose,
+    IsNotHeld,
 }
 
 /// Whether the kind is one of these, and allowed, or not.
@@ -57,32 +56,19 @@ fn finds_owned(allowed: bool, registers: &Registers<'_>, owner: Option<u8>, row:
         || finds_mode(allowed, &rights, row, Mode::U)
 }
 
-/// Whether all entries are frozen.
-fn are_all_frozen(registers: &Registers<'_>) -> bool
-    ensures { result ≡ holds registers.now None }
-{
-    match registers.count().checked_sub(1) {
-        Some(last) => registers.is_held(last),
-        None => true,
-    }
-}
-
 /// Whether the owner is held: it is frozen with all entries before it, or where there is none, all entries are.
 fn is_held(registers: &Registers<'_>, owner: Option<u8>) -> bool
     requires { IfSome owner (λ entry. entry < length registers.now.entries) }
     ensures { result ≡ holds registers.now owner }
 {
-    match owner {
-        Some(entry) => registers.is_held(usize::from(entry)),
-        None => are_all_frozen(registers),
+    let last = match owner {
+        Some(entry) => Some(usize::from(entry)),
+        None => registers.count().checked_sub(1),
+    };
+    match last {
+        Some(entry) => registers.is_held(entry),
+        None => true,
     }
-}
-
-/// What a demand is broken by: that a byte is open, or that it is closed.
-fn is_broken_by(demand: Demand) -> bool
-    ensures { result ≡ is_broken_by demand }
-{
-    demand != Demand::Always
 }
 
 impl Question {
@@ -92,8 +78,8 @@ impl Question {
         ensures { result ≡ is_yes self registers.now owner row.now }
     {
         match self {
-            Question::IsBroken => finds_owned(is_broken_by(row.demand), registers, owner, row),
-            Question::IsLoose => !is_held(registers, owner),
+            Question::IsBroken => finds_owned(row.demand != Demand::Always, registers, owner, row),
+            Question::IsNotHeld => !is_held(registers, owner),
         }
     }
 }

@@ -1,7 +1,7 @@
 //! Where a row of a policy is broken: first in time, and then in address.
 
 ghost use Rattle.std.specs.Prelude.{◌≤◌, length};
-ghost use Rattle.pmp_audit.specs.PolicyCheck.{IsFirstLoose, IsFirstOf, IsFirstOfAll, IsVerdict, state_after};
+ghost use Rattle.pmp_audit.specs.PolicyCheck.{IsFirstNotHeld, IsFirstOf, IsFirstOfAll, IsVerdict, state_after};
 ghost use Rattle.pmp_audit.specs.PolicyCheck.{step_count};
 ghost use Rattle.pmp_audit.specs.PolicyQuestions.{IsYes};
 
@@ -55,13 +55,13 @@ fn first_breach(steps: &Steps<'_>, row: &PolicyRow) -> Option<Breach>
 }
 
 /// The first run of the row's range that isn't held in the end.
-fn first_loose(steps: &Steps<'_>, row: &PolicyRow) -> Option<Breach>
+fn first_not_held(steps: &Steps<'_>, row: &PolicyRow) -> Option<Breach>
     requires { row.now.to ≤ length steps.now.script.now.batches }
-    ensures { IsFirstLoose (state_after steps.now.pace steps.now.script.now) row.now
+    ensures { IsFirstNotHeld (state_after steps.now.pace steps.now.script.now) row.now
         (step_count steps.now.pace steps.now.script.now.batches row.now.to) result }
 {
     let done = steps.count(row.to);
-    match first_run(&steps.state_after(done), row, Question::IsLoose) {
+    match first_run(&steps.state_after(done), row, Question::IsNotHeld) {
         Some(run) => Some(Breach { done, run }),
         None => None,
     }
@@ -74,7 +74,7 @@ pub fn judge(steps: &Steps<'_>, row: &PolicyRow) -> Option<Breach>
 {
     let breach = first_breach(steps, row);
     match row.demand {
-        Demand::Held if breach.is_none() => first_loose(steps, row),
+        Demand::Held if breach.is_none() => first_not_held(steps, row),
         _ => breach,
     }
 }

@@ -24,14 +24,6 @@ pub struct Steps<'a> {
 }
 
 impl<'a> Steps<'a> {
-    /// The steps of a script, asked so often.
-    pub fn new(script: &'a Script<'a>, pace: Pace) -> Steps<'a>
-        ensures script { result.script.now ≡ script.now }
-        ensures pace { result.pace ≡ pace }
-    {
-        Steps { script, pace }
-    }
-
     /// How many steps the first publications are.
     pub fn count(&self, publications: u64) -> u64
         requires { publications ≤ length self.now.script.now.batches }

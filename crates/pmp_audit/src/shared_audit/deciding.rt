@@ -1,25 +1,42 @@
 //! All rows of a trace, decided while the script's publications are done.
 
-ghost use Rattle.std.specs.Prelude.{◌≡◌, ◌<◌, ◌≤◌, [], IfOk, IfErr, All, length, map};
+ghost use Rattle.std.specs.Prelude.{◌≡◌, ◌<◌, ◌≤◌, [], ◌∷◌, ◌++◌, true, IfOk, IfErr, OnOk, All, length, map};
+ghost use Rattle.pmp_core.specs.declared.event.TheConstants.{BATCH_EVENTS};
+ghost use Rattle.pmp_share.specs.declared.fault.ShareFault.TheVariants.{Memory};
 ghost use Rattle.pmp_share.specs.declared.opening.TheConstants.{CHECKERS};
 ghost use Rattle.pmp_share.specs.declared.room.TheConstants.{HISTORY_LIMIT};
 ghost use Rattle.pmp_share.specs.Object.{no_batches};
+ghost use Rattle.pmp_share.specs.Room.{has_room};
 ghost use Rattle.pmp_text.specs.Sizes.{script_size};
 ghost use Rattle.pmp_text.specs.TraceFaults.{IsInOrder, afters};
 ghost use Rattle.pmp_text.specs.Traces.{row_fields};
 ghost use Rattle.pmp_audit.specs.Rounds.{decision_for};
 ghost use Rattle.pmp_audit.specs.SharedAudit.{MayStop};
 
-use super::publishing::publish;
 use super::rounds::decide_asking;
 use crate::fault::AuditFault;
 use crate::gate::Gate;
-use pmp_core::Decision;
-use pmp_share::{Checker, Publisher, start_from};
+use pmp_core::{Decision, Event};
+use pmp_share::{Batch, Checker, Publisher, ShareFault, start_from};
 use pmp_text::{Row, Script};
 use std::alloc::Global;
 use std::sync::Wait;
 use std::thread::Threads;
+
+/// Publishes these events as one batch. It may wait.
+fn publish<R: Wait>(rt: &R, publisher: &mut Publisher, events: &[Event]) -> Result<(), ShareFault>
+    requires limit { length events.now ≤ BATCH_EVENTS }
+    requires alone { publisher.old.pending ≡ [] }
+    requires room { has_room publisher.old.published [] events.now ≡ true }
+    ensures unit { publisher.new.unit ≡ publisher.old.unit }
+    ensures published { OnOk result (publisher.new.published ≡ publisher.old.published ++ events.now ∷ []) }
+    ensures alone { OnOk result (publisher.new.pending ≡ []) }
+    ensures refused { IfErr result (λ fault. fault ≡ Memory) }
+{
+    publisher.submit(&Batch::of(events).unwrap())?;
+    publisher.publish(rt)?;
+    Ok(())
+}
 
 /// Decides the rows, each after the publications that it asks for, by a publisher and checkers of a new unit.
 fn decide_rows<R: Threads + Wait + Sync, G: Gate + Sync>(

@@ -2,7 +2,7 @@
 
 ghost use Rattle.std.specs.Prelude.{◌≡◌};
 
-use super::row_decision::RowDecision;
+use pmp_core::Decision;
 use pmp_share::{Checker, Notice};
 
 /// A worker's checker, and a notice of what is published.
@@ -15,9 +15,10 @@ pub(crate) struct Job {
     pub ghost same_unit: { notice.unit ≡ checker.unit },
 }
 
-/// The checker again, and the decisions of the worker's rows, in their order.
+/// The checker again, and the decisions of the worker's rows, in their order, each behind the row's number in the
+/// report.
 #[derive(Drop)]
 pub(crate) struct Done {
     pub checker: Checker,
-    pub decisions: Vec<RowDecision>,
+    pub decisions: Vec<(u64, Decision)>,
 }

@@ -1,22 +1,21 @@
 //! What workers bring back, put together again.
 
-ghost use Rattle.std.specs.Prelude.{◌≡◌, ◌+◌, ◌<◌, ◌++◌, ◌⊎◌, IfOk, IfErr, OnOk, Ok, Err, Contains, length, map};
-ghost use Rattle.pmp_core.specs.RegisterFile.{RegisterFile};
-ghost use Rattle.pmp_audit.specs.declared.shared_audit.work_fault.WorkFault.TheVariants.{Memory};
-ghost use Rattle.pmp_audit.specs.Rounds.{AreDealt, AreInFile, decided_in};
+ghost use Rattle.std.specs.Prelude.{◌≡◌, ◌+◌, ◌<◌, ◌++◌, ◌⊎◌, IfOk, IfErr, List, OnOk, Ok, Err, Contains, length, map};
+ghost use Rattle.pmp_core.specs.declared.decision.Decision.{Decision};
+ghost use Rattle.pmp_audit.specs.declared.fault.AuditFault.TheVariants.{Memory};
+ghost use Rattle.pmp_audit.specs.Rounds.{AreDealt};
 
 use super::job::Done;
-use super::work_fault::WorkFault;
+use crate::fault::AuditFault;
 use pmp_core::Decision;
 use pmp_share::Checker;
-use pmp_text::Row;
 use std::alloc::{AllocError, Global};
 
 /// What all workers bring back, or why the first of those that stopped did.
 pub(crate) fn all_done(
     alloc: Global,
-    results: Vec<Result<Done, WorkFault>>,
-) -> Result<Vec<Done>, WorkFault>
+    results: Vec<Result<Done, AuditFault>>,
+) -> Result<Vec<Done>, AuditFault>
     ensures done { IfOk result (λ all. results.items ≡ map Ok all.items) }
     ensures refused { IfErr result (λ fault. Contains results.items (Err fault) ⊎ (fault ≡ Memory)) }
 {
@@ -37,21 +36,22 @@ pub(crate) fn checkers_of(alloc: Global, all: Vec<Done>) -> Result<Vec<Checker>,
     Ok(checkers)
 }
 
-/// Adds the decisions of one round's rows, in the order of the rows, which are numbered behind those that are there.
+/// Adds the decisions of one round's rows, of which there are so many, in the order of the rows, which are numbered
+/// behind those that are there.
 pub(crate) fn merge(
     decided: &mut Vec<Decision>,
     all: &[Done],
-    rows: &[Row],
+    count: usize,
 ) -> Result<(), AllocError>
     requires some { 0 < length all.now }
-    requires dealt { AreDealt (length decided.old.items + 1) rows.now all.now }
-    ensures { OnOk result ((file : RegisterFile) → AreInFile file all.now
-        → decided.new.items ≡ decided.old.items ++ decided_in file rows.now) }
+    requires dealt { (made : List Decision) × (length made ≡ count)
+        × AreDealt (length decided.old.items + 1) made all.now }
+    ensures { OnOk result ((made : List Decision) → length made ≡ count
+        → AreDealt (length decided.old.items + 1) made all.now → decided.new.items ≡ decided.old.items ++ made) }
 {
-    for place in 0..rows.len() {
+    for place in 0..count {
         let done = &all[place % all.len()];
-        let decision = &done.decisions[place / all.len()];
-        decided.push(decision.decision)?;
+        decided.push(done.decisions[place / all.len()].1)?;
     }
     Ok(())
 }

@@ -4,14 +4,13 @@ ghost use Rattle.std.specs.Prelude.{◌≡◌, ◌+◌, ◌^◌, ◌<◌, ◌≤
 ghost use Rattle.pmp_share.specs.declared.fault.ShareFault.TheVariants.{Full};
 ghost use Rattle.pmp_share.specs.declared.opening.TheConstants.{CHECKERS};
 ghost use Rattle.pmp_share.specs.Batches.{file_from};
-ghost use Rattle.pmp_audit.specs.Rounds.{AreCheckersOf, AreJobs, StopsRound, decided_in, asking};
-ghost use Rattle.pmp_audit.specs.Working.{IsDone, StopsWork};
+ghost use Rattle.pmp_audit.specs.Rounds.{AreCheckersOf, AreJobs, asking};
+ghost use Rattle.pmp_audit.specs.Working.{IsDone, StopsRound, decided_in};
 
 use super::asking::asking;
 use super::hand::Hand;
 use super::job::{Done, Job};
 use super::merging::{all_done, checkers_of, merge};
-use super::work_fault::WorkFault;
 use super::working::work;
 use crate::fault::AuditFault;
 use crate::gate::Gate;
@@ -75,11 +74,11 @@ fn round<R: Threads + Wait + Sync, G: Gate + Sync>(
     let results = thread::map_vec(
         rt,
         jobs,
-        &|job: Job| -> Result<Done, WorkFault>
+        &|job: Job| -> Result<Done, AuditFault>
             requires { (0 < workers) × (first + length rows.now ≤ 2 ^ 64) }
             ensures done { IfOk result (IsDone job.checker.unit (file_from job.checker.unit.base job.notice.list)
                 job.worker workers first rows.entry.now) }
-            ensures refused { IfErr result (StopsWork job.notice.list) }
+            ensures refused { IfErr result (StopsRound job.notice.list) }
         {
             let Job {
                 worker,
@@ -96,46 +95,19 @@ fn round<R: Threads + Wait + Sync, G: Gate + Sync>(
         },
     )?;
     let all = all_done(alloc, results)?;
-    merge(decided, &all, rows)?;
+    merge(decided, &all, rows.len())?;
     Ok(checkers_of(alloc, all)?)
 }
 
-/// A round of no more workers than there are rows: a checker for which there is no row gets no job, and where there is
-/// one row alone no thread is started.
-fn round_of_busy<R: Threads + Wait + Sync, G: Gate + Sync>(
-    rt: &R,
-    alloc: Global,
-    gate: &G,
-    publisher: &mut Publisher,
-    mut checkers: Vec<Checker>,
-    rows: &[Row],
-    decided: &mut Vec<Decision>,
-) -> Result<Vec<Checker>, AuditFault>
-    requires some { 0 < length checkers.items }
-    requires some_row { 0 < length rows.now }
-    requires few { length checkers.items ≤ CHECKERS }
-    requires same_unit { All (λ checker. checker.unit ≡ publisher.old.unit) checkers.items }
-    requires room { length decided.old.items + length rows.now + 1 ≤ 2 ^ 64 }
-    ensures same { publisher.new ≡ publisher.old }
-    ensures checkers { IfOk result (λ all. AreCheckersOf publisher.old.unit (length checkers.items) all.items) }
-    ensures decided { OnOk result (decided.new.items
-        ≡ decided.old.items ++ decided_in (file_from publisher.old.unit.base publisher.old.published) rows.now) }
-    ensures refused { IfErr result (StopsRound publisher.old.published) }
-{
-    let mut idle = checkers.split_off(rows.len().min(checkers.len()))?;
-    let mut all = round(rt, alloc, gate, publisher, checkers, rows, decided)?;
-    all.append(&mut idle)?;
-    Ok(all)
-}
-
-/// Decides the next rows, as far as they ask for just `after` publications, which are done. Where there is none, no
-/// worker starts.
+/// Decides the next rows, as far as they ask for just `after` publications, which are done, by no more workers than
+/// there are such rows: a checker for which there is no row gets no job, where there is one row alone no thread is
+/// started, and where there is none, no worker.
 pub(crate) fn decide_asking<R: Threads + Wait + Sync, G: Gate + Sync>(
     rt: &R,
     alloc: Global,
     gate: &G,
     publisher: &mut Publisher,
-    checkers: Vec<Checker>,
+    mut checkers: Vec<Checker>,
     after: u64,
     rows: &[Row],
     decided: &mut Vec<Decision>,
@@ -156,5 +128,8 @@ pub(crate) fn decide_asking<R: Threads + Wait + Sync, G: Gate + Sync>(
     if next.is_empty() {
         return Ok(checkers);
     }
-    round_of_busy(rt, alloc, gate, publisher, checkers, next, decided)
+    let mut idle = checkers.split_off(next.len().min(checkers.len()))?;
+    let mut all = round(rt, alloc, gate, publisher, checkers, next, decided)?;
+    all.append(&mut idle)?;
+    Ok(all)
 }

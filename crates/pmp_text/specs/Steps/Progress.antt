@@ -7,8 +7,8 @@ use Rattle.pmp_core.specs.Hart.{profile_of}
 use Rattle.pmp_core.specs.RegisterFile.{RegisterFile, reset_file}
 use Rattle.pmp_core.specs.declared.event.Event.{Event}
 use Rattle.pmp_core.specs.declared.event.TheConstants.{BATCH_EVENTS}
-use Rattle.pmp_text.specs.declared.script.ScriptKind.{ScriptKind}
-use Rattle.pmp_text.specs.declared.script.ScriptKind.TheVariants.{BatchFull, NotHeld, Unpublished}
+use Rattle.pmp_text.specs.declared.flaw.Flaw.{Flaw}
+use Rattle.pmp_text.specs.declared.refusal.Refusal.TheVariants.{BatchFull, NotHeld, Unpublished}
 use Rattle.pmp_text.specs.declared.script.ScriptFault.{ScriptFault}
 use Rattle.pmp_text.specs.declared.script.statement.Statement.{Statement}
 use Rattle.pmp_text.specs.declared.script.statement.Statement.TheVariants as statement
@@ -20,7 +20,8 @@ use Rattle.pmp_text.specs.declared.expectation.Expectation.{Expectation}
 use Rattle.pmp_text.specs.Contents.{Publications, ScriptContents}
 use Rattle.pmp_text.specs.Heads.{first_not_held, is_same, start_said}
 use Rattle.pmp_text.specs.Statements.{statement_of}
-use Rattle.pmp_text.specs.Scripts.{Line, at_line, for_head, head_fault}
+use Rattle.pmp_text.specs.Scripts.{Line, for_head, head_fault}
+use Rattle.pmp_text.specs.Flaws.{at_line, part, as_whole}
 
 -- the publications so far, the events of the open batch and their lines, and the line of the first of them
 pub record Progress : Type 0 where
@@ -57,7 +58,7 @@ longer so_far number event = record {
 abbrev pub with_event : Progress → ℕ → Event → Result Progress ScriptFault
 with_event so_far number event =
     if nat_lt (length so_far.batch) BATCH_EVENTS then Ok (longer so_far number event)
-    else Err (at_line number BatchFull)
+    else Err (at_line number (as_whole BatchFull))
 
 -- ---- the head
 
@@ -79,8 +80,8 @@ abbrev pub longer_head : HeadSoFar → ℕ → HeadStatement → HeadSoFar
 longer_head head number says =
     record { lines = head.lines ++ record { line = number; statement = says } ∷ []; is_over = head.is_over }
 
-abbrev pub unless : {X : Type 0} → (number : ℕ) → Option ScriptKind → X → Result X ScriptFault
-unless number (Some kind) x = Err (at_line number kind)
+abbrev pub unless : {X : Type 0} → (number : ℕ) → Option Flaw → X → Result X ScriptFault
+unless number (Some flaw) x = Err (at_line number flaw)
 unless number None x = Ok x
 
 abbrev pub after_head : HeadSoFar → ℕ → HeadStatement → Result HeadSoFar ScriptFault
@@ -141,8 +142,8 @@ with_expected so_far number register value = record {
 }
 
 -- what reading a line with this number makes of it, by what the line says
-abbrev pub after_statement : Reading → ℕ → Result Statement ScriptKind → Result Reading ScriptFault
-after_statement so_far number (Err kind) = Err (at_line number kind)
+abbrev pub after_statement : Reading → ℕ → Result Statement Flaw → Result Reading ScriptFault
+after_statement so_far number (Err flaw) = Err (at_line number flaw)
 after_statement so_far number (Ok statement.Publish) = Ok (with_publish so_far)
 after_statement so_far number (Ok (statement.Event event)) =
     with_progress so_far (with_event so_far.progress number event)
@@ -156,7 +157,7 @@ after_line version so_far line = after_statement so_far line.number (statement_o
 -- what was read, where the text ends; an event line that no `publish` follows is at fault, the first of them
 abbrev pub all_published : Option ℕ → Read → Result Read ScriptFault
 all_published None read = Ok read
-all_published (Some number) read = Err (at_line number Unpublished)
+all_published (Some number) read = Err (at_line number (as_whole Unpublished))
 
 abbrev pub read_in : Reading → Read
 read_in so_far = record {
@@ -176,7 +177,7 @@ resumed version so_far (line ∷ more) =
 
 -- the file that the lines of a head say, where registers keep the values that they are set to
 abbrev pub if_kept : Option ℕ → RegisterFile → Result RegisterFile ScriptFault
-if_kept (Some number) file = Err (at_line number NotHeld)
+if_kept (Some number) file = Err (at_line number (part 2 NotHeld))
 if_kept None file = Ok file
 
 abbrev pub started : List HeadLine → Result RegisterFile ScriptFault

@@ -1,11 +1,11 @@
 -- What the reader's iterators stand for.
-use Rattle.std.specs.Borrow.{Bor}
-use Rattle.std.specs.Prelude.{ℕ, List}
+use Rattle.std.specs.Prelude.{List}
 use Rattle.pmp_text.specs.declared.script.significant.NumberedLine.{NumberedLine}
 use Rattle.pmp_text.specs.declared.script.significant.SignificantLines.{SignificantLines}
 use Rattle.pmp_text.specs.Lines.{words}
 use Rattle.pmp_text.specs.Scripts.{Line, significant_from}
 use Rattle.pmp_text.specs.declared.policy.row_fields.Words.{Words}
+use Rattle.pmp_text.specs.declared.trace.row_fields.Words as trace
 use Rattle.pmp_text.specs.Policies.{SevenFields}
 use Rattle.pmp_text.specs.Traces.{FiveFields}
 
@@ -17,10 +17,15 @@ seen_line line = record { number = line.number; words = words line.bytes.now }
 abbrev pub lines_left : SignificantLines → List Line
 lines_left left = significant_from left.number left.rest.now
 
--- five fields as the definitions see them
-abbrev pub seen_five : (Bor (List ℕ) × Bor (List ℕ) × Bor (List ℕ) × Bor (List ℕ) × Bor (List ℕ)) → FiveFields
-seen_five (after, mode, kind, start, length) =
-    record { after = after.now; mode = mode.now; kind = kind.now; start = start.now; length = length.now }
+-- the words of a trace's row
+abbrev pub seen_five : trace.Words → FiveFields
+seen_five words = record {
+  after = words.after.now;
+  mode = words.mode.now;
+  kind = words.kind.now;
+  start = words.start.now;
+  length = words.length.now;
+}
 
 -- the words of a policy's row
 abbrev pub seen_seven : Words → SevenFields

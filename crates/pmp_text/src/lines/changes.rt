@@ -82,7 +82,7 @@ fn change_word(change: Change) -> &'static str
     }
 }
 
-#[tactic(auto, unfolding(crate::specs::Changes::change_row))]
+#[tactic(auto, unfolding(crate::specs::Changes::change_row, crate::specs::Steps::Marks::perms_text))]
 fn append_change<S: Sink>(out: &mut S, run: &RightsRun, change: Change) -> Result<(), NoMemory>
     ensures ok { OnOk result (S.text out.new ≡ S.text out.old ++ change_row run.now change) }
     ensures err { OnErr result (S.text out.new ≡ S.text out.old) }

@@ -1,20 +1,19 @@
 //! What each event of a script does to a register, as rows.
 
-ghost use Rattle.std.specs.Prelude.{◌≡◌, ◌++◌, [], ◌∷◌, if◌then◌else◌, codes, IfOk, OnOk, OnErr};
-ghost use Rattle.std.specs.Io.{StartsWith};
+ghost use Rattle.std.specs.Prelude.{◌≡◌, ◌++◌, [], if◌then◌else◌, codes, IfOk, OnOk, OnErr, Some};
+ghost use Rattle.pmp_core.specs.declared.event.Event.TheVariants as event;
 ghost use Rattle.pmp_core.specs.RegisterValue.{register_value};
 ghost use Rattle.pmp_core.specs.RegisterWrite.{step, written};
-ghost use Rattle.pmp_text.specs.Effects.{effect_text, reason_text, value_text, reasons_text, entries_text};
+ghost use Rattle.pmp_text.specs.Effects.{effect_text, reason_text, reasons_text, entries_text};
 ghost use Rattle.pmp_text.specs.Effects.{event_fields, place_text, effect_row};
-ghost use Rattle.pmp_text.specs.Names.{register_name};
 ghost use Rattle.pmp_text.specs.Reports.{fields_after};
 
-use crate::lines::hexadecimal::{Hex, VALUE_DIGITS};
+use crate::lines::hexadecimal::Value;
 use crate::lines::{NoMemory, append_line};
 use crate::names::RegisterName;
 use crate::sink::Sink;
 use pmp_core::{Csr, Event, RegFile, Registers, WriteReason};
-use std::alloc::AllocError;
+use std::fmt;
 
 /// Where an event stands in a script.
 #[derive(Clone, Copy)]
@@ -62,169 +61,98 @@ fn space_unless(is_first: bool) -> &'static str
     if is_first { "" } else { " " }
 }
 
-/// Appends a comma, the register's name, a comma and the value.
-fn write_value<S: Sink>(out: &mut S, csr: Csr, value: u64) -> Result<(), AllocError>
-    ensures ok { OnOk result (S.text out.new ≡ S.text out.old
-        ++ (codes "," ++ (register_name csr ++ (codes "," ++ value_text value)))) }
-    ensures err { OnErr result (S.text out.new ≡ S.text out.old) }
-{
-    let name = RegisterName(csr);
-    let value = Hex::<VALUE_DIGITS>::new(value);
-    append_line(out, format_args!(",{name},0x{value}"))
+impl fmt::Display for EventPlace {
+    ghost output = { λ place. Some (place_text place) };
+
+    fn fmt<W: fmt::Write>(&self, f: &mut fmt::Formatter<W>) -> fmt::Result {
+        write!(f, "{},{},{}", self.number, self.publication, self.line)
+    }
 }
 
-/// Appends what the register reads before the write and after it, and the effect, each after a comma.
-fn write_reading<S: Sink>(
-    out: &mut S,
-    file: &RegFile,
-    next: &RegFile,
+/// What is written to a register.
+#[derive(Clone, Copy)]
+struct Write<'a> {
+    registers: &'a Registers<'a>,
     csr: Csr,
     value: u64,
-) -> Result<(), AllocError>
-    requires { next.now ≡ written file.now csr value }
-    ensures ok { let before = register_value file.now csr in
-        let after = register_value (written file.now csr value) csr in
-        OnOk result (S.text out.new ≡ S.text out.old ++ (codes "," ++ (value_text before ++ (codes ","
-        ++ (value_text after ++ (codes "," ++ effect_text value before after)))))) }
-    ensures err { OnErr result (S.text out.new ≡ S.text out.old) }
-{
-    let before = file.read(csr);
-    let after = next.read(csr);
-    let effect = effect_word(value, before, after);
-    let before = Hex::<VALUE_DIGITS>::new(before);
-    let after = Hex::<VALUE_DIGITS>::new(after);
-    append_line(out, format_args!(",0x{before},0x{after},{effect}"))
 }
 
-/// Appends the reasons why the register doesn't read the value, parted by one space.
-fn write_reason_words<S: Sink>(
-    out: &mut S,
-    registers: &Registers<'_>,
-    csr: Csr,
-    value: u64,
-) -> Result<(), AllocError>
-    ensures ok { OnOk result (S.text out.new ≡ S.text out.old ++ reasons_text registers.now csr value) }
-    ensures err { OnErr result (StartsWith (S.text out.new) (S.text out.old)) }
-{
-    let mut is_first = true;
-    for reason in WriteReason::ALL {
-        if registers.is_reason(reason, csr, value) {
-            let space = space_unless(is_first);
-            let word = reason_word(reason);
-            append_line(out, format_args!("{space}{word}"))?;
-            is_first = false;
+/// The reasons why the register doesn't read the value, parted by one space.
+#[derive(Clone, Copy)]
+struct Reasons<'a>(Write<'a>);
+
+impl<'a> fmt::Display for Reasons<'a> {
+    ghost output = { λ it. Some (reasons_text it.0.registers.now it.0.csr it.0.value) };
+
+    fn fmt<W: fmt::Write>(&self, f: &mut fmt::Formatter<W>) -> fmt::Result {
+        let write = self.0;
+        let mut is_first = true;
+        for reason in WriteReason::ALL {
+            if write.registers.is_reason(reason, write.csr, write.value) {
+                let space = space_unless(is_first);
+                let word = reason_word(reason);
+                write!(f, "{space}{word}")?;
+                is_first = false;
+            }
         }
+        Ok(())
     }
-    Ok(())
 }
 
-/// Appends the entries that turn the value away, parted by one space.
-fn write_entry_numbers<S: Sink>(
-    out: &mut S,
-    registers: &Registers<'_>,
-    csr: Csr,
-    value: u64,
-) -> Result<(), AllocError>
-    ensures ok { OnOk result (S.text out.new ≡ S.text out.old ++ entries_text registers.now csr value) }
-    ensures err { OnErr result (StartsWith (S.text out.new) (S.text out.old)) }
-{
-    let mut is_first = true;
-    for entry in 0..registers.count() {
-        if registers.has_reason(csr, value, entry) {
-            let space = space_unless(is_first);
-            append_line(out, format_args!("{space}{entry}"))?;
-            is_first = false;
+/// The entries that turn the value away, parted by one space.
+#[derive(Clone, Copy)]
+struct Entries<'a>(Write<'a>);
+
+impl<'a> fmt::Display for Entries<'a> {
+    ghost output = { λ it. Some (entries_text it.0.registers.now it.0.csr it.0.value) };
+
+    fn fmt<W: fmt::Write>(&self, f: &mut fmt::Formatter<W>) -> fmt::Result {
+        let write = self.0;
+        let mut is_first = true;
+        for entry in 0..write.registers.count() {
+            if write.registers.has_reason(write.csr, write.value, entry) {
+                let space = space_unless(is_first);
+                write!(f, "{space}{entry}")?;
+                is_first = false;
+            }
         }
-    }
-    Ok(())
-}
-
-/// Appends the reasons and then the entries, each after a comma, and LF.
-fn write_lists<S: Sink>(
-    out: &mut S,
-    registers: &Registers<'_>,
-    csr: Csr,
-    value: u64,
-) -> Result<(), AllocError>
-    ensures ok { OnOk result (S.text out.new ≡ S.text out.old
-        ++ fields_after (reasons_text registers.now csr value ∷ entries_text registers.now csr value ∷ [])) }
-    ensures err { OnErr result (StartsWith (S.text out.new) (S.text out.old)) }
-{
-    append_line(out, ",")?;
-    write_reason_words(out, registers, csr, value)?;
-    append_line(out, ",")?;
-    write_entry_numbers(out, registers, csr, value)?;
-    append_line(out, "\n")
-}
-
-/// Appends the fields of a write, each after a comma, and LF.
-fn write_fields<S: Sink>(
-    out: &mut S,
-    file: &RegFile,
-    next: &RegFile,
-    csr: Csr,
-    value: u64,
-) -> Result<(), AllocError>
-    requires { next.now ≡ written file.now csr value }
-    ensures ok { OnOk result (S.text out.new ≡ S.text out.old
-        ++ fields_after (event_fields file.now (Event.Write csr value))) }
-    ensures err { OnErr result (StartsWith (S.text out.new) (S.text out.old)) }
-{
-    write_value(out, csr, value)?;
-    write_reading(out, file, next, csr, value)?;
-    write_lists(out, &file.registers(), csr, value)
-}
-
-/// Appends the number of the event, a comma, that of its publication, a comma and that of its line.
-fn write_place<S: Sink>(out: &mut S, place: &EventPlace) -> Result<(), AllocError>
-    ensures ok { OnOk result (S.text out.new ≡ S.text out.old ++ place_text place.now) }
-    ensures err { OnErr result (S.text out.new ≡ S.text out.old) }
-{
-    let EventPlace {
-        number,
-        publication,
-        line,
-    } = *place;
-    append_line(out, format_args!("{number},{publication},{line}"))
-}
-
-/// Appends the fields of an event, each after a comma, and LF.
-fn write_event<S: Sink>(
-    out: &mut S,
-    file: &RegFile,
-    next: &RegFile,
-    event: Event,
-) -> Result<(), AllocError>
-    requires { next.now ≡ step file.now event }
-    ensures ok { OnOk result (S.text out.new ≡ S.text out.old ++ fields_after (event_fields file.now event)) }
-    ensures err { OnErr result (StartsWith (S.text out.new) (S.text out.old)) }
-{
-    match event {
-        Event::Write(csr, value) => write_fields(out, file, next, csr, value),
-        Event::Reset => append_line(out, ",reset,,,,reset,,\n"),
+        Ok(())
     }
 }
 
-#[tactic(auto, unfolding(crate::specs::Effects::effect_row))]
-fn write_all<S: Sink>(
-    out: &mut S,
-    place: &EventPlace,
-    file: &RegFile,
-    next: &RegFile,
-    event: Event,
-) -> Result<(), AllocError>
-    requires { next.now ≡ step file.now event }
-    ensures ok { OnOk result (S.text out.new ≡ S.text out.old ++ effect_row place.now file.now event) }
-    ensures err { OnErr result (StartsWith (S.text out.new) (S.text out.old)) }
-{
-    write_place(out, place)?;
-    write_event(out, file, next, event)
+/// A write, and what the register reads after it.
+#[derive(Clone, Copy)]
+struct Effect<'a> {
+    write: Write<'a>,
+    after: u64,
+    ghost written: { after ≡ register_value (written write.registers.now write.csr write.value) write.csr },
+}
+
+impl<'a> fmt::Display for Effect<'a> {
+    ghost output = { λ it. Some (fields_after (event_fields it.write.registers.now
+        (event.Write it.write.csr it.write.value))) };
+
+    fn fmt<W: fmt::Write>(&self, f: &mut fmt::Formatter<W>) -> fmt::Result {
+        let before = self.write.registers.read(self.write.csr);
+        let name = RegisterName(self.write.csr);
+        let effect = effect_word(self.write.value, before, self.after);
+        let reasons = Reasons(self.write);
+        let entries = Entries(self.write);
+        let value = Value(self.write.value);
+        let before = Value(before);
+        let after = Value(self.after);
+        write!(
+            f,
+            ",{name},{value},{before},{after},{effect},{reasons},{entries}\n"
+        )
+    }
 }
 
 /// Appends the row of an event that comes to this register file: `N,PUBLICATION,LINE,REGISTER,WRITTEN,BEFORE,AFTER,`
 /// `EFFECT,REASONS,ENTRIES` and LF. EFFECT is `stored` where the register then reads what was written, `ignored` where
 /// it reads what it read before, and else `altered`. A reset has `reset` for REGISTER and EFFECT, and nothing for what
 /// a write has besides. Answers the file that the event leaves.
+#[tactic(auto, unfolding(crate::specs::Effects::effect_row))]
 pub fn write_effect<S: Sink>(
     out: &mut S,
     place: &EventPlace,
@@ -235,14 +163,21 @@ pub fn write_effect<S: Sink>(
     ensures next { IfOk result (λ next. next ≡ step file.now event) }
     ensures err { OnErr result (S.text out.new ≡ S.text out.old) }
 {
-    let before = out.position();
     let mut next = *file;
     next.step(event);
-    match write_all(out, place, file, &next, event) {
-        Ok(()) => Ok(next),
-        Err(refused) => {
-            out.go_back(before);
-            Err(refused)
+    match event {
+        Event::Write(csr, value) => {
+            let registers = &file.registers();
+            let write = Write {
+                registers,
+                csr,
+                value,
+            };
+            let after = next.read(csr);
+            let effect = Effect { write, after };
+            append_line(out, format_args!("{place}{effect}"))?;
         }
+        Event::Reset => append_line(out, format_args!("{place},reset,,,,reset,,\n"))?,
     }
+    Ok(next)
 }

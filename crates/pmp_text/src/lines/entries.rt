@@ -1,6 +1,6 @@
 //! The entries of a register file as text.
 
-ghost use Rattle.std.specs.Prelude.{◌≡◌, ◌<◌, ◌≤◌, ◌++◌, List, ℕ, length, OnOk, OnErr, Some, codes};
+ghost use Rattle.std.specs.Prelude.{◌≡◌, ◌<◌, ◌≤◌, ◌++◌, List, ℕ, length, OnOk, OnErr, Some};
 ghost use Rattle.std.specs.Io.{StartsWith};
 ghost use Rattle.pmp_core.specs.Span.{IsSpan, span_of};
 ghost use Rattle.pmp_text.specs.EntryRows.{IsEntryText, address_text, entry_row, lock_text, matching_text, span_text};
@@ -34,29 +34,20 @@ impl fmt::Display for Ends {
     }
 }
 
-/// How an entry is locked, and whether its address register is.
-#[derive(Clone, Copy)]
-struct Locks {
-    entry: Lock,
-    is_address_frozen: bool,
+fn lock_word(lock: Lock) -> &'static str
+    ensures { result.now ≡ lock_text lock }
+{
+    match lock {
+        Lock::Open => "-",
+        Lock::Bypassed => "bypassed",
+        Lock::Frozen => "frozen",
+    }
 }
 
-impl fmt::Display for Locks {
-    ghost output = { λ locks. Some (lock_text locks.entry ++ (codes "," ++ address_text locks.is_address_frozen)) };
-
-    fn fmt<W: fmt::Write>(&self, f: &mut fmt::Formatter<W>) -> fmt::Result {
-        let entry = match self.entry {
-            Lock::Open => "-",
-            Lock::Bypassed => "bypassed",
-            Lock::Frozen => "frozen",
-        };
-        let address = if self.is_address_frozen {
-            "frozen"
-        } else {
-            "-"
-        };
-        write!(f, "{entry},{address}")
-    }
+fn address_word(is_frozen: bool) -> &'static str
+    ensures { result.now ≡ address_text is_frozen }
+{
+    if is_frozen { "frozen" } else { "-" }
 }
 
 fn matching_word(matching: AddressMatching) -> &'static str
@@ -87,10 +78,9 @@ fn write_entry<S: Sink>(
     let matching = matching_word(registers.matching(index));
     let ends = Ends(registers.span(index));
     let rights = ModeMarks(ModeRights::of_owner(registers, Some(entry)));
-    let locks = Locks {
-        entry: registers.lock(index),
-        is_address_frozen: registers.is_address_frozen(index),
-    };
+    let lock = lock_word(registers.lock(index));
+    let address = address_word(registers.is_address_frozen(index));
+    let locks = format_args!("{lock},{address}");
     append_line(
         out,
         format_args!("{entry},{matching},{ends},{rights},{locks},{since}\n"),

@@ -4,7 +4,7 @@ ghost use Rattle.std.specs.Prelude.{◌≡◌, ◌++◌, OnErr, OnOk};
 ghost use Rattle.pmp_text.specs.Expected.{expected_row, expected_text};
 
 use crate::expectation::Expectation;
-use crate::lines::hexadecimal::{Hex, VALUE_DIGITS};
+use crate::lines::hexadecimal::Value;
 use crate::lines::{NoMemory, append_line};
 use crate::names::RegisterName;
 use crate::sink::Sink;
@@ -33,10 +33,10 @@ pub fn write_expected<S: Sink>(
     let line = expectation.line;
     let name = RegisterName(expectation.register);
     let word = expected_word(expectation.value, value);
-    let expected = Hex::<VALUE_DIGITS>::new(expectation.value);
-    let value = Hex::<VALUE_DIGITS>::new(value);
+    let expected = Value(expectation.value);
+    let value = Value(value);
     append_line(
         out,
-        format_args!(",,{line},{name},0x{expected},,0x{value},{word},,\n"),
+        format_args!(",,{line},{name},{expected},,{value},{word},,\n"),
     )
 }

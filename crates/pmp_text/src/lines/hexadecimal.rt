@@ -2,6 +2,7 @@
 
 ghost use Rattle.std.specs.Prelude.{◌≡◌, ◌<◌, ◌≤◌, Some};
 ghost use Rattle.pmp_text.specs.Hexadecimal.{hex_digit, hex_text};
+ghost use Rattle.pmp_text.specs.Effects.{value_text};
 
 use std::fmt;
 
@@ -47,5 +48,18 @@ impl<const DIGITS: usize> fmt::Display for Hex<DIGITS> {
             write!(f, "{digit}")?;
         }
         Ok(())
+    }
+}
+
+/// A register's value: `0x` and its digits.
+#[derive(Clone, Copy)]
+pub struct Value(pub u64);
+
+impl fmt::Display for Value {
+    ghost output = { λ value. Some (value_text value.0) };
+
+    fn fmt<W: fmt::Write>(&self, f: &mut fmt::Formatter<W>) -> fmt::Result {
+        let digits = Hex::<VALUE_DIGITS>::new(self.0);
+        write!(f, "0x{digits}")
     }
 }

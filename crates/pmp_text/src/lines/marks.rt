@@ -21,6 +21,7 @@ pub struct Marks(pub Perms);
 impl fmt::Display for Marks {
     ghost output = { λ marks. Some (perms_text marks.0) };
 
+    #[tactic(auto, unfolding(crate::specs::Steps::Marks::perms_text))]
     fn fmt<W: fmt::Write>(&self, f: &mut fmt::Formatter<W>) -> fmt::Result {
         let read = mark(self.0.allows(Kind::Load), "r");
         let write = mark(self.0.allows(Kind::Store), "w");

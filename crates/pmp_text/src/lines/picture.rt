@@ -5,13 +5,13 @@ ghost use Rattle.std.specs.Prelude.{IfSome, OnOk, OnErr, Some};
 ghost use Rattle.std.specs.Io.{StartsWith};
 ghost use Rattle.pmp_map.specs.declared.run.TheConstants.{RUNS};
 ghost use Rattle.pmp_map.specs.Runs.{AreRuns, HasOwnersBelow};
-ghost use Rattle.pmp_text.specs.Picture.{IsPicture, band, bands, ends, extent, head, lock_sign, owner_name};
-ghost use Rattle.pmp_text.specs.Picture.{settings, size_name, size_of, size_text, switch_text, title};
+ghost use Rattle.pmp_text.specs.Picture.{IsPicture, band, bands, head, lock_sign, owner_name, size_name, size_of};
+ghost use Rattle.pmp_text.specs.Picture.{size_text, switch_text, title};
 ghost use Rattle.pmp_core.specs.declared.access.TheConstants.{ADDRESS_LIMIT};
 
 use crate::lines::hexadecimal::{ADDRESS_DIGITS, Hex};
 use crate::lines::marks::Marks;
-use crate::lines::{NoMemory, append_line};
+use crate::lines::{NoMemory, append_line, append_text};
 use crate::sink::Sink;
 use pmp_core::{ADDRESS_LIMIT, Csr, RegFile};
 use pmp_map::{ModeRights, RUNS, Run, RunMap};
@@ -72,33 +72,26 @@ const FROZEN: &str =
 /// The end of the bands and of the document.
 const FOOT: &str = "</g>\n</svg>\n";
 
+/// The most bytes of what stands above the bands.
+const HEAD: usize = 4096;
+
 /// How high a band is.
 pub const BAND: usize = 24;
-
-const KIB: u64 = 1 << 10;
-
-const MIB: u64 = 1 << 20;
-
-const GIB: u64 = 1 << 30;
-
-const TIB: u64 = 1 << 40;
-
-const PIB: u64 = 1 << 50;
 
 /// How many units the bytes are, and the unit's name behind a space: the largest of which they are a whole number.
 fn in_units(bytes: u64) -> (u64, &'static str)
     ensures { decimal result.0 ++ result.1.now ≡ size_text bytes }
 {
-    if bytes % PIB == 0 {
-        (bytes / PIB, " PiB")
-    } else if bytes % TIB == 0 {
-        (bytes / TIB, " TiB")
-    } else if bytes % GIB == 0 {
-        (bytes / GIB, " GiB")
-    } else if bytes % MIB == 0 {
-        (bytes / MIB, " MiB")
-    } else if bytes % KIB == 0 {
-        (bytes / KIB, " KiB")
+    if bytes % (1 << 50) == 0 {
+        (bytes >> 50, " PiB")
+    } else if bytes % (1 << 40) == 0 {
+        (bytes >> 40, " TiB")
+    } else if bytes % (1 << 30) == 0 {
+        (bytes >> 30, " GiB")
+    } else if bytes % (1 << 20) == 0 {
+        (bytes >> 20, " MiB")
+    } else if bytes % (1 << 10) == 0 {
+        (bytes >> 10, " KiB")
     } else {
         (bytes, " bytes")
     }
@@ -151,19 +144,6 @@ impl fmt::Display for OwnerName {
     }
 }
 
-/// What is shown, and after how many publications.
-#[derive(Clone, Copy)]
-struct Title(u64);
-
-impl fmt::Display for Title {
-    ghost output = { λ shown. Some (title shown.0) };
-
-    fn fmt<W: fmt::Write>(&self, f: &mut fmt::Formatter<W>) -> fmt::Result {
-        let publications = self.0;
-        write!(f, "PMP memory map, publications done: {publications}")
-    }
-}
-
 /// Whether a bit of `mseccfg` is set.
 fn switch_word(is_on: bool) -> &'static str
     ensures { result.now ≡ switch_text is_on }
@@ -183,50 +163,12 @@ fn lock_sign(file: &RegFile, owner: Option<u8>) -> &'static str
     }
 }
 
-fn append_text<S: Sink>(out: &mut S, text: &str) -> Result<(), AllocError>
-    ensures ok { OnOk result (S.text out.new ≡ S.text out.old ++ text.now) }
-    ensures err { OnErr result (S.text out.new ≡ S.text out.old) }
-{
-    out.append(text.as_bytes())
-}
-
-/// The bits of `mseccfg`.
-#[derive(Clone, Copy)]
-struct Switches {
-    lockdown: bool,
-    policy: bool,
-    bypass: bool,
-}
-
-fn read_switches(file: &RegFile) -> Switches
-    ensures lockdown { result.lockdown ≡ file.now.mseccfg.mml }
-    ensures policy { result.policy ≡ file.now.mseccfg.mmwp }
-    ensures bypass { result.bypass ≡ file.now.mseccfg.rlb }
+/// Which of the bits MML, MMWP and RLB of `mseccfg` are set.
+fn read_switches(file: &RegFile) -> (bool, bool, bool)
+    ensures { record { mml = result.0; mmwp = result.1; rlb = result.2 } ≡ file.now.mseccfg }
 {
     let bits = file.read(Csr::Mseccfg);
-    Switches {
-        lockdown: bits % 2 == 1,
-        policy: bits / 2 % 2 == 1,
-        bypass: bits / 4 % 2 == 1,
-    }
-}
-
-/// Appends the line of the bits of `mseccfg`.
-fn write_settings<S: Sink>(out: &mut S, file: &RegFile) -> Result<(), AllocError>
-    ensures ok { OnOk result (S.text out.new ≡ S.text out.old ++ settings file.now.mseccfg) }
-    ensures err { OnErr result (S.text out.new ≡ S.text out.old) }
-{
-    let switches = read_switches(file);
-    let lockdown = switch_word(switches.lockdown);
-    let policy = switch_word(switches.policy);
-    let bypass = switch_word(switches.bypass);
-    append_line(
-        out,
-        format_args!(
-            "<text x='16' y='62'>Lockdown (MML) {lockdown}, allow-list policy (MMWP) {policy}, \
-            rule-locking bypass (RLB) {bypass}</text>\n"
-        ),
-    )
+    (bits % 2 == 1, bits / 2 % 2 == 1, bits / 4 % 2 == 1)
 }
 
 /// Appends what stands above so many bands.
@@ -238,45 +180,26 @@ fn write_head<S: Sink>(
 ) -> Result<(), AllocError>
     requires { bands ≤ RUNS }
     ensures ok { OnOk result (S.text out.new ≡ S.text out.old ++ head file.now publications bands) }
-    ensures err { OnErr result (StartsWith (S.text out.new) (S.text out.old)) }
+    ensures err { OnErr result (S.text out.new ≡ S.text out.old) }
 {
     let height = BAND * bands + 176;
-    let title = Title(publications);
-    append_line(
+    let title = format_args!("PMP memory map, publications done: {publications}");
+    let (lockdown, policy, bypass) = read_switches(file);
+    let lockdown = switch_word(lockdown);
+    let policy = switch_word(policy);
+    let bypass = switch_word(bypass);
+    let opening = format_args!(
+        "<svg xmlns='http://www.w3.org/2000/svg' width='960' height='{height}' viewBox='0 0 960 {height}'>\n"
+    );
+    let spoken = format_args!("<title>{title}</title>\n");
+    let large = format_args!("<text class='large' x='16' y='36'>{title}</text>\n");
+    let settings = format_args!(
+        "<text x='16' y='62'>Lockdown (MML) {lockdown}, allow-list policy (MMWP) {policy}, \
+        rule-locking bypass (RLB) {bypass}</text>\n"
+    );
+    append_text::<HEAD, _, _>(
         out,
-        format_args!(
-            "<svg xmlns='http://www.w3.org/2000/svg' width='960' height='{height}' viewBox='0 0 960 {height}'>\n"
-        ),
-    )?;
-    append_line(out, format_args!("<title>{title}</title>\n"))?;
-    append_text(out, STYLE)?;
-    append_line(
-        out,
-        format_args!("<text class='large' x='16' y='36'>{title}</text>\n"),
-    )?;
-    write_settings(out, file)?;
-    append_text(out, LEGEND)
-}
-
-/// Appends what a band says of its run: the first and the last byte, the size and the owner.
-fn write_extent<S: Sink>(out: &mut S, run: &Run) -> Result<(), AllocError>
-    requires proper { run.now.first ≤ run.now.last }
-    requires inside { run.now.last < ADDRESS_LIMIT }
-    ensures ok { OnOk result (S.text out.new ≡ S.text out.old ++ (ends run.now.first run.now.last
-        ++ extent (size_of run.now.first run.now.last) run.now.owner)) }
-    ensures err { OnErr result (StartsWith (S.text out.new) (S.text out.old)) }
-{
-    let first = Hex::<ADDRESS_DIGITS>::new(run.first);
-    let last = Hex::<ADDRESS_DIGITS>::new(run.last);
-    let size = Size::of(run);
-    let owner = OwnerName(run.owner);
-    append_line(
-        out,
-        format_args!("<text x='8'>0x{first}</text><text x='148'>0x{last}</text>"),
-    )?;
-    append_line(
-        out,
-        format_args!("<text x='292'>{size}</text><text x='496'>{owner}</text>"),
+        format_args!("{opening}{spoken}{STYLE}{large}{settings}{LEGEND}"),
     )
 }
 
@@ -292,25 +215,27 @@ fn write_band<S: Sink>(
     requires inside { run.now.last < ADDRESS_LIMIT }
     requires owner { IfSome run.now.owner (λ entry. entry < length file.now.entries) }
     ensures ok { OnOk result (S.text out.new ≡ S.text out.old ++ band file.now place run.now) }
-    ensures err { OnErr result (StartsWith (S.text out.new) (S.text out.old)) }
+    ensures err { OnErr result (S.text out.new ≡ S.text out.old) }
 {
     let top = BAND * place;
+    let first = Hex::<ADDRESS_DIGITS>::new(run.first);
+    let last = Hex::<ADDRESS_DIGITS>::new(run.last);
+    let size = Size::of(run);
+    let owner = OwnerName(run.owner);
     let rights = ModeRights::of_owner(&file.registers(), run.owner);
     let machine = Marks(rights.machine);
     let others = Marks(rights.others);
+    let sign = lock_sign(file, run.owner);
+    let strip = format_args!(
+        "<g class='su{others}' transform='translate(0,{top})'><rect y='-17' width='928' height='{BAND}'/>"
+    );
+    let ends = format_args!("<text x='8'>0x{first}</text><text x='148'>0x{last}</text>");
+    let extent = format_args!("<text x='292'>{size}</text><text x='496'>{owner}</text>");
+    let permissions = format_args!("<text x='592'>{machine}</text><text x='700'>{others}</text>");
     append_line(
         out,
-        format_args!(
-            "<g class='su{others}' transform='translate(0,{top})'><rect y='-17' width='928' height='{BAND}'/>"
-        ),
-    )?;
-    write_extent(out, run)?;
-    append_line(
-        out,
-        format_args!("<text x='592'>{machine}</text><text x='700'>{others}</text>"),
-    )?;
-    append_text(out, lock_sign(file, run.owner))?;
-    append_text(out, "</g>\n")
+        format_args!("{strip}{ends}{extent}{permissions}{sign}</g>\n"),
+    )
 }
 
 /// Appends a band for each run, from the top down.
@@ -342,7 +267,7 @@ fn write_all<S: Sink>(
 {
     write_head(out, file, publications, runs.len())?;
     write_bands(out, file, runs)?;
-    append_text(out, FOOT)
+    out.append(FOOT.as_bytes())
 }
 
 /// Appends a picture of the register file's runs, an SVG document with one band for each from the top down, which shows

@@ -1,69 +1,97 @@
 //! The registers of a register file as text.
 
-ghost use Rattle.std.specs.Prelude.{◌≡◌, ◌++◌, OnOk, OnErr, flat_map, length};
-ghost use Rattle.std.specs.Io.{StartsWith};
-ghost use Rattle.pmp_text.specs.Dumps.{register_line, cfg_registers, addr_registers, dump_text};
+ghost use Rattle.std.specs.Prelude.{◌≡◌, ◌++◌, OnOk, OnErr, Some};
+ghost use Rattle.pmp_text.specs.Dumps.{dump_text, form_line, form_value, lines_of};
 
-use crate::lines::hexadecimal::{Hex, VALUE_DIGITS};
-use crate::lines::{NoMemory, append_line};
+use crate::lines::hexadecimal::Value;
+use crate::lines::{NoMemory, append_text};
 use crate::names::RegisterName;
 use crate::sink::Sink;
 use pmp_core::{Csr, RegFile};
-use std::alloc::AllocError;
+use std::fmt;
 
-#[tactic(auto, unfolding(crate::specs::Dumps::register_line))]
-fn write_register<S: Sink>(out: &mut S, file: &RegFile, csr: Csr) -> Result<(), AllocError>
-    ensures ok { OnOk result (S.text out.new ≡ S.text out.old ++ register_line file.now csr) }
-    ensures err { OnErr result (S.text out.new ≡ S.text out.old) }
-{
-    let name = RegisterName(csr);
-    let value = Hex::<VALUE_DIGITS>::new(file.read(csr));
-    append_line(out, format_args!("{name} 0x{value}\n"))
+/// The most bytes of the lines of all registers, of which there are seventy-three.
+const MOST: usize = 4096;
+
+/// What lines say of registers.
+#[derive(Clone, Copy)]
+pub enum Form {
+    /// What a register reads.
+    Dump,
+    /// What a register keeps, for a script to set it to, where it isn't zero, as a reset leaves it.
+    Script,
 }
 
-/// Appends the lines of the configuration registers that hold an entry's byte. A register holds eight.
-fn write_cfg_registers<S: Sink>(out: &mut S, file: &RegFile) -> Result<(), AllocError>
-    ensures ok { OnOk result (S.text out.new ≡ S.text out.old
-        ++ flat_map (register_line file.now) (cfg_registers (length file.now.entries))) }
-    ensures err { OnErr result (StartsWith (S.text out.new) (S.text out.old)) }
-{
-    for place in 0..file.entries().div_ceil(8) {
-        write_register(out, file, Csr::Cfg(2 * place))?;
+/// The line of a register that has this value.
+#[derive(Clone, Copy)]
+struct Line {
+    form: Form,
+    csr: Csr,
+    value: u64,
+}
+
+impl fmt::Display for Line {
+    ghost output = { λ line. Some (form_line line.form line.csr line.value) };
+
+    fn fmt<W: fmt::Write>(&self, f: &mut fmt::Formatter<W>) -> fmt::Result {
+        let name = RegisterName(self.csr);
+        let value = Value(self.value);
+        match self.form {
+            Form::Dump => write!(f, "{name} {value}\n"),
+            Form::Script if self.value == 0 => Ok(()),
+            Form::Script => write!(f, "set {name} {value}\n"),
+        }
     }
-    Ok(())
 }
 
-/// Appends the lines of the entries' address registers.
-fn write_addr_registers<S: Sink>(out: &mut S, file: &RegFile) -> Result<(), AllocError>
-    ensures ok { OnOk result (S.text out.new ≡ S.text out.old
-        ++ flat_map (register_line file.now) (addr_registers (length file.now.entries))) }
-    ensures err { OnErr result (StartsWith (S.text out.new) (S.text out.old)) }
-{
-    for entry in 0..file.entries() {
-        write_register(out, file, Csr::Addr(entry))?;
+/// The lines of a file's registers.
+#[derive(Clone, Copy)]
+pub struct Lines<'a> {
+    pub form: Form,
+    pub file: &'a RegFile,
+}
+
+impl<'a> Lines<'a> {
+    fn line(&self, csr: Csr) -> Line
+        ensures { result ≡ record {
+          form = self.now.form;
+          csr = csr;
+          value = form_value self.now.form self.now.file.now csr;
+        } }
+    {
+        let Lines { form, file } = *self;
+        let value = match (form, csr) {
+            (Form::Script, Csr::Addr(entry)) if entry < file.entries() => {
+                file.registers().address(usize::from(entry))
+            }
+            (Form::Script, Csr::Addr(_)) => 0,
+            _ => file.read(csr),
+        };
+        Line { form, csr, value }
     }
-    Ok(())
 }
 
-#[tactic(auto, unfolding(crate::specs::Dumps::dump_text))]
-fn write_all<S: Sink>(out: &mut S, file: &RegFile) -> Result<(), AllocError>
-    ensures ok { OnOk result (S.text out.new ≡ S.text out.old ++ dump_text file.now) }
-    ensures err { OnErr result (StartsWith (S.text out.new) (S.text out.old)) }
-{
-    write_cfg_registers(out, file)?;
-    write_addr_registers(out, file)?;
-    write_register(out, file, Csr::Mseccfg)
+impl<'a> fmt::Display for Lines<'a> {
+    ghost output = { λ lines. Some (lines_of lines.form lines.file.now) };
+
+    /// A configuration register holds eight entries.
+    fn fmt<W: fmt::Write>(&self, f: &mut fmt::Formatter<W>) -> fmt::Result {
+        for place in 0..self.file.entries().div_ceil(8) {
+            write!(f, "{}", self.line(Csr::Cfg(2 * place)))?;
+        }
+        for entry in 0..self.file.entries() {
+            write!(f, "{}", self.line(Csr::Addr(entry)))?;
+        }
+        write!(f, "{}", self.line(Csr::Mseccfg))
+    }
 }
 
 /// Appends a line for each register: its name, a blank, `0x` and sixteen hexadecimal digits.
+#[tactic(auto, unfolding(crate::specs::Dumps::dump_text))]
 pub fn write_registers<S: Sink>(out: &mut S, file: &RegFile) -> Result<(), NoMemory>
     ensures ok { OnOk result (S.text out.new ≡ S.text out.old ++ dump_text file.now) }
     ensures err { OnErr result (S.text out.new ≡ S.text out.old) }
 {
-    let before = out.position();
-    let written = write_all(out, file);
-    if written.is_err() {
-        out.go_back(before);
-    }
-    written
+    let form = Form::Dump;
+    append_text::<MOST, _, _>(out, Lines { form, file })
 }

@@ -1,62 +1,47 @@
 //! A script that begins with a register file.
 
-ghost use Rattle.std.specs.Prelude.{◌≡◌, ◌++◌, IsTrue, List, ℕ, OnErr, OnOk};
-ghost use Rattle.pmp_text.specs.GivenBack.{GivesBack};
+ghost use Rattle.std.specs.Prelude.{◌≡◌, ◌+◌, ◌^◌, ◌++◌, IfOk, IsTrue, List, ℕ, OnErr, OnOk, codes, if◌then◌else◌};
+ghost use Rattle.pmp_text.specs.GivenBack.{GivesBack, script_text};
 
 use crate::event_log::FixedLog;
-use crate::lines::hexadecimal::{Hex, VALUE_DIGITS};
-use crate::lines::{NoMemory, append_line};
-use crate::names::RegisterName;
+use crate::lines::registers::{Form, Lines};
+use crate::lines::{NoMemory, text_of};
 use crate::script::read_script;
 use crate::sink::Sink;
-use arrayvec::ArrayVec;
-use pmp_core::{Csr, RegFile};
+use arrayvec::ArrayString;
+use pmp_core::{Hart, RegFile};
 
 /// The most bytes of a script that sets each register of sixty-four entries.
 const SCRIPT: usize = 4096;
 
-/// What the hart is.
-fn write_hart<S: Sink>(out: &mut S, file: &RegFile) -> Result<(), NoMemory> {
+/// How many bytes a grain has.
+fn grain_bytes(hart: &Hart) -> u32
+    ensures { result ≡ 2 ^ (hart.now.grain + 2) }
+{
+    1 << (hart.grain() + 2)
+}
+
+fn smepmp_word(has_smepmp: bool) -> &'static str
+    ensures { result.now ≡ (if has_smepmp then codes "yes" else codes "no") }
+{
+    if has_smepmp { "yes" } else { "no" }
+}
+
+/// The script by itself.
+#[tactic(auto, unfolding(crate::specs::GivenBack::script_text))]
+fn script_of(file: &RegFile) -> Result<ArrayString<SCRIPT>, NoMemory>
+    ensures { IfOk result (λ text. text.bytes ≡ script_text file.now) }
+{
     let hart = file.hart();
     let entries = hart.entries();
-    let grain = 4_u32 << hart.grain();
-    append_line(
-        out,
-        format_args!("pmp 3\nhart entries {entries}\nhart grain {grain}\n"),
-    )?;
+    let grain = grain_bytes(&hart);
     let bits = hart.address_bits();
-    let smepmp = if hart.has_smepmp() { "yes" } else { "no" };
-    append_line(
-        out,
-        format_args!("hart bits {bits}\nhart smepmp {smepmp}\n"),
-    )
-}
-
-/// The value that the register keeps, where it isn't zero, as a reset leaves it.
-fn write_set<S: Sink>(out: &mut S, csr: Csr, value: u64) -> Result<(), NoMemory> {
-    if value == 0 {
-        return Ok(());
-    }
-    let name = RegisterName(csr);
-    let value = Hex::<VALUE_DIGITS>::new(value);
-    append_line(out, format_args!("set {name} 0x{value}\n"))
-}
-
-fn write_configurations<S: Sink>(out: &mut S, file: &RegFile) -> Result<(), NoMemory> {
-    for place in 0..file.entries().div_ceil(8) {
-        let csr = Csr::Cfg(2 * place);
-        write_set(out, csr, file.read(csr))?;
-    }
-    Ok(())
-}
-
-fn write_addresses<S: Sink>(out: &mut S, file: &RegFile) -> Result<(), NoMemory> {
-    let registers = file.registers();
-    for entry in 0..file.entries() {
-        let address = registers.address(usize::from(entry));
-        write_set(out, Csr::Addr(entry), address)?;
-    }
-    Ok(())
+    let smepmp = smepmp_word(hart.has_smepmp());
+    let form = Form::Script;
+    let lines = Lines { form, file };
+    text_of(format_args!(
+        "pmp 3\nhart entries {entries}\nhart grain {grain}\nhart bits {bits}\nhart smepmp {smepmp}\n{lines}"
+    ))
 }
 
 /// Whether the files are one, by all that they keep.
@@ -68,35 +53,28 @@ fn is_same(one: &RegFile, other: &RegFile) -> bool
 
 /// Whether the text is read as a script that begins with this register file, publishes nothing and expects nothing.
 fn gives_back(text: &[u8], file: &RegFile) -> bool
+    requires { text.now ≡ script_text file.now }
     ensures { IsTrue result → GivesBack file.now text.now }
 {
     let mut log = FixedLog::<1, 1, 1>::new();
     let Ok(script) = read_script(&mut log, text) else {
         return false;
     };
-    if !is_same(&script.start(), file) {
-        return false;
-    }
-    if script.batches() != 0 {
-        return false;
-    }
-    script.expectations().is_empty()
+    is_same(&script.start(), file) && script.batches() == 0 && script.expectations().is_empty()
 }
 
-/// Appends a script of version 3 that begins with this register file, and does nothing: reading it gives the file. Each
-/// text is read back before it is appended, and one that gave another file would not be.
+/// Appends a script of version 3 that begins with this register file, and does nothing: what the hart is, and a line
+/// for each register that doesn't keep zero. Reading it gives the file: it is read back before it is appended, and one
+/// that gave another file would not be.
 pub fn write_script<S: Sink>(out: &mut S, file: &RegFile) -> Result<(), NoMemory>
     ensures ok { OnOk result ((text : List ℕ) × GivesBack file.now text
         × (S.text out.new ≡ S.text out.old ++ text)) }
     ensures err { OnErr result (S.text out.new ≡ S.text out.old) }
 {
-    let mut text = ArrayVec::<u8, SCRIPT>::new();
-    write_hart(&mut text, file)?;
-    write_configurations(&mut text, file)?;
-    write_addresses(&mut text, file)?;
-    write_set(&mut text, Csr::Mseccfg, file.read(Csr::Mseccfg))?;
-    if !gives_back(&text, file) {
+    let script = script_of(file)?;
+    let text = script.as_str().as_bytes();
+    if !gives_back(text, file) {
         return Err(NoMemory);
     }
-    out.append(&text)
+    out.append(text)
 }

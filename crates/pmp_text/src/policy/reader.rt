@@ -8,7 +8,8 @@ ghost use Rattle.pmp_text.specs.Tables.{behind_header};
 
 use crate::policy::PolicyRow;
 use crate::policy::row_fields::{is_policy_header, read_policy_row};
-use crate::trace::{MAX_TRACE, TraceFault, TraceKind, open_records, read_record};
+use crate::refusal::Refusal;
+use crate::trace::{MAX_TRACE, TraceFault, open_records, read_record};
 use csv::{ByteRecord, Reader};
 use std::alloc::Global;
 
@@ -28,7 +29,7 @@ fn read_rows(
     while read_record(reader, fields)? {
         match read_policy_row(fields, publications) {
             Ok(row) => rows.push(row)?,
-            Err(kind) => return Err(kind.at(rows.len() as u64 + 1)),
+            Err(flaw) => return Err(flaw.at_row(rows.len() as u64 + 1)),
         }
     }
     Ok(rows)
@@ -47,7 +48,7 @@ fn read_records(
     ensures within { IfOk result (λ rows. All (λ row. row.to ≤ publications) rows.items) }
 {
     if !read_record(reader, fields)? || !is_policy_header(fields) {
-        return Err(TraceKind::BadHeader.at(0));
+        return Err(Refusal::BadHeader.whole().at_row(0));
     }
     read_rows(alloc, reader, fields, publications)
 }
@@ -64,7 +65,7 @@ pub fn read_policy(
     ensures within { IfOk result (λ rows. All (λ row. row.to ≤ publications) rows.items) }
 {
     if text.len() > MAX_TRACE {
-        return Err(TraceKind::TooLong.at(0));
+        return Err(Refusal::TooLong.whole().at_row(0));
     }
     let mut reader = open_records(alloc, text);
     let mut fields = ByteRecord::new(alloc);

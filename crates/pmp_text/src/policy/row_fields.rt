@@ -1,21 +1,22 @@
 //! What one record of a policy says.
 
-ghost use Rattle.std.specs.Prelude.{◌≡◌, ◌≤◌, IfOk, IfErr, IfSome, None, Some, option_map};
+ghost use Rattle.std.specs.Prelude.{◌≡◌, ◌≤◌, IfOk, IfErr, None, Ok, Some, option_map};
 ghost use Rattle.csv.specs.Records.{fields_of};
 ghost use Rattle.pmp_text.specs.Policies.{
   is_policy_header,
   policy_fields,
   policy_fields_fault,
-  policy_of_record,
+  policy_in,
   policy_row_fault,
   seven_fields,
 };
 ghost use Rattle.pmp_text.specs.Steps.Views.{seen_seven};
 
-use crate::numbers::read_word_number;
+use crate::flaw::Flaw;
+use crate::numbers::{is_bare, read_word_number};
 use crate::policy::words::{read_at_least, read_demand, read_kinds, read_modes, read_to};
 use crate::policy::{Demand, Kinds, Modes, PolicyRow};
-use crate::trace::TraceKind;
+use crate::refusal::Refusal;
 use csv::ByteRecord;
 use pmp_core::ADDRESS_LIMIT;
 
@@ -29,6 +30,8 @@ pub struct PolicyFields {
     pub first: u64,
     pub last: u64,
     pub demand: Demand,
+    /// Whether `first` or `last` is 14 digits without `0x`.
+    pub is_bare: bool,
 }
 
 /// The seven fields of a record.
@@ -79,40 +82,49 @@ pub fn is_policy_header(fields: &ByteRecord) -> bool
 }
 
 impl PolicyFields {
-    /// What a record says as a row beside a script with so many publications, if it says one.
-    pub fn read(fields: &ByteRecord, publications: u64) -> Option<PolicyFields>
-        ensures said { result ≡ policy_of_record publications (fields_of fields.now) }
-        ensures forward { IfSome result (λ row. row.from ≤ publications → row.from ≤ row.to) }
-        ensures ordered { IfSome result (λ row. row.first ≤ row.last) }
+    /// What a record says as a row beside a script with so many publications, or which field says nothing.
+    pub fn read(fields: &ByteRecord, publications: u64) -> Result<PolicyFields, Flaw>
+        ensures said { result ≡ policy_in publications (fields_of fields.now) }
+        ensures forward { IfOk result (λ row. row.from ≤ publications → row.from ≤ row.to) }
+        ensures ordered { IfOk result (λ row. row.first ≤ row.last) }
     {
-        let words = seven_fields(fields)?;
-        let from = read_word_number(words.from)?;
-        let first = read_word_number(words.first)?;
-        Some(PolicyFields {
+        let words = seven_fields(fields).ok_or(Refusal::BadRow.whole())?;
+        let from = read_word_number(words.from).ok_or(Refusal::BadRow.part(0))?;
+        let to = read_to(publications, from, words.to).ok_or(Refusal::BadRow.part(1))?;
+        let modes = read_modes(words.modes).ok_or(Refusal::BadRow.part(2))?;
+        let kinds = read_kinds(words.kind).ok_or(Refusal::BadRow.part(3))?;
+        let first = read_word_number(words.first).ok_or(Refusal::BadRow.part(4))?;
+        let last = read_at_least(first, words.last).ok_or(Refusal::BadRow.part(5))?;
+        let demand = read_demand(words.demand).ok_or(Refusal::BadRow.part(6))?;
+        Ok(PolicyFields {
             from,
-            to: read_to(publications, from, words.to)?,
-            modes: read_modes(words.modes)?,
-            kinds: read_kinds(words.kind)?,
+            to,
+            modes,
+            kinds,
             first,
-            last: read_at_least(first, words.last)?,
-            demand: read_demand(words.demand)?,
+            last,
+            demand,
+            is_bare: is_bare(words.first) || is_bare(words.last),
         })
     }
 
     /// The row, beside a script with so many publications, where neither ends before it begins.
-    pub(crate) fn check(self, publications: u64) -> Result<PolicyRow, TraceKind>
+    pub(crate) fn check(self, publications: u64) -> Result<PolicyRow, Flaw>
         requires forward { self.from ≤ publications → self.from ≤ self.to }
         requires ordered { self.first ≤ self.last }
         ensures ok { IfOk result (λ row.
             (policy_fields_fault publications self ≡ None) × (policy_fields row ≡ self)) }
         ensures within { IfOk result (λ row. row.to ≤ publications) }
-        ensures err { IfErr result (λ kind. policy_fields_fault publications self ≡ Some kind) }
+        ensures err { IfErr result (λ flaw. policy_fields_fault publications self ≡ Some flaw) }
     {
-        if self.from > publications || self.to > publications {
-            return Err(TraceKind::BadAfter);
+        if self.from > publications {
+            return Err(Refusal::BadAfter.part(0));
+        }
+        if self.to > publications {
+            return Err(Refusal::BadAfter.part(1));
         }
         if self.last >= ADDRESS_LIMIT {
-            return Err(TraceKind::PastEnd);
+            return Err(Refusal::PastEnd.part(5));
         }
         Ok(PolicyRow {
             from: self.from,
@@ -122,19 +134,19 @@ impl PolicyFields {
             first: self.first,
             last: self.last,
             demand: self.demand,
+            is_bare: self.is_bare,
         })
     }
 }
 
 /// The row that a record says, beside a script with so many publications.
-pub fn read_policy_row(fields: &ByteRecord, publications: u64) -> Result<PolicyRow, TraceKind>
+pub fn read_policy_row(fields: &ByteRecord, publications: u64) -> Result<PolicyRow, Flaw>
     ensures ok { IfOk result (λ row.
-        (policy_of_record publications (fields_of fields.now) ≡ Some (policy_fields row))
-        × (policy_row_fault publications (policy_of_record publications (fields_of fields.now)) ≡ None)) }
+        (policy_in publications (fields_of fields.now) ≡ Ok (policy_fields row))
+        × (policy_row_fault publications (policy_in publications (fields_of fields.now)) ≡ None)) }
     ensures within { IfOk result (λ row. row.to ≤ publications) }
-    ensures err { IfErr result (λ kind.
-        policy_row_fault publications (policy_of_record publications (fields_of fields.now)) ≡ Some kind) }
+    ensures err { IfErr result (λ flaw.
+        policy_row_fault publications (policy_in publications (fields_of fields.now)) ≡ Some flaw) }
 {
-    let row = PolicyFields::read(fields, publications).ok_or(TraceKind::BadRow)?;
-    row.check(publications)
+    PolicyFields::read(fields, publications)?.check(publications)
 }

@@ -5,8 +5,9 @@ ghost use Rattle.pmp_text.specs.Heads.{hart_with, hart_kind, same_field};
 ghost use Rattle.pmp_text.specs.declared.script.hart_field.TheConstants.{GRAINS};
 ghost use Rattle.pmp_text.specs.Statements.{byte_number, field_of, grain_number, smepmp_field};
 
+use crate::flaw::Flaw;
 use crate::numbers::read_word_number;
-use crate::script::ScriptKind;
+use crate::refusal::Refusal;
 use pmp_core::{Hart, HartFault};
 
 /// The grains that there are, in bytes: that of G is at place G.
@@ -24,10 +25,10 @@ pub enum HartField {
 }
 
 /// A number below 256; a larger one is of this kind.
-fn read_byte(word: &[u8], kind: ScriptKind) -> Result<u8, ScriptKind>
+fn read_byte(word: &[u8], kind: Refusal) -> Result<u8, Refusal>
     ensures { result ≡ byte_number kind word.now }
 {
-    let number = read_word_number(word).ok_or(ScriptKind::BadNumber)?;
+    let number = read_word_number(word).ok_or(Refusal::BadNumber)?;
     if number < 256 {
         Ok(number as u8)
     } else {
@@ -43,15 +44,15 @@ fn place_of_grain(bytes: u64) -> Option<usize>
 }
 
 /// G of a grain in bytes.
-fn read_grain(word: &[u8]) -> Result<u8, ScriptKind>
+fn read_grain(word: &[u8]) -> Result<u8, Refusal>
     ensures { result ≡ grain_number word.now }
 {
-    let number = read_word_number(word).ok_or(ScriptKind::BadNumber)?;
-    let place = place_of_grain(number).ok_or(ScriptKind::BadGrain)?;
+    let number = read_word_number(word).ok_or(Refusal::BadNumber)?;
+    let place = place_of_grain(number).ok_or(Refusal::BadGrain)?;
     Ok(place as u8)
 }
 
-fn read_smepmp(word: &[u8]) -> Result<HartField, ScriptKind>
+fn read_smepmp(word: &[u8]) -> Result<HartField, Flaw>
     ensures { result ≡ smepmp_field word.now }
 {
     if word == b"yes".as_slice() {
@@ -59,24 +60,27 @@ fn read_smepmp(word: &[u8]) -> Result<HartField, ScriptKind>
     } else if word == b"no".as_slice() {
         Ok(HartField::Smepmp(false))
     } else {
-        Err(ScriptKind::BadLine)
+        Err(Refusal::BadLine.part(2))
     }
 }
 
 /// What a field's name and its value say.
-pub fn read_field(name: &[u8], value: &[u8]) -> Result<HartField, ScriptKind>
+pub fn read_field(name: &[u8], value: &[u8]) -> Result<HartField, Flaw>
     ensures { result ≡ field_of name.now value.now }
 {
     if name == b"entries".as_slice() {
-        Ok(HartField::Entries(read_byte(value, ScriptKind::BadEntries)?))
+        let entries = read_byte(value, Refusal::BadEntries).map_err(|kind| kind.part(2))?;
+        Ok(HartField::Entries(entries))
     } else if name == b"grain".as_slice() {
-        Ok(HartField::Grain(read_grain(value)?))
+        let grain = read_grain(value).map_err(|kind| kind.part(2))?;
+        Ok(HartField::Grain(grain))
     } else if name == b"bits".as_slice() {
-        Ok(HartField::Bits(read_byte(value, ScriptKind::BadBits)?))
+        let bits = read_byte(value, Refusal::BadBits).map_err(|kind| kind.part(2))?;
+        Ok(HartField::Bits(bits))
     } else if name == b"smepmp".as_slice() {
         read_smepmp(value)
     } else {
-        Err(ScriptKind::BadLine)
+        Err(Refusal::BadLine.part(1))
     }
 }
 
@@ -95,7 +99,7 @@ impl HartField {
     }
 
     /// The hart with this in place of what it had, or why there is none.
-    pub fn put_into(self, hart: Hart) -> Result<Hart, ScriptKind>
+    pub fn put_into(self, hart: Hart) -> Result<Hart, Refusal>
         ensures { result ≡ hart_with hart self }
     {
         let made = match self {
@@ -135,12 +139,12 @@ impl HartField {
 }
 
 /// How a script refuses a number that no hart has.
-fn kind_of(fault: HartFault) -> ScriptKind
+fn kind_of(fault: HartFault) -> Refusal
     ensures { result ≡ hart_kind fault }
 {
     match fault {
-        HartFault::Entries => ScriptKind::BadEntries,
-        HartFault::Grain => ScriptKind::BadGrain,
-        HartFault::AddressBits => ScriptKind::BadBits,
+        HartFault::Entries => Refusal::BadEntries,
+        HartFault::Grain => Refusal::BadGrain,
+        HartFault::AddressBits => Refusal::BadBits,
     }
 }

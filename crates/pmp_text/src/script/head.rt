@@ -6,8 +6,10 @@ ghost use Rattle.pmp_text.specs.Outcomes.{Gives};
 ghost use Rattle.pmp_text.specs.Steps.Progress.{after_head, no_head, over, says_in};
 ghost use Rattle.pmp_text.specs.Steps.Reading.{IsHead, head_of};
 
+use crate::flaw::Flaw;
+use crate::refusal::Refusal;
+use crate::script::ScriptFault;
 use crate::script::statement::HeadStatement;
-use crate::script::{ScriptFault, ScriptKind};
 use arrayvec::ArrayVec;
 use pmp_core::{Csr, Hart, Size};
 
@@ -31,11 +33,11 @@ pub struct Head {
 }
 
 /// The hart once a line of the head is read.
-fn hart_after(hart: Hart, statement: HeadStatement) -> Result<Hart, ScriptKind>
+fn hart_after(hart: Hart, statement: HeadStatement) -> Result<Hart, Flaw>
     ensures { result ≡ checked (own_fault statement) (with_statement hart statement) }
 {
     match statement {
-        HeadStatement::Hart(field) => field.put_into(hart),
+        HeadStatement::Hart(field) => field.put_into(hart).map_err(|kind| kind.part(2)),
         HeadStatement::Set(_, _) => Ok(hart),
     }
 }
@@ -77,17 +79,17 @@ impl Head {
         ensures taken { Gives (λ _. head_of self.new) result (after_head (head_of self.old) line statement) }
     {
         if self.is_over {
-            return Err(ScriptKind::LateHead.at(line));
+            return Err(Refusal::LateHead.whole().at_line(line));
         }
         if self.says(statement) {
-            return Err(ScriptKind::Twice.at(line));
+            return Err(Refusal::Twice.part(1).at_line(line));
         }
         let hart = match hart_after(self.hart, statement) {
             Ok(hart) => hart,
-            Err(kind) => return Err(kind.at(line)),
+            Err(flaw) => return Err(flaw.at_line(line)),
         };
         if self.lines.is_full() {
-            return Err(ScriptKind::Memory.at(0));
+            return Err(Refusal::Memory.whole().at_line(0));
         }
         self.lines.push(HeadLine { line, statement });
         self.hart = hart;

@@ -7,7 +7,8 @@ ghost use Rattle.pmp_text.specs.Steps.Progress.{nothing_read, published, with_ev
 ghost use Rattle.pmp_text.specs.Steps.Reading.{IsOpen, progress_of};
 
 use crate::event_log::EventLog;
-use crate::script::{ScriptFault, ScriptKind};
+use crate::refusal::Refusal;
+use crate::script::ScriptFault;
 use pmp_core::{BATCH_EVENTS, Event};
 
 /// The batch that is open: the last events of a log, behind those that are published.
@@ -59,7 +60,7 @@ impl OpenBatch {
             (with_event (progress_of (L.kept log.old) self.old) line event) }
     {
         if log.events().len() - self.published >= BATCH_EVENTS {
-            return Err(ScriptKind::BatchFull.at(line));
+            return Err(Refusal::BatchFull.whole().at_line(line));
         }
         log.push(line, event)?;
         self.since = Some(self.since.unwrap_or(line));

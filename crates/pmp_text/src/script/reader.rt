@@ -6,10 +6,11 @@ ghost use Rattle.pmp_text.specs.Scripts.{script_meaning};
 ghost use Rattle.pmp_text.specs.Steps.Views.{lines_left};
 
 use crate::event_log::EventLog;
+use crate::refusal::Refusal;
 use crate::script::reading::ScriptReading;
 use crate::script::significant::SignificantLines;
 use crate::script::version::{Version, read_version};
-use crate::script::{Script, ScriptFault, ScriptKind};
+use crate::script::{Script, ScriptFault};
 
 /// The most bytes of a script.
 pub const MAX_SCRIPT: usize = 1 << 20;
@@ -38,14 +39,14 @@ pub fn read_script<'a, L: EventLog>(log: &'a mut L, text: &[u8]) -> Result<Scrip
     ensures { Gives (λ script. script) result (script_meaning text.now) }
 {
     if text.len() > MAX_SCRIPT {
-        return Err(ScriptKind::TooLong.at(0));
+        return Err(Refusal::TooLong.whole().at_line(0));
     }
     let mut lines = SignificantLines::new(text);
     let Some(first) = lines.next() else {
-        return Err(ScriptKind::BadVersion.at(1));
+        return Err(Refusal::BadVersion.whole().at_line(1));
     };
-    let Some(version) = read_version(first.bytes) else {
-        return Err(ScriptKind::BadVersion.at(first.number));
-    };
-    read_statements(log, version, lines)
+    match read_version(first.bytes) {
+        Ok(version) => read_statements(log, version, lines),
+        Err(flaw) => Err(flaw.at_line(first.number)),
+    }
 }

@@ -10,13 +10,14 @@ ghost use Rattle.pmp_text.specs.Steps.Views.{seen_line};
 
 use crate::event_log::EventLog;
 use crate::expectation::Expectation;
+use crate::refusal::Refusal;
 use crate::script::head::Head;
 use crate::script::progress::OpenBatch;
 use crate::script::significant::NumberedLine;
 use crate::script::start::start;
 use crate::script::statement::{Statement, read_statement};
 use crate::script::version::Version;
-use crate::script::{Script, ScriptFault, ScriptKind, shown_size};
+use crate::script::{Script, ScriptFault, shown_size};
 use pmp_core::{Csr, Event, RegFile};
 
 /// The batch that is open in a log, and the head.
@@ -102,7 +103,7 @@ impl ScriptReading {
             Ok(Statement::Expect(register, value)) => {
                 self.expect(log, line.number, register, value)
             }
-            Err(kind) => Err(kind.at(line.number)),
+            Err(flaw) => Err(flaw.at_line(line.number)),
         }
     }
 
@@ -115,7 +116,7 @@ impl ScriptReading {
             (λ fault. concluded version (finished (reading_of (L.kept log.now) self)) ≡ Err fault) }
     {
         if let Some(line) = self.batch.since() {
-            return Err(ScriptKind::Unpublished.at(line));
+            return Err(Refusal::Unpublished.whole().at_line(line));
         }
         match version {
             Version::Sized(size) => Ok(Script::new(size, RegFile::reset_of(size), log)),

@@ -5,9 +5,10 @@ ghost use Rattle.pmp_text.specs.Heads.{first_not_held, is_kept, kept_value, with
 ghost use Rattle.pmp_text.specs.Steps.Progress.{started};
 ghost use Rattle.pmp_text.specs.Steps.Reading.{IsHead};
 
+use crate::refusal::Refusal;
+use crate::script::ScriptFault;
 use crate::script::head::{Head, HeadLine};
 use crate::script::statement::HeadStatement;
-use crate::script::{ScriptFault, ScriptKind};
 use pmp_core::{Csr, MAX_ENTRIES, RegFile, SavedRegisters};
 
 /// Puts the bytes of a value, lowest first, over those of the eight entries from the first on.
@@ -95,7 +96,7 @@ pub fn start(head: &Head) -> Result<RegFile, ScriptFault>
     set_lines(&mut saved, head.lines());
     let file = RegFile::restore(&saved);
     match first_not_held(&file, head.lines()) {
-        Some(line) => Err(ScriptKind::NotHeld.at(line)),
+        Some(line) => Err(Refusal::NotHeld.part(2).at_line(line)),
         None => Ok(file),
     }
 }

@@ -1,14 +1,16 @@
 //! What one line of a script says.
 
-ghost use Rattle.std.specs.Prelude.{◌≡◌};
+ghost use Rattle.std.specs.Prelude.{◌≡◌, Err, IfErr, IfOk, Ok};
 ghost use Rattle.pmp_text.specs.Heads.{is_same, same_register};
 ghost use Rattle.pmp_text.specs.Lines.{words};
-ghost use Rattle.pmp_text.specs.Statements.{assignment, statement_of, head_statement, without_operands};
+ghost use Rattle.pmp_text.specs.Statements.{assignment, statement_of, head_statement, two_of};
+ghost use Rattle.pmp_text.specs.Statements.{without_operands};
 ghost use Rattle.pmp_text.specs.Statements.{expect_statement, hart_statement, set_statement, write_statement};
 
+use crate::flaw::Flaw;
 use crate::names::read_register;
 use crate::numbers::read_word_number;
-use crate::script::ScriptKind;
+use crate::refusal::Refusal;
 use crate::script::hart_field::{HartField, read_field};
 use crate::script::version::Version;
 use crate::script::words::Words;
@@ -67,61 +69,71 @@ fn is_same_register(register: Csr, other: Csr) -> bool
     }
 }
 
+/// Two operands, and no more.
+fn read_two<'a>(mut operands: Words<'a>) -> Result<(&'a [u8], &'a [u8]), Flaw>
+    ensures ok { IfOk result (λ two. two_of (words operands.entry.rest.now) ≡ Ok (two.0.now, two.1.now)) }
+    ensures err { IfErr result (λ flaw. two_of (words operands.entry.rest.now) ≡ Err flaw) }
+{
+    let (Some(name), Some(value)) = (operands.next(), operands.next()) else {
+        return Err(Refusal::BadLine.whole());
+    };
+    match operands.next() {
+        Some(_) => Err(Refusal::BadLine.part(3)),
+        None => Ok((name, value)),
+    }
+}
+
 /// A register and a value.
-fn read_assignment(mut operands: Words) -> Result<(Csr, u64), ScriptKind>
+fn read_assignment(operands: Words) -> Result<(Csr, u64), Flaw>
     ensures { result ≡ assignment (words operands.entry.rest.now) }
 {
-    let (Some(name), Some(value), None) = (operands.next(), operands.next(), operands.next()) else {
-        return Err(ScriptKind::BadLine);
-    };
-    let csr = read_register(name)?;
-    let value = read_word_number(value).ok_or(ScriptKind::BadNumber)?;
+    let (name, value) = read_two(operands)?;
+    let csr = read_register(name).map_err(|kind| kind.part(1))?;
+    let value = read_word_number(value).ok_or(Refusal::BadNumber.part(2))?;
     Ok((csr, value))
 }
 
-fn read_write(operands: Words) -> Result<Statement, ScriptKind>
+fn read_write(operands: Words) -> Result<Statement, Flaw>
     ensures { result ≡ write_statement (words operands.entry.rest.now) }
 {
     let (csr, value) = read_assignment(operands)?;
     Ok(Statement::Event(Event::Write(csr, value)))
 }
 
-fn read_set(operands: Words) -> Result<Statement, ScriptKind>
+fn read_set(operands: Words) -> Result<Statement, Flaw>
     ensures { result ≡ set_statement (words operands.entry.rest.now) }
 {
     let (csr, value) = read_assignment(operands)?;
     Ok(Statement::Head(HeadStatement::Set(csr, value)))
 }
 
-fn read_expect(operands: Words) -> Result<Statement, ScriptKind>
+fn read_expect(operands: Words) -> Result<Statement, Flaw>
     ensures { result ≡ expect_statement (words operands.entry.rest.now) }
 {
     let (csr, value) = read_assignment(operands)?;
     Ok(Statement::Expect(csr, value))
 }
 
-fn read_hart(mut operands: Words) -> Result<Statement, ScriptKind>
+fn read_hart(operands: Words) -> Result<Statement, Flaw>
     ensures { result ≡ hart_statement (words operands.entry.rest.now) }
 {
-    let (Some(name), Some(value), None) = (operands.next(), operands.next(), operands.next()) else {
-        return Err(ScriptKind::BadLine);
-    };
+    let (name, value) = read_two(operands)?;
     let field = read_field(name, value)?;
     Ok(Statement::Head(HeadStatement::Hart(field)))
 }
 
 /// The statement, where no word is left behind it.
-fn without_operands(statement: Statement, mut operands: Words) -> Result<Statement, ScriptKind>
+fn without_operands(statement: Statement, mut operands: Words) -> Result<Statement, Flaw>
     ensures { result ≡ without_operands statement (words operands.entry.rest.now) }
 {
     match operands.next() {
-        Some(_) => Err(ScriptKind::BadLine),
+        Some(_) => Err(Refusal::BadLine.part(1)),
         None => Ok(statement),
     }
 }
 
 /// What a line says that only version 3 has.
-fn read_head_statement(word: &[u8], operands: Words) -> Result<Statement, ScriptKind>
+fn read_head_statement(word: &[u8], operands: Words) -> Result<Statement, Flaw>
     ensures { result ≡ head_statement word.now (words operands.entry.rest.now) }
 {
     if word == b"hart".as_slice() {
@@ -131,18 +143,18 @@ fn read_head_statement(word: &[u8], operands: Words) -> Result<Statement, Script
     } else if word == b"expect".as_slice() {
         read_expect(operands)
     } else {
-        Err(ScriptKind::BadLine)
+        Err(Refusal::BadLine.part(0))
     }
 }
 
 /// What a significant line says that isn't the first one.
 #[tactic(auto, unfolding(crate::specs::Statements::statement_of))]
-pub fn read_statement(version: Version, line: &[u8]) -> Result<Statement, ScriptKind>
+pub fn read_statement(version: Version, line: &[u8]) -> Result<Statement, Flaw>
     ensures { result ≡ statement_of version (words line.now) }
 {
     let mut words = Words::new(line);
     let Some(word) = words.next() else {
-        return Err(ScriptKind::BadLine);
+        return Err(Refusal::BadLine.whole());
     };
     if word == b"write".as_slice() {
         read_write(words)
@@ -152,7 +164,7 @@ pub fn read_statement(version: Version, line: &[u8]) -> Result<Statement, Script
         without_operands(Statement::Publish, words)
     } else {
         match version {
-            Version::Sized(_) => Err(ScriptKind::BadLine),
+            Version::Sized(_) => Err(Refusal::BadLine.part(0)),
             Version::Headed => read_head_statement(word, words),
         }
     }

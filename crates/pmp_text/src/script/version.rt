@@ -1,9 +1,11 @@
 //! Versions of scripts.
 
-ghost use Rattle.std.specs.Prelude.{◌≡◌};
+ghost use Rattle.std.specs.Prelude.{◌≡◌, IfErr, IfOk, None, Some};
 ghost use Rattle.pmp_text.specs.Lines.{words};
-ghost use Rattle.pmp_text.specs.Scripts.{version_named, version_numbered};
+ghost use Rattle.pmp_text.specs.Scripts.{version_flaw, version_named, version_numbered};
 
+use crate::flaw::Flaw;
+use crate::refusal::Refusal;
 use crate::script::words::Words;
 use pmp_core::Size;
 
@@ -33,16 +35,22 @@ fn version_numbered(number: &[u8]) -> Option<Version>
 
 /// The version that a script's first line names.
 #[tactic(auto, unfolding(crate::specs::Scripts::version_named))]
-pub fn read_version(line: &[u8]) -> Option<Version>
-    ensures { result ≡ version_named (words line.now) }
+pub fn read_version(line: &[u8]) -> Result<Version, Flaw>
+    ensures ok { IfOk result (λ version. version_named (words line.now) ≡ Some version) }
+    ensures err { IfErr result (λ flaw.
+        (version_named (words line.now) ≡ None) × (flaw ≡ version_flaw (words line.now))) }
 {
     let mut words = Words::new(line);
-    let (Some(name), Some(number), None) = (words.next(), words.next(), words.next()) else {
-        return None;
+    let name = words.next();
+    if name.is_some_and(|name| name != b"pmp".as_slice()) {
+        return Err(Refusal::BadVersion.part(0));
+    }
+    let Some(number) = words.next() else {
+        return Err(Refusal::BadVersion.whole());
     };
-    if name == b"pmp".as_slice() {
-        version_numbered(number)
-    } else {
-        None
+    let version = version_numbered(number).ok_or(Refusal::BadVersion.part(1))?;
+    match words.next() {
+        Some(_) => Err(Refusal::BadVersion.part(2)),
+        None => Ok(version),
     }
 }

@@ -1,6 +1,7 @@
 //! The rows of a piece of a trace, read where it stands.
 
-ghost use Rattle.std.specs.Prelude.{◌≡◌, ◌+◌, ◌^◌, ◌<◌, ◌≤◌, IfErr, IfOk, Some, map, true};
+ghost use Rattle.std.specs.Prelude.{◌≡◌, ◌+◌, ◌^◌, ◌<◌, ◌≤◌, IfErr, IfOk, None, Some, if◌then◌else◌, map, true};
+ghost use Rattle.std.specs.Option.{option_or};
 ghost use Rattle.pmp_text.specs.LongTraces.{IsReadAs, beginning, piece_fault, place_behind, row_records, rows_behind};
 ghost use Rattle.pmp_text.specs.LongTraces.{too_long_for_rows};
 ghost use Rattle.pmp_text.specs.Steps.Records.{IsReading, records_left};
@@ -8,9 +9,10 @@ ghost use Rattle.pmp_text.specs.Tables.{records_of};
 ghost use Rattle.pmp_text.specs.TraceFaults.{IsInOrder, afters};
 ghost use Rattle.pmp_text.specs.Traces.{first_row_fault, row_fields};
 
+use crate::refusal::Refusal;
 use crate::trace::records::{open_records, read_record};
 use crate::trace::row_fields::{is_header, read_row};
-use crate::trace::{Row, TraceFault, TraceKind};
+use crate::trace::{Row, TraceFault};
 use csv::{ByteRecord, Reader};
 use std::alloc::Global;
 
@@ -23,6 +25,8 @@ pub struct Place {
     pub last: Option<u64>,
     /// The number of the next row.
     pub next: u64,
+    /// The number of the first row whose start is 14 digits without `0x`, where one was read.
+    pub bare: Option<u64>,
 }
 
 /// The rows of a piece, and where the next piece stands.
@@ -41,20 +45,30 @@ impl Place {
             begun: false,
             last: None,
             next: first,
+            bare: None,
         }
     }
 
     /// The place behind one more row. Where its number is the last one there is, the trace is too long.
     fn behind(self, row: &Row) -> Result<Place, TraceFault>
         ensures ok { IfOk result (λ place. (self.next + 1 < 2 ^ 64)
-            × (place ≡ record { begun = true; last = Some row.now.after; next = self.next + 1 })) }
+            × (place ≡ record {
+              begun = true;
+              last = Some row.now.after;
+              next = self.next + 1;
+              bare = option_or self.bare (if row.now.is_bare then Some self.next else None);
+            })) }
         ensures err { IfErr result (λ fault. (fault ≡ too_long_for_rows) × (2 ^ 64 ≤ self.next + 1)) }
     {
-        let next = self.next.checked_add(1).ok_or(TraceKind::TooLong.at(0))?;
+        let next = self
+            .next
+            .checked_add(1)
+            .ok_or(Refusal::TooLong.whole().at_row(0))?;
         Ok(Place {
             begun: true,
             last: Some(row.after),
             next,
+            bare: self.bare.or(row.is_bare.then_some(self.next)),
         })
     }
 }
@@ -82,7 +96,7 @@ fn read_rows_at(
                 rows.push(row)?;
                 place = place.behind(&row)?;
             }
-            Err(kind) => return Err(kind.at(place.next)),
+            Err(flaw) => return Err(flaw.at_row(place.next)),
         }
     }
     Ok(Piece { rows, place })
@@ -106,7 +120,7 @@ fn read_records_at(
             return Ok(Piece { rows, place });
         }
         if !is_header(fields) {
-            return Err(TraceKind::BadHeader.at(0));
+            return Err(Refusal::BadHeader.whole().at_row(0));
         }
     }
     read_rows_at(alloc, reader, fields, publications, place)

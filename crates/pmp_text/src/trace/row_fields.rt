@@ -1,15 +1,20 @@
 //! What one record of a trace says.
 
-ghost use Rattle.std.specs.Prelude.{◌≡◌, IfOk, IfErr, None, Some, option_map};
+ghost use Rattle.std.specs.Prelude.{◌≡◌, ◌∷◌, [], IfOk, IfErr, None, Ok, Some, option_map};
 ghost use Rattle.csv.specs.Records.{fields_of};
-ghost use Rattle.pmp_text.specs.Traces.{fields_fault, five_fields, is_header, row_fault, row_fields, row_of_record};
+ghost use Rattle.pmp_text.specs.Traces.{fields_fault, five_fields, is_header, row_fault, row_fields, row_in};
+ghost use Rattle.pmp_text.specs.Traces.{row_of_fields};
+ghost use Rattle.pmp_text.specs.Tables.{is_broken, is_line_end};
+ghost use Rattle.std.specs.List.{list_any};
 ghost use Rattle.pmp_text.specs.Steps.Views.{seen_five};
 
 use crate::access_words::{read_kind, read_mode};
-use crate::numbers::read_word_number;
-use crate::trace::{Row, TraceKind};
+use crate::flaw::Flaw;
+use crate::numbers::{is_bare, read_word_number};
+use crate::refusal::Refusal;
+use crate::trace::Row;
 use csv::ByteRecord;
-use pmp_core::{Access, Kind, Mode};
+use pmp_core::{Access, AccessFault, Kind, Mode};
 
 /// What the five fields of a row say.
 #[derive(Clone, Copy)]
@@ -20,81 +25,126 @@ pub struct RowFields {
     pub kind: Kind,
     pub start: u64,
     pub length: u64,
+    /// Whether the start is 14 digits without `0x`.
+    pub is_bare: bool,
+}
+
+/// The five fields of a record.
+#[derive(Clone, Copy)]
+pub struct Words<'a> {
+    pub after: &'a [u8],
+    pub mode: &'a [u8],
+    pub kind: &'a [u8],
+    pub start: &'a [u8],
+    pub length: &'a [u8],
 }
 
 /// The fields of a record that has five.
 #[tactic(auto, using(crate::proofs::Fields::by_places))]
-fn five_fields(fields: &ByteRecord) -> Option<(&[u8], &[u8], &[u8], &[u8], &[u8])>
+fn five_fields(fields: &ByteRecord) -> Option<Words<'_>>
     ensures { option_map seen_five result ≡ five_fields (fields_of fields.now) }
 {
-    let (Some(after), Some(mode), Some(kind), Some(start), Some(length), None) = (
-        fields.get(0),
-        fields.get(1),
-        fields.get(2),
-        fields.get(3),
-        fields.get(4),
-        fields.get(5),
-    ) else {
+    if fields.get(5).is_some() {
         return None;
-    };
-    Some((after, mode, kind, start, length))
+    }
+    Some(Words {
+        after: fields.get(0)?,
+        mode: fields.get(1)?,
+        kind: fields.get(2)?,
+        start: fields.get(3)?,
+        length: fields.get(4)?,
+    })
+}
+
+fn has_line_end(field: &[u8]) -> bool
+    ensures { result ≡ list_any is_line_end field.now }
+{
+    field.iter().any(|byte| matches!(*byte, b'\r' | b'\n'))
 }
 
 /// Whether a record names the fields of the rows.
 pub fn is_header(fields: &ByteRecord) -> bool
     ensures { result ≡ is_header (fields_of fields.now) }
 {
-    let Some((after, mode, kind, start, length)) = five_fields(fields) else {
+    let Some(words) = five_fields(fields) else {
         return false;
     };
-    after == b"after".as_slice()
-        && mode == b"mode".as_slice()
-        && kind == b"kind".as_slice()
-        && start == b"start".as_slice()
-        && length == b"length".as_slice()
+    words.after == b"after".as_slice()
+        && words.mode == b"mode".as_slice()
+        && words.kind == b"kind".as_slice()
+        && words.start == b"start".as_slice()
+        && words.length == b"length".as_slice()
+}
+
+impl Words<'_> {
+    /// Whether one of them has a line end, so that the record goes over several lines.
+    fn have_line_end(self) -> bool
+        ensures { result ≡ is_broken (self.entry.after.now ∷ self.entry.mode.now ∷ self.entry.kind.now
+            ∷ self.entry.start.now ∷ self.entry.length.now ∷ []) }
+    {
+        has_line_end(self.after)
+            || has_line_end(self.mode)
+            || has_line_end(self.kind)
+            || has_line_end(self.start)
+            || has_line_end(self.length)
+    }
 }
 
 impl RowFields {
-    /// What a record says as a row, if it says one.
-    pub fn read(fields: &ByteRecord) -> Option<RowFields>
-        ensures { result ≡ row_of_record (fields_of fields.now) }
+    /// What a record says as a row, or which field says nothing: all of them where the record goes over several lines.
+    pub fn read(fields: &ByteRecord) -> Result<RowFields, Flaw>
+        ensures { result ≡ row_in (fields_of fields.now) }
     {
-        let (after, mode, kind, start, length) = five_fields(fields)?;
-        Some(RowFields {
-            after: read_word_number(after)?,
-            mode: read_mode(mode)?,
-            kind: read_kind(kind)?,
-            start: read_word_number(start)?,
-            length: read_word_number(length)?,
+        let words = five_fields(fields).ok_or(Refusal::BadRow.whole())?;
+        match RowFields::of_words(words) {
+            Ok(row) => Ok(row),
+            Err(_) if words.have_line_end() => Err(Refusal::BadRow.whole()),
+            Err(flaw) => Err(flaw),
+        }
+    }
+
+    /// What the five fields of a record say, or which one says nothing.
+    fn of_words(words: Words<'_>) -> Result<RowFields, Flaw>
+        ensures { result ≡ row_of_fields (seen_five words.entry) }
+    {
+        Ok(RowFields {
+            after: read_word_number(words.after).ok_or(Refusal::BadRow.part(0))?,
+            mode: read_mode(words.mode).ok_or(Refusal::BadRow.part(1))?,
+            kind: read_kind(words.kind).ok_or(Refusal::BadRow.part(2))?,
+            start: read_word_number(words.start).ok_or(Refusal::BadRow.part(3))?,
+            length: read_word_number(words.length).ok_or(Refusal::BadRow.part(4))?,
+            is_bare: is_bare(words.start),
         })
     }
 
     /// The row, beside a script with so many publications and behind a row that asks for `last`.
-    fn check(self, publications: u64, last: Option<u64>) -> Result<Row, TraceKind>
+    fn check(self, publications: u64, last: Option<u64>) -> Result<Row, Flaw>
         ensures ok { IfOk result (λ row. (fields_fault publications last self ≡ None) × (row_fields row ≡ self)) }
-        ensures err { IfErr result (λ kind. fields_fault publications last self ≡ Some kind) }
+        ensures err { IfErr result (λ flaw. fields_fault publications last self ≡ Some flaw) }
     {
         if self.after > publications {
-            return Err(TraceKind::BadAfter);
+            return Err(Refusal::BadAfter.part(0));
         }
         if last.is_some_and(|last| self.after < last) {
-            return Err(TraceKind::Order);
+            return Err(Refusal::Order.part(0));
         }
-        let access = Access::new(self.mode, self.kind, self.start, self.length)?;
-        Ok(Row {
-            after: self.after,
-            access,
-        })
+        match Access::new(self.mode, self.kind, self.start, self.length) {
+            Ok(access) => Ok(Row {
+                after: self.after,
+                access,
+                is_bare: self.is_bare,
+            }),
+            Err(AccessFault::BadLength) => Err(Refusal::BadLength.part(4)),
+            Err(AccessFault::PastEnd) => Err(Refusal::PastEnd.part(3)),
+        }
     }
 }
 
 /// The row that a record says, beside a script with so many publications and behind a row that asks for `last`.
-pub fn read_row(fields: &ByteRecord, publications: u64, last: Option<u64>) -> Result<Row, TraceKind>
-    ensures ok { IfOk result (λ row. (row_of_record (fields_of fields.now) ≡ Some (row_fields row))
-        × (row_fault publications last (row_of_record (fields_of fields.now)) ≡ None)) }
-    ensures err { IfErr result (λ kind.
-        row_fault publications last (row_of_record (fields_of fields.now)) ≡ Some kind) }
+pub fn read_row(fields: &ByteRecord, publications: u64, last: Option<u64>) -> Result<Row, Flaw>
+    ensures ok { IfOk result (λ row. (row_in (fields_of fields.now) ≡ Ok (row_fields row))
+        × (row_fault publications last (row_in (fields_of fields.now)) ≡ None)) }
+    ensures err { IfErr result (λ flaw. row_fault publications last (row_in (fields_of fields.now)) ≡ Some flaw) }
 {
-    let row = RowFields::read(fields).ok_or(TraceKind::BadRow)?;
-    row.check(publications, last)
+    RowFields::read(fields)?.check(publications, last)
 }

@@ -1,88 +1,125 @@
-//! The line of an input that is at fault, as an explanation shows it.
+//! The line of an input that is at fault, and the part of it that is.
 
-use super::mark::{Mark, line_mark};
-use super::row_mark::row_mark;
-use crate::fault_line::FaultLine;
-use crate::kept::KeptInput;
-use crate::refusal::Refusal;
+use super::shown::{show_byte, show_text};
 use std::alloc::AllocError;
 
 /// How many bytes of a line are shown.
 const SHOWN: usize = 100;
 
+const BYTE_ORDER_MARK: &[u8] = b"\xef\xbb\xbf";
+
 /// How many of them stand before the marked ones.
 const BEFORE: usize = 40;
 
-/// Shows a script's line, by its number from 1.
-pub fn write_line(
-    text: &mut String,
-    refusal: Refusal,
-    input: &KeptInput,
+/// A line of an input, and where the part of it begins and ends that is at fault.
+#[derive(Clone, Copy)]
+pub struct Spot<'a> {
+    /// From 1.
     number: u64,
-) -> Result<(), AllocError> {
-    let line = line_at(&input.bytes, number);
-    show(
-        text,
-        input.path.as_str(),
-        number,
-        line,
-        line_mark(refusal, line),
-    )
+    line: &'a [u8],
+    start: usize,
+    end: usize,
 }
 
-/// Shows the line of a row, by its number from 1, or the header's, which is row 0; or the input alone where it has no
-/// such line.
-pub fn write_row(
-    text: &mut String,
-    line: &FaultLine,
-    input: &KeptInput,
-    row: u64,
-) -> Result<(), AllocError> {
-    let path = input.path.as_str();
-    match row_start(&input.bytes, row) {
-        Some(start) => {
-            let number = line_number(&input.bytes, start);
-            let shown = until_end(input.bytes.get(start..).unwrap_or(&[]));
-            show(text, path, number, shown, row_mark(line, shown))
+impl<'a> Spot<'a> {
+    /// The line of a script with this number, and its word with this index, from 0.
+    pub fn of_line(text: &'a [u8], number: u64, word: Option<usize>) -> Spot<'a> {
+        Spot::new(number, line_at(text, number), word, b" \t")
+    }
+
+    /// The line of a row with this number, and its field with this index, from 0; row 0 is the header. Fields in quotes
+    /// aren't told apart.
+    pub fn of_row(text: &'a [u8], row: u64, field: Option<usize>) -> Option<Spot<'a>> {
+        let start = row_start(text, row)?;
+        let line = until(text.get(start..)?, b"\r\n");
+        let field = field.filter(|_| !line.contains(&b'"'));
+        let number = line_number(text, start);
+        Some(Spot::new(number, line, field, b","))
+    }
+
+    /// The part of a line with this index among those between separators, or else all of it from its first word on.
+    fn new(number: u64, line: &'a [u8], part: Option<usize>, separators: &[u8]) -> Spot<'a> {
+        let found = match part {
+            Some(index) => part_at(line, index, separators),
+            None => None,
+        };
+        let (start, end) = found.unwrap_or((first_word(line), line.len()));
+        Spot {
+            number,
+            line,
+            start,
+            end,
         }
-        None => Ok(writeln!(text, "in {path}")?),
+    }
+
+    /// The bytes of the part that is at fault.
+    pub fn marked(self) -> &'a [u8] {
+        self.line.get(self.start..self.end).unwrap_or(&[])
+    }
+
+    /// Names the line, and shows it with a mark below it.
+    pub fn write_to(self, text: &mut String, path: &str) -> Result<(), AllocError> {
+        let number = self.number;
+        text.push_str("in ")?;
+        show_text(text, path)?;
+        writeln!(text, ", line {number}")?;
+        if self.line.is_empty() {
+            return Ok(());
+        }
+        let from = self.start.saturating_sub(BEFORE);
+        text.push_str("  ")?;
+        for byte in self.line.iter().skip(from).take(SHOWN) {
+            show_byte(text, *byte)?;
+        }
+        text.push_str("\n  ")?;
+        // An empty field has a mark, too.
+        let end = self.end.max(self.start.saturating_add(1));
+        for at in from..end.min(from.saturating_add(SHOWN)) {
+            text.push(if at < self.start { ' ' } else { '^' })?;
+        }
+        text.push('\n')
     }
 }
 
-/// Names the line, and shows it with a mark below it.
-fn show(
-    text: &mut String,
-    path: &str,
-    number: u64,
-    line: &[u8],
-    mark: Mark,
-) -> Result<(), AllocError> {
-    let from = mark.start.saturating_sub(BEFORE);
-    writeln!(text, "in {path}, line {number}")?;
-    if line.is_empty() {
-        return Ok(());
-    }
-    text.push_str("  ")?;
-    for byte in line.iter().skip(from).take(SHOWN) {
-        text.push(printed(*byte))?;
-    }
-    text.push_str("\n  ")?;
-    for at in from..mark.end.min(from.saturating_add(SHOWN)) {
-        text.push(if at < mark.start { ' ' } else { '^' })?;
-    }
-    text.push('\n')
+/// Where a line's first word begins.
+fn first_word(line: &[u8]) -> usize {
+    line.iter()
+        .position(|byte| !matches!(*byte, b' ' | b'\t'))
+        .unwrap_or(0)
 }
 
-/// A byte as it is shown: one that is no ASCII sign, as a control byte, as a question mark.
-fn printed(byte: u8) -> char {
-    match byte {
-        b' '..=b'~' => char::from(byte),
-        b'\t' => ' ',
-        _ => '?',
+/// Where the part of a line with this index stands. Between commas, but not between blanks, a part may be empty.
+fn part_at(line: &[u8], index: usize, separators: &[u8]) -> Option<(usize, usize)> {
+    let mut left = index;
+    let mut start = 0;
+    for end in 0..line.len().saturating_add(1) {
+        if line.get(end).is_some_and(|byte| !separators.contains(byte)) {
+            continue;
+        }
+        if start < end || separators.contains(&b',') {
+            if left == 0 {
+                return Some((start, end));
+            }
+            left -= 1;
+        }
+        start = end.saturating_add(1);
+    }
+    None
+}
+
+fn is_line_end(byte: u8) -> bool {
+    matches!(byte, b'\n' | b'\r')
+}
+
+/// What stands before the first of these ends.
+fn until<'a>(text: &'a [u8], ends: &[u8]) -> &'a [u8] {
+    match text.iter().position(|byte| ends.contains(byte)) {
+        Some(end) => &text[..end],
+        None => text,
     }
 }
 
-/// The line with this number, from 1, without its line end.
+/// The line of a script with this number, from 1, without its line end.
 fn line_at(text: &[u8], number: u64) -> &[u8] {
     let mut rest = text;
     for _ in 1..number {
@@ -91,34 +128,23 @@ fn line_at(text: &[u8], number: u64) -> &[u8] {
         };
         rest = &rest[end + 1..];
     }
-    let line = match rest.iter().position(|byte| *byte == b'\n') {
-        Some(end) => &rest[..end],
-        None => rest,
-    };
-    match line {
+    match until(rest, b"\n") {
         [line @ .., b'\r'] => line,
-        _ => line,
+        line => line,
     }
-}
-
-/// What stands before the first line end of a trace.
-fn until_end(text: &[u8]) -> &[u8] {
-    match text.iter().position(|byte| is_line_end(*byte)) {
-        Some(end) => &text[..end],
-        None => text,
-    }
-}
-
-fn is_line_end(byte: u8) -> bool {
-    matches!(byte, b'\n' | b'\r')
 }
 
 /// Where the record of a row begins: the lines that aren't blank are the header, which is row 0, and then the rows. No
-/// row before one at fault has a line end in a field.
+/// row before one at fault has a line end in a field, and a byte-order mark belongs to none.
 fn row_start(text: &[u8], row: u64) -> Option<usize> {
     let mut left = row;
     let mut is_inside = false;
-    for (at, byte) in text.iter().enumerate() {
+    let begin = if text.starts_with(BYTE_ORDER_MARK) {
+        BYTE_ORDER_MARK.len()
+    } else {
+        0
+    };
+    for (at, byte) in text.iter().enumerate().skip(begin) {
         let is_end = is_line_end(*byte);
         if !is_end && !is_inside {
             if left == 0 {
@@ -131,12 +157,15 @@ fn row_start(text: &[u8], row: u64) -> Option<usize> {
     None
 }
 
-/// The number of the line that begins at this byte, from 1.
+/// The number of the line of a table that begins at this byte, from 1. A line ends by LF, CR, or CR and LF.
 fn line_number(text: &[u8], start: usize) -> u64 {
-    let ends = text
-        .iter()
-        .take(start)
-        .filter(|byte| **byte == b'\n')
-        .count();
-    (ends as u64).saturating_add(1)
+    let mut number = 1u64;
+    let mut was_return = false;
+    for byte in text.iter().take(start) {
+        if is_line_end(*byte) && !(was_return && *byte == b'\n') {
+            number = number.saturating_add(1);
+        }
+        was_return = *byte == b'\r';
+    }
+    number
 }

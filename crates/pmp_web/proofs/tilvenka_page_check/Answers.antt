@@ -1,7 +1,12 @@
-use Rattle.std.proofs.Common.{inl}
+use Rattle.std.proofs.Common.{inl, rules}
 use Rattle.pmp_web.proofs.tilvenka_page_check.Goals as goal
 
-pub returns-in-Ok : goal.returns-in-Ok
-returns-in-Ok c =
+pub returns-in-Ok-append_check : goal.returns-in-Ok-append_check
+returns-in-Ok-append_check c =
     let named = rw c.in-Ok.is at c.access_of.ensures.ok in
-    inl (c.in-Ok.access, named.1, named.0, c.check.ensures)
+    inl (c.in-Ok.access, named.1, named.0, search rules)
+
+pub returns-in-Err-append_check : goal.returns-in-Err-append_check
+returns-in-Err-append_check c =
+    let named = rw c.in-Ok.is at c.access_of.ensures.ok in
+    inl (c.in-Ok.access, named.1, named.0, search rules)

@@ -1,4 +1,4 @@
-use Rattle.std.proofs.Common.{rules, ◌≡◌, ◌≤◌, [], Err, vec_len, arith}
+use Rattle.std.proofs.Common.{rules, ◌≡◌, ◌≤◌, Err, vec_len, arith}
 use Rattle.pmp_audit.proofs.LongAudits.{few_refused}
 use Rattle.pmp_audit.proofs.LongSteps.{goes_on, going_begins}
 use Rattle.pmp_audit.proofs.LongTurns.{cut_stops, ends_badly, ends_well, front_stops, last_stops, no_turn}
@@ -13,8 +13,8 @@ loop-count-init g c = (
   c.cut_piece-cut.ensures,
 )
 
-pub write_and_cut-requires : goal.write_and_cut-requires
-write_and_cut-requires g c =
+pub report_and_cut-report-requires : goal.report_and_cut-report-requires
+report_and_cut-report-requires g c =
     let (in_mid, held, going, cut) = c.loop-count.invariant in
     let front = rw c.in-Ok-Front.field-0-is at (rw c.in-Ok-Front.is at cut) in
     let within = front.within in
@@ -23,62 +23,69 @@ write_and_cut-requires g c =
     let few = few_refused _ _ _ _ _ going.stands in
     search rules
 
-pub write_piece-requires : goal.write_piece-requires
-write_piece-requires g c = let few = few_refused _ _ _ _ _ c.loop-count.invariant.2.stands in search rules
+pub report_piece-report-requires : goal.report_piece-report-requires
+report_piece-report-requires g c = let few = few_refused _ _ _ _ _ c.loop-count.invariant.2.stands in search rules
 
 pub loop-count-preserved : goal.loop-count-preserved
 loop-count-preserved g c =
     let (in_mid, held, going, cut) = c.loop-count.invariant in
     let front = rw c.in-Ok-Front.field-0-is at (rw c.in-Ok-Front.is at cut) in
-    let wrote = rw c.deref.ensures.value at c.in_ok-standing-in-Ok-Front.ensures.ok in (
+    let wrote = c.in_ok-standing-in-Ok-Front.ensures.ok _ _ _
+    (rw c.deref.ensures.value at c.report_and_cut-report.ensures.ok) in (
       _,
       _,
-      goes_on _ _ _ _ _ _ _ _ _ _ _ _ _ _ going c.in-Ok-Front.text.items front wrote,
-      c.in_ok-standing-in-Ok-Front.ensures.cut,
+      goes_on going c.in-Ok-Front.text.items front wrote,
+      c.report_and_cut-report.ensures.cut,
     )
 
 pub returns-in_err-standing-in-Ok-Front-clause-err : goal.returns-in_err-standing-in-Ok-Front-clause-err
 returns-in_err-standing-in-Ok-Front-clause-err g c = λ text means.
     let (in_mid, held, going, cut) = c.loop-count.invariant in
     let front = rw c.in-Ok-Front.field-0-is at (rw c.in-Ok-Front.is at cut) in
-    let stops = rw c.deref.ensures.value at c.in_err-standing-in-Ok-Front.ensures.err in
+    let stops = c.in_err-standing-in-Ok-Front.ensures.err _ _ _
+    (rw c.deref.ensures.value at c.report_and_cut-report.ensures.ok)
+    (rw c.deref.ensures.value at c.report_and_cut-report.ensures.err) in
     let stopped : c.from_residual.result ≡ Err c.in_err-standing-in-Ok-Front.field-0.0 = search rules in
-    rw stopped (front_stops _ _ _ _ _ _ _ _ _ _ _ _ going
-    (g.W.Write.contents c.write_and_cut.new.writer) c.in-Ok-Front.text.items front
-    c.in_err-standing-in-Ok-Front.field-0.0 stops text means)
+    rw stopped (front_stops going c.args.limit _ _ c.in-Ok-Front.text.items front
+    (g.W.Write.contents c.write_report.new.writer) c.in_err-standing-in-Ok-Front.field-0.0 stops text means)
 
-pub returns-in_err-write_piece-in-Ok-Last-clause-err : goal.returns-in_err-write_piece-in-Ok-Last-clause-err
-returns-in_err-write_piece-in-Ok-Last-clause-err g c = λ text means.
+pub returns-in_err-write_report-in-Ok-Last-clause-err : goal.returns-in_err-write_report-in-Ok-Last-clause-err
+returns-in_err-write_report-in-Ok-Last-clause-err g c = λ text means.
     let cut = rw c.in-Ok-Last.field-0-is at (rw c.in-Ok-Last.is at c.loop-count.invariant.3) in
-    let stops = rw c.deref-in-Ok-Last.ensures.value at c.in_err-write_piece-in-Ok-Last.ensures.err in
-    let stopped : c.from_residual-in_err-write_piece-in-Ok-Last.result ≡ Err c.in_err-write_piece-in-Ok-Last.field-0.0 =
+    let stops = c.in_err-write_report-in-Ok-Last.ensures.err _ _ _
+    (rw c.deref-in-Ok-Last.ensures.value at c.report_piece-report.ensures.ok)
+    (rw c.deref-in-Ok-Last.ensures.value at c.report_piece-report.ensures.err) in
+    let stopped : c.from_residual-in_err-write_report-in-Ok-Last.result
+    ≡ Err c.in_err-write_report-in-Ok-Last.field-0.0 =
     search rules in
-    rw stopped (last_stops _ _ _ c.args.limit _ _ _ _ [] _ _ _ c.loop-count.invariant.2
-    (g.W.Write.contents c.write_piece.new.writer) c.in-Ok-Last.text.items cut
-    c.in_err-write_piece-in-Ok-Last.field-0.0 stops text means)
+    rw stopped (last_stops c.loop-count.invariant.2 c.args.limit _ c.in-Ok-Last.text.items cut
+    (g.W.Write.contents c.write_report-in-Ok-Last.new.writer) c.in_err-write_report-in-Ok-Last.field-0.0 stops text
+    means)
 
 pub returns-in-Ok-Last-clause-ok : goal.returns-in-Ok-Last-clause-ok
 returns-in-Ok-Last-clause-ok g c =
     let cut = rw c.in-Ok-Last.field-0-is at (rw c.in-Ok-Last.is at c.loop-count.invariant.3) in
-    let wrote = rw c.deref-in-Ok-Last.ensures.value at c.in_ok-write_piece-in-Ok-Last.ensures.ok in
-    ends_well _ _ _ c.args.limit _ _ _ _ [] _ _ _ c.loop-count.invariant.2
-    (g.W.Write.contents c.write_piece.new.writer) c.in-Ok-Last.text.items cut
-    c.in_ok-write_piece-in-Ok-Last.field-0 wrote c.end.result c.end.ensures
+    let wrote = c.in_ok-write_report-in-Ok-Last.ensures.ok _ _ _
+    (rw c.deref-in-Ok-Last.ensures.value at c.report_piece-report.ensures.ok) in
+    ends_well c.loop-count.invariant.2 c.args.limit _ c.in-Ok-Last.text.items cut
+    (g.W.Write.contents c.write_report-in-Ok-Last.new.writer) c.in_ok-write_report-in-Ok-Last.field-0 wrote
+    c.end.result c.end.ensures
 
 pub returns-in-Ok-Last-clause-err : goal.returns-in-Ok-Last-clause-err
 returns-in-Ok-Last-clause-err g c =
     let cut = rw c.in-Ok-Last.field-0-is at (rw c.in-Ok-Last.is at c.loop-count.invariant.3) in
-    let wrote = rw c.deref-in-Ok-Last.ensures.value at c.in_ok-write_piece-in-Ok-Last.ensures.ok in
-    ends_badly _ _ _ c.args.limit _ _ _ _ [] _ _ _ c.loop-count.invariant.2
-    (g.W.Write.contents c.write_piece.new.writer) c.in-Ok-Last.text.items cut
-    c.in_ok-write_piece-in-Ok-Last.field-0 wrote c.end.result c.end.ensures
+    let wrote = c.in_ok-write_report-in-Ok-Last.ensures.ok _ _ _
+    (rw c.deref-in-Ok-Last.ensures.value at c.report_piece-report.ensures.ok) in
+    ends_badly c.loop-count.invariant.2 c.args.limit _ c.in-Ok-Last.text.items cut
+    (g.W.Write.contents c.write_report-in-Ok-Last.new.writer) c.in_ok-write_report-in-Ok-Last.field-0 wrote
+    c.end.result c.end.ensures
 
 pub returns-in-Err-clause-err : goal.returns-in-Err-clause-err
 returns-in-Err-clause-err g c = λ text means.
     let cut = rw c.in-Err.is at c.loop-count.invariant.3 in
-    rw c.of_cut.ensures (cut_stops _ _ _ c.args.limit _ _ (g.R.Read.remaining c.loop-count.reader) _
-    c.loop-count.held.items _ _ _ c.loop-count.invariant.2 c.in-Err.fault cut text means)
+    rw (c.from.ensures, c.at_row.ensures, c.whole.ensures) (cut_stops c.loop-count.invariant.2 c.args.limit (g.R.Read.remaining c.loop-count.reader)
+    c.loop-count.held.items c.in-Err.refusal cut text means)
 
 pub returns-clause-err : goal.returns-clause-err
-returns-clause-err g c = λ text means. rw c.of_cut-2.ensures (no_turn _ _ _ c.args.limit _ _
-    (g.R.Read.remaining c.loop-count.reader) _ [] _ _ _ c.loop-count.invariant.2 (omega arith) text means)
+returns-clause-err g c = λ text means. rw (c.from-2.ensures, c.at_row-2.ensures, c.whole-2.ensures) (no_turn c.loop-count.invariant.2 c.args.limit
+    (g.R.Read.remaining c.loop-count.reader) (omega arith) text means)

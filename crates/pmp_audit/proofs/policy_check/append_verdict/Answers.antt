@@ -11,7 +11,7 @@ returns-clause-ok g c = record {
     row = c.in-Ok.row;
     row_is = c.in-Ok.ensures.ok.1;
     proper = rw (← c.batches.ensures) c.in-Ok.ensures.ok.0;
-    judged = rw (c.new-2.ensures.pace, c.new-2.ensures.script) at c.judge-verdict.ensures;
+    judged = c.judge-verdict.ensures;
     text_is = refl;
   };
   appended = c.in_ok-write_verdict.ensures.ok;

@@ -25,13 +25,13 @@ loop-row-preserved c =
     rw advanced at c.decide-decision.ensures.by_bytes in
     let count = so_many script rows i row c.loop-row-test.true c.row-item.is in
     let number_is : c.loop-row.number ≡ c.args.first + length (take i rows) = omega arith in
-    let one_at_most : c.refusals-faults.result ≤ 1 = search rules in
+    let one_at_most : c.in_ok-faults.field-0 ≤ 1 = search rules in
     rw (c.decide-decision.ensures.position ∙ advanced, one_more script rows i row c.loop-row-test.true c.row-item.is) (
       refl,
       order_of_rest script rows i row c.loop-row-test.true c.row-item.is c.loop-row.replay.done order,
       omega arith,
       omega arith,
       one_listed_more script c.args.first (take i rows) c.args.report.now.items c.loop-row.report.items
-          c.loop-row.faults so_far row decision c.write_row.new.out.items c.loop-row.number _ by_bytes
-          c.in_ok-write_row.ensures.ok number_is (ap (λ n. c.loop-row.faults + n) c.refusals-faults.ensures),
+          c.loop-row.faults so_far row decision c.list_row.new.report.items c.loop-row.number _ by_bytes
+          c.in_ok-faults.ensures.row number_is (ap (λ n. c.loop-row.faults + n) c.in_ok-faults.ensures.refused),
     )

@@ -1,11 +1,8 @@
 use Rattle.std.proofs.Common.{◌≡◌, ◌+◌, cond, ap, sym, subst, ◌∙◌, ℕ, arith}
 use Rattle.pmp_text.specs.Changes.{has_row}
-use Rattle.pmp_audit.proofs.Differences.{AreWrittenTo, all_written, none_written, one_more_written}
+use Rattle.pmp_audit.proofs.Differences.{AreWrittenTo, one_more_written}
 use Rattle.pmp_audit.proofs.rights_diff.write_differences.Goals as goal
 use Rattle.pmp_audit.proofs.rights_diff.write_differences.Goals.{then-branch, else-branch}
-
-pub loop-first-init : goal.loop-first-init
-loop-first-init g c = none_written c.args.old.now c.args.new.now c.args.only (g.S.Sink.text c.args.out.now)
 
 pub loop-first-preserved : goal.loop-first-preserved
 loop-first-preserved g c =
@@ -23,9 +20,3 @@ loop-first-preserved g c =
     c.loop-first.rows (g.S.Sink.text c.loop-first.out) (g.S.Sink.text c.write_change.new.out) run
     c.loop-first.invariant c.rights_run_from-run.ensures.begins c.rights_run_from-run.ensures.longest
     c.in_ok-write_change.ensures.ok)
-
-pub returns : goal.returns
-returns g c =
-    all_written c.args.old.now c.args.new.now c.args.only (g.S.Sink.text c.args.out.now) c.loop-first.first
-    c.loop-first.rows (g.S.Sink.text c.loop-first.out) c.loop-first.invariant
-    (omega (arith, c.loop-first.invariant.inside, c.loop-first-test.false))

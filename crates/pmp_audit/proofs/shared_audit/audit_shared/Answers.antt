@@ -1,7 +1,6 @@
 use Rattle.std.proofs.Common.{◌≡◌, ◌∙◌, length, map, ap, sym, subst, Ok}
 use Rattle.std.proofs.lemmas.Result.{err_from_is_err_and}
 use Rattle.pmp_text.specs.Traces.{row_fields, trace_meaning}
-use Rattle.pmp_audit.specs.Report.{IsReported}
 use Rattle.pmp_audit.specs.Rounds.{decision_for}
 use Rattle.pmp_audit.specs.SharedAudit.{AreFaultless, SharedAuditRefuses}
 use Rattle.pmp_text.specs.Reports.{AreDecided}
@@ -9,12 +8,13 @@ use Rattle.pmp_audit.specs.TraceAudit.{AuditSays}
 use Rattle.pmp_audit.proofs.DecidedRows.{are_decided}
 use Rattle.pmp_audit.proofs.Reports.{audit_says}
 use Rattle.pmp_audit.proofs.Stopping.{refused_so}
-use Rattle.pmp_audit.proofs.WrittenAnswers.{answered, cut_short}
+use Rattle.pmp_audit.proofs.WrittenAnswers.{answered, refused}
 use Rattle.pmp_audit.proofs.shared_audit.audit_shared.Goals as goal
 use Rattle.pmp_audit.proofs.shared_audit.audit_shared.Goals.{After-write_answer}
 
 says : (g : _) (c : After-write_answer g)
-    → AuditSays c.args.script.now c.args.trace.now c.in_ok-summary.summary c.deref-4.result.now
+    → AuditSays c.args.script.now c.args.trace.now
+    c.of.result c.deref-4.result.now
 says g c =
     let script = c.in_ok-script.script in
     let rows = c.in_ok-rows.rows.items in
@@ -27,26 +27,23 @@ says g c =
     subst (AreDecided script rows) (sym made)
     (are_decided c.law_decided_by_ranges.ensures script
     (c.law_legal_start.ensures c.args.script.now script c.in_ok-script.ensures) rows) in
-    let after = c.list_decisions.new.report.items in
-    let reported : IsReported script rows c.new-report.result.items after c.in_ok-summary.summary = record {
-      decisions = decisions;
-      decided = decided;
-      report = rw (c.deref-2.ensures.value, c.deref-3.ensures.value) at c.in_ok-summary.ensures.report;
-      counted = rw c.deref-3.ensures.value at c.in_ok-summary.ensures.summary;
-    } in
-    audit_says c.args.script.now c.args.trace.now script rows _ _ c.deref-4.result.now c.in_ok-summary.summary
-    c.in_ok-script.ensures trace_means reported c.new-report.ensures.items c.deref-4.ensures.value
+    audit_says c.args.script.now c.args.trace.now script rows _ _ c.deref-4.result.now c.in_ok-faults.faults _
+    c.in_ok-script.ensures trace_means
+    (rw c.deref-2.ensures.value
+    at (c.in_ok-faults.ensures script (rw (c.deref-2.ensures.value, c.deref-3.ensures.value) decided)))
+    c.new-report.ensures.items c.deref-4.ensures.value (rw c.deref-5.ensures.value at c.of.ensures)
 
 pub returns-clause-ok : goal.returns-clause-ok
 returns-clause-ok g c =
-    answered (AuditSays c.args.script.now c.args.trace.now) _ _ c.in_ok-summary.summary c.deref-4.result.now
-    (says g (goal.at.returns-clause-ok g c).After-write_answer) c.write_answer.result c.write_answer.ensures.ok
+    answered (AuditSays c.args.script.now c.args.trace.now) _ _ _ _
+    (says g (goal.at.returns-clause-ok g c).After-write_answer) _ c.write_answer.ensures.ok
 
 pub returns-clause-err : goal.returns-clause-err
 returns-clause-err g c =
-    cut_short (AuditSays c.args.script.now c.args.trace.now) _ _ c.in_ok-summary.summary c.deref-4.result.now
-    (says g (goal.at.returns-clause-err g c).After-write_answer) c.write_answer.result
-    (SharedAuditRefuses c.args.script.now c.args.trace.now) c.write_answer.ensures.err
+    refused (AuditSays c.args.script.now c.args.trace.now) _ _ _ _
+    (says g (goal.at.returns-clause-err g c).After-write_answer)
+    (SharedAuditRefuses c.args.script.now c.args.trace.now) (λ never. never) tt _
+    c.write_answer.ensures.err
 
 pub returns-in_err-decisions-clause-err : goal.returns-in_err-decisions-clause-err
 returns-in_err-decisions-clause-err g c =

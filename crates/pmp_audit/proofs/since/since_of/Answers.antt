@@ -9,13 +9,6 @@ use Rattle.pmp_audit.proofs.EntriesSince.{same_entries, frozen_lasts, held_lasts
 use Rattle.pmp_audit.proofs.EntriesSince.{since_first, since_more}
 use Rattle.pmp_audit.proofs.since.since_of.Goals as goal
 
-pub count_in-requires : goal.count_in-requires
-count_in-requires c =
-    let script = c.args.script.now in
-    let few = same_entries script.start c.requires.legal [] c.file.result.now
-    (c.file.ensures ∙ ap file_at c.new-replay.ensures) in
-    omega (arith, few, c.requires.legal.profile.few)
-
 pub loop-index-init : goal.loop-index-init
 loop-index-init c =
     let script = c.args.script.now in
@@ -68,11 +61,6 @@ loop-index-preserved c =
                 (omega arith) file writes (c.count_in-in-loop-index.ensures.held i entry) before.held;
           };
     }
-
-pub returns-clause-position : goal.returns-clause-position
-returns-clause-position c =
-    let all : c.loop-index.index ≡ c.args.count = omega arith in
-    rw all at c.loop-index.invariant.position
 
 pub returns-clause-since : goal.returns-clause-since
 returns-clause-since c =

@@ -1,6 +1,6 @@
 use Rattle.std.proofs.Common.{◌≡◌, ◌≤◌, drop, false, length}
 use Rattle.std.specs.List.{list_any}
-use Rattle.pmp_text.specs.LongTraces.{is_line_end}
+use Rattle.pmp_text.specs.Tables.{is_line_end}
 use Rattle.pmp_text.proofs.cutter.last_line_end.Given as goal
 
 -- the bytes so far, from the back, end no line

@@ -16,3 +16,8 @@ pub returns : goal.returns
 returns g c =
     alone (asks_to_explain (map string_bytes c.args.words.now)) _ _ (failure_text c.args.failure.now)
     c.tell.ensures.beginning
+
+pub returns-else-asks_to_explain : goal.returns-else-asks_to_explain
+returns-else-asks_to_explain g c =
+    alone (asks_to_explain (map string_bytes c.args.words.now)) _ _ (failure_text c.args.failure.now)
+    c.tell.ensures.beginning

@@ -2,8 +2,8 @@ use Rattle.std.proofs.Common.{◌∙◌, refl, sym, ap, map, string_bytes, true�
 use Rattle.std.proofs.lemmas.Result.{IfErr-weaker, err_from_is_err_and}
 use Rattle.std.proofs.KnownBytes.{Keeps-refl}
 use Rattle.pmp_tool.specs.Commands.{asked_of}
-use Rattle.pmp_tool.specs.Runs.{no_command, no_text, refused_word}
-use Rattle.pmp_tool.proofs.Running.{asked_for_text, refused_by_clap}
+use Rattle.pmp_tool.specs.Runs.{no_text, refused_word}
+use Rattle.pmp_tool.proofs.Running.{asked_for_text, refused_by_clap, unanswered}
 use Rattle.pmp_tool.proofs.run.run.Goals as goal
 
 pub returns-in_err-read_command-in-Ok-clause-err : goal.returns-in_err-read_command-in-Ok-clause-err
@@ -17,10 +17,9 @@ returns-in_err-read_command-in-Ok-clause-err g c =
 pub returns-in_ok-read_command-in-Ok-clause-err : goal.returns-in_ok-read_command-in-Ok-clause-err
 returns-in_ok-read_command-in-Ok-clause-err g c =
     let taken = c.in-Ok.ensures.ok in
-    let command = c.in_ok-read_command-in-Ok.field-0 in
-    IfErr-weaker c.answer.result _ _
-    (λ failure fails. no_command command failure
-    (taken.0, sym (ap asked_of taken.1) ∙ sym c.in_ok-read_command-in-Ok.ensures) fails) c.answer.ensures.err
+    unanswered (map string_bytes c.args.words.now) (g.I.Inputs.scripts c.args.inputs.now)
+    (g.I.Inputs.traces c.args.inputs.now) c.in_ok-read_command-in-Ok.field-0 _ _
+    (taken.0, sym (ap asked_of taken.1) ∙ sym c.in_ok-read_command-in-Ok.ensures) c.answer.result c.answer.ensures.err
 
 pub returns-in-Err-clause-err : goal.returns-in-Err-clause-err
 returns-in-Err-clause-err g c =

@@ -1,11 +1,10 @@
 use Rattle.std.proofs.Common.{◌∙◌, sym}
-use Rattle.std.proofs.KnownBytes.{Keeps-refl}
 use Rattle.pmp_tool.proofs.Running.{keeps_at_two}
 use Rattle.pmp_tool.proofs.run.run_tool.Goals as goal
 
 pub returns-in-Ok-clause-answered : goal.returns-in-Ok-clause-answered
 returns-in-Ok-clause-answered g c =
-    λ few. (c.in-Ok.outcome, c.status.ensures, c.in-Ok.ensures.ok, Keeps-refl _)
+    λ few. (c.in-Ok.outcome, c.status.ensures, c.in-Ok.ensures.ok, c.tell_note.ensures)
 
 pub returns-in-Err-clause-failed : goal.returns-in-Err-clause-failed
 returns-in-Err-clause-failed g c =

@@ -23,15 +23,6 @@ overflow_add-result g c =
     let within = c.requires in
     omega arith
 
-pub returns-clause-within : goal.returns-clause-within
-returns-clause-within g c =
-    let fit =
-    rows_fit _ c.args.standing.place (records_of c.args.text.now) c.in_ok-parts.parts c.in_ok-parts.ensures.given in
-    let listed = rw c.deref.ensures.value at c.in_ok-listing.ensures in
-    let few = few_refused _ _ _ _ _ _ listed in
-    let within = c.requires in
-    omega arith
-
 pub returns-clause-ok : goal.returns-clause-ok
 returns-clause-ok g c = record {
   faults = c.in_ok-listing.listing.faults;

@@ -31,24 +31,6 @@ returns-in_err-publisher-clause-refused g c =
     rw (p.1, p.2) (stops c.args.script.now.batches (map row_fields c.args.rows.now) c.in_err-publisher.field-0.0
     c.in_err-publisher.ensures.refused)
 
-pub decide_rows-decided-requires-clause-some : goal.decide_rows-decided-requires-clause-some
-decide_rows-decided-requires-clause-some g c κs lived =
-    let many = so_many (λ checker. checker.unit) _ _ _ c.in_ok-publisher.ensures.started.seated in omega arith
-
-pub decide_rows-decided-requires-clause-few : goal.decide_rows-decided-requires-clause-few
-decide_rows-decided-requires-clause-few g c κs lived =
-    let many = so_many (λ checker. checker.unit) _ _ _ c.in_ok-publisher.ensures.started.seated in omega arith
-
 pub decide_rows-decided-requires-clause-same_unit : goal.decide_rows-decided-requires-clause-same_unit
 decide_rows-decided-requires-clause-same_unit g c κs lived =
     alike (λ checker. checker.unit) _ _ _ c.in_ok-publisher.ensures.started.seated
-
-pub decide_rows-decided-requires-clause-base : goal.decide_rows-decided-requires-clause-base
-decide_rows-decided-requires-clause-base g c κs lived =
-    c.in_ok-publisher.ensures.started.base ∙ c.save.ensures.restored ∙ c.start.ensures
-
-pub returns-clause-decided : goal.returns-clause-decided
-returns-clause-decided g c = c.decide_rows-decided.ensures.decided
-
-pub returns-clause-refused : goal.returns-clause-refused
-returns-clause-refused g c = c.decide_rows-decided.ensures.refused

@@ -1,20 +1,37 @@
-use Rattle.std.proofs.Common.{◌≡◌, ◌∙◌, [], length, take, drop, sym, ◌-◌, arith}
+use Rattle.std.proofs.Common.{◌≡◌, ◌∙◌, ℕ, List, [], Result, Ok, Err, length, take, drop, sym, ap, ◌-◌, ◌≤◌, arith}
+use Rattle.std.specs.Prelude.{Any, IfErr}
 use Rattle.std.proofs.lemmas.Bool.{false≢true}
 use Rattle.std.proofs.lemmas.List.{length-drop, take_all}
-use Rattle.std.proofs.lemmas.Result.{IfErr-weaker}
+use Rattle.pmp_text.specs.declared.trace.Row.{Row}
 use Rattle.pmp_audit.specs.Rounds.{asking}
 use Rattle.pmp_audit.proofs.Asking.{some_asks}
 use Rattle.pmp_audit.proofs.shared_audit.rounds.decide_asking.Goals as goal
 
-pub returns-clause-asked : goal.returns-clause-asked
-returns-clause-asked g c =
-    let rows = c.args.rows.now in
-    let count = c.len.result in
+-- where the rows at the front are asked for, some row is
+asked : (after count : ℕ) (rows next : List Row) → count ≤ length rows
+    → next ≡ asking after (take (length rows - count) (drop count rows)) → (next ≡ [] → ⊥)
+    → Any (λ row. row.after ≡ after) rows
+asked after count rows next within is some =
     let left = drop count rows in
-    let long = length-drop count rows in
-    let whole : take (length rows - count) left ≡ left = take_all (length rows - count) left (omega (arith, long)) in
-    let some : asking c.args.after left ≡ [] → ⊥ =
-    λ none. let empty : c.asking-next.result.now ≡ [] = rw whole at c.asking-next.ensures ∙ none in
-    false≢true (sym c.if-is_empty.false ∙ rw empty at c.is_empty.ensures) in
-    IfErr-weaker c.round_of_busy.result _ _ (λ fault stops. some_asks c.args.after count rows some)
-    c.round_of_busy.ensures.refused
+    let whole : take (length rows - count) left ≡ left =
+    take_all (length rows - count) left (omega (arith, length-drop count rows)) in
+    some_asks after count rows (λ none. some (is ∙ ap (asking after) whole ∙ none))
+
+err_by : {A E : Type 0} (P : Type 0) (result : Result A E) → P → IfErr result (λ _. P)
+err_by P (Ok answer) holds = tt
+err_by P (Err fault) holds = holds
+
+pub returns-in_err-idle-clause-asked : goal.returns-in_err-idle-clause-asked
+returns-in_err-idle-clause-asked g c =
+    err_by _ _ (asked c.args.after c.len.result c.args.rows.now c.asking-next.result.now (omega arith)
+    c.asking-next.ensures (λ none. false≢true (sym c.if-is_empty.false ∙ rw none at c.is_empty.ensures)))
+
+pub returns-in_err-all-clause-asked : goal.returns-in_err-all-clause-asked
+returns-in_err-all-clause-asked g c =
+    err_by _ _ (asked c.args.after c.len.result c.args.rows.now c.asking-next.result.now (omega arith)
+    c.asking-next.ensures (λ none. false≢true (sym c.if-is_empty.false ∙ rw none at c.is_empty.ensures)))
+
+pub returns-in_err-append-clause-asked : goal.returns-in_err-append-clause-asked
+returns-in_err-append-clause-asked g c =
+    err_by _ _ (asked c.args.after c.len.result c.args.rows.now c.asking-next.result.now (omega arith)
+    c.asking-next.ensures (λ none. false≢true (sym c.if-is_empty.false ∙ rw none at c.is_empty.ensures)))

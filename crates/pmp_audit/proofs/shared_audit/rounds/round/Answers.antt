@@ -1,11 +1,15 @@
 use denote.Param.Send.{sendable}
 use Rattle.std.proofs.Common.{◌≡◌, ◌+◌, ◌<◌, ℕ, Result, length, get_or, arith}
 use Rattle.std.proofs.Crossing.{crosses}
-use Rattle.pmp_audit.specs.declared.shared_audit.work_fault.WorkFault.{WorkFault}
+use Rattle.std.proofs.lemmas.List.{length-map}
+use Rattle.pmp_share.specs.Batches.{file_from}
+use Rattle.pmp_audit.specs.declared.fault.AuditFault.{AuditFault}
 use Rattle.pmp_audit.specs.declared.shared_audit.job.Done.{Done}
 use Rattle.pmp_audit.specs.declared.shared_audit.job.Job.{Job}
 use Rattle.pmp_audit.proofs.Crossing.{job_send, done_send, fault_send}
-use Rattle.pmp_audit.proofs.Merging.{IsDoneAs, all_dealt_out, all_in_file, all_checkers}
+use Rattle.pmp_audit.proofs.Merging.{IsDoneAs, all_dealt_out, all_checkers}
+use Rattle.pmp_audit.specs.Rounds.{AreDealt}
+use Rattle.pmp_audit.specs.Working.{decided_in}
 use Rattle.pmp_audit.proofs.shared_audit.rounds.round.Goals as goal
 use Rattle.pmp_audit.proofs.shared_audit.rounds.round.Goals.{After-deref}
 
@@ -30,20 +34,30 @@ module _ (g : _) (c : After-deref g) where
         c.in_ok-results.ensures.len,
       )
 
-  each : (i : ℕ) (d : Result Done WorkFault) → i < length c.in_ok-jobs.jobs.items
+  each : (i : ℕ) (d : Result Done AuditFault) → i < length c.in_ok-jobs.jobs.items
       → (job : Job) × ((e : Job) → get_or c.in_ok-jobs.jobs.items i e ≡ job)
       × IsDoneAs c.len-2.result (c.len.result + 1) c.args.rows.now job (get_or c.in_ok-results.results.items i d)
   each i d inside =
       let gives = (c.in_ok-results.ensures.each i d inside).1 in
       (gives.job, gives.job_is, gives.call.met.0)
 
-pub merge-requires-clause-dealt : goal.merge-requires-clause-dealt
-merge-requires-clause-dealt g c =
+-- each worker brings its share of the decisions in what is published
+dealt : (g : _) (c : After-deref g) → AreDealt (length c.args.decided.now.items + 1)
+    (decided_in (file_from c.args.publisher.now.unit.base c.args.publisher.now.published) c.args.rows.now)
+    c.in_ok-all.all.items
+dealt g c =
     let first : c.len.result + 1 ≡ length c.args.decided.now.items + 1 =
     omega (arith, c.len.ensures, c.args.decided.now.ok.0) in
-    rw (c.deref.ensures.value, ← first) (all_dealt_out c.args.publisher.now (length c.args.checkers.items)
-    c.len-2.result (c.len.result + 1) c.args.rows.now c.in_ok-jobs.jobs.items c.in_ok-results.results.items
-    c.in_ok-all.all.items c.in_ok-jobs.ensures.jobs (as_many g c) c.in_ok-all.ensures.done (each g c) (length_is g c))
+    rw (← first) (all_dealt_out c.args.publisher.now (length c.args.checkers.items) c.len-2.result (c.len.result + 1)
+    c.args.rows.now c.in_ok-jobs.jobs.items c.in_ok-results.results.items c.in_ok-all.all.items
+    c.in_ok-jobs.ensures.jobs (as_many g c) c.in_ok-all.ensures.done (each g c) (length_is g c))
+
+pub merge-requires-clause-dealt : goal.merge-requires-clause-dealt
+merge-requires-clause-dealt g c = (
+  decided_in (file_from c.args.publisher.now.unit.base c.args.publisher.now.published) c.args.rows.now,
+  length-map c.args.rows.now _,
+  rw c.deref.ensures.value (dealt g c),
+)
 
 pub returns-clause-checkers : goal.returns-clause-checkers
 returns-clause-checkers g c =
@@ -55,8 +69,5 @@ returns-clause-checkers g c =
 
 pub returns-clause-decided : goal.returns-clause-decided
 returns-clause-decided g c =
-    let d = (goal.at.returns-clause-decided g c).After-deref in
-    let in_file = all_in_file c.args.publisher.now (length c.args.checkers.items) c.len-2.result
-    (c.len.result + 1) c.args.rows.now c.in_ok-jobs.jobs.items c.in_ok-results.results.items c.in_ok-all.all.items
-    c.in_ok-jobs.ensures.jobs (as_many g d) c.in_ok-all.ensures.done (each g d) (length_is g d) in
-    c.in_ok-merge.ensures _ (rw c.deref.ensures.value in_file)
+    c.in_ok-merge.ensures _ (length-map c.args.rows.now _)
+    (rw c.deref.ensures.value (dealt g (goal.at.returns-clause-decided g c).After-deref))

@@ -9,17 +9,14 @@ use Rattle.pmp_audit.proofs.shared_audit.working.ask.Goals.{After-decide_at}
 begins : (c : After-decide_at) → StartsWith c.decide_at.new.self.list c.requires.told
 begins c = starts_on _ _ c.requires.told c.decide_at.ensures.look.begins c.requires.begins
 
-pub invariant_of-result : goal.invariant_of-result
-invariant_of-result c =
+pub returns-clause-decided : goal.returns-clause-decided
+returns-clause-decided c =
     let told = c.requires.told in
     let new = c.decide_at.new.self.list in
     let count : event_count new ≡ event_count told = c.in_ok-decision.ensures.at_len.0 ∙ c.requires.counted in
     let same : joined new ≡ joined told =
-    c.law_same_events.ensures new told (begins (goal.at.invariant_of-result c).After-decide_at) count in
-    record {
-      decided = rw (c.of-2.ensures, c.of.ensures, c.requires.replayed, ← same, ← c.decide_at.ensures.look.unit)
-          c.in_ok-decision.ensures.computed;
-    }
+    c.law_same_events.ensures new told (begins (goal.at.returns-clause-decided c).After-decide_at) count in
+    rw (c.requires.replayed, ← same, ← c.decide_at.ensures.look.unit) c.in_ok-decision.ensures.computed
 
 pub returns-clause-learnt : goal.returns-clause-learnt
 returns-clause-learnt c = record {

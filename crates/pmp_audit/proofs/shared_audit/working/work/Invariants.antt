@@ -1,7 +1,7 @@
-use Rattle.std.proofs.Common.{◌≡◌, ◌<◌, All, map, length}
+use Rattle.std.proofs.Common.{◌≡◌, ◌<◌, length}
 use Rattle.std.specs.List.{enumerate_from}
 use Rattle.pmp_share.specs.Batches.{event_count, file_from}
-use Rattle.pmp_audit.specs.Working.{HasLearnt, row_of}
+use Rattle.pmp_audit.specs.Working.{HasLearnt, decided_in}
 use Rattle.pmp_audit.proofs.Dealing.{IsDealtSoFar}
 use Rattle.pmp_audit.proofs.shared_audit.working.work.Given as goal
 
@@ -11,9 +11,8 @@ invariant-loop-turn g l = record {
   same_unit : l.checker.unit ≡ l.fn.checker.unit;
   learnt : HasLearnt l.checker l.count l.file;
   file_is : l.file ≡ file_from l.fn.checker.unit.base l.fn.notice.list;
-  dealt : IsDealtSoFar l.hand.worker l.hand.workers (enumerate_from l.hand.first l.hand.rows.now) l.turn
-      (map row_of l.decisions.items);
-  in_file : All (λ decision. decision.file.value ≡ l.file) l.decisions.items;
+  dealt : IsDealtSoFar l.hand.worker l.hand.workers (enumerate_from l.hand.first (decided_in l.file l.hand.rows.now))
+      l.turn l.decisions.items;
   asked : 0 < length l.decisions.items → event_count l.checker.list ≡ l.count;
   count_is : l.count ≡ event_count l.fn.notice.list;
 }

@@ -1,27 +1,25 @@
-use Rattle.std.proofs.Common.{◌++◌, List, ℕ, length, refl, ap, ◌∙◌}
+use Rattle.std.proofs.Common.{◌++◌, length, refl}
 use Rattle.std.proofs.lemmas.Result.{on_err_weaker, on_ok_weaker}
 use Rattle.pmp_text.specs.Picture.{bands, head}
 use Rattle.pmp_text.specs.PictureTexts.{foot}
 use Rattle.pmp_text.proofs.Picture.{three_appended}
-use Rattle.pmp_text.proofs.PictureTexts.{foot_is}
-use Rattle.pmp_text.proofs.Prefixes.{on_err, starts_before, starts_same}
+use Rattle.pmp_text.proofs.Prefixes.{on_err, starts_after, starts_before}
 use Rattle.pmp_text.proofs.lines.picture.write_all.Goals as goal
 
 pub returns-clause-ok : goal.returns-clause-ok
+unfolding foot
 returns-clause-ok g c =
     let file = c.args.file.now in
     let runs = c.args.runs.now in
     let above = head file c.args.publications (length runs) in
-    on_ok_weaker c.append_text.result
+    on_ok_weaker c.append.result
     (λ last. (
       above ++ (bands file runs ++ foot),
       record { runs = runs; runs_are = c.requires.runs; drawn = refl },
-      three_appended (g.S.Sink.text c.args.out.now) (g.S.Sink.text c.write_head.new.out)
-          (g.S.Sink.text c.write_bands.new.out) _ above (bands file runs) foot
-          c.in_ok-write_head.ensures.ok c.in_ok-write_bands.ensures.ok
-          (last ∙ ap (λ (l : List ℕ). g.S.Sink.text c.write_bands.new.out ++ l) foot_is),
+      three_appended _ _ _ _ above (bands file runs) foot c.in_ok-write_head.ensures.ok c.in_ok-write_bands.ensures.ok
+          last,
     ))
-    c.append_text.ensures.ok
+    (rw c.as_bytes.ensures.value at c.append.ensures.ok)
 
 pub returns-in_err-write_bands-clause-err : goal.returns-in_err-write_bands-clause-err
 returns-in_err-write_bands-clause-err g c =
@@ -29,5 +27,5 @@ returns-in_err-write_bands-clause-err g c =
 
 pub returns-clause-err : goal.returns-clause-err
 returns-clause-err g c =
-    on_err_weaker c.append_text.result (λ last. starts_before _ _ _ _ c.in_ok-write_head.ensures.ok
-    (starts_before _ _ _ _ c.in_ok-write_bands.ensures.ok (starts_same _ _ last))) c.append_text.ensures.err
+    on_err_weaker c.append.result (λ last. starts_before _ _ _ _ c.in_ok-write_head.ensures.ok
+    (starts_after _ _ _ _ c.in_ok-write_bands.ensures.ok last)) c.append.ensures.err

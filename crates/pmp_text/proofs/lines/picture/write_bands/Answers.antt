@@ -2,7 +2,7 @@ use Rattle.std.proofs.Common.{None, append-nil, sym}
 use Rattle.pmp_map.specs.declared.run.Run.{Run}
 use Rattle.pmp_text.specs.Picture.{bands}
 use Rattle.pmp_text.proofs.Picture.{bands_grow, ends_in_memory, is_proper}
-use Rattle.pmp_text.proofs.Prefixes.{on_err, starts_before}
+use Rattle.pmp_text.proofs.Prefixes.{on_err, starts_after}
 use Rattle.pmp_text.proofs.lines.picture.write_bands.Goals as goal
 
 abbrev none : Run
@@ -28,4 +28,4 @@ loop-place-preserved g c =
 
 pub returns-in_err-write_band-clause-err : goal.returns-in_err-write_band-clause-err
 returns-in_err-write_band-clause-err g c =
-    on_err c.from_residual.result (starts_before _ _ _ _ c.loop-place.invariant c.in_err-write_band.ensures.err)
+    on_err c.from_residual.result (starts_after _ _ _ _ c.loop-place.invariant c.in_err-write_band.ensures.err)

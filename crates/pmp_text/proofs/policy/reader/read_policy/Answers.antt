@@ -5,7 +5,7 @@ use Rattle.pmp_text.proofs.policy.reader.read_policy.Goals as goal
 
 pub returns-then-text-gt-MAX_TRACE-clause-given : goal.returns-then-text-gt-MAX_TRACE-clause-given
 returns-then-text-gt-MAX_TRACE-clause-given c =
-    rw c.at.ensures (inl (policy_is c.args.publications c.args.text.now
+    rw (c.at_row.ensures, c.whole.ensures) (inl (policy_is c.args.publications c.args.text.now
     ∙ long_text is_policy_header (policy_rows_meaning c.args.publications) c.args.text.now (omega arith)))
 
 pub returns-clause-given : goal.returns-clause-given

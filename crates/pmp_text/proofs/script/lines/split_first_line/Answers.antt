@@ -1,6 +1,6 @@
 use Rattle.std.proofs.Common.{arith}
 use Rattle.std.proofs.lemmas.Grind.{common_steps}
-use Rattle.pmp_text.proofs.Cuts.{no_lines, first_line, after_shorter}
+use Rattle.pmp_text.proofs.Cuts.{no_lines, first_line}
 use Rattle.pmp_text.proofs.script.lines.split_first_line.Goals as goal
 
 pub returns-then-is_empty-clause-lines : goal.returns-then-is_empty-clause-lines
@@ -10,7 +10,3 @@ pub returns-clause-lines : goal.returns-clause-lines
 returns-clause-lines c =
     rw (c.without_carriage_return.ensures, c.split_at_line_feed.ensures.line, c.split_at_line_feed.ensures.rest)
     (first_line c.args.text.now (grind (arith, common_steps)))
-
-pub returns-clause-shorter : goal.returns-clause-shorter
-returns-clause-shorter c = rw c.split_at_line_feed.ensures.rest
-    (after_shorter c.args.text.now (grind (arith, common_steps)))

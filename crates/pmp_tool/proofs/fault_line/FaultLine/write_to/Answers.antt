@@ -1,6 +1,6 @@
 use Rattle.std.proofs.Common.{◌≡◌, ◌∙◌, sym, ap}
 use Rattle.std.specs.Prelude.{is_ok}
-use Rattle.pmp_tool.specs.Refusals.{line_text}
+use Rattle.pmp_tool.specs.FaultLines.{line_text}
 use Rattle.pmp_tool.specs.declared.fault_line.TheConstants.{LONGEST_LINE}
 use Rattle.pmp_tool.proofs.Telling.{at_ok, string_written}
 use Rattle.pmp_tool.proofs.fault_line.FaultLine.write_to.Goals as goal

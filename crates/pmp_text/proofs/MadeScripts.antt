@@ -1,0 +1,109 @@
+-- What a script with a meaning is made of.
+use Rattle.std.proofs.Common.{◌≡◌, ℕ, ◌≤◌, List, [], ◌∷◌, length, Option, Some, None, Result, Ok, Err, refl, sym, ap, ◌∙◌}
+use Rattle.std.proofs.Common.{inl, inr}
+use Rattle.std.proofs.lemmas.Bool.{cases_lt}
+use Rattle.pmp_core.specs.declared.size.Size.{Size}
+use Rattle.pmp_text.specs.declared.script.ScriptFault.{ScriptFault}
+use Rattle.pmp_text.specs.declared.script.reader.TheConstants.{MAX_SCRIPT}
+use Rattle.pmp_text.specs.declared.script.version.Version.{Version}
+use Rattle.pmp_text.specs.declared.script.version.Version.TheVariants.{Sized, Headed}
+use Rattle.pmp_text.specs.Contents.{Publications, ScriptContents}
+use Rattle.pmp_text.specs.Heads.{first_not_held, start_said}
+use Rattle.pmp_text.specs.Scripts.{Line, expected_from, fault_or_publications, for_head}
+use Rattle.pmp_text.specs.Scripts.{for_unit, head_lines, if_held, lines_meaning, meaning_behind}
+use Rattle.pmp_text.specs.Scripts.{published_behind, script_meaning, significant_lines, version_named}
+use Rattle.pmp_text.specs.Versions.{HasNoHead}
+use Rattle.pmp_text.proofs.Meanings.{by_lines, long_script}
+
+abbrev pub published_in : ScriptContents → Publications
+published_in script = record { batches = script.batches; lines = script.lines }
+
+-- where it begins
+abbrev pub Begins : Version → List Line → ScriptContents → Type 0
+Begins (Sized size) more script = HasNoHead size script
+Begins Headed more script = script.start ≡ start_said (head_lines Headed more)
+
+-- lines behind the one that names the version have no fault, and publish what the script does
+pub record IsMade (first : Line) (more : List Line) (version : Version) (script : ScriptContents) : Type 0 where
+  pub begins : Begins version more script
+  pub published : published_behind first more version ≡ Ok (published_in script)
+
+as_made : (made script : ScriptContents) → ◌≡◌ {A = Result ScriptContents ScriptFault} (Ok made) (Ok script) → made ≡ script
+as_made made script e = cc
+
+module _ (first : Line) (more : List Line) (script : ScriptContents) where
+  of_unit : (size : Size) (read : Result Publications ScriptFault) → published_behind first more (Sized size) ≡ read
+      → for_unit size read ≡ Ok script → IsMade first more (Sized size) script
+  of_unit size (Ok all) was e =
+      let is = as_made _ script e in
+      record {
+        begins = record {
+          sized = sym (ap (λ (s : ScriptContents). s.size) is);
+          start = sym (ap (λ (s : ScriptContents). s.start) is);
+          nothing = sym (ap (λ (s : ScriptContents). s.expectations) is);
+        };
+        published = was ∙ ap (λ (s : ScriptContents). Ok (published_in s)) is;
+      }
+  of_unit size (Err fault) was e = absurd cc
+
+  if_held_made : (number : Option ℕ) (made : ScriptContents) → if_held number made ≡ Ok script → made ≡ script
+  if_held_made None made e = as_made made script e
+  if_held_made (Some number) made e = absurd cc
+
+  of_head : (read : Result Publications ScriptFault) → published_behind first more Headed ≡ read
+      → for_head (head_lines Headed more) (expected_from Headed 0 more) read ≡ Ok script
+      → IsMade first more Headed script
+  of_head (Ok all) was e =
+      let head = head_lines Headed more in
+      let is = if_held_made (first_not_held (start_said head) head) _ e in
+      record {
+        begins = sym (ap (λ (s : ScriptContents). s.start) is);
+        published = was ∙ ap (λ (s : ScriptContents). Ok (published_in s)) is;
+      }
+  of_head (Err fault) was e = absurd cc
+
+  pub behind_version : (version : Version) → meaning_behind first more (Some version) ≡ Ok script
+      → IsMade first more version script
+  behind_version (Sized size) e = of_unit size (published_behind first more (Sized size)) refl e
+  behind_version Headed e = of_head (published_behind first more Headed) refl e
+
+-- it isn't too long, and its first significant line names a version
+pub record IsRead (text : List ℕ) (script : ScriptContents) : Type 0 where
+  pub short : length text ≤ MAX_SCRIPT
+  pub first : Line
+  pub more : List Line
+  pub lines : significant_lines text ≡ first ∷ more
+  pub version : Version
+  pub named : version_named first.words ≡ Some version
+  pub made : IsMade first more version script
+
+module _ (text : List ℕ) (script : ScriptContents) (short : length text ≤ MAX_SCRIPT) where
+  by_version : (first : Line) (more : List Line) → significant_lines text ≡ first ∷ more → (version : Option Version)
+      → version_named first.words ≡ version → meaning_behind first more version ≡ Ok script → IsRead text script
+  by_version first more lines None named e = absurd cc
+  by_version first more lines (Some version) named e = record {
+    short = short;
+    first = first;
+    more = more;
+    lines = lines;
+    version = version;
+    named = named;
+    made = behind_version first more script version e;
+  }
+
+  of_lines : (ls : List Line) → significant_lines text ≡ ls → lines_meaning ls ≡ Ok script → IsRead text script
+  of_lines [] lines e = absurd cc
+  of_lines (first ∷ more) lines e = by_version first more lines (version_named first.words) refl e
+
+pub is_read : (text : List ℕ) (script : ScriptContents) → script_meaning text ≡ Ok script → IsRead text script
+is_read text script e = elim (cases_lt MAX_SCRIPT (length text)) [
+  | inl long ↦ let refused = sym e ∙ long_script text long in absurd cc
+  | inr short ↦ of_lines text script short (significant_lines text) refl (sym (by_lines text short) ∙ e)
+]
+
+-- lines that publish something have no fault, and leave no event behind the last `publish`
+pub faultless : {X : Type 0} (fault : Option ScriptFault) (unpublished : Option ℕ) (all read : X)
+    → fault_or_publications fault unpublished all ≡ Ok read → (fault ≡ None) × (unpublished ≡ None) × (all ≡ read)
+faultless (Some fault) unpublished all read e = absurd cc
+faultless None (Some number) all read e = absurd cc
+faultless None None all read e = (refl, refl, cc)

@@ -1,0 +1,28 @@
+-- Where a line or a row is at fault.
+use Rattle.std.specs.Prelude.{ℕ, Option, Some, None, Result, Err}
+use Rattle.pmp_text.specs.declared.flaw.Flaw.{Flaw}
+use Rattle.pmp_text.specs.declared.refusal.Refusal.{Refusal}
+use Rattle.pmp_text.specs.declared.refusal.Refusal.TheVariants.{BadRow}
+use Rattle.pmp_text.specs.declared.script.ScriptFault.{ScriptFault}
+use Rattle.pmp_text.specs.declared.trace.TraceFault.{TraceFault}
+
+-- the word or field with this index, from 0, is at fault
+abbrev pub part : (index : ℕ) → Refusal → Flaw
+part index kind = record { kind = kind; part = Some index }
+
+-- the whole is at fault, and no part of it more than another
+abbrev pub as_whole : Refusal → Flaw
+as_whole kind = record { kind = kind; part = None }
+
+-- the fault of a line with this number
+abbrev pub at_line : ℕ → Flaw → ScriptFault
+at_line number flaw = record { kind = flaw.kind; line = number; word = flaw.part }
+
+-- the fault of a row with this number
+abbrev pub at_row : ℕ → Flaw → TraceFault
+at_row number flaw = record { kind = flaw.kind; row = number; field = flaw.part }
+
+-- what comes of the field with this index, which is at fault where it says nothing
+abbrev pub of_part : {X Y : Type 0} → (index : ℕ) → (says : Option X) → (X → Result Y Flaw) → Result Y Flaw
+of_part index None next = Err (part index BadRow)
+of_part index (Some x) next = next x

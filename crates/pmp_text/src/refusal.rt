@@ -1,0 +1,291 @@
+//! Refusals: each has a number, a name, what was wanted in its place, and what to do.
+
+ghost use Rattle.std.specs.Prelude.{◌≡◌, ◌≤◌, Some};
+ghost use Rattle.pmp_text.specs.Refusals.{name_of, number_of, refusal_of_access, refusal_text, status_of};
+ghost use Rattle.pmp_text.specs.declared.refusal.Refusal.TheVariants.{Input, Memory};
+
+use pmp_core::AccessFault;
+use std::alloc::AllocError;
+use std::{fmt, io};
+
+/// Why a text, an input or a word is refused. A variant's value is the number that users see.
+#[derive(Clone, Copy, Debug, PartialEq, Eq)]
+pub enum Refusal {
+    /// An access of 0 bytes, or of more than 4,096.
+    BadLength = 3,
+    /// An access that ends above `2^56`, or a last byte of a policy at or above it.
+    PastEnd = 4,
+    /// The first significant line of a script is none of `pmp 1`, `pmp 2` and `pmp 3`, or there is none.
+    BadVersion = 10,
+    /// A later line of a script is no statement.
+    BadLine = 11,
+    /// A name or number of no register.
+    BadName = 12,
+    /// A `pmpcfg` register with an odd number, which RV64 doesn't have.
+    OddCfg = 13,
+    /// A value that is no number below `2^64`.
+    BadNumber = 14,
+    /// More than 64 events stand before a script's `publish`.
+    BatchFull = 15,
+    /// Events stand after a script's last `publish`.
+    Unpublished = 16,
+    /// An input, a line of a long trace or a row's number is longer than its limit.
+    TooLong = 17,
+    /// The first record of a trace or a policy doesn't name the fields, or there is none.
+    BadHeader = 20,
+    /// A row that hasn't as many fields as the header, or a field that isn't what its place asks for.
+    BadRow = 21,
+    /// More publications than the script has.
+    BadAfter = 22,
+    /// A row of a trace that asks for fewer publications than the row before.
+    Order = 23,
+    /// A word of the command line that isn't what its place asks for.
+    BadWord = 24,
+    /// A unit that several threads share has no place for a checker or a notice.
+    NoPlace = 30,
+    /// A unit that several threads share has no room for more events or batches.
+    Full = 31,
+    /// More events are published than were asked for.
+    Moved = 32,
+    /// No memory.
+    Memory = 40,
+    /// An input that can't be opened or read.
+    Input = 41,
+    /// An output that can't be written.
+    Output = 42,
+    /// A `hart` or `set` line stands after the first `write`, `reset` or `publish`.
+    LateHead = 50,
+    /// The same is said of the hart twice, or the same register is set twice.
+    Twice = 51,
+    /// A number of entries that no hart has.
+    BadEntries = 52,
+    /// A number of address bits that no hart has.
+    BadBits = 53,
+    /// A register doesn't keep the value that it is set to.
+    NotHeld = 54,
+    /// A grain that no hart has.
+    BadGrain = 55,
+}
+
+/// Why a script is refused: 10 to 17, 40, and in version 3 those from 50 on.
+pub type ScriptKind = Refusal;
+
+/// Why a trace or a policy is refused: 3, 4, 17, 20 to 23, 40 and 41.
+pub type TraceKind = Refusal;
+
+/// Why an input gives no bytes: 17, 40 and 41. What was taken from a reader stays taken.
+pub type InputFault = Refusal;
+
+impl Refusal {
+    pub fn number(self) -> u8
+        ensures { result ≡ number_of self }
+    {
+        self as u8
+    }
+
+    pub fn name(self) -> &'static str
+        ensures { result.now ≡ name_of self }
+    {
+        self.texts().0
+    }
+
+    /// What was wanted in place of what is refused.
+    pub fn wanted(self) -> &'static str {
+        self.texts().1
+    }
+
+    /// What to do about it.
+    pub fn remedy(self) -> &'static str {
+        self.texts().2
+    }
+
+    /// The program's exit status: 3 where memory, an input, the output or a shared unit failed it, and else 2.
+    pub fn status(self) -> u8
+        ensures value { result ≡ status_of self }
+        ensures above { 2 ≤ result }
+        ensures below { result ≤ 3 }
+    {
+        match self {
+            Refusal::NoPlace | Refusal::Moved => 3,
+            Refusal::Memory | Refusal::Input | Refusal::Output => 3,
+            _ => 2,
+        }
+    }
+
+    /// Its name, what was wanted, and what to do.
+    fn texts(self) -> (&'static str, &'static str, &'static str)
+        ensures { result.0.now ≡ name_of self }
+    {
+        match self {
+            Refusal::BadLength => (
+                "BadLength",
+                "a length from 1 to 4096",
+                "give at least one byte; make several accesses of a longer range",
+            ),
+            Refusal::PastEnd => (
+                "PastEnd",
+                "a last byte below 2^56",
+                "look for a digit too many in the address",
+            ),
+            Refusal::BadVersion => (
+                "BadVersion",
+                "pmp 1 for a unit of 16 entries, pmp 2 for one of 64, or pmp 3 for any hart, before every line but comments",
+                "make it the first line, in lower case and with no other word; save the script as UTF-8 without a byte-order mark, each line ended by LF",
+            ),
+            Refusal::BadLine => (
+                "BadLine",
+                "write NAME VALUE, reset or publish; with pmp 3 also set NAME VALUE, expect NAME VALUE, and hart with entries N, grain BYTES, bits N or smepmp yes or no",
+                "write each CSR write as write NAME VALUE, without =; begin with pmp 3 for hart, set and expect; begin comments with #, on lines of their own",
+            ),
+            Refusal::BadName => (
+                "BadName",
+                "mseccfg, pmpcfg0, pmpcfg2, .. pmpcfg14, pmpaddr0 to pmpaddr63, or the register's number after 0x",
+                "write it so, in lower case and without leading zeros; leave out writes to other registers",
+            ),
+            Refusal::OddCfg => (
+                "OddCfg",
+                "a pmpcfg register with an even number, since RV64 has no odd ones",
+                "write both halves to the even one before it; RV32 firmware can't be replayed",
+            ),
+            Refusal::BadNumber => (
+                "BadNumber",
+                "a number below 2^64: 1 to 20 decimal digits, or 0x and 1 to 16 hexadecimal digits",
+                "put 0x before hexadecimal digits and nothing behind them; leave out signs and underscores: a register's -1 is 0xffffffffffffffff",
+            ),
+            Refusal::BatchFull => (
+                "BatchFull",
+                "at most 64 writes and resets before a publish",
+                "put a publish between them",
+            ),
+            Refusal::Unpublished => (
+                "Unpublished",
+                "a publish after this event",
+                "end the script with a publish",
+            ),
+            Refusal::TooLong => (
+                "TooLong",
+                "at most 1048576 bytes of a script, and 16777216 of a trace or a policy; of a long trace, shorter lines",
+                "cut the script at a publish and leave comments out; take --long for a trace, and shorter lines there; split a policy",
+            ),
+            Refusal::BadHeader => (
+                "BadHeader",
+                "after,mode,kind,start,length for a trace, from,to,modes,kind,first,last,demand for a policy",
+                "make it the first line, above the rows, without blanks",
+            ),
+            Refusal::BadRow => (
+                "BadRow",
+                "as many fields as the header names, each of its form: see pmp help trace and pmp help policy",
+                "write each field in its form and between commas, and nothing else: no blank, comment or line end",
+            ),
+            Refusal::BadAfter => (
+                "BadAfter",
+                "at most as many publications as the script has",
+                "ask for fewer, or see whether the script lacks a publish",
+            ),
+            Refusal::Order => (
+                "Order",
+                "at least as many publications as in the row before",
+                "sort the trace by its first field",
+            ),
+            Refusal::BadWord => (
+                "BadWord",
+                "words as the command's help has them: stdin for one input alone, --jobs and --first-row with --long, --checkers without",
+                "see the command's help: pmp help check, and so on",
+            ),
+            Refusal::NoPlace => (
+                "NoPlace",
+                "a place for each checker in the unit that they share",
+                "ask for fewer, or leave --checkers out",
+            ),
+            Refusal::Full => ("Full", "room for a batch in the unit", "begin another unit"),
+            Refusal::Moved => (
+                "Moved",
+                "no more publications than a checker was told of",
+                "please report it: no order of the threads leads there",
+            ),
+            Refusal::Memory => (
+                "Memory",
+                "memory",
+                "end other programs, raise the limit, or cut the trace",
+            ),
+            Refusal::Input => (
+                "Input",
+                "a path that can be opened and read; stdin is standard input, and a dash isn't",
+                "see that the path is right and may be read",
+            ),
+            Refusal::Output => (
+                "Output",
+                "an output that takes the whole answer",
+                "throw away what was written, which is a beginning of the answer",
+            ),
+            Refusal::LateHead => (
+                "LateHead",
+                "hart and set before the first write, reset or publish",
+                "move the line above them; a register may be written instead",
+            ),
+            Refusal::Twice => (
+                "Twice",
+                "each field of the hart once, and each register set once",
+                "leave one of the two lines out",
+            ),
+            Refusal::BadEntries => (
+                "BadEntries",
+                "0 to 64 entries",
+                "give how many PMP entries the hart has, which are those from pmpaddr0 on",
+            ),
+            Refusal::BadBits => (
+                "BadBits",
+                "34 to 56 address bits",
+                "give the bits of a physical address, not those of a register",
+            ),
+            Refusal::NotHeld => (
+                "NotHeld",
+                "a value that the register of this hart keeps",
+                "give the hart lines of the hart that had the value; clear the bits that no hart keeps, as 63 to 54 of a pmpaddr, which QEMU before 11 keeps",
+            ),
+            Refusal::BadGrain => (
+                "BadGrain",
+                "a grain of 4, 8, 16 and so on to 4096 bytes",
+                "give the grain in bytes, not the manual's G",
+            ),
+        }
+    }
+}
+
+/// Number and name.
+impl fmt::Display for Refusal {
+    ghost output = { λ refusal. Some (refusal_text refusal) };
+
+    fn fmt<W: fmt::Write>(&self, f: &mut fmt::Formatter<W>) -> fmt::Result {
+        let number = self.number();
+        let name = self.name();
+        write!(f, "{number} {name}")
+    }
+}
+
+impl From<AccessFault> for Refusal {
+    ghost from_gives = { λ fault refusal. refusal ≡ refusal_of_access fault };
+
+    fn from(fault: AccessFault) -> Refusal {
+        match fault {
+            AccessFault::BadLength => Refusal::BadLength,
+            AccessFault::PastEnd => Refusal::PastEnd,
+        }
+    }
+}
+
+impl From<AllocError> for Refusal {
+    ghost from_gives = { λ _ refusal. refusal ≡ Memory };
+
+    fn from(_: AllocError) -> Refusal {
+        Refusal::Memory
+    }
+}
+
+impl From<io::Error> for Refusal {
+    ghost from_gives = { λ _ refusal. refusal ≡ Input };
+
+    fn from(_: io::Error) -> Refusal {
+        Refusal::Input
+    }
+}

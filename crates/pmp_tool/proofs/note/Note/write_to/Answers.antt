@@ -1,0 +1,16 @@
+use Rattle.std.proofs.Common.{◌≡◌, ◌∙◌, sym, ap}
+use Rattle.std.specs.Prelude.{is_ok}
+use Rattle.pmp_tool.specs.Notes.{note_line}
+use Rattle.pmp_tool.specs.declared.note.TheConstants.{LONGEST_NOTE}
+use Rattle.pmp_tool.proofs.Telling.{at_ok, string_written}
+use Rattle.pmp_tool.proofs.note.Note.write_to.Goals as goal
+
+pub returns : goal.returns
+returns g c =
+    let wrote =
+    at_ok c.writeln.result
+    (sym c.map_err.ensures.variant ∙ ap is_ok c.in_ok-map_err.was) c.writeln.ensures.writes in
+    let line : c.as_bytes.result.now ≡ note_line c.args.self =
+    c.as_bytes.ensures.value ∙ c.as_str.ensures.value
+    ∙ string_written LONGEST_NOTE c.new-line.result c.writeln.new.self _ c.new-line.ensures wrote in
+    rw line at c.write_out.ensures

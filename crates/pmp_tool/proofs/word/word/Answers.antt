@@ -1,0 +1,10 @@
+use Rattle.std.proofs.Common.{◌∙◌, ap}
+use Rattle.clap.specs.Words.{first_of, found_of, rows_of}
+use Rattle.clap.proofs.WalkLemmas.{first_value-rows}
+use Rattle.pmp_tool.proofs.word.word.Goals as goal
+
+pub returns : goal.returns
+returns c =
+    let found = found_of c.args.words.now in
+    c.get_str.ensures ∙ first_value-rows found c.texts.result.0.now
+    ∙ ap (λ id. first_of id (rows_of found)) c.texts.ensures

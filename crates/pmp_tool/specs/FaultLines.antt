@@ -1,0 +1,41 @@
+-- The line that tells of a refusal.
+use Rattle.std.specs.Prelude.{ℕ, List, [], ◌++◌, codes, decimal, ◌==◌, if◌then◌else◌}
+use Rattle.pmp_text.specs.Refusals.{refusal_text}
+use Rattle.pmp_text.specs.declared.refusal.Refusal.{Refusal}
+use Rattle.pmp_audit.specs.declared.fault.AuditFault.{AuditFault}
+use Rattle.pmp_audit.specs.declared.fault.AuditFault.TheVariants as audit
+use Rattle.pmp_audit.specs.declared.fault.Side.{Side}
+use Rattle.pmp_audit.specs.declared.fault.Side.TheVariants.{Old, New}
+use Rattle.pmp_tool.specs.declared.fault_line.Place.{Place}
+use Rattle.pmp_tool.specs.declared.fault_line.Place.TheVariants.{Nowhere, Word, ScriptLine, TraceRow, PolicyRow}
+use Rattle.pmp_tool.specs.declared.fault_line.Place.TheVariants.{Script, LineOf}
+
+-- where a fault of an answer is: line 0 stands for none, and so does row 0
+abbrev pub place_of : AuditFault → Place
+place_of (audit.Script fault) = if fault.line == 0 then Nowhere else ScriptLine fault
+place_of (audit.Trace fault) = if fault.row == 0 then Nowhere else TraceRow fault
+place_of (audit.Policy fault) = if fault.row == 0 then Nowhere else PolicyRow fault
+place_of (audit.ScriptOf side fault) = if fault.line == 0 then Script side else LineOf side fault
+place_of (audit.BadAfterOf side) = Script side
+place_of _ = Nowhere
+
+abbrev pub side_text : Side → List ℕ
+side_text Old = codes "old"
+side_text New = codes "new"
+
+-- the script's line, the trace's row or the policy's, and which of two scripts it is
+abbrev pub place_text : Place → List ℕ
+place_text Nowhere = []
+place_text (Word argument) = []
+place_text (ScriptLine fault) = codes "script line " ++ (decimal fault.line ++ codes ": ")
+place_text (TraceRow fault) = codes "trace row " ++ (decimal fault.row ++ codes ": ")
+place_text (PolicyRow fault) = codes "policy row " ++ (decimal fault.row ++ codes ": ")
+place_text (Script side) = side_text side ++ codes ": "
+place_text (LineOf side fault) = side_text side ++ (codes " line " ++ (decimal fault.line ++ codes ": "))
+
+abbrev pub fault_text : Refusal → Place → List ℕ
+fault_text refusal place = codes "pmp: " ++ (place_text place ++ (codes "refused " ++ refusal_text refusal))
+
+-- with its LF
+abbrev pub line_text : Refusal → Place → List ℕ
+line_text refusal place = fault_text refusal place ++ codes "\n"

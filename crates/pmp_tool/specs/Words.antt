@@ -1,0 +1,89 @@
+-- What the words of the command line say that clap found.
+use Rattle.std.specs.Prelude.{ℕ, List, Bool, false, ◌&&◌, nat_le, Option, Some, None, is_some, Result, Ok}
+use Rattle.std.specs.Prelude.{Err, codes, if◌then◌else◌}
+use Rattle.std.specs.Option.{ok_or, option_map_or}
+use Rattle.std.specs.Str.{bytes_eq}
+use Rattle.clap.specs.Words.{Row, Text, first_of}
+use Rattle.pmp_text.specs.declared.lines.changes.Only.{Only}
+use Rattle.pmp_text.specs.declared.lines.changes.Only.TheVariants.{More, Less}
+use Rattle.pmp_text.specs.Numbers.{is_bare, word_number}
+use Rattle.pmp_tool.specs.declared.argument.Argument.{Argument}
+use Rattle.pmp_tool.specs.declared.expected.Expected.{Expected}
+use Rattle.pmp_tool.specs.declared.expected.Expected.TheVariants.{Allow, Fault}
+use Rattle.pmp_tool.specs.declared.fault_line.Place.TheVariants.{Nowhere, Word}
+use Rattle.pmp_text.specs.declared.refusal.Refusal.{Refusal}
+use Rattle.pmp_text.specs.declared.refusal.Refusal.TheVariants.{BadWord}
+use Rattle.pmp_tool.specs.declared.fault_line.FaultLine.{FaultLine}
+use Rattle.pmp_tool.specs.Arguments.{id_of}
+
+-- the answer that a word names
+abbrev pub expected_named : Text → Option Expected
+expected_named word =
+    if bytes_eq word (codes "allow") then Some Allow
+    else (if bytes_eq word (codes "fault") then Some Fault else None)
+
+-- the changes that a word names
+abbrev pub only_named : Text → Option Only
+only_named word =
+    if bytes_eq word (codes "more") then Some More
+    else (if bytes_eq word (codes "less") then Some Less else None)
+
+-- a refusal of no single word
+abbrev pub of_no_word : Refusal → FaultLine
+of_no_word refusal = record { refusal = refusal; place = Nowhere }
+
+-- a word of the command line is refused
+abbrev pub of_word : Argument → Refusal → FaultLine
+of_word argument refusal = record { refusal = refusal; place = Word argument }
+
+-- an argument's word isn't of its form
+abbrev pub bad_word : Argument → FaultLine
+bad_word argument = of_word argument BadWord
+
+abbrev pub result_map : {X Y : Type 0} → (X → Y) → Result X FaultLine → Result Y FaultLine
+result_map view (Ok x) = Ok (view x)
+result_map view (Err fault) = Err fault
+
+-- one thing after another: what is refused first is refused
+abbrev pub and_then : {X Y : Type 0} → Result X FaultLine → (X → Result Y FaultLine) → Result Y FaultLine
+and_then (Ok value) next = next value
+and_then (Err fault) next = Err fault
+
+abbrev pub word_in : Argument → List Row → Option Text
+word_in argument rows = first_of (id_of argument) rows
+
+-- an option is used
+abbrev pub is_used : Argument → List Row → Bool
+is_used argument rows = is_some (word_in argument rows)
+
+-- clap finds the word `true` for an option without a word that is used
+abbrev pub is_set : Argument → List Row → Bool
+is_set argument rows = option_map_or (λ word. bytes_eq word (codes "true")) (word_in argument rows) false
+
+-- a word has 14 digits and no `0x`
+abbrev pub is_bare_word : Argument → List Row → Bool
+is_bare_word argument rows = option_map_or is_bare (word_in argument rows) false
+
+-- what a word says that is there
+abbrev pub said : {X : Type 0} → (named : Text → Option X) → Argument → Option Text → Result (Option X) FaultLine
+said named argument None = Ok None
+said named argument (Some word) = and_then (ok_or (named word) (bad_word argument)) (λ value. Ok (Some value))
+
+-- what an option says, where it is used
+abbrev pub asked_in : {X : Type 0} → (named : Text → Option X) → Argument → List Row → Result (Option X) FaultLine
+asked_in named argument rows = said named argument (word_in argument rows)
+
+-- what a word says that its command requires
+abbrev pub needed_in : {X : Type 0} → (named : Text → Option X) → Argument → List Row → Result X FaultLine
+needed_in named argument rows =
+    and_then (asked_in named argument rows) (λ value. ok_or value (bad_word argument))
+
+-- a number from 1 to `most`
+abbrev pub count_given : (most : ℕ) → Argument → Option ℕ → Result (Option ℕ) FaultLine
+count_given most argument None = Ok None
+count_given most argument (Some count) =
+    if nat_le 1 count && nat_le count most then Ok (Some count) else Err (bad_word argument)
+
+-- what an option says that wants a number from 1 to `most`, where it is used
+abbrev pub count_in : (most : ℕ) → Argument → List Row → Result (Option ℕ) FaultLine
+count_in most argument rows = and_then (asked_in word_number argument rows) (count_given most argument)

@@ -1,0 +1,41 @@
+//! The fields of rows, as an explanation says what was wanted in them.
+
+/// Those of a trace.
+const TRACE: [&str; 5] = [
+    "after: a number of publications",
+    "mode: M, S or U",
+    "kind: fetch, load or store",
+    "start: a byte address, in decimal or with 0x",
+    "length: a number of bytes",
+];
+
+/// Those of a policy.
+const POLICY: [&str; 7] = [
+    "from: a number of publications",
+    "to: a number of publications that isn't below from, or nothing for all",
+    "modes: one or more of the letters M, S and U, each once",
+    "kind: fetch, load, store or any",
+    "first: a byte address, in decimal or with 0x",
+    "last: a byte address that isn't below first, in decimal or with 0x",
+    "demand: never, always or held",
+];
+
+/// What the field of a trace with this index has to be.
+pub fn trace_field(index: usize) -> Option<&'static str> {
+    TRACE.get(index).copied()
+}
+
+/// Whether the field of a trace with this index is an address.
+pub fn is_trace_address(index: usize) -> bool {
+    index == 3
+}
+
+/// Whether the field of a policy with this index is an address.
+pub fn is_policy_address(index: usize) -> bool {
+    matches!(index, 4 | 5)
+}
+
+/// What the field of a policy with this index has to be.
+pub fn policy_field(index: usize) -> Option<&'static str> {
+    POLICY.get(index).copied()
+}

@@ -1,0 +1,70 @@
+//! The line that tells, beside an answer, of an address that may not be what its writer meant.
+
+ghost use Rattle.std.specs.Prelude.{Some, OnErr, OnOk};
+ghost use Rattle.std.specs.Io.KnownBytes.{Appends};
+ghost use Rattle.pmp_text.specs.Bytes.{AppendsBeginning};
+ghost use Rattle.pmp_tool.specs.LineLengths.{NoteFitsLaw};
+ghost use Rattle.pmp_tool.specs.Notes.{Notes, note_line, noted_place};
+
+use crate::outcome::Outcome;
+use arrayvec::ArrayString;
+use pmp_text::{OutputFault, write_out};
+use std::fmt;
+use std::fmt::Write as TextWrite;
+use std::io::Write;
+
+/// Where an address has 14 digits and no `0x`, as rows write one in hexadecimal: it is read as decimal.
+#[derive(Clone, Copy)]
+pub enum Note {
+    /// The word START.
+    Start,
+    /// A row of the trace, from 1, the first one.
+    TraceRow(u64),
+    /// A row of the policy, from 1, the first one.
+    PolicyRow(u64),
+}
+
+/// What the note says of it.
+const AS_DECIMAL: &str =
+    "14 digits without 0x are read as decimal; write 0x before a hexadecimal address";
+
+/// The bytes of the longest note: its number has 20 digits.
+const LONGEST_NOTE: usize = 124;
+
+fn law_note_fits()
+    ensures { NoteFitsLaw }
+{}
+
+/// Writes the note of an answer, where there is one, by one write where the writer takes it whole.
+pub fn tell_note<W: Write>(outcome: Outcome, writer: &mut W)
+    ensures { Notes outcome (W.contents writer.old) (W.contents writer.new) }
+{
+    if let Some(note) = outcome.note() {
+        let _ = note.write_to(writer);
+    }
+}
+
+impl Note {
+    fn write_to<W: Write>(self, writer: &mut W) -> Result<(), OutputFault>
+        ensures ok { OnOk result (Appends (W.contents writer.old) (W.contents writer.new) (note_line self)) }
+        ensures err { OnErr result (AppendsBeginning (W.contents writer.old) (W.contents writer.new) (note_line self)) }
+    {
+        law_note_fits();
+        let mut line = ArrayString::<LONGEST_NOTE>::new();
+        writeln!(line, "pmp: note: {self}: {AS_DECIMAL}").map_err(|_| OutputFault)?;
+        write_out(writer, line.as_str().as_bytes())
+    }
+}
+
+/// Where it is.
+impl fmt::Display for Note {
+    ghost output = { λ note. Some (noted_place note) };
+
+    fn fmt<W: fmt::Write>(&self, f: &mut fmt::Formatter<W>) -> fmt::Result {
+        match *self {
+            Note::Start => write!(f, "START"),
+            Note::TraceRow(row) => write!(f, "trace row {row}"),
+            Note::PolicyRow(row) => write!(f, "policy row {row}"),
+        }
+    }
+}

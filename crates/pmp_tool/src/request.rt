@@ -1,0 +1,69 @@
+//! What is asked for of a script.
+
+ghost use Rattle.std.specs.Prelude.{◌≡◌, ℕ, ◌≤◌, Some};
+ghost use Rattle.pmp_share.specs.declared.opening.TheConstants.{CHECKERS};
+
+use crate::expected::Expected;
+use pmp_audit::{Pace, View};
+use pmp_core::Access;
+use pmp_share::CHECKERS;
+use pmp_text::Only;
+
+/// The decision on an access.
+#[derive(Clone, Copy)]
+pub struct Check {
+    pub access: Access,
+    /// How many publications are taken before it, where not all are.
+    pub after: Option<u64>,
+    pub expected: Expected,
+    /// Whether the word START has 14 digits and no `0x`.
+    pub is_bare: bool,
+}
+
+/// An audit of a trace that is taken whole.
+#[derive(Clone, Copy)]
+pub struct Audit<'a> {
+    /// The path of the trace.
+    pub trace: &'a str,
+    /// How many checkers decide its rows, where that is said.
+    pub checkers: Option<u64>,
+    ghost few: { (count : ℕ) → checkers ≡ Some count → (1 ≤ count) × (count ≤ CHECKERS) },
+}
+
+/// An audit of a trace of any length, piece by piece.
+#[derive(Clone, Copy)]
+pub struct LongAudit<'a> {
+    /// The path of the trace.
+    pub trace: &'a str,
+    /// How many jobs are done at a time, where that is said.
+    pub jobs: Option<u64>,
+    /// The number of the first row.
+    pub first: u64,
+}
+
+/// A comparison with a new script.
+#[derive(Clone, Copy)]
+pub struct Diff<'a> {
+    /// The path of the new script.
+    pub new: &'a str,
+    /// How many publications of the old script are taken, where not all are.
+    pub old_after: Option<u64>,
+    /// How many of the new one.
+    pub new_after: Option<u64>,
+    /// Which changes are asked for, where not all are.
+    pub only: Option<Only>,
+}
+
+/// What is asked for of a script.
+#[derive(Clone, Copy)]
+pub enum Request<'a> {
+    Check(Check),
+    Audit(Audit<'a>),
+    LongAudit(LongAudit<'a>),
+    /// The path of the policy, and how often it asks.
+    Policy(&'a str, Pace),
+    /// What is shown, and how many publications are taken before it, where not all are.
+    Show(View, Option<u64>),
+    Writes,
+    Diff(Diff<'a>),
+}

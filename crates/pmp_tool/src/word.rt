@@ -1,0 +1,145 @@
+//! What the words of the command line say that `clap` found.
+
+ghost use Rattle.std.specs.Prelude.{◌≡◌, ◌≤◌, List, ℕ, Option, option_map};
+ghost use Rattle.clap.specs.Words.{found_of, rows_of};
+ghost use Rattle.pmp_core.specs.declared.access.Kind.{Kind};
+ghost use Rattle.pmp_core.specs.declared.access.Mode.{Mode};
+ghost use Rattle.pmp_text.specs.AccessWords.{kind_named, mode_named};
+ghost use Rattle.pmp_text.specs.Numbers.{word_number};
+ghost use Rattle.pmp_tool.specs.Words.{expected_named, only_named};
+ghost use Rattle.pmp_tool.specs.Words.{asked_in, bad_word, count_in, is_bare_word, is_set, is_used, needed_in};
+ghost use Rattle.pmp_tool.specs.Words.{word_in};
+
+use crate::argument::Argument;
+use crate::expected::Expected;
+use crate::fault_line::{FaultLine, Place};
+use clap::ArgMatches;
+use pmp_core::{Kind, Mode};
+use pmp_text::{Only, Refusal, is_bare, read_kind, read_mode, read_word_number};
+
+impl FaultLine {
+    /// The argument's word isn't of its form.
+    pub fn of_word(argument: Argument) -> FaultLine
+        ensures { result ≡ bad_word argument }
+    {
+        FaultLine {
+            refusal: Refusal::BadWord,
+            place: Place::Word(argument),
+        }
+    }
+}
+
+/// What a word of the command line can name.
+pub trait Form: Sized {
+    /// What a word names, where it is of this form.
+    ghost named: { List ℕ → Option Self };
+
+    fn read(word: &str) -> Option<Self>
+        ensures { result ≡ named word.now };
+}
+
+impl Form for u64 {
+    ghost named = { word_number };
+
+    fn read(word: &str) -> Option<u64> {
+        read_word_number(word.as_bytes())
+    }
+}
+
+impl Form for Mode {
+    ghost named = { mode_named };
+
+    fn read(word: &str) -> Option<Mode> {
+        read_mode(word.as_bytes())
+    }
+}
+
+impl Form for Kind {
+    ghost named = { kind_named };
+
+    fn read(word: &str) -> Option<Kind> {
+        read_kind(word.as_bytes())
+    }
+}
+
+impl Form for Expected {
+    ghost named = { expected_named };
+
+    /// `allow` or `fault`, as rows write them.
+    fn read(word: &str) -> Option<Expected> {
+        match word {
+            "allow" => Some(Expected::Allow),
+            "fault" => Some(Expected::Fault),
+            _ => None,
+        }
+    }
+}
+
+impl Form for Only {
+    ghost named = { only_named };
+
+    /// `more` or `less`, as rows write them.
+    fn read(word: &str) -> Option<Only> {
+        match word {
+            "more" => Some(Only::More),
+            "less" => Some(Only::Less),
+            _ => None,
+        }
+    }
+}
+
+/// The word of an argument, where there is one.
+pub fn word<'a>(words: &ArgMatches<'a>, argument: Argument) -> Option<&'a str>
+    ensures { option_map (λ word. word.now) result ≡ word_in argument (rows_of (found_of words.now)) }
+{
+    words.get_str(argument.texts().0)
+}
+
+/// Whether an option is used.
+pub fn is_used(words: &ArgMatches, argument: Argument) -> bool
+    ensures { result ≡ is_used argument (rows_of (found_of words.now)) }
+{
+    word(words, argument).is_some()
+}
+
+/// Whether an option without a word is used: `clap` finds the word `true` for it then.
+pub fn is_set(words: &ArgMatches, argument: Argument) -> bool
+    ensures { result ≡ is_set argument (rows_of (found_of words.now)) }
+{
+    word(words, argument).is_some_and(|word| word == "true")
+}
+
+/// Whether an argument's word has 14 digits and no `0x`.
+pub fn is_bare_word(words: &ArgMatches, argument: Argument) -> bool
+    ensures { result ≡ is_bare_word argument (rows_of (found_of words.now)) }
+{
+    word(words, argument).is_some_and(|word| is_bare(word.as_bytes()))
+}
+
+/// What an option says, where it is used.
+pub fn asked<T: Form>(words: &ArgMatches, argument: Argument) -> Result<Option<T>, FaultLine>
+    ensures { result ≡ asked_in T.named argument (rows_of (found_of words.now)) }
+{
+    match word(words, argument) {
+        Some(word) => Ok(Some(T::read(word).ok_or(FaultLine::of_word(argument))?)),
+        None => Ok(None),
+    }
+}
+
+/// What a word says that its command requires.
+pub fn needed<T: Form>(words: &ArgMatches, argument: Argument) -> Result<T, FaultLine>
+    ensures { result ≡ needed_in T.named argument (rows_of (found_of words.now)) }
+{
+    asked(words, argument)?.ok_or(FaultLine::of_word(argument))
+}
+
+/// What an option says that wants a number from 1 to `most`, where it is used.
+pub fn count(words: &ArgMatches, argument: Argument, most: u64) -> Result<Option<u64>, FaultLine>
+    ensures value { result ≡ count_in most argument (rows_of (found_of words.now)) }
+    ensures limits { (count : ℕ) → result ≡ Ok (Some count) → (1 ≤ count) × (count ≤ most) }
+{
+    match asked::<u64>(words, argument)? {
+        Some(count) if count < 1 || most < count => Err(FaultLine::of_word(argument)),
+        count => Ok(count),
+    }
+}
