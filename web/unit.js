@@ -14,6 +14,7 @@ const BAD_WORD = 24;
 const MEMORY = 40;
 const MODES = {U: 0, S: 1, M: 3};
 const KINDS = {fetch: 0, load: 1, store: 2};
+const VIEWS = {map: 0, picture: 1, entries: 2, registers: 3};
 const NO_ANSWER = {status: -1, line: 0, text: ''};
 
 class Unit {
@@ -50,19 +51,19 @@ class Unit {
     }
 
     map(script, after) {
-        return this.ask('map', script, BigInt(after));
+        return this.ask('view', script, BigInt(after), VIEWS.map);
     }
 
     picture(script, after) {
-        return this.ask('picture', script, BigInt(after));
+        return this.ask('view', script, BigInt(after), VIEWS.picture);
     }
 
     entries(script, after) {
-        return this.ask('entries', script, BigInt(after));
+        return this.ask('view', script, BigInt(after), VIEWS.entries);
     }
 
     registers(script, after) {
-        return this.ask('registers', script, BigInt(after));
+        return this.ask('view', script, BigInt(after), VIEWS.registers);
     }
 
     // start and length are BigInts. A module would take them modulo 2^64.

@@ -26,7 +26,7 @@ pub use answer::{NO_CAUSE, answer_number, cause_number, no_access};
 pub use around::run_around;
 pub use mode_rights::{ModeRights, whole_cause};
 pub use range_rights::rights_in;
-pub use request::{access_of, mode_of};
+pub use request::{access_of, kind_of, mode_of};
 pub use rights_run::{RightsRun, rights_run_from};
 pub use run::{RUNS, Run};
 pub use run_map::RunMap;

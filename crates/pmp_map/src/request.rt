@@ -24,7 +24,7 @@ pub fn mode_of(number: u32) -> Option<Mode>
 
 /// The kind with this number.
 #[inline]
-fn kind_of(number: u32) -> Option<Kind>
+pub fn kind_of(number: u32) -> Option<Kind>
     ensures some { IfSome result (λ kind. kind_number kind ≡ number) }
     ensures none { result ≡ None → (kind : Kind) → ¬ (kind_number kind ≡ number) }
 {

@@ -3,11 +3,8 @@
 ghost use Rattle.std.specs.Prelude.{◌≡◌, ◌<◌, ◌≤◌, length, take, IfErr, IfOk};
 ghost use Rattle.std.specs.Io.KnownBytes.{Consumes, IsAtEnd};
 ghost use Rattle.pmp_text.specs.Inputs.{CantReadPart, IsReadWhole};
-ghost use Rattle.pmp_text.specs.declared.script.reader.TheConstants.{MAX_SCRIPT};
-ghost use Rattle.pmp_text.specs.declared.trace.reader.TheConstants.{MAX_TRACE};
 
 use crate::refusal::{InputFault, Refusal};
-use crate::script::MAX_SCRIPT;
 use crate::trace::MAX_TRACE;
 use std::alloc::Global;
 use std::io::Read;
@@ -57,18 +54,4 @@ fn read_part<R: Read>(reader: &mut R, chunk: &mut [u8], room: u64) -> Result<usi
         return Err(Refusal::TooLong);
     }
     Ok(count)
-}
-
-/// All bytes of a script, as `read_bytes` reads them.
-pub fn read_script_bytes<R: Read>(alloc: Global, reader: &mut R) -> Result<Vec<u8>, InputFault>
-    ensures { IsReadWhole MAX_SCRIPT (R.remaining reader.old) (R.remaining reader.new) result }
-{
-    read_bytes(alloc, reader, MAX_SCRIPT as u64)
-}
-
-/// All bytes of a trace, as `read_bytes` reads them.
-pub fn read_trace_bytes<R: Read>(alloc: Global, reader: &mut R) -> Result<Vec<u8>, InputFault>
-    ensures { IsReadWhole MAX_TRACE (R.remaining reader.old) (R.remaining reader.new) result }
-{
-    read_bytes(alloc, reader, MAX_TRACE as u64)
 }

@@ -24,7 +24,7 @@ pub use cutter::{Cut, cut_piece};
 pub use event_log::{EventLog, FixedLog, GrowingLog};
 pub use expectation::Expectation;
 pub use flaw::Flaw;
-pub use input::{MAX_LIMIT, read_bytes, read_script_bytes, read_trace_bytes};
+pub use input::{MAX_LIMIT, read_bytes};
 pub use lines::{
     Breach, Change, EventPlace, NoMemory, Only, Since, write_change, write_effect, write_entries,
     write_expected, write_picture, write_registers, write_row, write_runs, write_script,

@@ -156,16 +156,7 @@ task_in name.Writes rows = Ok Writes
 task_in name.Diff rows = diff_in rows
 
 abbrev pub command_named : Text → Option CommandName
-command_named word =
-    if bytes_eq word (codes "check") then Some name.Check
-    else (if bytes_eq word (codes "audit") then Some name.Audit
-    else (if bytes_eq word (codes "policy") then Some name.Policy
-    else (if bytes_eq word (codes "dump") then Some name.Dump
-    else (if bytes_eq word (codes "map") then Some name.Map
-    else (if bytes_eq word (codes "picture") then Some name.Picture
-    else (if bytes_eq word (codes "entries") then Some name.Entries
-    else (if bytes_eq word (codes "writes") then Some name.Writes
-    else (if bytes_eq word (codes "diff") then Some name.Diff else None))))))))
+command_named word = find (λ name. bytes_eq (command_word name) word) commands
 
 -- the script's place is read before the rest of the words
 abbrev pub asked_below : Text × List Row → Result Asked FaultLine

@@ -31,18 +31,10 @@ pub struct Command<'a> {
 fn read_name(word: &str) -> Option<CommandName>
     ensures { result ≡ command_named word.now }
 {
-    match word {
-        "check" => Some(CommandName::Check),
-        "audit" => Some(CommandName::Audit),
-        "policy" => Some(CommandName::Policy),
-        "dump" => Some(CommandName::Dump),
-        "map" => Some(CommandName::Map),
-        "picture" => Some(CommandName::Picture),
-        "entries" => Some(CommandName::Entries),
-        "writes" => Some(CommandName::Writes),
-        "diff" => Some(CommandName::Diff),
-        _ => None,
-    }
+    CommandName::ALL
+        .iter()
+        .copied()
+        .find(|name| name.texts().0 == word)
 }
 
 /// The subcommand that `clap` found in the words, and what it found for it.

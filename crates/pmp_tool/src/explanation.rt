@@ -147,12 +147,14 @@ fn write_wanted(text: &mut String, line: &FaultLine) -> Result<(), AllocError> {
 fn input_of<'a>(line: &FaultLine, kept: &'a Kept) -> Option<&'a KeptInput> {
     match (line.place, line.refusal) {
         (Place::ScriptLine(_) | Place::Script(Side::Old) | Place::LineOf(Side::Old, _), _) => {
-            kept.first()
+            kept.inputs().first()
         }
-        (Place::Nowhere, Refusal::TooLong | Refusal::BadHeader | Refusal::Input) => kept.last(),
-        (Place::Nowhere, Refusal::BadAfter) => kept.first(),
+        (Place::Nowhere, Refusal::TooLong | Refusal::BadHeader | Refusal::Input) => kept
+            .inputs()
+            .last(),
+        (Place::Nowhere, Refusal::BadAfter) => kept.inputs().first(),
         (Place::Nowhere | Place::Word(_), _) => None,
-        _ => kept.second(),
+        _ => kept.inputs().get(1),
     }
 }
 
@@ -180,8 +182,8 @@ fn write_input(text: &mut String, path: &str) -> Result<(), AllocError> {
 /// The script whose publications are counted where too many are asked for.
 fn counted_script<'a>(line: &FaultLine, kept: &'a Kept) -> Option<&'a KeptInput> {
     match line.place {
-        Place::Script(Side::New) => kept.second(),
-        _ => kept.first(),
+        Place::Script(Side::New) => kept.inputs().get(1),
+        _ => kept.inputs().first(),
     }
 }
 

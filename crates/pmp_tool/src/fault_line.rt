@@ -68,27 +68,11 @@ impl fmt::Display for Place {
     fn fmt<W: fmt::Write>(&self, f: &mut fmt::Formatter<W>) -> fmt::Result {
         match *self {
             Place::Nowhere | Place::Word(_) => Ok(()),
-            Place::ScriptLine(fault) => {
-                let line = fault.line;
-                write!(f, "script line {line}: ")
-            }
-            Place::TraceRow(fault) => {
-                let row = fault.row;
-                write!(f, "trace row {row}: ")
-            }
-            Place::PolicyRow(fault) => {
-                let row = fault.row;
-                write!(f, "policy row {row}: ")
-            }
-            Place::Script(side) => {
-                let side = side_word(side);
-                write!(f, "{side}: ")
-            }
-            Place::LineOf(side, fault) => {
-                let side = side_word(side);
-                let line = fault.line;
-                write!(f, "{side} line {line}: ")
-            }
+            Place::ScriptLine(fault) => write!(f, "script line {}: ", fault.line),
+            Place::TraceRow(fault) => write!(f, "trace row {}: ", fault.row),
+            Place::PolicyRow(fault) => write!(f, "policy row {}: ", fault.row),
+            Place::Script(side) => write!(f, "{}: ", side_word(side)),
+            Place::LineOf(side, fault) => write!(f, "{} line {}: ", side_word(side), fault.line),
         }
     }
 }

@@ -1,14 +1,15 @@
 //! Where the program's inputs come from.
 
 ghost use Rattle.std.specs.Prelude.{◌≡◌, ℕ, ◌≤◌, List, length, Option, None, IfOk, IfErr};
+ghost use Rattle.pmp_text.specs.declared.input.TheConstants.{MAX_LIMIT};
 ghost use Rattle.pmp_text.specs.declared.script.reader.TheConstants.{MAX_SCRIPT};
 ghost use Rattle.pmp_text.specs.declared.trace.reader.TheConstants.{MAX_TRACE};
 ghost use Rattle.pmp_tool.specs.Inputs.{AreBytesOf, CantBeOpened, CantBeRead, GivesBytesOf};
 
 use crate::kept::Kept;
-use crate::progress::{ProgressLine, Watched};
+use crate::progress::Watched;
 use crate::trace_input::TraceInput;
-use pmp_text::{InputFault, read_script_bytes, read_trace_bytes};
+use pmp_text::{InputFault, MAX_LIMIT, MAX_SCRIPT, MAX_TRACE, read_bytes};
 use std::fs;
 use std::io::{Read, Write};
 use std::rt::Files;
@@ -73,14 +74,14 @@ impl<'a, R: Files + Input + AllocGlobal + Clock, E: Write + Drop> Inputs
 
     fn script(&mut self, path: &str) -> Result<Vec<u8>, InputFault> {
         self.kept.begin(path);
-        let script = read_script_at(self.runtime, path)?;
+        let script = read_at(self.runtime, path, MAX_SCRIPT as u64)?;
         self.kept.fill(&script);
         Ok(script)
     }
 
     fn trace(&mut self, path: &str) -> Result<Vec<u8>, InputFault> {
         self.kept.begin(path);
-        let trace = read_trace_at(self.runtime, path)?;
+        let trace = read_at(self.runtime, path, MAX_TRACE as u64)?;
         self.kept.fill(&trace);
         Ok(trace)
     }
@@ -88,8 +89,7 @@ impl<'a, R: Files + Input + AllocGlobal + Clock, E: Write + Drop> Inputs
     fn open_trace(&mut self, path: &str) -> Result<Self::Trace, InputFault> {
         self.kept.begin(path);
         let input = TraceInput::open(self.runtime, path)?;
-        let line = ProgressLine::new(self.runtime, self.terminal.take());
-        Ok(Watched::new(input, line))
+        Ok(Watched::new(input, self.runtime, self.terminal.take()))
     }
 
     fn kept(&self) -> &Kept {
@@ -97,30 +97,18 @@ impl<'a, R: Files + Input + AllocGlobal + Clock, E: Write + Drop> Inputs
     }
 }
 
-/// The bytes of the script at the path, or of standard input.
-fn read_script_at<R: Files + Input + AllocGlobal>(
+/// All bytes of the file at the path, or of standard input, which are at most `limit`.
+fn read_at<R: Files + Input + AllocGlobal>(
     runtime: &R,
     path: &str,
+    limit: u64,
 ) -> Result<Vec<u8>, InputFault>
-    ensures read { IfOk result (λ bytes. length bytes.items ≤ MAX_SCRIPT) }
-    ensures unread { IfErr result (CantBeRead MAX_SCRIPT None) }
+    requires { limit ≤ MAX_LIMIT }
+    ensures read { IfOk result (λ bytes. length bytes.items ≤ limit) }
+    ensures unread { IfErr result (CantBeRead limit None) }
 {
     match path {
-        "stdin" => read_script_bytes(runtime.alloc(), &mut runtime.reader()),
-        _ => read_script_bytes(runtime.alloc(), &mut fs::open(runtime, path)?),
-    }
-}
-
-/// The bytes of the trace or the policy at the path, or of standard input.
-fn read_trace_at<R: Files + Input + AllocGlobal>(
-    runtime: &R,
-    path: &str,
-) -> Result<Vec<u8>, InputFault>
-    ensures read { IfOk result (λ bytes. length bytes.items ≤ MAX_TRACE) }
-    ensures unread { IfErr result (CantBeRead MAX_TRACE None) }
-{
-    match path {
-        "stdin" => read_trace_bytes(runtime.alloc(), &mut runtime.reader()),
-        _ => read_trace_bytes(runtime.alloc(), &mut fs::open(runtime, path)?),
+        "stdin" => read_bytes(runtime.alloc(), &mut runtime.reader(), limit),
+        _ => read_bytes(runtime.alloc(), &mut fs::open(runtime, path)?, limit),
     }
 }

@@ -51,15 +51,7 @@ impl Kept {
         }
     }
 
-    pub fn first(&self) -> Option<&KeptInput> {
-        self.inputs.first()
-    }
-
-    pub fn second(&self) -> Option<&KeptInput> {
-        self.inputs.get(1)
-    }
-
-    pub fn last(&self) -> Option<&KeptInput> {
-        self.inputs.last()
+    pub fn inputs(&self) -> &[KeptInput] {
+        &self.inputs
     }
 }

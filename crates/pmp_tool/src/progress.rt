@@ -12,9 +12,10 @@ const LINE: usize = 32;
 /// What takes the line away: spaces over all of it.
 const CLEARED: &[u8] = b"\r                        \r";
 
-/// A line on a terminal that says how many bytes were read, written anew once a second, and cleared when it is dropped.
-/// Where there is no terminal, or no time, nothing is written.
-pub struct ProgressLine<'a, C, E: Write + Drop> {
+/// A reader, with a line on a terminal that says how many bytes came from it. The line is written anew once a second,
+/// and cleared when the reader is dropped. Where there is no terminal, or no time, nothing is written.
+pub struct Watched<'a, I: Drop, C, E: Write + Drop> {
+    input: I,
     clock: &'a C,
     terminal: Option<E>,
     bytes: u64,
@@ -23,23 +24,16 @@ pub struct ProgressLine<'a, C, E: Write + Drop> {
     is_shown: bool,
 }
 
-impl<'a, C: Clock, E: Write + Drop> ProgressLine<'a, C, E> {
-    /// Of no byte yet, and not written.
-    pub fn new(clock: &'a C, terminal: Option<E>) -> Self {
-        ProgressLine {
+impl<'a, I: Drop, C: Clock, E: Write + Drop> Watched<'a, I, C, E> {
+    /// No byte came yet, and nothing is written.
+    pub fn new(input: I, clock: &'a C, terminal: Option<E>) -> Self {
+        Watched {
+            input,
             clock,
             terminal,
             bytes: 0,
             since: None,
             is_shown: false,
-        }
-    }
-
-    /// So many further bytes were read.
-    fn add(&mut self, count: usize) {
-        self.bytes = self.bytes.saturating_add(count as u64);
-        if self.terminal.is_some() && self.is_due() {
-            self.show();
         }
     }
 
@@ -65,42 +59,30 @@ impl<'a, C: Clock, E: Write + Drop> ProgressLine<'a, C, E> {
     }
 }
 
-impl<'a, C, E: Write + Drop> Drop for ProgressLine<'a, C, E> {
+impl<I: Read + Drop, C: Clock, E: Write + Drop> Read for Watched<'_, I, C, E> {
+    ghost remaining = { λ watched. I.remaining watched.input };
+
+    fn read(&mut self, buffer: &mut [u8]) -> io::Result<usize> {
+        let count = self.input.read(buffer)?;
+        self.bytes = self.bytes.saturating_add(count as u64);
+        if self.terminal.is_some() && self.is_due() {
+            self.show();
+        }
+        Ok(count)
+    }
+}
+
+impl<'a, I: Drop, C, E: Write + Drop> Drop for Watched<'a, I, C, E> {
     fn drop(self) {
-        let ProgressLine {
-            clock: _,
+        let Watched {
             terminal,
-            bytes: _,
-            since: _,
             is_shown,
+            ..
         } = self;
         if let Some(mut terminal) = terminal {
             if is_shown {
                 let _ = terminal.write_all(CLEARED);
             }
         }
-    }
-}
-
-/// A reader whose bytes a line counts.
-#[derive(Drop)]
-pub struct Watched<'a, I, C, E: Write + Drop> {
-    input: I,
-    line: ProgressLine<'a, C, E>,
-}
-
-impl<'a, I, C, E: Write + Drop> Watched<'a, I, C, E> {
-    pub fn new(input: I, line: ProgressLine<'a, C, E>) -> Self {
-        Watched { input, line }
-    }
-}
-
-impl<I: Read, C: Clock, E: Write + Drop> Read for Watched<'_, I, C, E> {
-    ghost remaining = { λ watched. I.remaining watched.input };
-
-    fn read(&mut self, buffer: &mut [u8]) -> io::Result<usize> {
-        let count = self.input.read(buffer)?;
-        self.line.add(count);
-        Ok(count)
     }
 }

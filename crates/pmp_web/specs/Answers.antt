@@ -15,13 +15,16 @@ use Rattle.pmp_audit.specs.declared.write_list.WriteSummary.{WriteSummary}
 use Rattle.pmp_audit.specs.AccessCheck.{CheckSays}
 use Rattle.pmp_audit.specs.Answers.{Declines}
 use Rattle.pmp_audit.specs.AskedFile.{FileRefuses}
+use Rattle.pmp_audit.specs.View.{ViewSays}
+use Rattle.pmp_audit.specs.declared.view.View.{View}
 use Rattle.pmp_audit.specs.WriteList.{WritesSay}
 use Rattle.pmp_audit.specs.PolicyCheck.{VerdictRefuses, VerdictSays}
 use Rattle.pmp_audit.specs.RightsDiff.{DiffSays}
 use Rattle.pmp_text.specs.declared.lines.verdict.Breach.{Breach}
 use Rattle.pmp_web.specs.declared.rooms.Answer.{Answer}
 use Rattle.pmp_web.specs.declared.request.Question.{Question}
-use Rattle.pmp_web.specs.Request.{IsNamed, no_access}
+use Rattle.pmp_map.specs.Request.{IsNamed}
+use Rattle.pmp_web.specs.Request.{NamesNone}
 use Rattle.pmp_web.specs.Rooms.{text_in}
 
 -- which of two scripts is at fault
@@ -75,9 +78,15 @@ CheckAnswerSays script access after text = (decision : Decision) × CheckSays sc
 -- the numbers name an access, and it is answered, or they name none
 abbrev pub AnswersCheck : (script : List ℕ) → (after mode kind start length status : ℕ) → Answer → Type 0
 AnswersCheck script after mode kind start length status answer =
-    ((access : Access) × IsNamed access mode kind start length × (no_access mode kind start length ≡ None)
+    ((access : Access) × IsNamed access mode kind start length
     × Answers (CheckAnswerSays script access after) (FileRefuses script (Some after)) status answer)
-    ⊎ ((refusal : Refusal) × (no_access mode kind start length ≡ Some refusal) × IsUnasked refusal status answer)
+    ⊎ ((refusal : Refusal) × NamesNone mode kind start length refusal × IsUnasked refusal status answer)
+
+-- what the number asks for is shown, or it names nothing
+abbrev pub AnswersView : (script : List ℕ) → (after : ℕ) → Option View → (status : ℕ) → Answer → Type 0
+AnswersView script after None status answer = IsUnasked BadWord status answer
+AnswersView script after (Some view) status answer =
+    Answers (ViewSays view script (Some after) tt) (FileRefuses script (Some after)) status answer
 
 -- the text has the verdict on the row
 abbrev pub VerdictAnswerSays : (script : List ℕ) → Question → (text : List ℕ) → Type 0

@@ -1,16 +1,14 @@
 //! How an answer is made in its room, and told.
 
-ghost use Rattle.std.specs.Prelude.{◌≡◌, [], IfErr, IfOk, Some};
+ghost use Rattle.std.specs.Prelude.{◌≡◌, [], IfErr, IfOk};
 ghost use Rattle.pmp_audit.specs.Answers.{Declines, IsAppended};
-ghost use Rattle.pmp_audit.specs.AskedFile.{FileRefuses};
-ghost use Rattle.pmp_audit.specs.View.{ViewSays};
 ghost use Rattle.pmp_audit.specs.WriteList.{WritesRefuse};
-ghost use Rattle.pmp_web.specs.Answers.{Answers, CountSays, IsUnasked, line_of, told_number};
-ghost use Rattle.pmp_web.specs.Rooms.{script_in, text_in};
+ghost use Rattle.pmp_web.specs.Answers.{CountSays, IsUnasked, line_of, told_number};
+ghost use Rattle.pmp_web.specs.Rooms.{text_in};
 
-use crate::rooms::{Answer, Script};
+use crate::rooms::Answer;
 use itoa::Buffer;
-use pmp_audit::{AuditFault, Side, View, append_view};
+use pmp_audit::{AuditFault, Side};
 use pmp_text::{FixedLog, Refusal, Sink, read_script};
 
 /// The most events of a script.
@@ -96,16 +94,4 @@ pub fn append_count<S: Sink>(script: &[u8], out: &mut S) -> Result<(), AuditFaul
     let script = read_script(&mut log, script)?;
     out.append(Buffer::new().format(script.batches()).as_bytes())?;
     Ok(())
-}
-
-/// What is shown of the register file after so many publications.
-pub fn view(view: View, script: &Script, after: u64, answer: &mut Answer) -> u32
-    ensures { let script = script_in script.now in
-        Answers (ViewSays view script (Some after) tt) (FileRefuses script (Some after)) result answer.new }
-{
-    let log = &mut Log::new();
-    tell!(
-        answer,
-        append_view(log, view, script.text(), Some(after), answer)
-    )
 }

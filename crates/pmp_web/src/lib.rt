@@ -10,21 +10,19 @@
 #![tactic(auto)]
 
 ghost use Rattle.std.specs.Prelude.{Some};
-ghost use Rattle.pmp_audit.specs.AskedFile.{FileRefuses};
-ghost use Rattle.pmp_audit.specs.View.{ViewSays};
 ghost use Rattle.pmp_audit.specs.WriteList.{WritesRefuse};
-ghost use Rattle.pmp_audit.specs.declared.view.View.TheVariants.{Entries, Picture, Registers, Runs};
 ghost use Rattle.pmp_audit.specs.RightsDiff.{DiffRefuses};
-ghost use Rattle.pmp_web.specs.Answers.{Answers, AnswersCheck, AnswersVerdict, CountSays, DiffAnswerSays, RowsSay};
+ghost use Rattle.pmp_web.specs.Answers.{Answers, AnswersCheck, AnswersVerdict, AnswersView, CountSays, DiffAnswerSays, RowsSay};
 ghost use Rattle.pmp_web.specs.Demand.{question_of};
+ghost use Rattle.pmp_web.specs.Request.{view_of};
 ghost use Rattle.pmp_web.specs.Rooms.{script_in, text_in};
 
 mod answering;
 mod request;
 mod rooms;
 
-use answering::{ANSWERED, Log, append_count, refuse, refuse_question, tell, view};
-use pmp_audit::{View, append_check, append_diff, append_verdict, append_writes};
+use answering::{ANSWERED, Log, append_count, refuse, refuse_question, tell};
+use pmp_audit::{append_check, append_diff, append_verdict, append_view, append_writes};
 use pmp_text::Refusal;
 pub use rooms::{Answer, Demand, Script};
 
@@ -37,40 +35,24 @@ pub extern "C" fn tilvenka_page_publications(script: &Script, answer: &mut Answe
     tell!(answer, append_count(script.text(), answer))
 }
 
-/// The runs after so many publications, as `pmp map` writes them.
+/// What is shown after so many publications: 0 the runs as `pmp map` writes them, 1 their picture, 2 the entries, 3 the
+/// registers. A number that names nothing is told before the script is read, as 24.
 #[unsafe(no_mangle)]
-pub extern "C" fn tilvenka_page_map(script: &Script, after: u64, answer: &mut Answer) -> u32
-    ensures { let script = script_in script.now in
-        Answers (ViewSays Runs script (Some after) tt) (FileRefuses script (Some after)) result answer.new }
+pub extern "C" fn tilvenka_page_view(
+    script: &Script,
+    after: u64,
+    view: u32,
+    answer: &mut Answer,
+) -> u32
+    ensures { AnswersView (script_in script.now) after (view_of view) result answer.new }
 {
-    view(View::Runs, script, after, answer)
-}
-
-/// The picture of the runs, as `pmp picture` writes it.
-#[unsafe(no_mangle)]
-pub extern "C" fn tilvenka_page_picture(script: &Script, after: u64, answer: &mut Answer) -> u32
-    ensures { let script = script_in script.now in
-        Answers (ViewSays Picture script (Some after) tt) (FileRefuses script (Some after)) result answer.new }
-{
-    view(View::Picture, script, after, answer)
-}
-
-/// The entries, as `pmp entries` writes them.
-#[unsafe(no_mangle)]
-pub extern "C" fn tilvenka_page_entries(script: &Script, after: u64, answer: &mut Answer) -> u32
-    ensures { let script = script_in script.now in
-        Answers (ViewSays Entries script (Some after) tt) (FileRefuses script (Some after)) result answer.new }
-{
-    view(View::Entries, script, after, answer)
-}
-
-/// The registers, as `pmp dump` writes them.
-#[unsafe(no_mangle)]
-pub extern "C" fn tilvenka_page_registers(script: &Script, after: u64, answer: &mut Answer) -> u32
-    ensures { let script = script_in script.now in
-        Answers (ViewSays Registers script (Some after) tt) (FileRefuses script (Some after)) result answer.new }
-{
-    view(View::Registers, script, after, answer)
+    match request::view_of(view) {
+        Some(view) => tell!(
+            answer,
+            append_view(&mut Log::new(), view, script.text(), Some(after), answer)
+        ),
+        None => refuse_question(answer, Refusal::BadWord),
+    }
 }
 
 /// What each event of the script did to a register, as `pmp writes` writes it.

@@ -1,46 +1,38 @@
 //! What is asked, as numbers.
 
-ghost use Rattle.std.specs.Prelude.{◌≡◌, IfErr, IfOk, None, Some};
+ghost use Rattle.std.specs.Prelude.{◌≡◌, IfErr, IfOk};
 ghost use Rattle.pmp_web.specs.Demand.{demand_of, kinds_of, modes_of, pace_of, question_of};
-ghost use Rattle.pmp_web.specs.Request.{IsNamed, kind_of, mode_of, no_access};
+ghost use Rattle.pmp_map.specs.Request.{IsNamed};
+ghost use Rattle.pmp_web.specs.Request.{NamesNone, view_of};
 
 use crate::rooms::Demand;
-use pmp_audit::Pace;
-use pmp_core::{Access, Kind, Mode};
+use pmp_audit::{Pace, View};
+use pmp_core::{Access, Kind};
+use pmp_map::{kind_of, mode_of};
 use pmp_text::{Kinds, Modes, PolicyFields, Refusal};
-
-fn mode_of(number: u32) -> Option<Mode>
-    ensures { result ≡ mode_of number }
-{
-    match number {
-        0 => Some(Mode::U),
-        1 => Some(Mode::S),
-        3 => Some(Mode::M),
-        _ => None,
-    }
-}
-
-fn kind_of(number: u32) -> Option<Kind>
-    ensures { result ≡ kind_of number }
-{
-    match number {
-        0 => Some(Kind::Fetch),
-        1 => Some(Kind::Load),
-        2 => Some(Kind::Store),
-        _ => None,
-    }
-}
 
 /// The access that these numbers name.
 pub fn access_of(mode: u32, kind: u32, start: u64, length: u64) -> Result<Access, Refusal>
-    ensures ok { IfOk result (λ access. (no_access mode kind start length ≡ None)
-        × IsNamed access mode kind start length) }
-    ensures err { IfErr result (λ refusal. no_access mode kind start length ≡ Some refusal) }
+    ensures ok { IfOk result (λ access. IsNamed access mode kind start length) }
+    ensures err { IfErr result (NamesNone mode kind start length) }
 {
     let (Some(mode), Some(kind)) = (mode_of(mode), kind_of(kind)) else {
         return Err(Refusal::BadWord);
     };
     Ok(Access::new(mode, kind, start, length)?)
+}
+
+/// What a number asks to be shown.
+pub fn view_of(number: u32) -> Option<View>
+    ensures { result ≡ view_of number }
+{
+    match number {
+        0 => Some(View::Runs),
+        1 => Some(View::Picture),
+        2 => Some(View::Entries),
+        3 => Some(View::Registers),
+        _ => None,
+    }
 }
 
 /// A row of a policy that is asked about, with its number.

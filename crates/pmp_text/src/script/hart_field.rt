@@ -102,39 +102,15 @@ impl HartField {
     pub fn put_into(self, hart: Hart) -> Result<Hart, Refusal>
         ensures { result ≡ hart_with hart self }
     {
+        let (entries, grain) = (hart.entries(), hart.grain());
+        let (bits, has_smepmp) = (hart.address_bits(), hart.has_smepmp());
         let made = match self {
-            HartField::Entries(entries) => {
-                Hart::new(
-                    entries,
-                    hart.grain(),
-                    hart.address_bits(),
-                    hart.has_smepmp(),
-                )
-            }
-            HartField::Grain(grain) => {
-                Hart::new(
-                    hart.entries(),
-                    grain,
-                    hart.address_bits(),
-                    hart.has_smepmp(),
-                )
-            }
-            HartField::Bits(bits) => {
-                Hart::new(hart.entries(), hart.grain(), bits, hart.has_smepmp())
-            }
-            HartField::Smepmp(has_smepmp) => {
-                Hart::new(
-                    hart.entries(),
-                    hart.grain(),
-                    hart.address_bits(),
-                    has_smepmp,
-                )
-            }
+            HartField::Entries(entries) => Hart::new(entries, grain, bits, has_smepmp),
+            HartField::Grain(grain) => Hart::new(entries, grain, bits, has_smepmp),
+            HartField::Bits(bits) => Hart::new(entries, grain, bits, has_smepmp),
+            HartField::Smepmp(has_smepmp) => Hart::new(entries, grain, bits, has_smepmp),
         };
-        match made {
-            Ok(hart) => Ok(hart),
-            Err(fault) => Err(kind_of(fault)),
-        }
+        made.map_err(kind_of)
     }
 }
 

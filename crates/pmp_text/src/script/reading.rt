@@ -3,8 +3,7 @@
 ghost use Rattle.std.specs.Prelude.{◌≡◌, Err, IfErr, IfOk, Ok, OnOk};
 ghost use Rattle.pmp_text.specs.EventLogs.{nothing_kept};
 ghost use Rattle.pmp_text.specs.Outcomes.{Gives};
-ghost use Rattle.pmp_text.specs.Steps.Progress.{after_line, concluded, finished, nothing_begun, with_expected};
-ghost use Rattle.pmp_text.specs.Steps.Progress.{with_event, with_progress, with_publish, with_head, after_head};
+ghost use Rattle.pmp_text.specs.Steps.Progress.{after_line, concluded, finished, nothing_begun};
 ghost use Rattle.pmp_text.specs.Steps.Reading.{IsReading, reading_of};
 ghost use Rattle.pmp_text.specs.Steps.Views.{seen_line};
 
@@ -18,7 +17,7 @@ use crate::script::start::start;
 use crate::script::statement::{Statement, read_statement};
 use crate::script::version::Version;
 use crate::script::{Script, ScriptFault, shown_size};
-use pmp_core::{Csr, Event, RegFile};
+use pmp_core::RegFile;
 
 /// The batch that is open in a log, and the head.
 #[derive(Drop)]
@@ -39,51 +38,6 @@ impl ScriptReading {
         }
     }
 
-    fn publish<L: EventLog>(&mut self, log: &mut L) -> Result<(), ScriptFault>
-        requires { IsReading (L.kept log.old) self.old }
-        ensures reading { OnOk result (IsReading (L.kept log.new) self.new) }
-        ensures published { Gives (λ _. reading_of (L.kept log.new) self.new) result
-            (Ok (with_publish (reading_of (L.kept log.old) self.old))) }
-    {
-        self.batch.publish(log)?;
-        self.head.end();
-        Ok(())
-    }
-
-    fn add<L: EventLog>(&mut self, log: &mut L, line: u64, event: Event) -> Result<(), ScriptFault>
-        requires { IsReading (L.kept log.old) self.old }
-        ensures reading { OnOk result (IsReading (L.kept log.new) self.new) }
-        ensures added { let so_far = reading_of (L.kept log.old) self.old in
-            Gives (λ _. reading_of (L.kept log.new) self.new) result
-            (with_progress so_far (with_event so_far.progress line event)) }
-    {
-        self.batch.add(log, line, event)?;
-        self.head.end();
-        Ok(())
-    }
-
-    fn expect<L: EventLog>(
-        &mut self,
-        log: &mut L,
-        line: u64,
-        register: Csr,
-        value: u64,
-    ) -> Result<(), ScriptFault>
-        requires { IsReading (L.kept log.old) self.old }
-        ensures reading { OnOk result (IsReading (L.kept log.new) self.new) }
-        ensures expected { Gives (λ _. reading_of (L.kept log.new) self.new) result
-            (Ok (with_expected (reading_of (L.kept log.old) self.old) line register value)) }
-    {
-        let events = log.events().len() as u64;
-        log.expect(Expectation {
-            register,
-            value,
-            line,
-            events,
-        })?;
-        Ok(())
-    }
-
     /// Takes a significant line that isn't the script's first one. After an error the log is of no use.
     pub fn take_line<L: EventLog>(
         &mut self,
@@ -97,12 +51,23 @@ impl ScriptReading {
             (after_line version (reading_of (L.kept log.old) self.old) (seen_line line.entry)) }
     {
         match read_statement(version, line.bytes) {
-            Ok(Statement::Event(event)) => self.add(log, line.number, event),
-            Ok(Statement::Publish) => self.publish(log),
-            Ok(Statement::Head(statement)) => self.head.take(line.number, statement),
-            Ok(Statement::Expect(register, value)) => {
-                self.expect(log, line.number, register, value)
+            Ok(Statement::Event(event)) => {
+                self.batch.add(log, line.number, event)?;
+                self.head.end();
+                Ok(())
             }
+            Ok(Statement::Publish) => {
+                self.batch.publish(log)?;
+                self.head.end();
+                Ok(())
+            }
+            Ok(Statement::Head(statement)) => self.head.take(line.number, statement),
+            Ok(Statement::Expect(register, value)) => Ok(log.expect(Expectation {
+                register,
+                value,
+                line: line.number,
+                events: log.events().len() as u64,
+            })?),
             Err(flaw) => Err(flaw.at_line(line.number)),
         }
     }

@@ -5,7 +5,6 @@ ghost use Rattle.pmp_text.specs.Heads.{is_same, same_register};
 ghost use Rattle.pmp_text.specs.Lines.{words};
 ghost use Rattle.pmp_text.specs.Statements.{assignment, statement_of, head_statement, two_of};
 ghost use Rattle.pmp_text.specs.Statements.{without_operands};
-ghost use Rattle.pmp_text.specs.Statements.{expect_statement, hart_statement, set_statement, write_statement};
 
 use crate::flaw::Flaw;
 use crate::names::read_register;
@@ -93,35 +92,6 @@ fn read_assignment(operands: Words) -> Result<(Csr, u64), Flaw>
     Ok((csr, value))
 }
 
-fn read_write(operands: Words) -> Result<Statement, Flaw>
-    ensures { result ≡ write_statement (words operands.entry.rest.now) }
-{
-    let (csr, value) = read_assignment(operands)?;
-    Ok(Statement::Event(Event::Write(csr, value)))
-}
-
-fn read_set(operands: Words) -> Result<Statement, Flaw>
-    ensures { result ≡ set_statement (words operands.entry.rest.now) }
-{
-    let (csr, value) = read_assignment(operands)?;
-    Ok(Statement::Head(HeadStatement::Set(csr, value)))
-}
-
-fn read_expect(operands: Words) -> Result<Statement, Flaw>
-    ensures { result ≡ expect_statement (words operands.entry.rest.now) }
-{
-    let (csr, value) = read_assignment(operands)?;
-    Ok(Statement::Expect(csr, value))
-}
-
-fn read_hart(operands: Words) -> Result<Statement, Flaw>
-    ensures { result ≡ hart_statement (words operands.entry.rest.now) }
-{
-    let (name, value) = read_two(operands)?;
-    let field = read_field(name, value)?;
-    Ok(Statement::Head(HeadStatement::Hart(field)))
-}
-
 /// The statement, where no word is left behind it.
 fn without_operands(statement: Statement, mut operands: Words) -> Result<Statement, Flaw>
     ensures { result ≡ without_operands statement (words operands.entry.rest.now) }
@@ -137,11 +107,14 @@ fn read_head_statement(word: &[u8], operands: Words) -> Result<Statement, Flaw>
     ensures { result ≡ head_statement word.now (words operands.entry.rest.now) }
 {
     if word == b"hart".as_slice() {
-        read_hart(operands)
+        let (name, value) = read_two(operands)?;
+        Ok(Statement::Head(HeadStatement::Hart(read_field(name, value)?)))
     } else if word == b"set".as_slice() {
-        read_set(operands)
+        let (csr, value) = read_assignment(operands)?;
+        Ok(Statement::Head(HeadStatement::Set(csr, value)))
     } else if word == b"expect".as_slice() {
-        read_expect(operands)
+        let (csr, value) = read_assignment(operands)?;
+        Ok(Statement::Expect(csr, value))
     } else {
         Err(Refusal::BadLine.part(0))
     }
@@ -157,7 +130,8 @@ pub fn read_statement(version: Version, line: &[u8]) -> Result<Statement, Flaw>
         return Err(Refusal::BadLine.whole());
     };
     if word == b"write".as_slice() {
-        read_write(words)
+        let (csr, value) = read_assignment(words)?;
+        Ok(Statement::Event(Event::Write(csr, value)))
     } else if word == b"reset".as_slice() {
         without_operands(Statement::Event(Event::Reset), words)
     } else if word == b"publish".as_slice() {

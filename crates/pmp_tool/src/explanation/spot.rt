@@ -30,10 +30,10 @@ impl<'a> Spot<'a> {
     /// The line of a row with this number, and its field with this index, from 0; row 0 is the header. Fields in quotes
     /// aren't told apart.
     pub fn of_row(text: &'a [u8], row: u64, field: Option<usize>) -> Option<Spot<'a>> {
-        let start = row_start(text, row)?;
+        let text = text.strip_prefix(BYTE_ORDER_MARK).unwrap_or(text);
+        let (start, number) = row_start(text, row)?;
         let line = until(text.get(start..)?, b"\r\n");
         let field = field.filter(|_| !line.contains(&b'"'));
-        let number = line_number(text, start);
         Some(Spot::new(number, line, field, b","))
     }
 
@@ -134,38 +134,25 @@ fn line_at(text: &[u8], number: u64) -> &[u8] {
     }
 }
 
-/// Where the record of a row begins: the lines that aren't blank are the header, which is row 0, and then the rows. No
-/// row before one at fault has a line end in a field, and a byte-order mark belongs to none.
-fn row_start(text: &[u8], row: u64) -> Option<usize> {
+/// Where the record of a row begins, and the number of its line, from 1: the lines that aren't blank are the header,
+/// which is row 0, and then the rows. A line ends by LF, CR, or CR and LF. No row before one at fault has a line end in
+/// a field.
+fn row_start(text: &[u8], row: u64) -> Option<(usize, u64)> {
     let mut left = row;
-    let mut is_inside = false;
-    let begin = if text.starts_with(BYTE_ORDER_MARK) {
-        BYTE_ORDER_MARK.len()
-    } else {
-        0
-    };
-    for (at, byte) in text.iter().enumerate().skip(begin) {
-        let is_end = is_line_end(*byte);
-        if !is_end && !is_inside {
+    let mut number = 1u64;
+    let mut before = b'\n';
+    for (at, byte) in text.iter().enumerate() {
+        if is_line_end(*byte) {
+            if before != b'\r' || *byte != b'\n' {
+                number = number.saturating_add(1);
+            }
+        } else if is_line_end(before) {
             if left == 0 {
-                return Some(at);
+                return Some((at, number));
             }
             left -= 1;
         }
-        is_inside = !is_end;
+        before = *byte;
     }
     None
-}
-
-/// The number of the line of a table that begins at this byte, from 1. A line ends by LF, CR, or CR and LF.
-fn line_number(text: &[u8], start: usize) -> u64 {
-    let mut number = 1u64;
-    let mut was_return = false;
-    for byte in text.iter().take(start) {
-        if is_line_end(*byte) && !(was_return && *byte == b'\n') {
-            number = number.saturating_add(1);
-        }
-        was_return = *byte == b'\r';
-    }
-    number
 }
