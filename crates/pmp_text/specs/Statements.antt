@@ -74,22 +74,30 @@ grain_number word = elim (word_number word) [
 ]
 
 -- `yes` or `no`
-abbrev pub smepmp_field : List ℕ → Result HartField Flaw
+abbrev pub smepmp_field : List ℕ → Result HartField Refusal
 smepmp_field word =
     if bytes_eq word (codes "yes") then Ok (Smepmp true)
-    else (if bytes_eq word (codes "no") then Ok (Smepmp false) else Err (part 2 BadLine))
+    else (if bytes_eq word (codes "no") then Ok (Smepmp false) else Err BadLine)
 
-abbrev pub numbered : (ℕ → HartField) → Result ℕ Refusal → Result HartField Flaw
+abbrev pub numbered : (ℕ → HartField) → Result ℕ Refusal → Result HartField Refusal
 numbered field (Ok number) = Ok (field number)
-numbered field (Err kind) = Err (part 2 kind)
+numbered field (Err kind) = Err kind
 
 -- `entries`, `grain`, `bits` or `smepmp`, and its value
+abbrev pub field_named : (name value : List ℕ) → Option (Result HartField Refusal)
+field_named name value =
+    if bytes_eq name (codes "entries") then Some (numbered (λ n. Entries n) (byte_number BadEntries value))
+    else (if bytes_eq name (codes "grain") then Some (numbered (λ n. Grain n) (grain_number value))
+    else (if bytes_eq name (codes "bits") then Some (numbered (λ n. Bits n) (byte_number BadBits value))
+    else (if bytes_eq name (codes "smepmp") then Some (smepmp_field value) else None)))
+
+-- what is at fault is the value, or else the name
 abbrev pub field_of : (name value : List ℕ) → Result HartField Flaw
-field_of name value =
-    if bytes_eq name (codes "entries") then numbered (λ n. Entries n) (byte_number BadEntries value)
-    else (if bytes_eq name (codes "grain") then numbered (λ n. Grain n) (grain_number value)
-    else (if bytes_eq name (codes "bits") then numbered (λ n. Bits n) (byte_number BadBits value)
-    else (if bytes_eq name (codes "smepmp") then smepmp_field value else Err (part 1 BadLine))))
+field_of name value = elim (field_named name value) [
+  | Some (Ok field) ↦ Ok field
+  | Some (Err kind) ↦ Err (part 2 kind)
+  | None ↦ Err (part 1 BadLine)
+]
 
 abbrev pub hart_said : Result HartField Flaw → Result Statement Flaw
 hart_said (Ok field) = Ok (statement.Head (Hart field))

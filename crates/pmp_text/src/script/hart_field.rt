@@ -3,7 +3,7 @@
 ghost use Rattle.std.specs.Prelude.{◌≡◌, ◌<◌, ◌==◌, IfSome, position};
 ghost use Rattle.pmp_text.specs.Heads.{hart_with, hart_kind, same_field};
 ghost use Rattle.pmp_text.specs.declared.script.hart_field.TheConstants.{GRAINS};
-ghost use Rattle.pmp_text.specs.Statements.{byte_number, field_of, grain_number, smepmp_field};
+ghost use Rattle.pmp_text.specs.Statements.{byte_number, field_named, field_of, grain_number, smepmp_field};
 
 use crate::flaw::Flaw;
 use crate::numbers::read_word_number;
@@ -52,15 +52,30 @@ fn read_grain(word: &[u8]) -> Result<u8, Refusal>
     Ok(place as u8)
 }
 
-fn read_smepmp(word: &[u8]) -> Result<HartField, Flaw>
+fn read_smepmp(word: &[u8]) -> Result<HartField, Refusal>
     ensures { result ≡ smepmp_field word.now }
 {
-    if word == b"yes".as_slice() {
-        Ok(HartField::Smepmp(true))
-    } else if word == b"no".as_slice() {
-        Ok(HartField::Smepmp(false))
+    match word {
+        b"yes" => Ok(HartField::Smepmp(true)),
+        b"no" => Ok(HartField::Smepmp(false)),
+        _ => Err(Refusal::BadLine),
+    }
+}
+
+/// What a value says as the field with this name.
+fn read_value(name: &[u8], value: &[u8]) -> Option<Result<HartField, Refusal>>
+    ensures { result ≡ field_named name.now value.now }
+{
+    if name == b"entries".as_slice() {
+        Some(read_byte(value, Refusal::BadEntries).map(HartField::Entries))
+    } else if name == b"grain".as_slice() {
+        Some(read_grain(value).map(HartField::Grain))
+    } else if name == b"bits".as_slice() {
+        Some(read_byte(value, Refusal::BadBits).map(HartField::Bits))
+    } else if name == b"smepmp".as_slice() {
+        Some(read_smepmp(value))
     } else {
-        Err(Refusal::BadLine.part(2))
+        None
     }
 }
 
@@ -68,20 +83,8 @@ fn read_smepmp(word: &[u8]) -> Result<HartField, Flaw>
 pub fn read_field(name: &[u8], value: &[u8]) -> Result<HartField, Flaw>
     ensures { result ≡ field_of name.now value.now }
 {
-    if name == b"entries".as_slice() {
-        let entries = read_byte(value, Refusal::BadEntries).map_err(|kind| kind.part(2))?;
-        Ok(HartField::Entries(entries))
-    } else if name == b"grain".as_slice() {
-        let grain = read_grain(value).map_err(|kind| kind.part(2))?;
-        Ok(HartField::Grain(grain))
-    } else if name == b"bits".as_slice() {
-        let bits = read_byte(value, Refusal::BadBits).map_err(|kind| kind.part(2))?;
-        Ok(HartField::Bits(bits))
-    } else if name == b"smepmp".as_slice() {
-        read_smepmp(value)
-    } else {
-        Err(Refusal::BadLine.part(1))
-    }
+    let said = read_value(name, value).ok_or(Refusal::BadLine.part(1))?;
+    said.map_err(|kind| kind.part(2))
 }
 
 impl HartField {

@@ -49,22 +49,9 @@ impl HeadStatement {
     {
         match (self, other) {
             (HeadStatement::Hart(field), HeadStatement::Hart(other)) => field.is_same(other),
-            (HeadStatement::Set(register, _), HeadStatement::Set(other, _)) => {
-                is_same_register(register, other)
-            }
+            (HeadStatement::Set(register, _), HeadStatement::Set(other, _)) => register == other,
             _ => false,
         }
-    }
-}
-
-fn is_same_register(register: Csr, other: Csr) -> bool
-    ensures { result ≡ same_register register other }
-{
-    match (register, other) {
-        (Csr::Cfg(number), Csr::Cfg(other)) => number == other,
-        (Csr::Addr(number), Csr::Addr(other)) => number == other,
-        (Csr::Mseccfg, Csr::Mseccfg) => true,
-        _ => false,
     }
 }
 

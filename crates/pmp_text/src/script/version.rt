@@ -22,14 +22,11 @@ pub enum Version {
 fn version_numbered(number: &[u8]) -> Option<Version>
     ensures { result ≡ version_numbered number.now }
 {
-    if number == b"1".as_slice() {
-        Some(Version::Sized(Size::Sixteen))
-    } else if number == b"2".as_slice() {
-        Some(Version::Sized(Size::SixtyFour))
-    } else if number == b"3".as_slice() {
-        Some(Version::Headed)
-    } else {
-        None
+    match number {
+        b"1" => Some(Version::Sized(Size::Sixteen)),
+        b"2" => Some(Version::Sized(Size::SixtyFour)),
+        b"3" => Some(Version::Headed),
+        _ => None,
     }
 }
 
