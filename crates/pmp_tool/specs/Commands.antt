@@ -1,6 +1,6 @@
 -- What the matches of the command line ask for.
 use Rattle.std.specs.Prelude.{Bool, ℕ, ◌-◌, ◌^◌, List, ◌&&◌, ◌||◌, Option, Some, None, unwrap_or, ok_or, Result, Ok, Err}
-use Rattle.std.specs.Prelude.{if◌then◌else◌, codes}
+use Rattle.std.specs.Prelude.{if◌then◌else◌, codes, find}
 use Rattle.std.specs.Str.{bytes_eq}
 use Rattle.clap.specs.Words.{Row, Text}
 use Rattle.pmp_core.specs.declared.access.Access.{Access}
@@ -29,6 +29,7 @@ use Rattle.pmp_tool.specs.declared.expected.Expected.TheVariants.{Allow}
 use Rattle.pmp_tool.specs.declared.jobs.TheConstants.{JOBS}
 use Rattle.pmp_text.specs.declared.refusal.Refusal.TheVariants.{BadLength, BadWord, PastEnd}
 use Rattle.pmp_tool.specs.declared.fault_line.FaultLine.{FaultLine}
+use Rattle.pmp_tool.specs.Arguments.{command_word, commands}
 use Rattle.pmp_tool.specs.Words.{and_then, asked_in, count_in, expected_named, is_bare_word, is_set, is_used}
 use Rattle.pmp_tool.specs.Words.{needed_in, of_no_word, of_word, only_named}
 

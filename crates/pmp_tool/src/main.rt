@@ -38,8 +38,8 @@ fn main(rt: HostRuntime) -> ExitCode {
         Err(refusal) => {
             let mut err = rt.stderr();
             let _ = FaultLine::from(refusal).write_to(&mut err);
-            if refusal == Refusal::BadWord {
-                let _ = explain_unread(&rt, &mut err);
+            if refusal != Refusal::Memory {
+                let _ = explain_unread(&rt, refusal, &mut err);
             }
             return ExitCode::from(refusal.status());
         }

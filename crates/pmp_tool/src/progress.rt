@@ -75,9 +75,12 @@ impl<I: Read + Drop, C: Clock, E: Write + Drop> Read for Watched<'_, I, C, E> {
 impl<'a, I: Drop, C, E: Write + Drop> Drop for Watched<'a, I, C, E> {
     fn drop(self) {
         let Watched {
+            input: _input,
+            clock: _,
             terminal,
+            bytes: _,
+            since: _,
             is_shown,
-            ..
         } = self;
         if let Some(mut terminal) = terminal {
             if is_shown {

@@ -9,7 +9,11 @@ use std::str;
 const ROOM: usize = 1 << 13;
 
 /// Explains that a word isn't UTF-8, where another one is `--explain`.
-pub fn explain_unread<R: Env, E: Write>(words: &R, err: &mut E) -> Result<(), OutputFault> {
+pub fn explain_unread<R: Env, E: Write>(
+    words: &R,
+    refusal: Refusal,
+    err: &mut E,
+) -> Result<(), OutputFault> {
     let mut room = [0; ROOM];
     let mut number = None;
     let mut asks = false;
@@ -32,7 +36,7 @@ pub fn explain_unread<R: Env, E: Write>(words: &R, err: &mut E) -> Result<(), Ou
     if let Some(number) = number {
         writeln!(err, "in word {number}, which isn't UTF-8")?;
     }
-    let wanted = Refusal::BadWord.wanted();
-    let remedy = Refusal::BadWord.remedy();
+    let wanted = refusal.wanted();
+    let remedy = refusal.remedy();
     Ok(writeln!(err, "wanted: {wanted}\nto do: {remedy}")?)
 }

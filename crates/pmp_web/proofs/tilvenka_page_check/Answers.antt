@@ -3,10 +3,8 @@ use Rattle.pmp_web.proofs.tilvenka_page_check.Goals as goal
 
 pub returns-in-Ok-append_check : goal.returns-in-Ok-append_check
 returns-in-Ok-append_check c =
-    let named = rw c.in-Ok.is at c.access_of.ensures.ok in
-    inl (c.in-Ok.access, named.1, named.0, search rules)
+    inl (c.in-Ok.access, rw c.in-Ok.is at c.access_of.ensures.ok, search rules)
 
 pub returns-in-Err-append_check : goal.returns-in-Err-append_check
 returns-in-Err-append_check c =
-    let named = rw c.in-Ok.is at c.access_of.ensures.ok in
-    inl (c.in-Ok.access, named.1, named.0, search rules)
+    inl (c.in-Ok.access, rw c.in-Ok.is at c.access_of.ensures.ok, search rules)
