@@ -1,5 +1,7 @@
 //! How far a trace was read, on a terminal.
 
+ghost use Rattle.std.specs.Prelude.{◌≡◌};
+
 use arrayvec::ArrayString;
 use std::fmt::Write as TextWrite;
 use std::io;
@@ -38,7 +40,9 @@ impl<'a, I: Drop, C: Clock, E: Write + Drop> Watched<'a, I, C, E> {
     }
 
     /// Whether a second is over since the line was written, or the first bytes came.
-    fn is_due(&mut self) -> bool {
+    fn is_due(&mut self) -> bool
+        ensures { self.new.input ≡ self.old.input }
+    {
         let Ok(now) = Instant::now(self.clock) else {
             return false;
         };
@@ -50,7 +54,9 @@ impl<'a, I: Drop, C: Clock, E: Write + Drop> Watched<'a, I, C, E> {
         self.since.replace(now).is_some()
     }
 
-    fn show(&mut self) {
+    fn show(&mut self)
+        ensures { self.new.input ≡ self.old.input }
+    {
         let mut line = ArrayString::<LINE>::new();
         let _ = write!(line, "\r{} MiB read", self.bytes >> 20);
         if let Some(terminal) = &mut self.terminal {
