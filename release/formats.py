@@ -56,5 +56,5 @@ def block_of(text):
 
 
 def fields_of(blocks):
-    """The plain rows of a section's tables by their first cells."""
-    return {plain(name): plain(text) for kind, rows in blocks if kind == "table" for name, text in rows}
+    """The plain rows of a section's tables of two columns, by their first cells."""
+    return {plain(it[0]): plain(it[1]) for kind, rows in blocks if kind == "table" for it in rows if len(it) == 2}

@@ -106,9 +106,9 @@ address. Further ones aren't told.
 
 `pmp dump` writes each register's name, a space and its value.
 
-  pmpcfg0 0x0000000000000000
+  pmpcfg0 0x000000000000001b
   pmpcfg2 0x0000000000000000
-  pmpaddr0 0x0000000000000000
+  mseccfg 0x0000000000000000
 
 `pmp map` writes `FIRST,LAST,OWNER,MRIGHTS,SURIGHTS` for each run: bytes in a
 row that have one owner, the lowest-numbered entry that matches them, or none.
@@ -131,7 +131,6 @@ entry, from entry 0 on. An entry is frozen where its lock bit is set and
 rule-locking bypass (RLB) is 0.
 
   0,napot,00000000000000,00000000000007,---,---,frozen,frozen,1,1
-  1,off,-,-,rwx,---,-,-,,
 
 `pmp writes` writes
 `N,PUBLICATION,LINE,REGISTER,WRITTEN,BEFORE,AFTER,EFFECT,REASONS,ENTRIES` for
@@ -318,8 +317,8 @@ Exit status:
   3  no answer: memory, an input, the output or a checker failed
 
 Example:
-  echo 'pmp 1' | pmp dump stdin | head -n 3
-  It answers pmpcfg0 0x0000000000000000
+  printf 'pmp 1\\nwrite pmpcfg0 0x1b\\npublish\\n' | pmp dump stdin | grep cfg
+  It answers pmpcfg0 0x000000000000001b
 
 docs/FORMATS.md describes all of it byte by byte, and has every refusal by its
 number.";
@@ -380,7 +379,7 @@ Exit status:
   3  no answer: memory, an input, the output or a checker failed
 
 Example:
-  echo 'pmp 1' | pmp picture stdin | head -n 1
+  echo 'pmp 1' | pmp picture stdin | grep '<svg'
   It answers <svg xmlns='http://www.w3.org/2000/svg' width='960' height='200' viewBox='0 0 960 200'>
 
 docs/FORMATS.md describes all of it byte by byte, and has every refusal by its
@@ -423,7 +422,7 @@ Exit status:
   3  no answer: memory, an input, the output or a checker failed
 
 Example:
-  printf 'pmp 1\\nwrite pmpcfg0 0x98\\npublish\\n' | pmp entries stdin | head -n 2
+  printf 'pmp 1\\nwrite pmpcfg0 0x98\\npublish\\n' | pmp entries stdin | grep frozen
   It answers 0,napot,00000000000000,00000000000007,---,---,frozen,frozen,1,1
 
 docs/FORMATS.md describes all of it byte by byte, and has every refusal by its
