@@ -7,7 +7,7 @@ TOP = os.path.dirname(os.path.dirname(os.path.realpath(__file__)))
 FORMATS = "docs/FORMATS.md"
 REFUSALS = "crates/pmp_text/src/refusal.rt"
 # What no text for people has: marks of Markdown, of HTML and of roff.
-MARKS = re.compile(r"\*\*|<!--|^\.[A-Z]{1,2} |\\[-&(]|\\f[BIR]|\b[BIR]R pmp|\b[BIR] pmp", re.MULTILINE)
+MARKS = re.compile(r"\*\*|<!--|^\.[A-Z]{1,2} |\\[-&(]|\\f[BIR]|\b[BIR]{1,2} pmp\b", re.MULTILINE)
 
 
 def text_of(path):
@@ -20,11 +20,11 @@ def refusals(text=None):
     text = text or text_of(REFUSALS)
     numbers = {name: int(number) for name, number in re.findall(r"^    (\w+) = (\d+),$", text, re.MULTILINE)}
     texts = re.findall(r'Refusal::(\w+) => \(\s*"(\w+)",\s*"([^"]*)",\s*"([^"]*)",?\s*\)', text)
-    third = re.findall(r"Refusal::(\w+)", " ".join(re.findall(r"^ *((?:Refusal::\w+[ |]*)+)=> 3,$", text, re.MULTILINE)))
+    third = re.findall(r"Refusal::(\w+)", "".join(re.findall(r"^.* => 3,$", text, re.MULTILINE)))
     if not numbers or not third or [it[:2] for it in texts] != [(name, name) for name in numbers]:
         sys.exit(f"{REFUSALS} isn't as known here")
-    return {numbers[name]: {"name": name, "wanted": plain(wanted), "remedy": plain(remedy), "status": 2 + (name in third)}
-            for name, _, wanted, remedy in texts}
+    return {numbers[name]: {"name": name, "wanted": plain(wanted), "remedy": plain(remedy),
+                            "status": 3 if name in third else 2} for name, _, wanted, remedy in texts}
 
 
 def plain(text, quote=""):

@@ -56,8 +56,9 @@ register once. A `reset` leaves nothing of what is set, and keeps the hart.
 A number is 1 to 20 decimal digits, or `0x` and 1 to 16 hexadecimal digits, and
 is below 2^64. Without `0x` it is decimal, whatever its digits.
 
-docs/FORMATS.md describes all of it byte by byte, and has every refusal by its
-number.";
+`pmp help script`, `pmp help trace` and `pmp help rows` tell of formats, and
+`pmp help COMMAND` of a command, its words and what it writes. docs/FORMATS.md
+describes all of it byte by byte, and has every refusal by its number.";
 
 pub const TRACE: &str = "\
 A trace lists accesses, and for each how many publications of a script are done
@@ -84,8 +85,9 @@ there are no comments.
 A number is 1 to 20 decimal digits, or `0x` and 1 to 16 hexadecimal digits, and
 is below 2^64. Without `0x` it is decimal, whatever its digits.
 
-docs/FORMATS.md describes all of it byte by byte, and has every refusal by its
-number.";
+`pmp help script`, `pmp help trace` and `pmp help rows` tell of formats, and
+`pmp help COMMAND` of a command, its words and what it writes. docs/FORMATS.md
+describes all of it byte by byte, and has every refusal by its number.";
 
 pub const ROWS: &str = "\
 Each line of an answer ends with LF. A register's value is `0x` and 16
@@ -145,8 +147,9 @@ the modes do, whoever owns the bytes, from the lowest address on.
 
   00000000000000,00000000000007,rwx,---,rwx,rw-,more
 
-docs/FORMATS.md describes all of it byte by byte, and has every refusal by its
-number.";
+`pmp help script`, `pmp help trace` and `pmp help rows` tell of formats, and
+`pmp help COMMAND` of a command, its words and what it writes. docs/FORMATS.md
+describes all of it byte by byte, and has every refusal by its number.";
 
 pub const MORE: &str = "\
 Exit status:
@@ -163,9 +166,9 @@ Example:
   echo 'pmp 1' | pmp check stdin U load 0x80000ff8 8 --expect fault
   It answers 1,fault,5,none,
 
-`pmp help COMMAND` tells of a command and its words and lines, and `pmp help
-script`, `pmp help trace` and `pmp help rows` of the formats. docs/FORMATS.md
-describes them byte by byte, and has every refusal by its number.";
+`pmp help script`, `pmp help trace` and `pmp help rows` tell of formats, and
+`pmp help COMMAND` of a command, its words and what it writes. docs/FORMATS.md
+describes all of it byte by byte, and has every refusal by its number.";
 
 pub const MORE_OF_CHECK: &str = "\
 A number is 1 to 20 decimal digits, or `0x` and 1 to 16 hexadecimal digits, and
