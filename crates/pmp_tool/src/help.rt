@@ -1,4 +1,4 @@
-//! What the program's help says, but for the texts behind a command's arguments, which `topics.rt` has.
+//! What the program's help says. `topics.rt` has what stands behind the arguments of a command.
 
 pub use crate::topics::MORE;
 
