@@ -309,6 +309,12 @@ is below 2^64. Without `0x` it is decimal, whatever its digits.
 
 `pmp dump` writes each register's name, a space and its value.
 
+The order depends on the script's version:
+- 1: pmpcfg0, pmpcfg2, pmpaddr0 to pmpaddr15, mseccfg: 19 lines
+- 2: pmpcfg0, pmpcfg2, pmpcfg4, .. pmpcfg14, pmpaddr0 to pmpaddr63, mseccfg: 73
+  lines
+- 3: likewise those with bytes and addresses of the hart's entries, and mseccfg
+
 With `--script` it writes a script of version 3 that begins with this very
 register file, and has no publication: the four lines that say the hart, and a
 `set` line, in the same order, for each register that keeps another value than
