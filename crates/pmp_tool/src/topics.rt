@@ -13,8 +13,7 @@ It has at most 1,048,576 bytes. Spaces and tabs part words, and lines end with
 LF, or CR and LF. The first line is `pmp 1` for a unit of 16 entries, `pmp 2`
 for one of 64, or `pmp 3` for any hart. A line without words, and one whose
 first word begins with `#`, is skipped. Every other line is one of these:
-  write NAME VALUE  a write of VALUE, a number, to the register NAME joins the
-                    open batch
+  write NAME VALUE  a write of VALUE to the register NAME joins the open batch
   reset             a reset of the hart joins the open batch
   publish           the open batch, perhaps empty, becomes the next publication;
                     then an empty batch is open
@@ -29,6 +28,9 @@ is open at the end. The words in capitals are:
 The programs in `examples/` make scripts of QEMU's traces, Spike's logs and a
 debugger's registers.
 
+In version 3 a script also says which hart it is, and what its registers keep at
+first:
+
   pmp 3
   hart entries 8
   hart smepmp no
@@ -39,7 +41,7 @@ debugger's registers.
   expect pmpcfg0 0x99
   publish
 
-In version 3 a line behind the first may also be one of these:
+A line behind the first may be one of these too:
   hart entries N     the hart has so many entries, 0 to 64; where nothing is
                      said, 16
   hart grain BYTES   its grain: 4, 8, 16 and so on to 4,096 bytes; else 4
