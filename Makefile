@@ -8,6 +8,8 @@
 # make dist-test            makes one, and wants each tool that its check asks for
 # make page                 builds the page for a browser, web/out/pmp.html, and its module
 # make page-test            compares in headless Chromium what it answers and shows with what the program answers
+# make docs                 writes what the help and the man page have of docs/FORMATS.md, and where a limit or a refusal is
+#                           told
 # make soak SECONDS=..      lets a publisher and eight checkers run so long, and compares each answer with a replay
 # make conformance          tries QEMU's unit, or that of HART="simulator ELF", by cases of each rule
 # make qemu                 builds QEMU 7.2 as it is and over the library, boots OpenSBI and U-Boot on both, and compares
@@ -26,7 +28,7 @@ export PREFIX DESTDIR
 # ci has one process for each, which is less work than several for one.
 LANES = $(shell awk -v most="$$(nproc)" '/^MemAvailable/ { n = int($$2 / 3500000); print n < 1 ? 1 : n < most ? n : most }' /proc/meminfo)
 
-.PHONY: build library page page-test test conformance qemu install install-program install-library uninstall dist \
+.PHONY: build library page page-test docs test conformance qemu install install-program install-library uninstall dist \
     dist-test soak stress bench bench-decide bench-threads bench-limits bench-audit bench-page
 
 build:
@@ -44,6 +46,9 @@ page-test:
 	@$(MAKE) build page
 	checks/page $(PROGRAM)
 
+docs:
+	@release/documents
+
 # rt ci proves and builds all from nothing. What comes after it goes over the libraries that it leaves, so no others may
 # stand in their places, and the program that it leaves is noted as of the sources from before.
 # checks/all runs the parts and adds up what they tell. They say make, since by $(MAKE) make -n would run them too.
@@ -58,10 +63,10 @@ test:
 	    'checks/conformance $(PROGRAM)' \
 	    'checks/program $(PROGRAM)' \
 	    checks/launcher \
+	    'release/documents --check' \
 	    'checks/documents $(PROGRAM)' \
 	    'checks/converters $(PROGRAM)' \
 	    checks/files \
-	    checks/limits \
 	    checks/summing \
 	    'checks/hostile $(PROGRAM)' \
 	    'checks/machines $(PROGRAM)' \

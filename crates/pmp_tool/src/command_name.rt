@@ -4,7 +4,7 @@ ghost use Rattle.std.specs.Prelude.{◌≡◌};
 ghost use Rattle.pmp_tool.specs.Arguments.{arguments_of, command_word};
 
 use crate::argument::Argument;
-use crate::help;
+use crate::{help, topics};
 
 /// What the program does.
 #[derive(Clone, Copy)]
@@ -39,15 +39,15 @@ impl CommandName {
         ensures { result.0.now ≡ command_word self }
     {
         match self {
-            CommandName::Check => ("check", help::CHECK, help::MORE_OF_CHECK),
-            CommandName::Audit => ("audit", help::AUDIT, help::MORE_OF_AUDIT),
-            CommandName::Policy => ("policy", help::POLICY, help::MORE_OF_POLICY),
-            CommandName::Dump => ("dump", help::DUMP, help::MORE_OF_DUMP),
-            CommandName::Map => ("map", help::MAP, help::MORE_OF_MAP),
-            CommandName::Picture => ("picture", help::PICTURE, help::MORE_OF_PICTURE),
-            CommandName::Entries => ("entries", help::ENTRIES, help::MORE_OF_ENTRIES),
-            CommandName::Writes => ("writes", help::WRITES, help::MORE_OF_WRITES),
-            CommandName::Diff => ("diff", help::DIFF, help::MORE_OF_DIFF),
+            CommandName::Check => ("check", help::CHECK, topics::MORE_OF_CHECK),
+            CommandName::Audit => ("audit", help::AUDIT, topics::MORE_OF_AUDIT),
+            CommandName::Policy => ("policy", help::POLICY, topics::MORE_OF_POLICY),
+            CommandName::Dump => ("dump", help::DUMP, topics::MORE_OF_DUMP),
+            CommandName::Map => ("map", help::MAP, topics::MORE_OF_MAP),
+            CommandName::Picture => ("picture", help::PICTURE, topics::MORE_OF_PICTURE),
+            CommandName::Entries => ("entries", help::ENTRIES, topics::MORE_OF_ENTRIES),
+            CommandName::Writes => ("writes", help::WRITES, topics::MORE_OF_WRITES),
+            CommandName::Diff => ("diff", help::DIFF, topics::MORE_OF_DIFF),
         }
     }
 

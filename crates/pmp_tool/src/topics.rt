@@ -1,4 +1,4 @@
-//! The formats, as the program's help shows them.
+//! The formats, as the program's help shows them. `make docs` writes this file from docs/FORMATS.md.
 
 pub const SCRIPT: &str = "\
 A script says which registers firmware writes, and when its writes count:
@@ -9,36 +9,58 @@ A script says which registers firmware writes, and when its writes count:
   write pmpcfg0 0x19
   publish
 
-A line without words, and one whose first word begins with #, is skipped. The
-first other line is pmp 1 for a unit of 16 entries, pmp 2 for one of 64, or
-pmp 3 for any hart, and each later one is one of these:
-  write NAME VALUE  a write to the register joins the open batch
+It has at most 1,048,576 bytes. Spaces and tabs part words, and lines end with
+LF, or CR and LF. The first line is `pmp 1` for a unit of 16 entries, `pmp 2`
+for one of 64, or `pmp 3` for any hart. A line without words, and one whose
+first word begins with `#`, is skipped. Every other line is one of these:
+  write NAME VALUE  a write of VALUE to the register NAME joins the open batch
   reset             a reset of the hart joins the open batch
-  publish           the open batch becomes the next publication, and an empty
-                    one is open: the events of a publication, its writes and
-                    resets, take effect together, in their order
+  publish           the open batch, perhaps empty, becomes the next publication;
+                    then an empty batch is open
 
-In version 3 there may be these too, hart and set before the first event or
-publish, in any order and each once, and expect anywhere:
-  hart entries N    0 to 64 entries, else 16
-  hart grain BYTES  4, 8, 16 and so on to 4096, else 4
-  hart bits N       34 to 56 bits of a physical address, else 56
-  hart smepmp WORD  yes or no, else yes
-  set NAME VALUE    what the register has at first, bound by no lock; a reset
-                    leaves nothing of it
-  expect NAME VALUE  what the register reads here: pmp writes has a row for it
-
+A write or a reset is an event. The events of a publication take effect
+together, in their order. A batch holds at most 64 events, and none with events
+is open at the end. The words in capitals are:
   NAME   mseccfg; pmpcfg0, pmpcfg2, .. pmpcfg14; pmpaddr0 to pmpaddr63; or the
-         register's number behind 0x, as 0x3a0
-  VALUE  a number: 1 to 20 decimal digits, or 0x and 1 to 16 hexadecimal digits,
-         below 2^64
+         register's number behind 0x
+  VALUE  a number
 
-Spaces and tabs part words, and lines end with LF, or CR and LF. A batch has at
-most 64 events, and one with events needs its publish. A script has at most
-1048576 bytes.
+The programs in `examples/` make scripts of QEMU's traces, Spike's logs and a
+debugger's registers.
 
-docs/FORMATS.md describes scripts byte by byte. Scripts are made of QEMU's
-traces, Spike's logs and a debugger's registers by the programs in examples/.";
+In version 3 a script also says which hart it is, and what its registers keep at
+first:
+
+  pmp 3
+  hart entries 8
+  hart smepmp no
+  set pmpaddr0 0x200001ff
+  set pmpcfg0 0x99
+  expect pmpcfg0 0x99
+  write pmpcfg0 0
+  expect pmpcfg0 0x99
+  publish
+
+A line behind the first may be one of these too:
+  hart entries N     the hart has so many entries, 0 to 64; where nothing is
+                     said, 16
+  hart grain BYTES   its grain: 4, 8, 16 and so on to 4,096 bytes; else 4
+  hart bits N        its physical addresses have so many bits, 34 to 56; else 56
+  hart smepmp WORD   yes or no: whether it has Smepmp, with mseccfg; else yes
+  set NAME VALUE     the register keeps VALUE before the first event
+  expect NAME VALUE  the register reads VALUE here, behind the events above this
+                     line; pmp writes has a row for it
+
+`hart` and `set` lines are the head. They stand before the first `write`,
+`reset` or `publish`, in any order, each field of the hart once, and each
+register once. A `reset` leaves nothing of what is set, and keeps the hart.
+
+A number is 1 to 20 decimal digits, or `0x` and 1 to 16 hexadecimal digits, and
+is below 2^64. Without `0x` it is decimal, whatever its digits.
+
+`pmp help script`, `pmp help trace` and `pmp help rows` tell of formats, and
+`pmp help COMMAND` of a command, its words and what it writes. docs/FORMATS.md
+describes all of it byte by byte, and has every refusal by its number.";
 
 pub const TRACE: &str = "\
 A trace lists accesses, and for each how many publications of a script are done
@@ -48,28 +70,114 @@ before it:
   0,U,load,0x80000000,4
   1,U,load,0x80000000,4
 
-It is a CSV text with this header. Each record behind it is a row:
-  after   how many publications are done: a number, at most as many as there
-          are, and not below that of the row before
+It is CSV of at most 16,777,216 bytes, and with `pmp audit --long` of any
+length. The first record is that header. Every later record is a row, numbered
+from 1, of five fields:
+  after   how many publications of the script are done: a number, at most as
+          many as there are, and not below that of the row before
   mode    M, S or U
   kind    fetch, load or store
-  start   the address of the first byte, a number
-  length  how many bytes it has, a number from 1 to 4096; it ends at or below
-          2^56
-A number is 1 to 20 decimal digits, or 0x and 1 to 16 hexadecimal digits, and is
-below 2^64. A blank belongs to its field, so no number has one. A blank line is
-no row, and there are no comments.
+  start   the byte address of the access's first byte, a number; the access ends
+          at or below 2^56
+  length  how many bytes it has, a number: 1 to 4,096
 
-A trace has at most 16777216 bytes, and with --long any number. `pmp help rows`
-shows what answers it, and `pmp help policy` what a policy is.
+A blank belongs to its field, so no number has one. A blank line is no row, and
+there are no comments.
 
-docs/FORMATS.md describes traces byte by byte.";
+A number is 1 to 20 decimal digits, or `0x` and 1 to 16 hexadecimal digits, and
+is below 2^64. Without `0x` it is decimal, whatever its digits.
+
+`pmp help script`, `pmp help trace` and `pmp help rows` tell of formats, and
+`pmp help COMMAND` of a command, its words and what it writes. docs/FORMATS.md
+describes all of it byte by byte, and has every refusal by its number.";
 
 pub const ROWS: &str = "\
-What the commands write, a line for each answer.
+Each line of an answer ends with LF. A register's value is `0x` and 16
+hexadecimal digits, and a byte address is 14 of them without `0x`, in lower
+case; every other number is decimal. Rights are `r` or `-`, `w` or `-`, `x` or
+`-`: MRIGHTS are machine mode's, SURIGHTS those of supervisor and user mode.
 
-`pmp check` for its access, and `pmp audit` for each row of its trace:
-N,ANSWER,FAULT,CAUSE,ENTRY
+`pmp check` writes `N,ANSWER,FAULT,CAUSE,ENTRY` for its access, and `pmp audit`
+for each row of the trace, in order.
+
+  1,fault,5,none,
+
+`pmp policy` writes a row for each row of the policy, in order: `N,holds,,,,` or
+`N,broken,DONE,FIRST,LAST,OWNER` with its first breach, in time and then in
+address. Further ones aren't told.
+
+  1,broken,0,00000000000000,0000000000000f,-
+
+`pmp dump` writes each register's name, a space and its value.
+
+  pmpcfg0 0x000000000000001b
+  pmpcfg2 0x0000000000000000
+  mseccfg 0x0000000000000000
+
+`pmp map` writes `FIRST,LAST,OWNER,MRIGHTS,SURIGHTS` for each run: bytes in a
+row that have one owner, the lowest-numbered entry that matches them, or none.
+
+  00000000000000,00000000000007,0,rwx,rw-
+  00000000000008,ffffffffffffff,-,rwx,---
+
+`pmp picture` writes what `pmp map` does as an SVG document, which a browser
+shows: a band for each run line, from byte 0 at the top to byte 2^56 - 1 at the
+bottom, all of equal height, in colours by what supervisor and user mode may do
+there. Above the bands stand how many publications are done, and whether
+lockdown (MML), the allow-list policy (MMWP) and rule-locking bypass (RLB) are
+on.
+
+  <svg xmlns='http://www.w3.org/2000/svg' width='960' height='200' viewBox='0 0 960 200'>
+
+`pmp entries` writes
+`ENTRY,MATCHING,FIRST,LAST,MRIGHTS,SURIGHTS,LOCK,ADDRESS,SINCE,HOLDS` for each
+entry, from entry 0 on. An entry is frozen where its lock bit is set and
+rule-locking bypass (RLB) is 0.
+
+  0,napot,00000000000000,00000000000007,---,---,frozen,frozen,1,1
+
+`pmp writes` writes
+`N,PUBLICATION,LINE,REGISTER,WRITTEN,BEFORE,AFTER,EFFECT,REASONS,ENTRIES` for
+each event of the script, in order, and behind them a row for each `expect`.
+
+  1,1,2,pmpcfg0,0x0000000000000099,0x0000000000000000,0x0000000000000099,stored,,
+  2,1,3,pmpcfg0,0x0000000000000000,0x0000000000000099,0x0000000000000099,ignored,frozen,0
+
+`pmp diff` writes `FIRST,LAST,MOLD,SUOLD,MNEW,SUNEW,CHANGE` for the longest
+ranges of bytes where the register files of two scripts differ in what they let
+the modes do, whoever owns the bytes, from the lowest address on.
+
+  00000000000000,00000000000007,rwx,---,rwx,rw-,more
+
+`pmp help script`, `pmp help trace` and `pmp help rows` tell of formats, and
+`pmp help COMMAND` of a command, its words and what it writes. docs/FORMATS.md
+describes all of it byte by byte, and has every refusal by its number.";
+
+pub const MORE: &str = "\
+Exit status:
+  0  every access is allowed or answered as --expect says, every row of a policy
+     holds, every write is stored as written, diff has nothing to write, or what
+     was asked for is written
+  1  an access is refused or answered as --expect doesn't say, a row of a policy
+     is broken, a write isn't stored as written, a register differs from what a
+     script expects, or diff writes a row
+  2  no answer: the words or an input are at fault
+  3  no answer: memory, an input, the output or a checker failed
+
+Example:
+  echo 'pmp 1' | pmp check stdin U load 0x80000ff8 8 --expect fault
+  It answers 1,fault,5,none,
+
+`pmp help script`, `pmp help trace` and `pmp help rows` tell of formats, and
+`pmp help COMMAND` of a command, its words and what it writes. docs/FORMATS.md
+describes all of it byte by byte, and has every refusal by its number.";
+
+pub const MORE_OF_CHECK: &str = "\
+A number is 1 to 20 decimal digits, or `0x` and 1 to 16 hexadecimal digits, and
+is below 2^64. Without `0x` it is decimal, whatever its digits.
+
+`pmp check` writes `N,ANSWER,FAULT,CAUSE,ENTRY` for its access, and `pmp audit`
+for each row of the trace, in order.
   N       the row's number, from 1
   ANSWER  allow or fault
   FAULT   empty where the access is allowed, else its exception code: 1 for a
@@ -79,24 +187,354 @@ N,ANSWER,FAULT,CAUSE,ENTRY
           entry matches any byte
   ENTRY   the number of that entry, empty under none
 
-`pmp policy` for each row of its policy:
-N,holds,,,, or N,broken,DONE,FIRST,LAST,OWNER
+Exit status:
+  0  the answer is allow, or the one that --expect names
+  1  it is the other one
+  2  no answer: the words or an input are at fault
+  3  no answer: memory, an input, the output or a checker failed
 
-`pmp dump` for each register, its name and value:
-pmpcfg0 0x0000000000000019
+Example:
+  echo 'pmp 1' | pmp check stdin U load 0x80000ff8 8 --expect fault
+  It answers 1,fault,5,none,
 
-`pmp map` for each run of bytes with one owner:
-FIRST,LAST,OWNER,MRIGHTS,SURIGHTS
+docs/FORMATS.md describes all of it byte by byte, and has every refusal by its
+number.";
 
-`pmp entries` for each entry:
-ENTRY,MATCHING,FIRST,LAST,MRIGHTS,SURIGHTS,LOCK,ADDRESS,SINCE,HOLDS
+pub const MORE_OF_AUDIT: &str = "\
+A number is 1 to 20 decimal digits, or `0x` and 1 to 16 hexadecimal digits, and
+is below 2^64. Without `0x` it is decimal, whatever its digits.
 
-`pmp writes` for each write and reset of the script, and each expect behind them:
-N,PUBLICATION,LINE,REGISTER,WRITTEN,BEFORE,AFTER,EFFECT,REASONS,ENTRIES
+`pmp check` writes `N,ANSWER,FAULT,CAUSE,ENTRY` for its access, and `pmp audit`
+for each row of the trace, in order.
+  N       the row's number, from 1
+  ANSWER  allow or fault
+  FAULT   empty where the access is allowed, else its exception code: 1 for a
+          fetch, 5 for a load, 7 for a store
+  CAUSE   rule where an entry matches every byte of the access, split where the
+          first entry that matches a byte doesn't match them all, none where no
+          entry matches any byte
+  ENTRY   the number of that entry, empty under none
 
-`pmp diff` for each longest range of bytes where two scripts differ:
-FIRST,LAST,MOLD,SUOLD,MNEW,SUNEW,CHANGE
+`pmp audit --long` takes a trace of any length, from a file or a pipe, and
+memory doesn't grow with it. It is read once, in pieces of at most 8,388,608
+bytes. Rows are written as pieces are decided, so whole rows may stand before a
+refusal: those of a beginning of the trace. Where standard error is a terminal
+and standard output isn't, a line there says how much was read. `--jobs` and
+`--first-row` are for a long trace, and `--checkers` isn't.
 
-The help of a command says what the fields of its lines mean. FIRST and LAST are
-addresses of 14 hexadecimal digits, a register's value is 0x and 16 of them, and
-other numbers are decimal. docs/FORMATS.md describes all of them byte by byte.";
+Exit status:
+  0  every access of the trace is allowed, as where it has no rows
+  1  the unit refuses one of them
+  2  no answer: the words or an input are at fault
+  3  no answer: memory, an input, the output or a checker failed
+
+Example:
+  printf 'after,mode,kind,start,length\\n0,M,load,0x0,8\\n' > trace.csv
+  echo 'pmp 1' | pmp audit stdin trace.csv
+  It answers 1,allow,,none,
+
+Example of long traces:
+  echo 'pmp 1' > reset.pmp
+  printf 'after,mode,kind,start,length\\n0,M,load,0x0,8\\n' > part.csv
+  cat part.csv | pmp audit --long --first-row 1001 reset.pmp stdin
+  It answers 1001,allow,,none,
+
+docs/FORMATS.md describes all of it byte by byte, and has every refusal by its
+number.";
+
+pub const MORE_OF_POLICY: &str = "\
+A number is 1 to 20 decimal digits, or `0x` and 1 to 16 hexadecimal digits, and
+is below 2^64. Without `0x` it is decimal, whatever its digits.
+
+A policy lists demands on ranges of bytes and on publications of a script:
+
+  from,to,modes,kind,first,last,demand
+  1,,SU,store,0x80000000,0x8007ffff,never
+  3,4,S,any,0x80200000,0x802fffff,always
+
+It is read as a trace is: CSV of at most 16,777,216 bytes, that header, and a
+row of seven fields for each demand, numbered from 1:
+  from    the first number of publications that is asked of: a number, at most
+          as many as there are; 0 is before the first
+  to      the last one, not below from and at most as many as there are; where
+          it is empty, that is the number of all
+  modes   one to three of the letters M, S and U, none twice
+  kind    fetch, load, store or any
+  first   the byte address of the first byte, a number
+  last    that of the last byte, which is asked of too: not below first, and
+          below 2^56
+  demand  never, always or held
+
+A byte is open to a mode and a kind where the access of that one byte is
+allowed.
+  never   after none of these publications a byte of the range is open to one of
+          the modes by the kind, or for any by one of the three
+  always  after each of them every byte is open to each of the modes by the
+          kind, or for any by all three
+  held    never, and after the last of these publications no list of writes
+          without a reset opens one of the bytes: the owner of each and all
+          entries before it are frozen then, or, where no entry owns it, all
+          entries are
+
+`pmp policy` writes a row for each row of the policy, in order: `N,holds,,,,` or
+`N,broken,DONE,FIRST,LAST,OWNER` with its first breach, in time and then in
+address. Further ones aren't told.
+  N      the row's number, from 1
+  DONE   after how many publications it is broken; where the hold alone is
+         missing, the last of those that are asked of
+  FIRST  the byte address of the first byte of the range at fault there
+  LAST   that of the last byte behind it with the same owner, as far as the
+         range goes
+  OWNER  the number of the entry that owns them, or - where no entry matches
+
+With `--each-write` a policy asks after each event behind publication `from`
+too, up to `to`, which still count publications. DONE is then how many events
+are done, which is N of the event rows.
+
+Exit status:
+  0  every row holds, as where there are none
+  1  a row is broken
+  2  no answer: the words or an input are at fault
+  3  no answer: memory, an input, the output or a checker failed
+
+Example:
+  printf 'from,to,modes,kind,first,last,demand\\n0,,MU,any,0,15,never\\n' > p.csv
+  echo 'pmp 1' | pmp policy stdin p.csv
+  It answers 1,broken,0,00000000000000,0000000000000f,-
+
+docs/FORMATS.md describes all of it byte by byte, and has every refusal by its
+number.";
+
+pub const MORE_OF_DUMP: &str = "\
+A number is 1 to 20 decimal digits, or `0x` and 1 to 16 hexadecimal digits, and
+is below 2^64. Without `0x` it is decimal, whatever its digits.
+
+`pmp dump` writes each register's name, a space and its value.
+
+The order depends on the script's version:
+- 1: pmpcfg0, pmpcfg2, pmpaddr0 to pmpaddr15, mseccfg: 19 lines
+- 2: pmpcfg0, pmpcfg2, pmpcfg4, .. pmpcfg14, pmpaddr0 to pmpaddr63, mseccfg: 73
+  lines
+- 3: likewise those with bytes and addresses of the hart's entries, and mseccfg
+
+With `--script` it writes a script of version 3 that begins with this very
+register file, and has no publication: the four lines that say the hart, and a
+`set` line, in the same order, for each register that keeps another value than
+0.
+
+Exit status:
+  0  the answer is written
+  2  no answer: the words or an input are at fault
+  3  no answer: memory, an input, the output or a checker failed
+
+Example:
+  printf 'pmp 1\\nwrite pmpcfg0 0x1b\\npublish\\n' | pmp dump stdin | grep cfg
+  It answers pmpcfg0 0x000000000000001b
+
+docs/FORMATS.md describes all of it byte by byte, and has every refusal by its
+number.";
+
+pub const MORE_OF_MAP: &str = "\
+A number is 1 to 20 decimal digits, or `0x` and 1 to 16 hexadecimal digits, and
+is below 2^64. Without `0x` it is decimal, whatever its digits.
+
+`pmp map` writes `FIRST,LAST,OWNER,MRIGHTS,SURIGHTS` for each run: bytes in a
+row that have one owner, the lowest-numbered entry that matches them, or none.
+  FIRST     the byte address of the run's first byte
+  LAST      that of its last byte
+  OWNER     the entry's number, or - where no entry matches
+  MRIGHTS   what machine mode may do there: r, w and x, or - for each
+  SURIGHTS  the same for supervisor and user mode
+
+An access that lies in one run is decided by that run's rights. One that
+straddles runs is refused, as `split` by the least owner in it.
+
+Exit status:
+  0  the answer is written
+  2  no answer: the words or an input are at fault
+  3  no answer: memory, an input, the output or a checker failed
+
+Example:
+  printf 'pmp 1\\nwrite pmpcfg0 0x1b\\npublish\\n' | pmp map stdin
+  It answers 00000000000000,00000000000007,0,rwx,rw-
+
+docs/FORMATS.md describes all of it byte by byte, and has every refusal by its
+number.";
+
+pub const MORE_OF_PICTURE: &str = "\
+A number is 1 to 20 decimal digits, or `0x` and 1 to 16 hexadecimal digits, and
+is below 2^64. Without `0x` it is decimal, whatever its digits.
+
+`pmp picture` writes what `pmp map` does as an SVG document, which a browser
+shows: a band for each run line, from byte 0 at the top to byte 2^56 - 1 at the
+bottom, all of equal height, in colours by what supervisor and user mode may do
+there. Above the bands stand how many publications are done, and whether
+lockdown (MML), the allow-list policy (MMWP) and rule-locking bypass (RLB) are
+on.
+  First byte, Last byte  FIRST and LAST of the run line behind 0x
+  Size                   to the end for the run that ends at byte 2^56 - 1; for
+                         another how many bytes it has, in the largest of PiB,
+                         TiB, GiB, MiB, KiB of which it is a whole number, or
+                         else in bytes
+  Owner                  entry and its number, or no entry
+  Machine                MRIGHTS
+  Supervisor, user       SURIGHTS
+  Lock                   where the owner is frozen, the sign of a lock: a full
+                         one and holds where all entries before it are frozen
+                         too, an empty one and frozen where one isn't; else
+                         nothing
+
+Exit status:
+  0  the answer is written
+  2  no answer: the words or an input are at fault
+  3  no answer: memory, an input, the output or a checker failed
+
+Example:
+  echo 'pmp 1' | pmp picture stdin | grep '<svg'
+  It answers <svg xmlns='http://www.w3.org/2000/svg' width='960' height='200' viewBox='0 0 960 200'>
+
+docs/FORMATS.md describes all of it byte by byte, and has every refusal by its
+number.";
+
+pub const MORE_OF_ENTRIES: &str = "\
+A number is 1 to 20 decimal digits, or `0x` and 1 to 16 hexadecimal digits, and
+is below 2^64. Without `0x` it is decimal, whatever its digits.
+
+`pmp entries` writes
+`ENTRY,MATCHING,FIRST,LAST,MRIGHTS,SURIGHTS,LOCK,ADDRESS,SINCE,HOLDS` for each
+entry, from entry 0 on. An entry is frozen where its lock bit is set and
+rule-locking bypass (RLB) is 0.
+  ENTRY     the entry's number
+  MATCHING  how its address is read: off, tor, na4 or napot
+  FIRST     the byte address of the first byte that it matches, or - where it
+            matches none
+  LAST      that of the last one, or -
+  MRIGHTS   what machine mode may do where it decides: r, w and x, or - for each
+  SURIGHTS  the same for supervisor and user mode
+  LOCK      - where its lock bit is clear; where it is set, bypassed while RLB
+            is 1, else frozen
+  ADDRESS   frozen where its address register takes no write, since the entry is
+            frozen, or the next one is and is TOR; else -
+  SINCE     where it is frozen, the publication from which on it is so without a
+            break, 0 where the script begins so; else empty
+  HOLDS     where it and all entries before it are frozen, the publication from
+            which on all of them are; else empty
+
+A frozen entry keeps its configuration byte and the bytes that it matches
+through every later list of writes without a reset. What it decides holds from
+publication HOLDS on: until a reset, no write allows what the entry refuses, and
+none refuses what it allows while MML stays as it is. Where an entry is frozen
+and HOLDS is empty, one with a lower number isn't frozen, and may be able to
+take its bytes.
+
+Exit status:
+  0  the answer is written
+  2  no answer: the words or an input are at fault
+  3  no answer: memory, an input, the output or a checker failed
+
+Example:
+  printf 'pmp 1\\nwrite pmpcfg0 0x98\\npublish\\n' | pmp entries stdin | grep frozen
+  It answers 0,napot,00000000000000,00000000000007,---,---,frozen,frozen,1,1
+
+docs/FORMATS.md describes all of it byte by byte, and has every refusal by its
+number.";
+
+pub const MORE_OF_WRITES: &str = "\
+A number is 1 to 20 decimal digits, or `0x` and 1 to 16 hexadecimal digits, and
+is below 2^64. Without `0x` it is decimal, whatever its digits.
+
+`pmp writes` writes
+`N,PUBLICATION,LINE,REGISTER,WRITTEN,BEFORE,AFTER,EFFECT,REASONS,ENTRIES` for
+each event of the script, in order, and behind them a row for each `expect`.
+  N            the event's number, from 1
+  PUBLICATION  the number of its publication, from 1
+  LINE         the number of the script's line that says it, from 1
+  REGISTER     the register's name, or reset
+  WRITTEN      the value that is written
+  BEFORE       the value that the register reads before the write
+  AFTER        the value that it reads after the write
+  EFFECT       stored where AFTER is WRITTEN; else ignored where AFTER is
+               BEFORE; else altered
+  REASONS      why AFTER isn't WRITTEN, in the order below, parted by one space;
+               empty exactly where a write is stored
+  ENTRIES      the entries for which frozen, tor, reserved, lockdown or grain is
+               a reason, ascending, parted by one space
+
+The reasons are:
+  absent    the value isn't 0 for an entry, or for mseccfg, that the hart
+            doesn't have
+  bits      the value has bits that the register doesn't have: of an address 63
+            to 54, or what the hart's address bits leave out, 6 and 5 of a
+            configuration byte, 63 to 3 of mseccfg if the hart has it
+  frozen    an entry is frozen, and the value has another byte or address for it
+            than it has
+  tor       the entry isn't frozen, the next one is and is TOR, and the value is
+            another address
+  reserved  MML is 0, and a byte for an entry that isn't frozen has W without R
+  lockdown  MML is 1, RLB is 0, and a byte for an entry that isn't frozen is,
+            without its bits 6 and 5, a rule by which machine mode executes: L R
+            W X 1001, 1010, 1011 or 1101
+  sticky    MML or MMWP is 1, and its bit in the value is 0
+  bypass    RLB is 0, its bit in the value is 1, and some entry has its lock bit
+            set, if the hart has mseccfg
+  grain     the grain is above 4 bytes, and the value has NA4 for an entry that
+            isn't frozen, or is an address whose bits below the grain don't read
+            so while its entry is as it is
+
+Of a reset EFFECT is `reset` too, and the fields between REGISTER and EFFECT and
+those behind EFFECT are empty.
+
+Behind the rows of events stands one for each `expect` of the script, in the
+order of their lines. It is no event, so N and PUBLICATION are empty, and so are
+BEFORE, REASONS and ENTRIES. LINE is its line, WRITTEN the value that is
+expected, AFTER what the register reads behind the events that stand above the
+line, whether published yet or not, and EFFECT is `expected` where these are the
+same, else `differs`.
+
+Exit status:
+  0  every write is stored as written, and all that is expected is there
+  1  one isn't
+  2  no answer: the words or an input are at fault
+  3  no answer: memory, an input, the output or a checker failed
+
+Example:
+  printf 'pmp 1\\nwrite pmpcfg0 0x99\\nwrite pmpcfg0 0\\npublish\\n' | pmp writes stdin
+  It answers 1,1,2,pmpcfg0,0x0000000000000099,0x0000000000000000,0x0000000000000099,stored,,
+
+docs/FORMATS.md describes all of it byte by byte, and has every refusal by its
+number.";
+
+pub const MORE_OF_DIFF: &str = "\
+A number is 1 to 20 decimal digits, or `0x` and 1 to 16 hexadecimal digits, and
+is below 2^64. Without `0x` it is decimal, whatever its digits.
+
+`pmp diff` writes `FIRST,LAST,MOLD,SUOLD,MNEW,SUNEW,CHANGE` for the longest
+ranges of bytes where the register files of two scripts differ in what they let
+the modes do, whoever owns the bytes, from the lowest address on.
+  FIRST   the byte address of the first byte
+  LAST    that of the last byte
+  MOLD    what machine mode may do there by the old script: r, w and x, or - for
+          each
+  SUOLD   the same for supervisor and user mode
+  MNEW    what machine mode may do there by the new script
+  SUNEW   the same for supervisor and user mode
+  CHANGE  more where the new rights have all of the old ones, less where the old
+          rights have all of the new ones, else both
+
+With `--only more` no row says `less`, and with `--only less` no row says
+`more`; rows that say `both` stay. The two states alone are compared: neither
+what was open before them, nor how entries are locked.
+
+Exit status:
+  0  there is no row to write
+  1  rows were written
+  2  no answer: the words or an input are at fault
+  3  no answer: memory, an input, the output or a checker failed
+
+Example:
+  printf 'pmp 1\\nwrite pmpcfg0 0x1b\\npublish\\n' > new.pmp
+  echo 'pmp 1' | pmp diff stdin new.pmp
+  It answers 00000000000000,00000000000007,rwx,---,rwx,rw-,more
+
+docs/FORMATS.md describes all of it byte by byte, and has every refusal by its
+number.";
