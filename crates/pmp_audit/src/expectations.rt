@@ -1,21 +1,12 @@
 //! What a script expects of registers, as rows.
 
-ghost use Rattle.std.specs.Prelude.{◌≡◌, ◌≤◌, ◌-◌, ◌++◌, IfOk, OnErr, drop, fold, length, take};
-ghost use Rattle.pmp_core.specs.RegisterWrite.{step};
+ghost use Rattle.std.specs.Prelude.{◌≡◌, ◌++◌, IfOk, OnErr};
 ghost use Rattle.pmp_audit.specs.Growing.{HasGrown};
 ghost use Rattle.pmp_audit.specs.Expectations.{differing, expected_rows, file_at_event};
 
-use pmp_core::{Event, RegFile};
+use pmp_core::RegFile;
 use pmp_text::{Script, Sink, write_expected};
 use std::alloc::AllocError;
-
-/// Takes the events from one place to another.
-fn run_between(file: &mut RegFile, all: &[Event], start: usize, end: usize)
-    requires { (start ≤ end) × (end ≤ length all.now) }
-    ensures { file.new ≡ fold step file.old (take (end - start) (drop start all.now)) }
-{
-    file.run_events(&all[start..end]);
-}
 
 /// Brings the register file from the one behind so many events of the script to the one behind so many others.
 fn advance(script: &Script, file: &mut RegFile, done: u64, events: u64)
@@ -29,7 +20,7 @@ fn advance(script: &Script, file: &mut RegFile, done: u64, events: u64)
         *file = script.start();
         file.run_events(&all[..end]);
     } else {
-        run_between(file, all, start, end);
+        file.run_events(&all[start..end]);
     }
 }
 

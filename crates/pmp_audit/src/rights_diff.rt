@@ -4,7 +4,7 @@ ghost use Rattle.std.specs.Prelude.{◌≡◌, IfOk, IfErr, OnErr};
 ghost use Rattle.pmp_audit.specs.Answers.{Declines, IsAppended, IsWritten, IsRefused};
 ghost use Rattle.pmp_audit.specs.Growing.{HasGrown};
 ghost use Rattle.pmp_audit.specs.RightsDiff.{ChangesSay, DiffRefuses, DiffSays, GivesFile};
-ghost use Rattle.pmp_audit.specs.Sides.{FailsFile, FailsOn};
+ghost use Rattle.pmp_audit.specs.Sides.{FailsFile};
 
 use crate::answer::write_answer;
 use crate::asked_count::asked_count;
@@ -61,8 +61,8 @@ pub fn append_diff<L: EventLog, S: Sink>(
     ensures err { IfErr result (Declines (DiffRefuses old.now old_after new.now new_after)) }
     ensures kept { OnErr result (S.text out.new ≡ S.text out.old) }
 {
-    let old_file = file_on(log, Side::Old, old, old_after)?;
-    let new_file = file_on(log, Side::New, new, new_after)?;
+    let old_file = file_after(log, old, old_after).map_err(|fault| fault.on_side(Side::Old))?;
+    let new_file = file_after(log, new, new_after).map_err(|fault| fault.on_side(Side::New))?;
     let before = out.position();
     let rows = write_differences(out, &old_file.registers(), &new_file.registers(), only);
     if rows.is_err() {
@@ -91,22 +91,6 @@ fn write_differences<S: Sink>(
         first = run.last + 1;
     }
     Ok(rows)
-}
-
-/// The register file of the script on this side.
-fn file_on<L: EventLog>(
-    log: &mut L,
-    side: Side,
-    script: &[u8],
-    after: Option<u64>,
-) -> Result<RegFile, AuditFault>
-    ensures ok { IfOk result (λ file. GivesFile script.now after file) }
-    ensures err { IfErr result (FailsOn side script.now after) }
-{
-    match file_after(log, script, after) {
-        Ok(file) => Ok(file),
-        Err(fault) => Err(fault.on_side(side)),
-    }
 }
 
 /// The register file after the first `after` publications of the script, or after all of them where that is none.

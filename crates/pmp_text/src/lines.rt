@@ -16,6 +16,8 @@ mod script;
 mod since;
 mod verdict;
 
+use crate::sink::Sink;
+use arrayvec::ArrayString;
 pub use changes::{Change, Only, write_change};
 pub use effects::{EventPlace, write_effect};
 pub use entries::write_entries;
@@ -29,8 +31,6 @@ pub use script::write_script;
 pub use since::Since;
 pub use verdict::{Breach, write_verdict};
 /// There is no room for more of a text, as the calls say that append texts.
-use crate::sink::Sink;
-use arrayvec::ArrayString;
 pub use std::alloc::AllocError as NoMemory;
 use std::alloc::AllocError;
 use std::fmt::{Display, Write};
