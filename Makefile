@@ -60,7 +60,6 @@ test:
 	    checks/launcher \
 	    'checks/documents $(PROGRAM)' \
 	    'checks/converters $(PROGRAM)' \
-	    checks/files \
 	    checks/limits \
 	    checks/summing \
 	    'checks/hostile $(PROGRAM)' \
