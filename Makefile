@@ -57,6 +57,8 @@ test:
 	    'checks/worked --tried' \
 	    'checks/conformance $(PROGRAM)' \
 	    'checks/program $(PROGRAM)' \
+	    'checks/audits $(PROGRAM)' \
+	    'checks/examples $(PROGRAM)' \
 	    checks/launcher \
 	    'checks/documents $(PROGRAM)' \
 	    'checks/converters $(PROGRAM)' \
