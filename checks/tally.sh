@@ -64,8 +64,8 @@ options_of() {
     "$1" help "$2" | sed -n '/^Options:/,/^$/s/^ *\(-., \)\{0,1\}\(--[a-z-]*\).*/\2/p'
 }
 
-# preloaded NAME: compiles checks/NAME.c to $work/NAME.so, for LD_PRELOAD.
-preloaded() {
+# shared_object NAME: compiles checks/NAME.c to $work/NAME.so, which LD_PRELOAD takes.
+shared_object() {
     ${CC:-cc} -O2 -std=c11 -Wall -Wextra -shared -fPIC "checks/$1.c" -o "$work/$1.so" || exit 1
 }
 
