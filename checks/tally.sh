@@ -10,7 +10,7 @@ pass() {
 }
 
 fail() {
-    echo "failed: $1"
+    printf 'failed: %s\n' "$1"
     failed=$((failed + 1))
 }
 
