@@ -62,11 +62,12 @@ test:
 	    'checks/worked --tried' \
 	    'checks/conformance $(PROGRAM)' \
 	    'checks/program $(PROGRAM)' \
+	    'checks/audits $(PROGRAM)' \
+	    'checks/examples $(PROGRAM)' \
 	    checks/launcher \
 	    'release/documents --check' \
 	    'checks/documents $(PROGRAM)' \
 	    'checks/converters $(PROGRAM)' \
-	    checks/files \
 	    checks/summing \
 	    'checks/hostile $(PROGRAM)' \
 	    'checks/machines $(PROGRAM)' \

@@ -10,7 +10,7 @@ pass() {
 }
 
 fail() {
-    echo "failed: $1"
+    printf 'failed: %s\n' "$1"
     failed=$((failed + 1))
 }
 
@@ -24,18 +24,56 @@ same() {
     if [ -n "$2" ] && [ "$2" = "$3" ]; then pass; else fail "$1: '$2', not '$3'"; fi
 }
 
+# alike NAME FILE FILE: the two files have the same bytes, and not none.
+alike() {
+    if [ -s "$2" ] && cmp -s "$2" "$3"; then pass; else fail "$1: $(cmp "$2" "$3" 2>&1)"; fi
+}
+
+# try NAME COMMAND..: the command succeeds, in a shell of its own. What it writes is told where it doesn't.
+try() {
+    tried=$1
+    shift
+    if ("$@") >"$work/log" 2>&1; then pass; else fail "$tried: $(tail -n 20 "$work/log")"; fi
+}
+
 # passed_over WHAT PACKAGE: what isn't tried here, and what to install for it. checks/all repeats that at its end.
 passed_over() {
     echo "passed over: $1: install $2"
 }
 
-# samples PAGE: each command of pmp that the page shows with its first line, as two lines: in a row of a table, or behind
+# samples PAGE: each command of pmp that the page shows with its first line, as two lines: in a row of a table, or after
 # a dollar sign, where the line below is the first one.
 samples() {
     awk -F '`' '/^\| `\.\/pmp / { print substr($2, 7); print $4 }
         is_next { is_next = 0; print clean($0) }
         /^\$ \.\/pmp / { is_next = 1; print substr(clean($0), 9) }
         function clean(line) { sub(/ +#.*/, "", line); return line }' "$1"
+}
+
+# snippet PAGE LANGUAGE: the page's first block of code in the language.
+snippet() {
+    awk -v first="\`\`\`$2" '$0 == first && !count { count++; is_in = 1; next } /^```/ { is_in = 0 } is_in' "$1"
+}
+
+# commands_of PROGRAM: the commands that its help lists. options_of PROGRAM COMMAND: the options that its help lists.
+commands_of() {
+    "$1" --help | sed -n '/^Commands:/,/^$/s/^  \([a-z]*\) .*/\1/p'
+}
+
+options_of() {
+    "$1" help "$2" | sed -n '/^Options:/,/^$/s/^ *\(-., \)\{0,1\}\(--[a-z-]*\).*/\2/p'
+}
+
+# shared_object NAME: compiles checks/NAME.c to $work/NAME.so, which LD_PRELOAD takes.
+shared_object() {
+    ${CC:-cc} -O2 -std=c11 -Wall -Wextra -shared -fPIC "checks/$1.c" -o "$work/$1.so" || exit 1
+}
+
+# on_path PROGRAM: puts a copy of the program on the path as pmp, which any user may run.
+on_path() {
+    chmod 755 "$work" && mkdir "$work/bin" && cp "${1:-crates/pmp_tool/out/pmp_tool}" "$work/bin/pmp" \
+        && chmod 755 "$work/bin" "$work/bin/pmp" || exit 1
+    PATH=$work/bin:$PATH
 }
 
 # The last line. The status is 0 where something passed and nothing failed.
