@@ -1,5 +1,4 @@
-//! What a script's publications come to: accesses decided after them, the registers, runs and entries that they leave,
-//! and what each write did.
+//! The answers: accesses decided after a script's publications, what these leave, and what each write did.
 #![tactic(auto)]
 
 mod access_check;

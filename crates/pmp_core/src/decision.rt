@@ -1,4 +1,4 @@
-//! What the unit answers.
+//! A decision: whether an access is allowed, by which rule, and with which exception code if not.
 
 ghost use Rattle.std.specs.Prelude.{◌≡◌, ◌<◌, ◌≤◌, ℕ, length};
 ghost use Rattle.pmp_core.specs.declared.decision.Cause.{Cause};

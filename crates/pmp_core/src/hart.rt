@@ -1,5 +1,4 @@
-//! The hart of a unit: how many entries it has, how fine they are, how wide its addresses are, and whether it has
-//! Smepmp.
+//! The hart of a unit: the number of its entries, its grain, its address bits, and whether it has Smepmp.
 
 ghost use Rattle.std.specs.Prelude.{◌≡◌, ◌<◌, ◌≤◌, IfOk, IfErr, MatchOption, None, Some};
 ghost use Rattle.pmp_core.specs.declared.hart.TheConstants.{MAX_GRAIN};

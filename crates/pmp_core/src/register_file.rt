@@ -1,4 +1,4 @@
-//! The register file.
+//! The register file: the registers of a unit, and what resets and writes make of them.
 
 ghost use Rattle.std.specs.Prelude.{◌≡◌, ◌<◌, ◌≤◌, ◌↔◌, IsTrue, length, fold};
 ghost use Rattle.pmp_core.specs.RegisterFile.{IsLegal, reset_file, is_frozen};

@@ -1,5 +1,6 @@
-//! The calls of a shared unit, each in a case of its own, for `checks/growths` to refuse their requests for memory one
-//! by one. With the word of a case it tries that one, and without a word all of them. Its status is 3 where memory was
+//! The calls of a shared unit, a case each, to which `checks/growths` refuses their requests for memory one by one.
+//!
+//! With the word of a case it tries that one, and without a word all of them. Its status is 3 where memory was
 //! refused, and 1 where something isn't as it has to be.
 #![tactic(auto)]
 

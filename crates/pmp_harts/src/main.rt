@@ -1,5 +1,6 @@
-//! An example to copy: an emulator of two harts that share one PMP unit, each with a TLB. Firmware on hart 0 switches a
-//! domain while hart 1 runs on a thread of its own.
+//! An example to copy: an emulator of two harts that share one PMP unit, each with a TLB.
+//!
+//! Firmware on hart 0 switches a domain while hart 1 runs on a thread of its own.
 #![tactic(auto)]
 
 ghost use Rattle.std.specs.Prelude.{◌≡◌, ◌≤◌, IfOk};

@@ -1,4 +1,4 @@
-//! What is asked, as numbers.
+//! An access as numbers: those of its mode and its kind, and its bytes.
 
 ghost use Rattle.std.specs.Prelude.{◌≡◌, ◌+◌, ◌<◌, ◌≤◌, IfSome, None};
 ghost use Rattle.pmp_core.specs.declared.access.Access.{Access};

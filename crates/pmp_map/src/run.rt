@@ -1,4 +1,4 @@
-//! The runs of a map.
+//! A run: bytes in a row that one entry owns, or none.
 
 use pmp_core::MAX_ENTRIES;
 

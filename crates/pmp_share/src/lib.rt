@@ -1,8 +1,8 @@
-//! A PMP unit that threads share: one publisher reprograms it by batches of events, and checkers decide accesses
-//! meanwhile, each in the register file that whole published batches give.
+//! A PMP unit that threads share: one publisher reprograms it by whole batches, and checkers decide meanwhile.
 //!
-//! `start` makes them, `start_of` those of a unit of either size, and `start_from` those of a unit that begins with
-//! saved registers. The definitions that contracts cite are in `specs/`.
+//! A checker decides each access in the register file that published batches give. `start` makes publisher and
+//! checkers, `start_of` those of a unit of either size, and `start_from` those of a unit that begins with saved
+//! registers. The definitions that contracts cite are in `specs/`.
 #![tactic(auto)]
 
 mod batch;

@@ -1,4 +1,5 @@
-//! Puts units under load, and times them:
+//! Puts shared units under load, compares each answer with a replay, and times them.
+//!
 //! `pmp_stress soak SECONDS [SEED]` runs a publisher and eight checkers over random batches, and over two entries that
 //! are swapped, for so long, for `make soak`, and compares each answer with a replay of what was published;
 //! `pmp_stress fill BATCHES EVENTS [together]` publishes one large history, for `make bench-limits`;

@@ -1,5 +1,4 @@
-//! The texts of the unit: scripts, traces and policies are read; reports, verdicts, registers, runs, entries and events
-//! are written, all byte by byte.
+//! The formats: scripts, traces and policies are read, and every line of an answer is written, byte by byte.
 #![tactic(auto)]
 
 mod access_words;

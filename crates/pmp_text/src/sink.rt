@@ -1,4 +1,4 @@
-//! Where texts go to.
+//! Where texts are appended: a vector that grows, or a room that may be full.
 
 ghost use Rattle.std.specs.Prelude.{◌≡◌, ◌++◌, List, ℕ, OnErr, OnOk, length, take};
 

@@ -1,5 +1,4 @@
-//! What stands behind a refusal's line where the words ask for it: where the fault is, what was wanted there, and what
-//! to do.
+//! The explanation of a refusal, where the words ask for one: where the fault is, what was wanted, what to do.
 
 ghost use Rattle.std.specs.Prelude.{◌≡◌, ℕ, List, map, string_bytes};
 ghost use Rattle.std.specs.List.{list_any};

@@ -1,4 +1,4 @@
-//! What is asked, as numbers.
+//! What the page asks, as numbers: an access, a view, or a row of a policy.
 
 ghost use Rattle.std.specs.Prelude.{◌≡◌, IfErr, IfOk};
 ghost use Rattle.pmp_web.specs.Demand.{demand_of, kinds_of, modes_of, pace_of, question_of};

@@ -1,4 +1,4 @@
-//! The two logs of events.
+//! The two logs of events: one that grows, and one of fixed size that never asks for memory.
 
 use crate::event_log::EventLog;
 use crate::event_log::store::Store;

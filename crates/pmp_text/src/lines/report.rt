@@ -1,4 +1,4 @@
-//! The rows of a report.
+//! The rows of a report: `NUMBER,ANSWER,FAULT,CAUSE,ENTRY` for each access.
 
 ghost use Rattle.std.specs.Prelude.{◌≡◌, ◌+◌, ◌≤◌, ◌++◌, OnOk, OnErr, Some, codes, length};
 ghost use Rattle.arrayvec.specs.ArrayVec.{array_vec_len};

@@ -1,4 +1,4 @@
-//! The reader of policies.
+//! Reading a policy: its rows, or its first fault.
 
 ghost use Rattle.std.specs.Prelude.{◌≤◌, All, IfOk, map};
 ghost use Rattle.pmp_text.specs.Outcomes.{GivesRows};

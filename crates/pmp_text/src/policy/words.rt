@@ -1,4 +1,4 @@
-//! The words of policies.
+//! The words in a policy's fields: demands, kinds, modes and ranges.
 
 ghost use Rattle.std.specs.Prelude.{◌≡◌, ◌≤◌, IfSome};
 ghost use Rattle.pmp_text.specs.Policies.{at_least, demand_named, kinds_named, modes_named, times, to_named};

@@ -1,4 +1,4 @@
-//! The head of a script.
+//! The head of a script: its `hart` and `set` lines, before the first event.
 
 ghost use Rattle.std.specs.Prelude.{◌≡◌, OnOk};
 ghost use Rattle.pmp_text.specs.Heads.{checked, hart_said, own_fault, with_statement};

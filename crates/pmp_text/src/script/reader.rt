@@ -1,4 +1,4 @@
-//! The reader of scripts.
+//! Reading a script: the version, then line by line, up to the first fault.
 
 ghost use Rattle.pmp_text.specs.Outcomes.{Gives};
 ghost use Rattle.pmp_text.specs.Steps.Progress.{concluded, nothing_begun, resumed};

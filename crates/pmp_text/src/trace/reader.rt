@@ -1,4 +1,4 @@
-//! The reader of traces.
+//! Reading a trace whole: its rows, or its first fault.
 
 ghost use Rattle.std.specs.Prelude.{IfOk, map};
 ghost use Rattle.pmp_text.specs.Outcomes.{GivesRows};
