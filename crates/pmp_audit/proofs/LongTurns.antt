@@ -132,7 +132,7 @@ module _ {script : ScriptContents} {first count : ℕ} {in_old in_mid : Option (
                 omega arith;
           }
 
-    module _ (piece : List ℕ) (cut : IsLast held in_mid in_new piece) where
+    module _ (piece : List ℕ) (cut : IsLast limit held in_mid in_new piece) where
       abbrev pub trace_all : List ℕ
       trace_all = going.done ++ (held ++ cut.taken)
 
@@ -174,7 +174,7 @@ module _ {script : ScriptContents} {first count : ℕ} {in_old in_mid : Option (
           (front_piece left piece cut) fault stops,
     )
 
-    pub last_stops : (piece : List ℕ) → IsLast held in_mid in_new piece
+    pub last_stops : (piece : List ℕ) → IsLast limit held in_mid in_new piece
         → (out_new : Option (List ℕ)) (fault : AuditFault)
         → PieceStops script (records_of piece) old out_mid out_new fault
         → Stops out_new fault
@@ -223,7 +223,7 @@ module _ {script : ScriptContents} {first count : ℕ} {in_old in_mid : Option (
 
     -- ---- the last piece
 
-    module _ (piece : List ℕ) (cut : IsLast held in_mid in_new piece) (out_new : Option (List ℕ)) (new : Standing)
+    module _ (piece : List ℕ) (cut : IsLast limit held in_mid in_new piece) (out_new : Option (List ℕ)) (new : Standing)
         (wrote : IsPieceWritten script (records_of piece) old out_mid out_new new) where
       all_read : Stands script first (going.records ++ records_of piece) new (going.text ++ wrote.text)
       all_read = one_piece script first going.records old going.text going.stands (records_of piece) new wrote.faults

@@ -19,7 +19,7 @@ pub record IsFilled (limit : ℕ) (held : List ℕ) (old new : Option (List ℕ)
   pub ended : at_end ≡ true → IsAtEnd new
   pub full : at_end ≡ false → length filled ≡ limit
 
--- a piece ends at a line's end, which what is held behind it begins with
+-- a piece of at most `limit` bytes ends at a line's end, which what is held behind it begins with
 pub record IsFront (limit : ℕ) (held : List ℕ) (old new : Option (List ℕ)) (left piece : List ℕ) : Type 0 where
   pub taken : List ℕ
   pub consumed : Consumes old new taken
@@ -32,13 +32,15 @@ pub record IsFront (limit : ℕ) (held : List ℕ) (old new : Option (List ℕ))
   pub piece_is : piece ≡ before ++ line_end ∷ []
   pub left_is : left ≡ line_end ∷ behind
   pub within : length left ≤ limit
+  pub short : length piece ≤ limit
 
--- a piece is all that was held and taken, and no byte is left
-pub record IsLast (held : List ℕ) (old new : Option (List ℕ)) (piece : List ℕ) : Type 0 where
+-- a piece of at most `limit` bytes is all that was held and taken, and no byte is left
+pub record IsLast (limit : ℕ) (held : List ℕ) (old new : Option (List ℕ)) (piece : List ℕ) : Type 0 where
   pub taken : List ℕ
   pub consumed : Consumes old new taken
   pub piece_is : piece ≡ held ++ taken
   pub ended : IsAtEnd new
+  pub short : length piece ≤ limit
 
 -- as many bytes as are held, but one, have no line end
 pub record IsUncut (limit : ℕ) (held : List ℕ) (old new : Option (List ℕ)) : Type 0 where
@@ -49,7 +51,7 @@ pub record IsUncut (limit : ℕ) (held : List ℕ) (old new : Option (List ℕ))
 abbrev pub IsCut : (limit : ℕ) (held : List ℕ) (old new : Option (List ℕ)) (left : List ℕ)
     → Result Cut Refusal → Type 0
 IsCut limit held old new left (Ok (Front piece)) = IsFront limit held old new left piece.items
-IsCut limit held old new left (Ok (Last piece)) = IsLast held old new piece.items
+IsCut limit held old new left (Ok (Last piece)) = IsLast limit held old new piece.items
 IsCut limit held old new left (Err TooLong) = IsUncut limit held old new
 IsCut limit held old new left (Err Input) = ⊤
 IsCut limit held old new left (Err Memory) = ⊤
