@@ -88,7 +88,7 @@ fn explanation(
         }
     }
     if line.refusal == Refusal::BadAfter
-        && let Some(script) = counted_script(line, kept)
+        && let Some(script) = kept.inputs().get(usize::from(is_new(line.place)))
     {
         write_count(alloc, &mut text, script)?;
     }
@@ -111,6 +111,10 @@ fn explanation(
 /// What to do with an address as the program writes it.
 const WITH_PREFIX: &str =
     "put 0x before the address: pmp writes its 14 digits without it, and reads them with it";
+
+fn is_new(place: Place) -> bool {
+    matches!(place, Place::Script(Side::New))
+}
 
 /// Whether what is at fault has to be a byte address.
 fn is_address(place: Place) -> bool {
@@ -176,14 +180,6 @@ fn write_input(text: &mut String, path: &str) -> Result<(), AllocError> {
     text.push_str("in ")?;
     show_text(text, path)?;
     text.push('\n')
-}
-
-/// The script whose publications are counted where too many are asked for.
-fn counted_script<'a>(line: &FaultLine, kept: &'a Kept) -> Option<&'a KeptInput> {
-    match line.place {
-        Place::Script(Side::New) => kept.inputs().get(1),
-        _ => kept.inputs().first(),
-    }
 }
 
 /// Says how many publications a script has.

@@ -74,14 +74,14 @@ impl<'a, R: Files + Input + AllocGlobal + Clock, E: Write + Drop> Inputs
 
     fn script(&mut self, path: &str) -> Result<Vec<u8>, InputFault> {
         self.kept.begin(path);
-        let script = read_at(self.runtime, path, MAX_SCRIPT as u64)?;
+        let script = read_script_at(self.runtime, path)?;
         self.kept.fill(&script);
         Ok(script)
     }
 
     fn trace(&mut self, path: &str) -> Result<Vec<u8>, InputFault> {
         self.kept.begin(path);
-        let trace = read_at(self.runtime, path, MAX_TRACE as u64)?;
+        let trace = read_trace_at(self.runtime, path)?;
         self.kept.fill(&trace);
         Ok(trace)
     }
@@ -95,6 +95,26 @@ impl<'a, R: Files + Input + AllocGlobal + Clock, E: Write + Drop> Inputs
     fn kept(&self) -> &Kept {
         &self.kept
     }
+}
+
+fn read_script_at<R: Files + Input + AllocGlobal>(
+    runtime: &R,
+    path: &str,
+) -> Result<Vec<u8>, InputFault>
+    ensures read { IfOk result (λ bytes. length bytes.items ≤ MAX_SCRIPT) }
+    ensures unread { IfErr result (CantBeRead MAX_SCRIPT None) }
+{
+    read_at(runtime, path, MAX_SCRIPT as u64)
+}
+
+fn read_trace_at<R: Files + Input + AllocGlobal>(
+    runtime: &R,
+    path: &str,
+) -> Result<Vec<u8>, InputFault>
+    ensures read { IfOk result (λ bytes. length bytes.items ≤ MAX_TRACE) }
+    ensures unread { IfErr result (CantBeRead MAX_TRACE None) }
+{
+    read_at(runtime, path, MAX_TRACE as u64)
 }
 
 /// All bytes of the file at the path, or of standard input, which are at most `limit`.
