@@ -5,16 +5,15 @@ ghost use Rattle.pmp_text.specs.Scripts.{script_meaning};
 ghost use Rattle.pmp_audit.specs.Answers.{IsWritten};
 ghost use Rattle.pmp_audit.specs.LongAudit.{LongAuditSays, StopsLong};
 
-mod listing;
-mod reading;
+mod parts;
 mod reporting;
-mod standing;
 mod writing;
 
 use crate::fault::AuditFault;
-use crate::long_audit::reporting::{report_and_cut, report_piece};
-use crate::long_audit::standing::Standing;
+use crate::long_audit::parts::report_parts;
+use crate::long_audit::reporting::report_and_cut;
 use crate::long_audit::writing::write_report;
+use crate::standing::Standing;
 use crate::trace_audit::Summary;
 use pmp_text::{Cut, GrowingLog, Refusal, Script, cut_piece, read_script};
 use std::alloc::Global;
@@ -85,7 +84,7 @@ fn audit_pieces<T: Threads + Sync, R: Read, W: Write>(
                 cut = next;
             }
             Ok(Cut::Last(text)) => {
-                let report = report_piece(rt, alloc, jobs, script, &text, standing);
+                let report = report_parts(rt, alloc, jobs, script, &text, standing);
                 return write_report(writer, report)?.end(first);
             }
             Err(refusal) => return Err(AuditFault::from(refusal.whole().at_row(0))),

@@ -7,34 +7,9 @@ ghost use Rattle.pmp_text.specs.TraceFaults.{IsInOrder, afters};
 ghost use Rattle.pmp_text.specs.Traces.{row_fields};
 ghost use Rattle.pmp_audit.specs.Report.{IsListed};
 
-use crate::replay::Replay;
 use pmp_core::Decision;
-use pmp_text::{Row, Script, write_row};
+use pmp_text::{Row, write_row};
 use std::alloc::AllocError;
-
-/// Appends the report of rows, the first with this number: how many accesses are refused.
-pub fn list_rows(
-    report: &mut Vec<u8>,
-    script: &Script,
-    rows: &[Row],
-    first: u64,
-) -> Result<u64, AllocError>
-    requires order { IsInOrder (length script.now.batches) 0 (afters (map row_fields rows.now)) }
-    requires room { first + length rows.now < 2 ^ 64 }
-    ensures listed { IfOk result (IsListed script.now rows.now first report.old.items report.new.items) }
-    ensures few { IfOk result (λ faults. faults ≤ length rows.now) }
-{
-    let mut replay = Replay::new(script);
-    let mut number = first;
-    let mut faults = 0;
-    for row in rows {
-        replay.advance(row.after);
-        let decision = replay.decide(&row.access);
-        faults += list_row(report, number, row, &decision)?;
-        number += 1;
-    }
-    Ok(faults)
-}
 
 /// Appends a report row for each row and its decision, numbered from 1: how many accesses are refused.
 pub fn list_decisions(

@@ -70,8 +70,11 @@ pub fn audit<W: Write>(
 {
     let mut log = GrowingLog::new(alloc);
     let script = read_script(&mut log, script)?;
-    let rows = read_trace(alloc, trace, script.batches())?;
-    let mut report = Vec::new(alloc);
-    let faults = list_rows(&mut report, &script, &rows, 1)?;
-    write_answer(writer, &report, Ok(Summary::of(&rows, faults)))
+    if trace.len() > MAX_TRACE {
+        return Err(AuditFault::from(Refusal::TooLong.whole().at_row(0)));
+    }
+    let report = report_piece(alloc, &script, trace, Standing::beginning(1))?;
+    let summary = report.behind.end(1)?;
+    write_texts(writer, &report.texts)?;
+    Ok(summary)
 }

@@ -80,7 +80,7 @@ module _ (e : ℕ) (ends : is_line_end e ≡ true) where
   skipped more = elim (line_ends e ends) [ inl cr ↦ rw cr refl | inr lf ↦ rw lf refl ]
 
   -- behind a line's end a text begins with no mark, and the line's end itself says nothing
-  behind_line_end : (more : List ℕ) → records_of (e ∷ more) ≡ split st.StartRecord [] [] more
+  pub behind_line_end : (more : List ℕ) → records_of (e ∷ more) ≡ split st.StartRecord [] [] more
   behind_line_end more = ap (records default_config) (no_mark more) ∙ by_split (e ∷ more) ∙ skipped more
 
   no_second : (a c : Bool) → ((a && (e == 0xBB)) && c) ≡ false

@@ -20,6 +20,7 @@ pub mod Meanings
 pub mod NoExpectations
 pub mod Numbered
 pub mod Picture
+pub mod PlainLines
 pub mod PieceFaults
 pub mod Pieces
 pub mod Prefixes

@@ -8,9 +8,8 @@ use Rattle.std.proofs.lemmas.List.{length-append}
 use Rattle.std.proofs.lemmas.List.Elements.{filter_map-append}
 use Rattle.pmp_text.specs.declared.trace.TraceFault.{TraceFault}
 use Rattle.pmp_text.specs.declared.refusal.Refusal.TheVariants.{BadHeader, BadRow}
-use Rattle.pmp_text.specs.declared.trace.piece.Piece.{Piece}
-use Rattle.pmp_text.specs.declared.trace.piece.Place.{Place}
-use Rattle.pmp_text.specs.LongTraces.{IsReadAs, Records, first_fault_at, has_begun, is_bare_record, last_after}
+use Rattle.pmp_text.specs.declared.trace.rows.Place.{Place}
+use Rattle.pmp_text.specs.LongTraces.{Records, first_fault_at, has_begun, is_bare_record, last_after}
 use Rattle.pmp_text.specs.Tables.{is_line_end}
 use Rattle.pmp_text.specs.LongTraces.{piece_fault, place_behind, row_records}
 use Rattle.pmp_text.specs.Tables.{records_of}
@@ -50,13 +49,6 @@ module _ (publications : ℕ) where
   piece_in_order false last next [] e = tt
   piece_in_order false last next (header ∷ rows) e =
       rows_from_none last next rows (behind (is_header header) last next rows e)
-
-  pub read_in_order : (place behind : Place) (records : Records) (result : Result Piece TraceFault)
-      → IsReadAs (piece_fault publications place records) (row_records place.begun records) behind result
-      → IfOk result (λ piece. IsInOrder publications 0 (afters (map row_fields piece.rows.items)))
-  read_in_order place behind records (Ok piece) read =
-      rw (read.1) (piece_in_order place.begun place.last place.next records read.0)
-  read_in_order place behind records (Err fault) read = tt
 
   -- ---- records after records
 

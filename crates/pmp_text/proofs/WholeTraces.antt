@@ -1,18 +1,23 @@
 -- A piece of a trace that is the whole of it.
-use Rattle.std.proofs.Common.{◌≡◌, ◌⊎◌, ℕ, ◌≤◌, Bool, true, false, cond, List, [], ◌∷◌, length, map, Option, Some, None}
-use Rattle.std.proofs.Common.{Result, Ok, Err, refl, sym, ap, ◌∙◌, inl, inr, arith}
+use Rattle.std.proofs.Common.{◌≡◌, ◌⊎◌, ℕ, ◌+◌, ◌^◌, ◌≤◌, Bool, true, false, cond, List, [], ◌∷◌, ◌++◌, length, map}
+use Rattle.std.proofs.Common.{Option, Some, None, Result, Ok, Err, refl, sym, ap, ◌∙◌, inl, inr, arith, append_assoc}
+use Rattle.std.proofs.Common.{append-nil}
+use Rattle.std.proofs.lemmas.List.{map-append}
 use Rattle.std.specs.Prelude.{filter_map}
 use Rattle.pmp_text.specs.declared.refusal.Refusal.TheVariants.{BadHeader}
+use Rattle.pmp_text.specs.declared.trace.Row.{Row}
 use Rattle.pmp_text.specs.declared.trace.TraceFault.{TraceFault}
-use Rattle.pmp_text.specs.declared.trace.piece.Piece.{Piece}
-use Rattle.pmp_text.specs.declared.trace.piece.Place.{Place}
+use Rattle.pmp_text.specs.declared.trace.rows.Place.{Place}
 use Rattle.pmp_text.specs.declared.trace.reader.TheConstants.{MAX_TRACE}
 use Rattle.pmp_text.specs.Flaws.{as_whole, at_row}
-use Rattle.pmp_text.specs.LongTraces.{IsReadAs, Records, beginning, has_begun, long_meaning, long_rows_meaning}
-use Rattle.pmp_text.specs.LongTraces.{piece_fault, place_behind, row_records}
+use Rattle.pmp_text.specs.LongTraces.{Records, beginning, has_begun, long_meaning, long_rows_meaning}
+use Rattle.pmp_text.specs.LongTraces.{piece_fault, row_records, too_long_for_rows}
 use Rattle.pmp_text.specs.Outcomes.{no_input_for_rows, no_memory_for_rows}
+use Rattle.pmp_text.specs.RowsLeft.{IsNextRow, RowsLeft}
 use Rattle.pmp_text.specs.Tables.{fault_or_rows, records_of}
-use Rattle.pmp_text.specs.Traces.{first_row_fault, is_header, row_fields, row_of_record, rows_meaning, trace_meaning}
+use Rattle.pmp_text.specs.Traces.{first_row_fault, is_header, row_fault, row_fields, row_in, row_of_record, rows_meaning}
+use Rattle.pmp_text.specs.Traces.{trace_meaning}
+use Rattle.pmp_text.specs.declared.trace.row_fields.RowFields.{RowFields}
 use Rattle.pmp_text.proofs.CutTexts.{few_records}
 use Rattle.pmp_text.proofs.Rows.{by_records, trace_is}
 
@@ -51,33 +56,96 @@ fewer_rows true records = omega arith
 fewer_rows false [] = omega arith
 fewer_rows false (header ∷ rows) = omega arith
 
+-- these rows were read of some records, and these are left
+pub record ReadSoFar (publications first : ℕ) (all : Records) (rows : List Row) (left : RowsLeft) : Type 0 where
+  pub same : left.publications ≡ publications
+  pub fault : first_row_fault publications None first all
+      ≡ first_row_fault publications left.place.last left.place.next left.records
+  pub said : filter_map row_of_record all ≡ map row_fields rows ++ filter_map row_of_record left.records
+  pub count : first + length all ≡ left.place.next + length left.records
+
+pub one_row_more : (publications first : ℕ) (all : Records) (rows : List Row) (before after : RowsLeft) (row : Row)
+    → ReadSoFar publications first all rows before → IsNextRow before row after
+    → ReadSoFar publications first all (rows ++ row ∷ []) after
+one_row_more publications first all rows before after row read is =
+    let here = first_row_fault publications before.place.last before.place.next in
+    let fine : row_fault publications before.place.last (row_in is.fields) ≡ None = rw read.same at is.fine in
+    let later : here (is.fields ∷ after.records)
+    ≡ first_row_fault publications (Some row.after) (before.place.next + 1) after.records =
+    rw (fine, is.said) refl in
+    let others = filter_map row_of_record after.records in
+    let row_said : filter_map row_of_record (is.fields ∷ after.records) ≡ row_fields row ∷ others =
+    rw is.said refl in
+    record {
+      same = is.publications ∙ read.same;
+      fault = read.fault ∙ ap here is.next ∙ later
+          ∙ ap (λ (p : Place). first_row_fault publications p.last p.next after.records) (sym is.place);
+      said = read.said ∙ ap (λ (l : Records). map row_fields rows ++ filter_map row_of_record l) is.next
+          ∙ ap (λ (l : List RowFields). map row_fields rows ++ l) row_said
+          ∙ sym (ap (λ (l : List RowFields). l ++ others) (map-append row_fields rows (row ∷ []))
+          ∙ append_assoc (map row_fields rows) (row_fields row ∷ []) others);
+      count =
+          let number : after.place.next ≡ before.place.next + 1 = ap (λ (p : Place). p.next) is.place in
+          let size = ap (λ (l : Records). length l) is.next in
+          let count = read.count in
+          omega arith;
+    }
+
 module _ (publications : ℕ) (text : List ℕ) (short : length text ≤ MAX_TRACE) where
   meaning_is : trace_meaning publications text ≡ long_meaning publications 1 (records_of text)
   meaning_is = trace_is publications text ∙ by_records is_header (rows_meaning publications) text short
 
-  abbrev IsWhole : Result Piece TraceFault → Type 0
-  IsWhole = IsReadAs (piece_fault publications (beginning 1) (records_of text))
-      (row_records false (records_of text)) (place_behind (beginning 1) (records_of text))
+  abbrev all : Records
+  all = records_of text
 
-  pub with_header : (piece : Piece) → IsWhole (Ok piece) → piece.place.begun ≡ true
-      → trace_meaning publications text ≡ Ok (map row_fields piece.rows.items)
-  with_header piece (fine, said, stands, small) begun =
-      let begins : has_begun false (records_of text) ≡ true = sym (ap (λ (p : Place). p.begun) stands) ∙ begun in
-      meaning_is ∙ fine_records publications 1 (records_of text) fine begins ∙ ap Ok (sym said)
+  abbrev rows_behind_header : Records
+  rows_behind_header = row_records false all
 
-  pub without_header : (piece : Piece) → IsWhole (Ok piece) → piece.place.begun ≡ false
+  pub without_header : has_begun false all ≡ false
       → trace_meaning publications text ≡ Err (at_row 0 (as_whole BadHeader))
-  without_header piece (fine, said, stands, small) begun =
-      let begins : has_begun false (records_of text) ≡ false = sym (ap (λ (p : Place). p.begun) stands) ∙ begun in
-      meaning_is ∙ ap (long_meaning publications 1) (no_records (records_of text) begins)
+  without_header begun = meaning_is ∙ ap (long_meaning publications 1) (no_records all begun)
 
-  pub not_read : (fault : TraceFault) → IsWhole (Err fault)
+  pub found : (fault : TraceFault) → piece_fault publications (beginning 1) all ≡ Some fault
+      → trace_meaning publications text ≡ Err fault
+  found fault e = meaning_is ∙ faulty_records publications 1 all fault e
+
+  pub not_opened : (fault : TraceFault) → (piece_fault publications (beginning 1) all ≡ Some fault)
+      ⊎ (fault ≡ no_memory_for_rows) ⊎ (fault ≡ no_input_for_rows)
       → (trace_meaning publications text ≡ Err fault) ⊎ (fault ≡ no_memory_for_rows) ⊎ (fault ≡ no_input_for_rows)
-  not_read fault (inl found) = inl (meaning_is ∙ faulty_records publications 1 (records_of text) fault found)
-  not_read fault (inr (inl memory)) = inr (inl memory)
-  not_read fault (inr (inr (inl input))) = inr (inr input)
-  not_read fault (inr (inr (inr (long, many)))) =
+  not_opened fault (inl e) = inl (found fault e)
+  not_opened fault (inr refused) = inr refused
+
+  -- numbers do for the rows of a short trace
+  pub few_rows : 2 ^ 64 ≤ 1 + length rows_behind_header → ⊥
+  few_rows many =
       let few = few_records text in
-      let fewer = fewer_rows false (records_of text) in
+      let fewer = fewer_rows false all in
       let limit = short in
-      absurd (omega arith)
+      omega arith
+
+  -- the header was read, and these rows
+  module _ (opened : piece_fault publications (beginning 1) all
+      ≡ first_row_fault publications None 1 rows_behind_header) (rows : List Row) (left : RowsLeft)
+      (read : ReadSoFar publications 1 rows_behind_header rows left)
+    where
+      pub with_rows : has_begun false all ≡ true → left.records ≡ []
+          → trace_meaning publications text ≡ Ok (map row_fields rows)
+      with_rows begun none =
+          let fine = opened ∙ read.fault
+          ∙ ap (first_row_fault publications left.place.last left.place.next) none in
+          let said = read.said ∙ ap (λ (l : Records). map row_fields rows ++ filter_map row_of_record l) none
+          ∙ append-nil (map row_fields rows) in
+          meaning_is ∙ fine_records publications 1 all fine begun ∙ ap Ok said
+
+      pub not_read : (fault : TraceFault)
+          → (first_row_fault left.publications left.place.last left.place.next left.records ≡ Some fault)
+          ⊎ (fault ≡ no_memory_for_rows) ⊎ (fault ≡ no_input_for_rows)
+          ⊎ ((fault ≡ too_long_for_rows) × (2 ^ 64 ≤ left.place.next + length left.records))
+          → (trace_meaning publications text ≡ Err fault) ⊎ (fault ≡ no_memory_for_rows)
+          ⊎ (fault ≡ no_input_for_rows)
+      not_read fault (inl e) = inl (found fault (opened ∙ read.fault ∙ rw read.same at e))
+      not_read fault (inr (inl memory)) = inr (inl memory)
+      not_read fault (inr (inr (inl input))) = inr (inr input)
+      not_read fault (inr (inr (inr (long, many)))) =
+          let count = read.count in
+          absurd (few_rows (omega arith))

@@ -24,6 +24,7 @@ pub mod PictureTexts
 pub mod Policies
 pub mod Refusals
 pub mod Reports
+pub mod RowsLeft
 pub mod RunLines
 pub mod Scripts
 pub mod Statements

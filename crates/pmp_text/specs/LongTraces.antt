@@ -8,8 +8,7 @@ use Rattle.pmp_core.specs.declared.decision.Decision.{Decision}
 use Rattle.pmp_text.specs.declared.trace.Row.{Row}
 use Rattle.pmp_text.specs.declared.trace.TraceFault.{TraceFault}
 use Rattle.pmp_text.specs.declared.refusal.Refusal.TheVariants.{BadHeader, TooLong}
-use Rattle.pmp_text.specs.declared.trace.piece.Piece.{Piece}
-use Rattle.pmp_text.specs.declared.trace.piece.Place.{Place}
+use Rattle.pmp_text.specs.declared.trace.rows.Place.{Place}
 use Rattle.pmp_text.specs.declared.trace.row_fields.RowFields.{RowFields}
 use Rattle.pmp_text.specs.Contents.{ScriptContents}
 use Rattle.pmp_text.specs.Outcomes.{no_input_for_rows, no_memory_for_rows}
@@ -111,13 +110,3 @@ beginning first = record { begun = false; last = None; next = first; bare = None
 -- a row or a line is too long, which is the fault of no row
 abbrev pub too_long_for_rows : TraceFault
 too_long_for_rows = at_row 0 (as_whole TooLong)
-
--- the records have this first fault, or they are those of the piece and the next one stands there; else memory ran out,
--- the input failed, or the number of a row is 2^64 or more
-abbrev pub IsReadAs : (first_fault : Option TraceFault) → (rows : Records) → (behind : Place) → Result Piece TraceFault
-    → Type 0
-IsReadAs first_fault rows behind (Ok piece) = (first_fault ≡ None)
-    × (map row_fields piece.rows.items ≡ filter_map row_of_record rows) × (piece.place ≡ behind)
-    × (behind.next < 2 ^ 64)
-IsReadAs first_fault rows behind (Err fault) = (first_fault ≡ Some fault) ⊎ (fault ≡ no_memory_for_rows)
-    ⊎ (fault ≡ no_input_for_rows) ⊎ ((fault ≡ too_long_for_rows) × (2 ^ 64 ≤ behind.next))

@@ -35,4 +35,4 @@ pub use policy::{Demand, Kinds, Modes, PolicyFields, PolicyRow, read_policy};
 pub use refusal::{InputFault, Refusal, ScriptKind, TraceKind};
 pub use script::{MAX_SCRIPT, Script, ScriptFault, read_script};
 pub use sink::Sink;
-pub use trace::{MAX_TRACE, Piece, Place, Row, TraceFault, read_piece, read_trace};
+pub use trace::{MAX_TRACE, Place, Row, RowReader, TraceFault, read_trace};

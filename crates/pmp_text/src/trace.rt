@@ -4,16 +4,17 @@ ghost use Rattle.std.specs.Prelude.{◌≡◌};
 ghost use Rattle.csv.specs.Reading.{error_kind};
 ghost use Rattle.pmp_text.specs.Outcomes.{no_memory_for_rows, csv_fault};
 
-mod piece;
+mod plain;
 mod reader;
 mod records;
 mod row_fields;
+mod rows;
 
 use crate::refusal::{Refusal, TraceKind};
-pub use piece::{Piece, Place, read_piece};
 use pmp_core::Access;
 pub use reader::{MAX_TRACE, read_trace};
-pub(crate) use records::{open_records, read_record};
+pub(crate) use records::Records;
+pub use rows::{Place, RowReader};
 use std::alloc::AllocFailed;
 
 /// An access, and how many publications of the script are done before it.

@@ -7,46 +7,14 @@ ghost use Rattle.pmp_text.specs.Tables.{records_of};
 ghost use Rattle.pmp_audit.specs.LongPieces.{IsPieceReported, PieceFails};
 
 use crate::fault::AuditFault;
-use crate::long_audit::listing::list_parts;
-use crate::long_audit::reading::read_parts;
-use crate::long_audit::standing::Standing;
+use crate::long_audit::parts::report_parts;
+use crate::piece::PieceReport;
+use crate::standing::Standing;
 use pmp_text::{Cut, InputFault, Script, cut_piece};
 use std::alloc::Global;
 use std::io::Read;
 use std::thread;
 use std::thread::Threads;
-
-/// The report of a piece, text by text, and where the next piece stands.
-#[derive(Drop)]
-pub struct PieceReport {
-    pub texts: Vec<Vec<u8>>,
-    pub behind: Standing,
-}
-
-/// Reads a piece where it stands, and decides its rows. It is read in so many parts at a time, and so are their rows
-/// decided.
-pub fn report_piece<T: Threads + Sync>(
-    rt: &T,
-    alloc: Global,
-    jobs: usize,
-    script: &Script,
-    text: &[u8],
-    standing: Standing,
-) -> Result<PieceReport, AuditFault>
-    requires { standing.faults ≤ standing.place.next }
-    ensures ok { IfOk result (IsPieceReported script.now (records_of text.now) standing) }
-    ensures err { IfErr result (PieceFails script.now (records_of text.now) standing) }
-{
-    let parts = read_parts(rt, alloc, jobs, text, script.batches(), standing.place)?;
-    let listing = list_parts(rt, alloc, script, &parts.rows, standing.place.next)?;
-    Ok(PieceReport {
-        texts: listing.texts,
-        behind: Standing {
-            place: parts.place,
-            faults: standing.faults + listing.faults,
-        },
-    })
-}
 
 /// Reports a piece, and takes the next one: by several jobs while the piece is reported.
 pub fn report_and_cut<T: Threads + Sync, R: Read>(
@@ -68,14 +36,14 @@ pub fn report_and_cut<T: Threads + Sync, R: Read>(
         result.1 }
 {
     if jobs < 2 {
-        let report = report_piece(rt, alloc, jobs, script, text, standing);
+        let report = report_parts(rt, alloc, jobs, script, text, standing);
         return (report, cut_piece(alloc, reader, held, limit));
     }
     let mut report = || -> Result<PieceReport, AuditFault>
         requires { IsSync T.row × (standing.faults ≤ standing.place.next) }
         ensures { IfOk result (IsPieceReported script.entry.now (records_of text.entry.now) standing)
             × IfErr result (PieceFails script.entry.now (records_of text.entry.now) standing) }
-    { report_piece(rt, alloc, jobs, script, text, standing) };
+    { report_parts(rt, alloc, jobs, script, text, standing) };
     let mut cut = || -> Result<Cut, InputFault>
         requires { vec_len held.now ≤ limit }
         ensures { IsCut limit held.entry.now.items (R.remaining reader.entry.now) (R.remaining reader.exit.now)

@@ -5,13 +5,13 @@ ghost use Rattle.std.specs.Io.KnownBytes.{Appends};
 ghost use Rattle.pmp_text.specs.Bytes.{AppendsBeginning};
 ghost use Rattle.pmp_text.specs.Contents.{ScriptContents};
 ghost use Rattle.pmp_text.specs.LongTraces.{Records};
-ghost use Rattle.pmp_audit.specs.declared.long_audit.standing.Standing.{Standing};
+ghost use Rattle.pmp_audit.specs.declared.standing.Standing.{Standing};
 ghost use Rattle.pmp_audit.specs.LongParts.{items_of};
 ghost use Rattle.pmp_audit.specs.LongPieces.{IsPieceReported, IsPieceWritten, PieceFails, PieceStops};
 
 use crate::fault::AuditFault;
-use crate::long_audit::reporting::PieceReport;
-use crate::long_audit::standing::Standing;
+use crate::piece::PieceReport;
+use crate::standing::Standing;
 use pmp_text::{OutputFault, write_out};
 use std::io::Write;
 

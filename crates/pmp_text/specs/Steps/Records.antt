@@ -1,10 +1,14 @@
 -- The records that a reader still gives.
 use Rattle.std.specs.Borrow.{Bor}
-use Rattle.std.specs.Prelude.{◌≡◌, ℕ, ◌+◌, List, [], length, Option, Some, None, IsSome}
+use Rattle.std.specs.Prelude.{◌≡◌, ℕ, ◌+◌, List, [], ◌∷◌, length, Option, Some, None, IsSome, Result}
 use Rattle.csv.specs.declared.parser.State.{State}
 use Rattle.csv.specs.declared.reader.Reader.{Reader}
 use Rattle.csv.specs.declared.reader.Trim.TheVariants as trim
 use Rattle.csv.specs.Reading.{Ready, default_config, reader_config, reader_state, reader_trim, records_from, source_of}
+use Rattle.pmp_text.specs.declared.flaw.Flaw.{Flaw}
+use Rattle.pmp_text.specs.declared.trace.row_fields.RowFields.{RowFields}
+use Rattle.pmp_text.specs.Tables.{records_of}
+use Rattle.pmp_text.specs.Traces.{row_in}
 
 -- the records of bytes from a state on
 abbrev pub records_behind : State → List ℕ → List (List (List ℕ))
@@ -27,3 +31,17 @@ pub record IsReading (reader : Reader (Bor (List ℕ))) : Type 0 where
   pub config : reader_config reader ≡ default_config
   pub untrimmed : reader_trim reader ≡ trim.None
   pub known : IsSome (bytes_left reader)
+
+-- the records that are left, and the fields of the one that was read
+pub record RecordsLeft : Type 0 where
+  pub left : List (List (List ℕ))
+  pub fields : List (List ℕ)
+
+-- the records of the lines that are left, or where none are read as lines, those that are left
+abbrev pub lines_or : Option (Bor (List ℕ)) → (left : List (List (List ℕ))) → List (List (List ℕ))
+lines_or (Some lines) left = records_of lines.now
+lines_or None left = left
+
+-- the next record says this, and the others come behind it
+abbrev pub IsNext : (before : List (List (List ℕ))) → Result RowFields Flaw → (after : List (List (List ℕ))) → Type 0
+IsNext before said after = (fields : List (List ℕ)) × (before ≡ fields ∷ after) × (row_in fields ≡ said)

@@ -1,5 +1,5 @@
 -- What the reader's iterators stand for.
-use Rattle.std.specs.Prelude.{List}
+use Rattle.std.specs.Prelude.{ℕ, List, [], ◌∷◌}
 use Rattle.pmp_text.specs.declared.script.significant.NumberedLine.{NumberedLine}
 use Rattle.pmp_text.specs.declared.script.significant.SignificantLines.{SignificantLines}
 use Rattle.pmp_text.specs.Lines.{words}
@@ -26,6 +26,10 @@ seen_five words = record {
   start = words.start.now;
   length = words.length.now;
 }
+
+-- the five fields of a record
+abbrev pub five_words : FiveFields → List (List ℕ)
+five_words words = words.after ∷ words.mode ∷ words.kind ∷ words.start ∷ words.length ∷ []
 
 -- the words of a policy's row
 abbrev pub seen_seven : Words → SevenFields

@@ -3,31 +3,27 @@
 ghost use Rattle.std.specs.Prelude.{◌≤◌, All, IfOk, map};
 ghost use Rattle.pmp_text.specs.Outcomes.{GivesRows};
 ghost use Rattle.pmp_text.specs.Policies.{is_policy_header, policy_fields, policy_meaning, policy_rows_meaning};
-ghost use Rattle.pmp_text.specs.Steps.Records.{IsReading, records_left};
 ghost use Rattle.pmp_text.specs.Tables.{behind_header};
 
 use crate::policy::PolicyRow;
 use crate::policy::row_fields::{is_policy_header, read_policy_row};
 use crate::refusal::Refusal;
-use crate::trace::{MAX_TRACE, TraceFault, open_records, read_record};
-use csv::{ByteRecord, Reader};
+use crate::trace::{MAX_TRACE, Records, TraceFault};
 use std::alloc::Global;
 
 /// Reads the rows behind the header.
 fn read_rows(
     alloc: Global,
-    reader: &mut Reader<&[u8]>,
-    fields: &mut ByteRecord,
+    records: &mut Records<'_>,
     publications: u64,
 ) -> Result<Vec<PolicyRow>, TraceFault>
-    requires { IsReading reader.old }
     ensures given { GivesRows (λ rows. map policy_fields rows.items) result
-        (policy_rows_meaning publications (records_left reader.old)) }
+        (policy_rows_meaning publications records.old.left) }
     ensures within { IfOk result (λ rows. All (λ row. row.to ≤ publications) rows.items) }
 {
     let mut rows = Vec::new(alloc);
-    while read_record(reader, fields)? {
-        match read_policy_row(fields, publications) {
+    while records.read()? {
+        match read_policy_row(records.fields(), publications) {
             Ok(row) => rows.push(row)?,
             Err(flaw) => return Err(flaw.at_row(rows.len() as u64 + 1)),
         }
@@ -38,19 +34,17 @@ fn read_rows(
 /// Reads the header, and the rows behind it.
 fn read_records(
     alloc: Global,
-    reader: &mut Reader<&[u8]>,
-    fields: &mut ByteRecord,
+    records: &mut Records<'_>,
     publications: u64,
 ) -> Result<Vec<PolicyRow>, TraceFault>
-    requires { IsReading reader.old }
     ensures given { GivesRows (λ rows. map policy_fields rows.items) result
-        (behind_header is_policy_header (policy_rows_meaning publications) (records_left reader.old)) }
+        (behind_header is_policy_header (policy_rows_meaning publications) records.old.left) }
     ensures within { IfOk result (λ rows. All (λ row. row.to ≤ publications) rows.items) }
 {
-    if !read_record(reader, fields)? || !is_policy_header(fields) {
+    if !records.read()? || !is_policy_header(records.fields()) {
         return Err(Refusal::BadHeader.whole().at_row(0));
     }
-    read_rows(alloc, reader, fields, publications)
+    read_rows(alloc, records, publications)
 }
 
 /// The rows of the policy that a text describes, beside a script with so many publications, else its first fault. The
@@ -67,7 +61,5 @@ pub fn read_policy(
     if text.len() > MAX_TRACE {
         return Err(Refusal::TooLong.whole().at_row(0));
     }
-    let mut reader = open_records(alloc, text);
-    let mut fields = ByteRecord::new(alloc);
-    read_records(alloc, &mut reader, &mut fields, publications)
+    read_records(alloc, &mut Records::open(alloc, text), publications)
 }

@@ -6,7 +6,7 @@ ghost use Rattle.pmp_text.specs.TraceFaults.{IsInOrder, afters};
 ghost use Rattle.pmp_text.specs.Traces.{row_fields, trace_meaning};
 
 use crate::refusal::Refusal;
-use crate::trace::piece::{Place, read_piece};
+use crate::trace::rows::{Place, RowReader};
 use crate::trace::{Row, TraceFault};
 use std::alloc::Global;
 
@@ -23,10 +23,13 @@ pub fn read_trace(alloc: Global, text: &[u8], publications: u64) -> Result<Vec<R
     if text.len() > MAX_TRACE {
         return Err(Refusal::TooLong.whole().at_row(0));
     }
-    let trace = read_piece(alloc, text, publications, Place::beginning(1))?;
-    if trace.place.begun {
-        Ok(trace.rows)
-    } else {
-        Err(Refusal::BadHeader.whole().at_row(0))
+    let mut left = RowReader::open(alloc, text, publications, Place::beginning(1))?;
+    if !left.place().begun {
+        return Err(Refusal::BadHeader.whole().at_row(0));
     }
+    let mut rows = Vec::new(alloc);
+    while let Some(row) = left.next()? {
+        rows.push(row)?;
+    }
+    Ok(rows)
 }

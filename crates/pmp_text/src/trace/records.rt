@@ -9,25 +9,67 @@ ghost use Rattle.pmp_text.specs.Tables.{records_of};
 use crate::trace::TraceFault;
 use csv::{ByteRecord, Reader, ReaderBuilder};
 use std::alloc::Global;
+use std::marker::Model;
 
-/// Reads a text from its beginning. Records may differ in length, and none is taken away as a header.
-pub fn open_records(alloc: Global, text: &[u8]) -> Reader<&[u8]>
-    ensures reads { IsReading result }
-    ensures records { records_left result ≡ records_of text.now }
-{
-    ReaderBuilder::new()
-        .has_headers(false)
-        .flexible(true)
-        .from_reader(alloc, text)
+/// The records of a text. A contract sees those that are left, and the fields of the one that was read.
+#[derive(Drop)]
+pub struct Records<'a> {
+    reader: Reader<&'a [u8]>,
+    fields: ByteRecord,
+    /// Whether the last record was read, or a read failed.
+    has_ended: bool,
 }
 
-/// Reads the next record, if there is one, and answers whether there was. After an error the reader is of no use.
-pub fn read_record(reader: &mut Reader<&[u8]>, fields: &mut ByteRecord) -> Result<bool, TraceFault>
-    requires { IsReading reader.old }
-    ensures reads { result ≡ Ok true → IsReading reader.new }
-    ensures next { result ≡ Ok true → records_left reader.old ≡ fields_of fields.new ∷ records_left reader.new }
-    ensures end { result ≡ Ok false → records_left reader.old ≡ [] }
-    ensures failed { IfErr result (λ fault. (fault ≡ no_memory_for_rows) ⊎ (fault ≡ no_input_for_rows)) }
-{
-    Ok(reader.read_byte_record(fields)?)
+impl<'a> Model for Records<'a> {
+    ghost use Rattle.std.specs.Prelude.{◌≡◌, [], false, if◌then◌else◌};
+    ghost use Rattle.csv.specs.Records.{fields_of};
+    ghost use Rattle.pmp_text.specs.Steps.Records.{IsReading, RecordsLeft, records_left};
+
+    ghost Value = { RecordsLeft };
+
+    ghost view = { λ r. record {
+      left = if r.has_ended then [] else records_left r.reader;
+      fields = fields_of r.fields;
+    } };
+
+    ghost invariant = { λ r. r.has_ended ≡ false → IsReading r.reader };
+}
+
+impl<'a> Records<'a> {
+    /// Those of a text from its beginning on. They may differ in length, and none is taken away as a header.
+    pub fn open(alloc: Global, text: &'a [u8]) -> Records<'a>
+        ensures { result.left ≡ records_of text.now }
+    {
+        let reader = ReaderBuilder::new()
+            .has_headers(false)
+            .flexible(true)
+            .from_reader(alloc, text);
+        Records {
+            reader,
+            fields: ByteRecord::new(alloc),
+            has_ended: false,
+        }
+    }
+
+    /// Reads the next record, if there is one, and answers whether there was. After an error none is left.
+    pub fn read(&mut self) -> Result<bool, TraceFault>
+        ensures next { result ≡ Ok true → self.old.left ≡ self.new.fields ∷ self.new.left }
+        ensures end { result ≡ Ok false → (self.old.left ≡ []) × (self.new.left ≡ []) }
+        ensures failed { IfErr result (λ fault. (fault ≡ no_memory_for_rows) ⊎ (fault ≡ no_input_for_rows)) }
+    {
+        if self.has_ended {
+            return Ok(false);
+        }
+        self.has_ended = true;
+        let found = self.reader.read_byte_record(&mut self.fields)?;
+        self.has_ended = !found;
+        Ok(found)
+    }
+
+    /// The fields of the record that was read last.
+    pub fn fields(&self) -> &ByteRecord
+        ensures { fields_of result.now ≡ self.now.fields }
+    {
+        &self.fields
+    }
 }

@@ -104,7 +104,7 @@ impl RowFields {
     }
 
     /// What the five fields of a record say, or which one says nothing.
-    fn of_words(words: Words<'_>) -> Result<RowFields, Flaw>
+    pub fn of_words(words: Words<'_>) -> Result<RowFields, Flaw>
         ensures { result ≡ row_of_fields (seen_five words.entry) }
     {
         Ok(RowFields {
@@ -118,7 +118,7 @@ impl RowFields {
     }
 
     /// The row, beside a script with so many publications and behind a row that asks for `last`.
-    fn check(self, publications: u64, last: Option<u64>) -> Result<Row, Flaw>
+    pub fn check(self, publications: u64, last: Option<u64>) -> Result<Row, Flaw>
         ensures ok { IfOk result (λ row. (fields_fault publications last self ≡ None) × (row_fields row ≡ self)) }
         ensures err { IfErr result (λ flaw. fields_fault publications last self ≡ Some flaw) }
     {
@@ -138,13 +138,4 @@ impl RowFields {
             Err(AccessFault::PastEnd) => Err(Refusal::PastEnd.part(3)),
         }
     }
-}
-
-/// The row that a record says, beside a script with so many publications and behind a row that asks for `last`.
-pub fn read_row(fields: &ByteRecord, publications: u64, last: Option<u64>) -> Result<Row, Flaw>
-    ensures ok { IfOk result (λ row. (row_in (fields_of fields.now) ≡ Ok (row_fields row))
-        × (row_fault publications last (row_in (fields_of fields.now)) ≡ None)) }
-    ensures err { IfErr result (λ flaw. row_fault publications last (row_in (fields_of fields.now)) ≡ Some flaw) }
-{
-    RowFields::read(fields)?.check(publications, last)
 }

@@ -13,5 +13,5 @@ returns-clause-given c =
     rw (
       policy_is c.args.publications c.args.text.now,
       by_records is_policy_header (policy_rows_meaning c.args.publications) c.args.text.now (omega arith),
-      ← c.open_records-reader.ensures.records,
+      ← c.open.ensures,
     ) c.read_records.ensures.given

@@ -1,0 +1,122 @@
+//! The report of a piece, made in parts by several threads.
+
+ghost use Rattle.std.specs.Prelude.{◌≡◌, ◌≤◌, ◌<◌, IfErr, IfOk, IfSome, length, slice_index, true};
+ghost use Rattle.std.specs.Thread.{IsSync};
+ghost use Rattle.pmp_text.specs.Tables.{is_line_end, records_of};
+ghost use Rattle.pmp_audit.specs.LongParts.{AreJoined};
+ghost use Rattle.pmp_audit.specs.LongPieces.{IsPieceReported, PieceFails};
+
+use crate::fault::AuditFault;
+use crate::piece::{PieceReport, report_piece};
+use crate::standing::Standing;
+use pmp_text::{Place, Script, read_word_number};
+use std::alloc::{AllocError, Global};
+use std::thread;
+use std::thread::Threads;
+
+/// Reports a piece as [`report_piece`] does, in so many parts at a time. A part is begun where it is likely to stand.
+/// Where it doesn't stand there, or isn't reported, the piece is reported as one part.
+#[cycle(parts)]
+pub fn report_parts<T: Threads + Sync>(
+    rt: &T,
+    alloc: Global,
+    parts: usize,
+    script: &Script,
+    text: &[u8],
+    standing: Standing,
+) -> Result<PieceReport, AuditFault>
+    requires { standing.faults ≤ standing.place.next }
+    ensures ok { IfOk result (IsPieceReported script.now (records_of text.now) standing) }
+    ensures err { IfErr result (PieceFails script.now (records_of text.now) standing) }
+{
+    if parts < 2 {
+        return report_piece(alloc, script, text, standing);
+    }
+    let Some(end) = middle_line_end(text) else {
+        return report_piece(alloc, script, text, standing);
+    };
+    let half = parts / 2;
+    let low = &text[..=end];
+    let high = &text[end..];
+    let middle = likely_behind(standing.place, low);
+    let front = move || -> Result<PieceReport, AuditFault>
+        requires { IsSync T.row × (0 < half) × (standing.faults ≤ standing.place.next) }
+        ensures { IfOk result (IsPieceReported script.entry.now (records_of low.entry.now) standing) }
+    { report_parts(rt, alloc, half, script, low, standing) };
+    let back = move || -> Result<PieceReport, AuditFault>
+        requires { IsSync T.row × (half < parts) × (middle.faults ≤ middle.place.next) }
+        ensures { IfOk result (IsPieceReported script.entry.now (records_of high.entry.now) middle) }
+    { report_parts(rt, alloc, parts - half, script, high, middle) };
+    let (front, back) = thread::join(rt, front, back);
+    match joined(front, middle, back)? {
+        Some(both) => Ok(both),
+        None => report_piece(alloc, script, text, standing),
+    }
+}
+
+/// The place of the first line's end in the second half.
+fn middle_line_end(text: &[u8]) -> Option<usize>
+    ensures { IfSome result (λ end. (end < length text.now) × (is_line_end (slice_index text.now end) ≡ true)) }
+{
+    for end in text.len() / 2..text.len() {
+        if matches!(text[end], b'\r' | b'\n') {
+            return Some(end);
+        }
+    }
+    None
+}
+
+/// Where a part is likely to stand behind this text at a place: it does where each line of the text is a plain row.
+fn likely_behind(place: Place, text: &[u8]) -> Standing
+    ensures { result.faults ≡ 0 }
+{
+    let lines = text.iter().filter(|byte| **byte == b'\n').count() as u64;
+    Standing {
+        place: Place {
+            begun: true,
+            last: last_after(text),
+            next: place.next.saturating_add(lines.saturating_sub(1)),
+            bare: None,
+        },
+        faults: 0,
+    }
+}
+
+/// How many publications the last line of a text asks for, where it is a plain row.
+fn last_after(text: &[u8]) -> Option<u64> {
+    let (_, lines) = text.split_last()?;
+    let line = lines.iter().rposition(|byte| *byte == b'\n')?;
+    let end = lines[line..].iter().position(|byte| *byte == b',')?;
+    read_word_number(&lines[line + 1..line + end])
+}
+
+/// The reports of two parts as one, where both were made, and the back one from where the front one ends.
+fn joined(
+    front: Result<PieceReport, AuditFault>,
+    middle: Standing,
+    back: Result<PieceReport, AuditFault>,
+) -> Result<Option<PieceReport>, AllocError>
+    ensures { IfOk result (λ joined. IfSome joined (AreJoined front middle back)) }
+{
+    let (Ok(mut front), Ok(mut back)) = (front, back) else {
+        return Ok(None);
+    };
+    let behind = front.behind.place;
+    if behind != (Place { bare: behind.bare, ..middle.place }) {
+        return Ok(None);
+    }
+    let Some(faults) = front.behind.faults.checked_add(back.behind.faults) else {
+        return Ok(None);
+    };
+    front.texts.append(&mut back.texts)?;
+    Ok(Some(PieceReport {
+        texts: front.texts,
+        behind: Standing {
+            place: Place {
+                bare: behind.bare.or(back.behind.place.bare),
+                ..back.behind.place
+            },
+            faults,
+        },
+    }))
+}

@@ -1,0 +1,32 @@
+-- Reading the rows of a trace one after the other.
+use Rattle.std.specs.Prelude.{◌≡◌, ℕ, ◌+◌, ◌^◌, ◌<◌, List, ◌∷◌, Some, None, Ok, if◌then◌else◌}
+use Rattle.std.specs.Option.{option_or}
+use Rattle.pmp_text.specs.declared.trace.Row.{Row}
+use Rattle.pmp_text.specs.declared.trace.rows.Place.{Place}
+use Rattle.pmp_text.specs.LongTraces.{Records}
+use Rattle.pmp_text.specs.Traces.{row_fault, row_fields, row_in}
+
+-- the records that rows are still read from, beside a script with so many publications, and where they stand
+pub record RowsLeft : Type 0 where
+  pub records : Records
+  pub publications : ℕ
+  pub place : Place
+
+-- the place behind a row that stands at a place
+abbrev pub place_after : Place → Row → Place
+place_after place row = record {
+  begun = place.begun;
+  last = Some row.after;
+  next = place.next + 1;
+  bare = option_or place.bare (if row.is_bare then Some place.next else None);
+}
+
+-- the row is what the next record says, it has no fault where it stands, and the others stand behind it
+pub record IsNextRow (before : RowsLeft) (row : Row) (after : RowsLeft) : Type 0 where
+  pub fields : List (List ℕ)
+  pub next : before.records ≡ fields ∷ after.records
+  pub said : row_in fields ≡ Ok (row_fields row)
+  pub fine : row_fault before.publications before.place.last (row_in fields) ≡ None
+  pub publications : after.publications ≡ before.publications
+  pub place : after.place ≡ place_after before.place row
+  pub numbered : before.place.next + 1 < 2 ^ 64

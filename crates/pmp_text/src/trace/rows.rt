@@ -1,0 +1,205 @@
+//! The rows of a piece of a trace, one after the other, read where the piece stands.
+
+ghost use Rattle.std.specs.Prelude.{◌≡◌, ◌+◌, ◌^◌, ◌<◌, ◌≤◌, ◌⊎◌, ◌∷◌, [], IfErr, IfOk, IfSome, List, ℕ, None, Ok};
+ghost use Rattle.std.specs.Prelude.{Some, if◌then◌else◌, length};
+ghost use Rattle.std.specs.Option.{option_or};
+ghost use Rattle.pmp_text.specs.LongTraces.{beginning, has_begun, piece_fault, row_records, too_long_for_rows};
+ghost use Rattle.pmp_text.specs.Outcomes.{no_input_for_rows, no_memory_for_rows};
+ghost use Rattle.pmp_text.specs.RowsLeft.{IsNextRow, place_after};
+ghost use Rattle.pmp_text.specs.Steps.Records.{IsNext};
+ghost use Rattle.pmp_text.specs.Tables.{records_of};
+ghost use Rattle.pmp_text.specs.Traces.{first_row_fault, row_fault, row_fields, row_in};
+
+use crate::flaw::Flaw;
+use crate::refusal::Refusal;
+use crate::trace::plain::{behind_plain_header, plain_line};
+use crate::trace::records::Records;
+use crate::trace::row_fields::{RowFields, is_header};
+use crate::trace::{Row, TraceFault};
+use std::alloc::Global;
+use std::marker::Model;
+
+/// Where a piece of a trace stands.
+#[derive(Clone, Copy, PartialEq, Eq)]
+pub struct Place {
+    /// Whether the header was read.
+    pub begun: bool,
+    /// How many publications the row before asks for, where there is one.
+    pub last: Option<u64>,
+    /// The number of the next row.
+    pub next: u64,
+    /// The number of the first row whose start is 14 digits without `0x`, where one was read.
+    pub bare: Option<u64>,
+}
+
+impl Place {
+    /// Where a trace begins whose first row has this number.
+    pub fn beginning(first: u64) -> Place
+        ensures { result ≡ beginning first }
+    {
+        Place {
+            begun: false,
+            last: None,
+            next: first,
+            bare: None,
+        }
+    }
+
+    /// The place behind one more row. Where its number is the last one there is, the trace is too long.
+    fn behind(self, row: &Row) -> Result<Place, TraceFault>
+        ensures ok { IfOk result (λ place. (self.next + 1 < 2 ^ 64) × (place ≡ place_after self row.now)) }
+        ensures err { IfErr result (λ fault. (fault ≡ too_long_for_rows) × (2 ^ 64 ≤ self.next + 1)) }
+    {
+        let next = self
+            .next
+            .checked_add(1)
+            .ok_or(Refusal::TooLong.whole().at_row(0))?;
+        Ok(Place {
+            begun: self.begun,
+            last: Some(row.after),
+            next,
+            bare: self.bare.or(row.is_bare.then_some(self.next)),
+        })
+    }
+}
+
+/// What a record says as a row, or what of it says nothing.
+type Said = Result<RowFields, Flaw>;
+
+/// The rows that a piece has left. A contract sees their records, beside how many publications of a script they stand,
+/// and where.
+#[derive(Drop)]
+pub struct RowReader<'a> {
+    alloc: Global,
+    /// The text from the line's end before the next row on, as long as each line was plain.
+    lines: Option<&'a [u8]>,
+    /// What is left once a line isn't plain.
+    records: Records<'a>,
+    publications: u64,
+    place: Place,
+}
+
+impl<'a> Model for RowReader<'a> {
+    ghost use Rattle.std.specs.Prelude.{None, Some};
+    ghost use Rattle.pmp_text.specs.RowsLeft.{RowsLeft};
+    ghost use Rattle.pmp_text.specs.Steps.Records.{lines_or};
+
+    ghost Value = { RowsLeft };
+
+    ghost view = { λ r. record {
+      records = lines_or r.lines r.records.left;
+      publications = r.publications;
+      place = r.place;
+    } };
+}
+
+/// What the next record says, if there is one.
+fn next_said(records: &mut Records<'_>) -> Result<Option<Said>, TraceFault>
+    ensures some { IfOk result (λ found. IfSome found (λ said. IsNext records.old.left said records.new.left)) }
+    ensures end { result ≡ Ok None → (records.old.left ≡ []) × (records.new.left ≡ []) }
+    ensures failed { IfErr result (λ fault. (fault ≡ no_memory_for_rows) ⊎ (fault ≡ no_input_for_rows)) }
+{
+    if records.read()? {
+        Ok(Some(RowFields::read(records.fields())))
+    } else {
+        Ok(None)
+    }
+}
+
+impl<'a> RowReader<'a> {
+    /// The rows of a piece that stands there, beside a script with so many publications, else the header's fault.
+    ///
+    /// A piece that isn't the first one begins with the line's end before it, since a byte-order mark counts where a
+    /// text begins.
+    pub fn open(
+        alloc: Global,
+        text: &'a [u8],
+        publications: u64,
+        place: Place,
+    ) -> Result<RowReader<'a>, TraceFault>
+        ensures fault { IfOk result (λ rows. piece_fault publications place (records_of text.now)
+            ≡ first_row_fault publications place.last place.next rows.records) }
+        ensures rows { IfOk result (λ rows. rows ≡ record {
+          records = row_records place.begun (records_of text.now);
+          publications = publications;
+          place = record place { begun = has_begun place.begun (records_of text.now) };
+        }) }
+        ensures err { IfErr result (λ fault. (piece_fault publications place (records_of text.now) ≡ Some fault)
+            ⊎ (fault ≡ no_memory_for_rows) ⊎ (fault ≡ no_input_for_rows)) }
+    {
+        let mut rows = RowReader {
+            alloc,
+            lines: Some(text),
+            records: Records::open(alloc, text),
+            publications,
+            place,
+        };
+        if place.begun {
+            return Ok(rows);
+        }
+        rows.lines = behind_plain_header(text);
+        if rows.lines.is_none() {
+            if !rows.records.read()? {
+                return Ok(rows);
+            }
+            if !is_header(rows.records.fields()) {
+                return Err(Refusal::BadHeader.whole().at_row(0));
+            }
+        }
+        rows.place.begun = true;
+        Ok(rows)
+    }
+
+    /// Where the next row stands.
+    pub fn place(&self) -> Place
+        ensures { result ≡ self.now.place }
+    {
+        self.place
+    }
+
+    /// What the next record says, if there is one.
+    fn next_fields(&mut self) -> Result<Option<Said>, TraceFault>
+        ensures some { IfOk result (λ found. IfSome found (λ said.
+            IsNext self.old.records said self.new.records)) }
+        ensures end { result ≡ Ok None → (self.old.records ≡ []) × (self.new.records ≡ []) }
+        ensures failed { IfErr result (λ fault. (fault ≡ no_memory_for_rows) ⊎ (fault ≡ no_input_for_rows)) }
+        ensures publications { self.new.publications ≡ self.old.publications }
+        ensures place { self.new.place ≡ self.old.place }
+    {
+        let Some(text) = self.lines else {
+            return next_said(&mut self.records);
+        };
+        let Some((words, rest)) = plain_line(text) else {
+            self.records = Records::open(self.alloc, text);
+            self.lines = None;
+            return next_said(&mut self.records);
+        };
+        self.lines = Some(rest);
+        Ok(Some(RowFields::of_words(words)))
+    }
+
+    /// The next row, if there is one. After an error no more is said of what is left.
+    pub fn next(&mut self) -> Result<Option<Row>, TraceFault>
+        ensures row { IfOk result (λ found. IfSome found (λ row. IsNextRow self.old row self.new)) }
+        ensures end { result ≡ Ok None → (self.old.records ≡ []) × (self.new ≡ self.old) }
+        ensures err { IfErr result (λ fault.
+            (first_row_fault self.old.publications self.old.place.last self.old.place.next self.old.records
+            ≡ Some fault) ⊎ (fault ≡ no_memory_for_rows) ⊎ (fault ≡ no_input_for_rows)
+            ⊎ ((fault ≡ too_long_for_rows) × (2 ^ 64 ≤ self.old.place.next + length self.old.records))) }
+    {
+        let Some(said) = self.next_fields()? else {
+            return Ok(None);
+        };
+        let checked = match said {
+            Ok(fields) => fields.check(self.publications, self.place.last),
+            Err(flaw) => Err(flaw),
+        };
+        match checked {
+            Ok(row) => {
+                self.place = self.place.behind(&row)?;
+                Ok(Some(row))
+            }
+            Err(flaw) => Err(flaw.at_row(self.place.next)),
+        }
+    }
+}
