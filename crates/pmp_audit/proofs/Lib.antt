@@ -7,7 +7,6 @@ pub mod Dealing
 pub mod Lists
 pub mod LongReports
 pub mod LongParts
-pub mod LongListings
 pub mod FilesBetween
 pub mod LongAudits
 pub mod LongSteps
@@ -15,6 +14,8 @@ pub mod LongStops
 pub mod LongTurns
 pub mod OneEntryList
 pub mod OneReport
+pub mod PieceRows
+pub mod PieceTexts
 pub mod Reports
 pub mod Stopping
 pub mod WrittenAnswers
@@ -26,3 +27,4 @@ pub mod PolicyVerdicts
 pub mod OnePolicyAnswer
 pub mod Differences
 pub mod OneDifference
+pub mod WholeAudits

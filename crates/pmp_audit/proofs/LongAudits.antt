@@ -12,7 +12,7 @@ use Rattle.pmp_core.specs.declared.decision.Decision.{Decision}
 use Rattle.pmp_text.specs.declared.trace.Row.{Row}
 use Rattle.pmp_text.specs.declared.trace.TraceFault.{TraceFault}
 use Rattle.pmp_text.specs.declared.flaw.Flaw.{Flaw}
-use Rattle.pmp_text.specs.declared.trace.piece.Place.{Place}
+use Rattle.pmp_text.specs.declared.trace.rows.Place.{Place}
 use Rattle.pmp_text.specs.declared.trace.row_fields.RowFields.{RowFields}
 use Rattle.pmp_text.specs.Contents.{ScriptContents}
 use Rattle.pmp_text.specs.LongTraces.{Records, beginning, first_fault_at, piece_fault, place_behind, report_text_from}
@@ -20,11 +20,11 @@ use Rattle.pmp_text.specs.LongTraces.{is_bare_record, row_records}
 use Rattle.pmp_text.specs.Flaws.{at_row}
 use Rattle.pmp_text.specs.Traces.{after_of, first_bare, first_row_fault, is_header, row_fault, row_fields, row_of_record, row_in}
 use Rattle.pmp_text.proofs.PieceFaults.{behind, in_turn, places_in_turn, rows_in_two}
-use Rattle.pmp_audit.specs.declared.long_audit.standing.Standing.{Standing}
+use Rattle.pmp_audit.specs.declared.standing.Standing.{Standing}
 use Rattle.pmp_audit.specs.LongAudit.{IsFrontReport}
 use Rattle.pmp_audit.specs.LongPieces.{IsPieceText}
 use Rattle.pmp_audit.specs.Report.{refused_count}
-use Rattle.pmp_audit.proofs.LongReports.{report_goes_on}
+use Rattle.pmp_audit.proofs.PieceTexts.{few_refused as few, joined_texts, neither, numbered}
 use Rattle.pmp_audit.proofs.Reports.{Decides}
 
 -- what was read so far is reported so, and the next piece stands there
@@ -46,37 +46,7 @@ module _ (script : ScriptContents) (first : ℕ) where
         counted = faults;
       }
 
-pub neither : (own later : Option TraceFault) → option_or own later ≡ None → (own ≡ None) × (later ≡ None)
-neither None later e = (refl, e)
-neither (Some fault) later e = absurd cc
-
 module _ (publications : ℕ) where
-  all_say : (rows : Records) (last : Option ℕ) (next : ℕ) → first_row_fault publications last next rows ≡ None
-      → length (filter_map row_of_record rows) ≡ length rows
-  all_say [] last next fine = refl
-  all_say (row ∷ more) last next fine = by (row_in row) refl (all_say more)
-    where
-      by : (said : Result RowFields Flaw) → row_in row ≡ said
-          → ((last : Option ℕ) (next : ℕ) → first_row_fault publications last next more ≡ None
-          → length (filter_map row_of_record more) ≡ length more)
-          → length (filter_map row_of_record (row ∷ more)) ≡ length (row ∷ more)
-      by (Err flaw) is later =
-          let own : Some (at_row next flaw) ≡ None = (neither (Some (at_row next flaw))
-          (first_row_fault publications None (next + 1) more) (rw is at fine)).0 in
-          absurd cc
-      by (Ok fields) is later =
-          let rest = (neither (option_map (at_row next) (row_fault publications last (row_in row)))
-          (first_row_fault publications (after_of (row_of_record row)) (next + 1) more) fine).1 in
-          let count = later (after_of (row_of_record row)) (next + 1) rest in
-          rw is (omega arith)
-
-  all_rows_say : (records : Records) (last : Option ℕ) (next : ℕ)
-      → first_fault_at publications false last next records ≡ None
-      → length (filter_map row_of_record (row_records false records)) ≡ length (row_records false records)
-  all_rows_say [] last next fine = refl
-  all_rows_say (header ∷ rows) last next fine =
-      all_say rows last next (behind publications (is_header header) last next rows fine)
-
   -- the rows that records say are as bare as the records
   bare_as_said : (rows : Records) (read : List Row) (last : Option ℕ) (next number : ℕ)
       → first_row_fault publications last next rows ≡ None → map row_fields read ≡ filter_map row_of_record rows
@@ -116,13 +86,6 @@ module _ (publications : ℕ) where
   all_bare (header ∷ rows) read last next fine said =
       bare_as_said rows read last next next (behind publications (is_header header) last next rows fine) said
 
-zipped_apart : {A B : Type 0} (R : A → B → Type 0) (xs more : List A) (ys others : List B) → AllZip R xs ys
-    → AllZip R more others → AllZip R (xs ++ more) (ys ++ others)
-zipped_apart R [] more [] others here there = there
-zipped_apart R [] more (y ∷ ys) others here there = absurd here
-zipped_apart R (x ∷ xs) more [] others here there = absurd here
-zipped_apart R (x ∷ xs) more (y ∷ ys) others here there = (here.0, zipped_apart R xs more ys others here.1 there)
-
 module _ (script : ScriptContents) (first : ℕ) (records : Records) (old : Standing) (text : List ℕ)
     (stands : Stands script first records old text) where
   abbrev publications : ℕ
@@ -136,27 +99,31 @@ module _ (script : ScriptContents) (first : ℕ) (records : Records) (old : Stan
       (piece_fault publications (place_behind (beginning first) records) more)) stands.report.fine
       ∙ ap (λ (p : Place). piece_fault publications p more) (sym stands.place)
 
-  numbered : old.place.next ≡ first + length stands.report.rows
-  numbered =
-      let next : old.place.next ≡ first + length (row_records false records) =
-      ap (λ (p : Place). p.next) stands.place in
-      let said = all_rows_say publications records None first stands.report.fine in
-      let same : length stands.report.rows ≡ length (filter_map row_of_record (row_records false records)) =
-      sym (length-map stands.report.rows row_fields) ∙ ap (λ (l : List RowFields). length l) stands.report.said in
-      omega arith
+  abbrev says_so_far : IsPieceText script records (record { place = beginning first; faults = 0 }) old.faults text
+  says_so_far = record {
+    fine = stands.report.fine;
+    rows = stands.report.rows;
+    decisions = stands.report.decisions;
+    said = stands.report.said;
+    decided = stands.report.decided;
+    report = stands.report.report;
+    counted = stands.counted;
+  }
 
   pub few_refused : old.faults ≤ old.place.next
   few_refused =
-      let next = numbered in
-      let one_each = AllZip-long (Decides script) stands.report.rows stands.report.decisions stands.report.decided in
-      let few = count_by-le-length (λ (d : Decision). not d.allowed) stands.report.decisions in
-      let counted = stands.counted in
+      let few = few script records (record { place = beginning first; faults = 0 }) old.faults text says_so_far in
+      let next : old.place.next ≡ (place_behind (beginning first) records).next =
+      ap (λ (p : Place). p.next) stands.place in
       omega arith
 
   -- the count of what was reported
   pub summed : old.place.next - first ≡ length stands.report.decisions
   summed =
-      let next = numbered in
+      let next : old.place.next ≡ (place_behind (beginning first) records).next =
+      ap (λ (p : Place). p.next) stands.place in
+      let number : (place_behind (beginning first) records).next ≡ first + length stands.report.rows =
+      numbered script records (record { place = beginning first; faults = 0 }) old.faults text says_so_far in
       let one_each = AllZip-long (Decides script) stands.report.rows stands.report.decisions stands.report.decided in
       omega arith
 
@@ -169,27 +136,21 @@ module _ (script : ScriptContents) (first : ℕ) (records : Records) (old : Stan
       → IsPieceText script more old faults piece → new.place ≡ place_behind old.place more
       → new.faults ≡ old.faults + faults → Stands script first (records ++ more) new (text ++ piece)
   one_piece more new faults piece says place refused =
-      let front = stands.report in
-      let one_each = AllZip-long (Decides script) front.rows front.decisions front.decided in record {
+      let meets : old.place ≡ record (place_behind (beginning first) records) { bare = old.place.bare } =
+      stands.place ∙ ap (λ (bare : Option ℕ). record (place_behind (beginning first) records) { bare = bare })
+      (sym (ap (λ (p : Place). p.bare) stands.place)) in
+      let both = joined_texts script records (record { place = beginning first; faults = 0 }) old.faults text says_so_far
+      more old meets faults piece says in
+      record {
         report = record {
-          fine = fault_behind more ∙ says.fine;
-          rows = front.rows ++ says.rows;
-          decisions = front.decisions ++ says.decisions;
-          said = map-append row_fields front.rows says.rows
-              ∙ ap (λ (l : List RowFields). l ++ map row_fields says.rows) front.said
-              ∙ ap (λ (l : List RowFields). filter_map row_of_record (row_records false records) ++ l)
-              (says.said ∙ ap (λ (p : Place). filter_map row_of_record (row_records p.begun more)) stands.place)
-              ∙ sym (rows_in_two false records more);
-          decided = zipped_apart (Decides script) front.rows says.rows front.decisions says.decisions front.decided
-              says.decided;
-          report = ap (λ (l : List ℕ). l ++ piece) front.report
-              ∙ ap (λ (l : List ℕ). report_text_from first front.rows front.decisions ++ l) (says.report
-              ∙ ap (λ (n : ℕ). report_text_from n says.rows says.decisions) numbered)
-              ∙ sym (report_goes_on front.rows says.rows front.decisions says.decisions first one_each);
+          fine = both.fine;
+          rows = both.rows;
+          decisions = both.decisions;
+          said = both.said;
+          decided = both.decided;
+          report = both.report;
         };
         place = place ∙ ap (λ (p : Place). place_behind p more) stands.place
             ∙ sym (places_in_turn (beginning first) records more);
-        counted = refused ∙ ap (λ (n : ℕ). n + faults) stands.counted
-            ∙ ap (λ (n : ℕ). refused_count front.decisions + n) says.counted
-            ∙ sym (sum_by-append (λ (d : Decision). cond (not d.allowed) 1 0) front.decisions says.decisions);
+        counted = refused ∙ both.counted;
       }

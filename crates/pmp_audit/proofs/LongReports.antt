@@ -13,7 +13,7 @@ use Rattle.pmp_core.specs.declared.decision.Decision.{Decision}
 use Rattle.pmp_text.specs.declared.trace.Row.{Row}
 use Rattle.pmp_text.specs.declared.trace.TraceFault.{TraceFault}
 use Rattle.pmp_text.specs.declared.flaw.Flaw.{Flaw}
-use Rattle.pmp_text.specs.declared.trace.piece.Place.{Place}
+use Rattle.pmp_text.specs.declared.trace.rows.Place.{Place}
 use Rattle.pmp_text.specs.declared.trace.row_fields.RowFields.{RowFields}
 use Rattle.pmp_text.specs.Bytes.{AppendsBeginning}
 use Rattle.pmp_text.specs.Contents.{ScriptContents}
@@ -25,10 +25,9 @@ use Rattle.pmp_audit.specs.Report.{IsListed}
 use Rattle.pmp_audit.specs.declared.fault.AuditFault.{AuditFault}
 use Rattle.pmp_audit.specs.declared.fault.AuditFault.TheVariants.{Trace, Memory}
 use Rattle.pmp_audit.specs.declared.fault.AuditFault.TheVariants.{Output}
-use Rattle.pmp_audit.specs.declared.long_audit.reading.Parts.{Parts}
-use Rattle.pmp_audit.specs.declared.long_audit.reporting.PieceReport.{PieceReport}
-use Rattle.pmp_audit.specs.declared.long_audit.standing.Standing.{Standing}
-use Rattle.pmp_audit.specs.LongParts.{AreReadAs, items_of}
+use Rattle.pmp_audit.specs.declared.piece.PieceReport.{PieceReport}
+use Rattle.pmp_audit.specs.declared.standing.Standing.{Standing}
+use Rattle.pmp_audit.specs.LongParts.{items_of}
 use Rattle.pmp_audit.proofs.Reports.{Decides, refused-push}
 
 -- a report behind another one goes on with its numbers
@@ -68,11 +67,6 @@ module _ (script : ScriptContents) (first : ℕ) where
   module _ (rows : List Row) (before held : List ℕ) (faults : ℕ)
       (so_far : IsListed script rows first before held faults)
     where
-      pub few_refused : faults ≤ length rows
-      few_refused = let same = AllZip-long (Decides script) rows so_far.decisions so_far.decided in
-          let few = count_by-le-length (λ (d : Decision). not d.allowed) so_far.decisions in
-          let counted = so_far.counted in omega arith
-
       pub one_listed_more : (row : Row) (decision : Decision) (after : List ℕ) (number more : ℕ)
           → Decides script row decision → after ≡ held ++ report_row number row.access decision
           → number ≡ first + length rows → more ≡ faults + cond decision.allowed 0 1
@@ -92,57 +86,6 @@ module _ (script : ScriptContents) (first : ℕ) where
             counted = refused ∙ ap (λ (n : ℕ). n + cond decision.allowed 0 1) so_far.counted
                 ∙ sym (refused-push so_far.decisions decision);
           }
-
--- ---- how many rows a piece has
-
-few_said : (records : Records) → length (filter_map row_of_record records) ≤ length records
-few_said [] = omega arith
-few_said (one ∷ more) = by (row_in one) refl (few_said more)
-  where
-    by : (said : Result RowFields Flaw) → row_in one ≡ said
-        → length (filter_map row_of_record more) ≤ length more
-        → length (filter_map row_of_record (one ∷ more)) ≤ length (one ∷ more)
-    by (Err flaw) is few = rw is (omega arith)
-    by (Ok row) is few = rw is (omega arith)
-
--- the rows of a piece are numbered before those of the next one
-pub rows_fit : (fault : Option TraceFault) (place : Place) (records : Records) (parts : Parts)
-    → AreReadAs fault (row_records place.begun records) (place_behind place records) (Ok parts)
-    → place.next + length (items_of parts.rows.items) ≤ parts.place.next
-rows_fit fault place records parts read =
-    let rows = row_records place.begun records in
-    let few = few_said rows in
-    let many : length (items_of parts.rows.items) ≡ length (filter_map row_of_record rows) =
-    sym (length-map (items_of parts.rows.items) row_fields) ∙ ap (λ (l : List RowFields). length l) read.1 in
-    let next : parts.place.next ≡ place.next + length rows = ap (λ (p : Place). p.next) read.2 in
-    omega arith
-
-pub rows_small : (fault : Option TraceFault) (place : Place) (records : Records) (parts : Parts)
-    → AreReadAs fault (row_records place.begun records) (place_behind place records) (Ok parts)
-    → parts.place.next < 2 ^ 64
-rows_small fault place records parts read =
-    let next : parts.place.next ≡ (place_behind place records).next = ap (λ (p : Place). p.next) read.2 in
-    let small = read.3 in
-    omega arith
-
--- the text that a piece comes to
-pub piece_says : (script : ScriptContents) (records : Records) (standing : Standing) (parts : Parts)
-    (before after text : List ℕ) (faults : ℕ)
-    → AreReadAs (piece_fault (length script.batches) standing.place records) (row_records standing.place.begun records)
-    (place_behind standing.place records) (Ok parts)
-    → IsListed script (items_of parts.rows.items) standing.place.next before after faults → before ≡ [] → text ≡ after
-    → IsPieceText script records standing faults text
-piece_says script records standing parts before after text faults read listed empty same = record {
-  fine = read.0;
-  rows = items_of parts.rows.items;
-  decisions = listed.decisions;
-  said = read.1;
-  decided = listed.decided;
-  report = same ∙ listed.report
-      ∙ ap (λ (l : List ℕ). l
-      ++ report_text_from standing.place.next (items_of parts.rows.items) listed.decisions) empty;
-  counted = listed.counted;
-}
 
 -- ---- a piece that is reported
 

@@ -17,7 +17,7 @@ use Rattle.pmp_text.specs.Traces.{first_row_fault, is_header, row_of_record}
 use Rattle.pmp_text.specs.declared.trace.TraceFault.{TraceFault}
 use Rattle.pmp_text.specs.declared.refusal.Refusal.TheVariants.{BadHeader}
 use Rattle.pmp_text.proofs.PieceFaults as pieces
-use Rattle.pmp_audit.specs.declared.long_audit.standing.Standing.{Standing}
+use Rattle.pmp_audit.specs.declared.standing.Standing.{Standing}
 use Rattle.pmp_audit.specs.LongAudit.{IsFrontOf}
 use Rattle.pmp_audit.specs.LongPieces.{IsPieceWritten}
 use Rattle.pmp_audit.proofs.LongAudits.{Stands, begins, one_piece}

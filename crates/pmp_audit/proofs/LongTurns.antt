@@ -20,7 +20,7 @@ use Rattle.pmp_text.specs.Flaws.{as_whole, at_row}
 use Rattle.pmp_text.proofs.PieceFaults as pieces
 use Rattle.pmp_audit.specs.declared.fault.AuditFault.{AuditFault}
 use Rattle.pmp_audit.specs.declared.fault.AuditFault.TheVariants.{Trace}
-use Rattle.pmp_audit.specs.declared.long_audit.standing.Standing.{Standing}
+use Rattle.pmp_audit.specs.declared.standing.Standing.{Standing}
 use Rattle.pmp_audit.specs.declared.trace_audit.Summary.{Summary}
 use Rattle.pmp_audit.specs.Answers.{IsWritten}
 use Rattle.pmp_audit.specs.Fault.{fault_of_script, script_fault_as}

@@ -16,8 +16,8 @@ use Rattle.pmp_text.specs.Reports.{AreDecided}
 use Rattle.pmp_text.specs.Traces.{row_fields, row_of_record}
 use Rattle.pmp_audit.specs.declared.fault.AuditFault.{AuditFault}
 use Rattle.pmp_audit.specs.declared.fault.AuditFault.TheVariants.{Trace, Memory, Output}
-use Rattle.pmp_audit.specs.declared.long_audit.reporting.PieceReport.{PieceReport}
-use Rattle.pmp_audit.specs.declared.long_audit.standing.Standing.{Standing}
+use Rattle.pmp_audit.specs.declared.piece.PieceReport.{PieceReport}
+use Rattle.pmp_audit.specs.declared.standing.Standing.{Standing}
 use Rattle.pmp_audit.specs.LongParts.{items_of}
 use Rattle.pmp_audit.specs.Report.{refused_count}
 

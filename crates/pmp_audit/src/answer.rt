@@ -1,12 +1,13 @@
 //! Answers that come with a text.
 
-ghost use Rattle.std.specs.Prelude.{◌≡◌, ◌⊎◌, IfOk, IfErr, Ok, Err};
+ghost use Rattle.std.specs.Prelude.{◌≡◌, ◌⊎◌, IfOk, IfErr, OnErr, OnOk, Ok, Err};
 ghost use Rattle.std.specs.Io.KnownBytes.{Appends, Keeps};
 ghost use Rattle.pmp_audit.specs.declared.fault.AuditFault.TheVariants.{Output};
 ghost use Rattle.pmp_text.specs.Bytes.{AppendsBeginning};
+ghost use Rattle.pmp_audit.specs.LongParts.{items_of};
 
 use crate::fault::AuditFault;
-use pmp_text::write_out;
+use pmp_text::{OutputFault, write_out};
 use std::io::Write;
 
 /// Writes the whole text that goes with an answer, and gives the answer. A refusal is given with nothing written.
@@ -25,4 +26,16 @@ pub fn write_answer<W: Write, A: Copy>(
     let answer = made?;
     write_out(writer, text)?;
     Ok(answer)
+}
+
+/// Writes texts, one behind the other.
+pub fn write_texts<W: Write>(writer: &mut W, texts: &[Vec<u8>]) -> Result<(), OutputFault>
+    ensures ok { OnOk result (Appends (W.contents writer.old) (W.contents writer.new) (items_of texts.now)) }
+    ensures err { OnErr result
+        (AppendsBeginning (W.contents writer.old) (W.contents writer.new) (items_of texts.now)) }
+{
+    for text in texts {
+        write_out(writer, text)?;
+    }
+    Ok(())
 }

@@ -5,10 +5,11 @@ ghost use Rattle.pmp_text.specs.Traces.{first_bare};
 ghost use Rattle.pmp_audit.specs.Answers.{IsWritten, IsRefused};
 ghost use Rattle.pmp_audit.specs.TraceAudit.{AuditSays, AuditRefuses};
 
-use crate::answer::write_answer;
+use crate::answer::write_texts;
 use crate::fault::AuditFault;
-use crate::report::list_rows;
-use pmp_text::{GrowingLog, Row, read_script, read_trace};
+use crate::piece::report_piece;
+use crate::standing::Standing;
+use pmp_text::{GrowingLog, MAX_TRACE, Refusal, Row, read_script};
 use std::alloc::Global;
 use std::io::Write;
 

@@ -92,7 +92,7 @@ one_row_more publications first all rows before after row read is =
     }
 
 module _ (publications : ℕ) (text : List ℕ) (short : length text ≤ MAX_TRACE) where
-  meaning_is : trace_meaning publications text ≡ long_meaning publications 1 (records_of text)
+  pub meaning_is : trace_meaning publications text ≡ long_meaning publications 1 (records_of text)
   meaning_is = trace_is publications text ∙ by_records is_header (rows_meaning publications) text short
 
   abbrev all : Records

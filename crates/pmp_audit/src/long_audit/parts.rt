@@ -1,6 +1,6 @@
 //! The report of a piece, made in parts by several threads.
 
-ghost use Rattle.std.specs.Prelude.{◌≡◌, ◌≤◌, ◌<◌, IfErr, IfOk, IfSome, length, slice_index, true};
+ghost use Rattle.std.specs.Prelude.{◌≡◌, ◌≤◌, ◌<◌, IfErr, IfOk, IfSome, None, length, slice_index, true};
 ghost use Rattle.std.specs.Thread.{IsSync};
 ghost use Rattle.pmp_text.specs.Tables.{is_line_end, records_of};
 ghost use Rattle.pmp_audit.specs.LongParts.{AreJoined};
@@ -68,7 +68,7 @@ fn middle_line_end(text: &[u8]) -> Option<usize>
 
 /// Where a part is likely to stand behind this text at a place: it does where each line of the text is a plain row.
 fn likely_behind(place: Place, text: &[u8]) -> Standing
-    ensures { result.faults ≡ 0 }
+    ensures { result ≡ record { place = record result.place { bare = None }; faults = 0 } }
 {
     let lines = text.iter().filter(|byte| **byte == b'\n').count() as u64;
     Standing {

@@ -23,8 +23,8 @@ report_and_cut-report-requires g c =
     let few = few_refused _ _ _ _ _ going.stands in
     search rules
 
-pub report_piece-report-requires : goal.report_piece-report-requires
-report_piece-report-requires g c = let few = few_refused _ _ _ _ _ c.loop-count.invariant.2.stands in search rules
+pub report_parts-report-requires-after_bounds : goal.report_parts-report-requires-after_bounds
+report_parts-report-requires-after_bounds g c = let few = few_refused _ _ _ _ _ c.loop-count.invariant.2.stands in search rules
 
 pub loop-count-preserved : goal.loop-count-preserved
 loop-count-preserved g c =
@@ -53,8 +53,8 @@ pub returns-in_err-write_report-in-Ok-Last-clause-err : goal.returns-in_err-writ
 returns-in_err-write_report-in-Ok-Last-clause-err g c = λ text means.
     let cut = rw c.in-Ok-Last.field-0-is at (rw c.in-Ok-Last.is at c.loop-count.invariant.3) in
     let stops = c.in_err-write_report-in-Ok-Last.ensures.err _ _ _
-    (rw c.deref-in-Ok-Last.ensures.value at c.report_piece-report.ensures.ok)
-    (rw c.deref-in-Ok-Last.ensures.value at c.report_piece-report.ensures.err) in
+    (rw c.deref-in-Ok-Last.ensures.value at c.report_parts-report.ensures.ok)
+    (rw c.deref-in-Ok-Last.ensures.value at c.report_parts-report.ensures.err) in
     let stopped : c.from_residual-in_err-write_report-in-Ok-Last.result
     ≡ Err c.in_err-write_report-in-Ok-Last.field-0.0 =
     search rules in
@@ -66,7 +66,7 @@ pub returns-in-Ok-Last-clause-ok : goal.returns-in-Ok-Last-clause-ok
 returns-in-Ok-Last-clause-ok g c =
     let cut = rw c.in-Ok-Last.field-0-is at (rw c.in-Ok-Last.is at c.loop-count.invariant.3) in
     let wrote = c.in_ok-write_report-in-Ok-Last.ensures.ok _ _ _
-    (rw c.deref-in-Ok-Last.ensures.value at c.report_piece-report.ensures.ok) in
+    (rw c.deref-in-Ok-Last.ensures.value at c.report_parts-report.ensures.ok) in
     ends_well c.loop-count.invariant.2 c.args.limit _ c.in-Ok-Last.text.items cut
     (g.W.Write.contents c.write_report-in-Ok-Last.new.writer) c.in_ok-write_report-in-Ok-Last.field-0 wrote
     c.end.result c.end.ensures
@@ -75,7 +75,7 @@ pub returns-in-Ok-Last-clause-err : goal.returns-in-Ok-Last-clause-err
 returns-in-Ok-Last-clause-err g c =
     let cut = rw c.in-Ok-Last.field-0-is at (rw c.in-Ok-Last.is at c.loop-count.invariant.3) in
     let wrote = c.in_ok-write_report-in-Ok-Last.ensures.ok _ _ _
-    (rw c.deref-in-Ok-Last.ensures.value at c.report_piece-report.ensures.ok) in
+    (rw c.deref-in-Ok-Last.ensures.value at c.report_parts-report.ensures.ok) in
     ends_badly c.loop-count.invariant.2 c.args.limit _ c.in-Ok-Last.text.items cut
     (g.W.Write.contents c.write_report-in-Ok-Last.new.writer) c.in_ok-write_report-in-Ok-Last.field-0 wrote
     c.end.result c.end.ensures

@@ -1,31 +1,50 @@
-use Rattle.std.proofs.Common.{◌≡◌, length, map, Ok}
-use Rattle.pmp_text.specs.Traces.{row_fields, trace_meaning}
-use Rattle.pmp_audit.specs.TraceAudit.{AuditSays, AuditRefuses}
-use Rattle.pmp_audit.proofs.Reports.{audit_says}
-use Rattle.pmp_audit.proofs.WrittenAnswers.{answered, refused}
+use Rattle.std.proofs.Common.{◌≡◌, rules, arith, Err, Ok}
+use Rattle.std.proofs.lemmas.Result.{err_from_is_err_and}
+use Rattle.pmp_audit.specs.LongParts.{items_of}
+use Rattle.pmp_audit.proofs.WholeAudits.{fails, no_header, says, too_long}
 use Rattle.pmp_audit.proofs.trace_audit.audit.Goals as goal
-use Rattle.pmp_audit.proofs.trace_audit.audit.Goals.{After-write_answer}
 
-says : (g : _) (c : After-write_answer g)
-    → AuditSays c.args.script.now c.args.trace.now
-    c.of.result c.deref-2.result.now
-says g c =
-    let script = c.in_ok-script.script in
-    let rows = c.deref.result.now in
-    let trace_means : trace_meaning (length script.batches) c.args.trace.now ≡ Ok (map row_fields rows) =
-    rw (c.deref.ensures.value, ← c.batches.ensures) c.in_ok-rows.ensures.given in
-    audit_says c.args.script.now c.args.trace.now script rows _ _ c.deref-2.result.now c.in_ok-faults.faults _
-    c.in_ok-script.ensures trace_means c.in_ok-faults.ensures.listed c.new-report.ensures.items
-    c.deref-2.ensures.value (rw c.deref.ensures.value (rw c.deref-3.ensures.value at c.of.ensures))
+pub returns-then-trace-gt-MAX_TRACE-clause-err : goal.returns-then-trace-gt-MAX_TRACE-clause-err
+returns-then-trace-gt-MAX_TRACE-clause-err g c =
+    rw (c.from.ensures, c.at_row.ensures, c.whole.ensures)
+    (too_long c.args.script.now c.args.trace.now c.in_ok-script.script c.in_ok-script.ensures (omega arith)
+    (g.W.Write.contents c.args.writer.now))
+
+pub returns-in_err-report-clause-err : goal.returns-in_err-report-clause-err
+returns-in_err-report-clause-err g c =
+    let p = err_from_is_err_and c.from_residual-in_err-report.result c.from_residual-in_err-report.ensures.1 in
+    rw (p.1, p.2) (fails c.args.script.now c.args.trace.now c.in_ok-script.script c.in_ok-script.ensures (omega arith)
+    c.beginning.result c.beginning.ensures.place c.beginning.ensures.faults c.in_err-report.field-0.0
+    c.in_err-report.ensures.err (g.W.Write.contents c.args.writer.now))
+
+pub returns-in_err-summary-clause-err : goal.returns-in_err-summary-clause-err
+returns-in_err-summary-clause-err g c =
+    let p = err_from_is_err_and c.from_residual-in_err-summary.result c.from_residual-in_err-summary.ensures.1 in
+    let (begun, is) = c.in_err-summary.ensures in
+    rw (p.1, p.2, is) (no_header c.args.script.now c.args.trace.now c.in_ok-script.script c.in_ok-script.ensures
+    (omega arith) c.beginning.result c.beginning.ensures.place c.beginning.ensures.faults c.in_ok-report.report
+    c.in_ok-report.ensures.ok begun (g.W.Write.contents c.args.writer.now))
+
+pub returns-in_err-write_texts-clause-err : goal.returns-in_err-write_texts-clause-err
+returns-in_err-write_texts-clause-err g c =
+    let p = err_from_is_err_and c.from_residual-in_err-write_texts.result
+    c.from_residual-in_err-write_texts.ensures.1 in
+    let (begun, is) = c.in_ok-summary.ensures in
+    rw (p.1, p.2) (record {
+      answer = c.in_ok-summary.summary;
+      text = items_of c.in_ok-report.report.texts.items;
+      says = says c.args.script.now c.args.trace.now c.in_ok-script.script c.in_ok-script.ensures (omega arith)
+          c.beginning.result c.beginning.ensures.place c.beginning.ensures.faults c.in_ok-report.report
+          c.in_ok-report.ensures.ok c.in_ok-summary.summary begun is;
+      front = rw c.deref.ensures.value at c.in_err-write_texts.ensures.err;
+    })
 
 pub returns-clause-ok : goal.returns-clause-ok
 returns-clause-ok g c =
-    answered (AuditSays c.args.script.now c.args.trace.now) _ _ _ _
-    (says g (goal.at.returns-clause-ok g c).After-write_answer) _ c.write_answer.ensures.ok
-
-pub returns-clause-err : goal.returns-clause-err
-returns-clause-err g c =
-    refused (AuditSays c.args.script.now c.args.trace.now) _ _ _ _
-    (says g (goal.at.returns-clause-err g c).After-write_answer)
-    (AuditRefuses c.args.script.now c.args.trace.now) (λ never. never) tt _
-    c.write_answer.ensures.err
+    let (begun, is) = c.in_ok-summary.ensures in record {
+      text = items_of c.in_ok-report.report.texts.items;
+      says = says c.args.script.now c.args.trace.now c.in_ok-script.script c.in_ok-script.ensures (omega arith)
+          c.beginning.result c.beginning.ensures.place c.beginning.ensures.faults c.in_ok-report.report
+          c.in_ok-report.ensures.ok c.in_ok-summary.summary begun is;
+      written = rw c.deref.ensures.value at c.in_ok-write_texts.ensures.ok;
+    }

@@ -1,8 +1,8 @@
 use Rattle.std.proofs.Common.{◌+◌, ◌-◌, ◌*◌}
-use Rattle.pmp_audit.proofs.long_audit.reading.+reading.Given as goal
+use Rattle.pmp_audit.proofs.long_audit.parts.+parts.Given as goal
 
-abbrev pub decreases-read_parts : goal.decreases-read_parts
-decreases-read_parts g l = 2 * l.parts
+abbrev pub decreases-report_parts : goal.decreases-report_parts
+decreases-report_parts g l = 2 * l.parts
 
 abbrev pub decreases-front : goal.decreases-front
 decreases-front g l = 2 * l.half + 1

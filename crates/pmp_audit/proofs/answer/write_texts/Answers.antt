@@ -1,6 +1,6 @@
 use Rattle.std.proofs.Common.{rules, ◌≡◌, Err}
-use Rattle.pmp_audit.proofs.LongListings.{partly_written}
-use Rattle.pmp_audit.proofs.long_audit.writing.write_texts.Goals as goal
+use Rattle.pmp_audit.proofs.LongParts.{partly_written}
+use Rattle.pmp_audit.proofs.answer.write_texts.Goals as goal
 
 pub returns-in_err-write_out-clause-err : goal.returns-in_err-write_out-clause-err
 returns-in_err-write_out-clause-err g c =

@@ -1,7 +1,7 @@
 use Rattle.std.proofs.Common.{take}
 use Rattle.std.specs.Io.KnownBytes.{Appends}
 use Rattle.pmp_audit.specs.LongParts.{items_of}
-use Rattle.pmp_audit.proofs.long_audit.writing.write_texts.Given as goal
+use Rattle.pmp_audit.proofs.answer.write_texts.Given as goal
 
 -- the texts so far are written
 abbrev pub invariant-loop-text : goal.invariant-loop-text

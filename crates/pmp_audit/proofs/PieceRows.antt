@@ -1,0 +1,306 @@
+-- The report of a piece, one row after another.
+use Rattle.std.proofs.Common.{◌≡◌, ◌⊎◌, ℕ, zero, suc, ◌+◌, ◌^◌, ◌<◌, ◌≤◌, Bool, true, false, cond, List, [], ◌∷◌}
+use Rattle.std.proofs.Common.{◌++◌, length, Option, Some, None, Ok, refl, sym, ap, ◌∙◌, inl, inr, append_assoc}
+use Rattle.std.proofs.Common.{append-nil, arith}
+use Rattle.std.specs.Prelude.{filter_map}
+use Rattle.std.specs.Option.{option_or}
+use Rattle.std.proofs.lemmas.List.{length-append}
+use Rattle.pmp_core.specs.declared.decision.Decision.{Decision}
+use Rattle.pmp_text.specs.declared.refusal.Refusal.{Refusal}
+use Rattle.pmp_text.specs.declared.refusal.Refusal.TheVariants as kinds
+use Rattle.pmp_text.specs.declared.trace.Row.{Row}
+use Rattle.pmp_text.specs.declared.trace.TraceFault.{TraceFault}
+use Rattle.pmp_text.specs.declared.trace.rows.Place.{Place}
+use Rattle.pmp_text.specs.Contents.{ScriptContents}
+use Rattle.pmp_text.specs.LongTraces.{Records, first_fault_at, has_begun, piece_fault, place_behind, report_text_from}
+use Rattle.pmp_text.specs.LongTraces.{is_bare_record, row_records, too_long_for_rows}
+use Rattle.pmp_text.specs.Outcomes.{no_input_for_rows, no_memory_for_rows}
+use Rattle.pmp_text.specs.Reports.{report_row}
+use Rattle.pmp_text.specs.RowsLeft.{IsNextRow, RowsLeft, place_after}
+use Rattle.pmp_text.specs.Traces.{first_row_fault, row_fault, row_fields, row_in, row_of_record}
+use Rattle.pmp_text.proofs.LeastRows.{least_of, rows_in_order}
+use Rattle.pmp_text.proofs.PieceFaults.{in_turn, places_in_turn}
+use Rattle.pmp_text.proofs.WholeTraces.{fewer_rows}
+use Rattle.pmp_audit.specs.declared.piece.PieceReport.{PieceReport}
+use Rattle.pmp_audit.specs.declared.standing.Standing.{Standing}
+use Rattle.pmp_audit.specs.Fault.{fault_of_trace, trace_fault_as}
+use Rattle.pmp_audit.specs.LongParts.{items_of}
+use Rattle.pmp_audit.specs.LongPieces.{IsPieceReported, IsPieceText, PieceFails}
+use Rattle.pmp_audit.specs.Report.{refused_count}
+use Rattle.pmp_audit.proofs.PieceTexts.{few_refused, joined_texts}
+use Rattle.pmp_audit.proofs.Reports.{Decides, refused-push}
+
+-- where the first row of a piece stands
+abbrev pub behind_header : Standing → Records → Standing
+behind_header standing records =
+    record standing { place = record standing.place { begun = has_begun standing.place.begun records } }
+
+-- some rows of a piece are reported, and these are left
+pub record Reported (script : ScriptContents) (standing : Standing) (records : Records) (left : RowsLeft) (faults : ℕ)
+    (text : List ℕ) : Type 0 where
+  pub done : Records
+  pub all : row_records standing.place.begun records ≡ done ++ left.records
+  pub here : ℕ
+  pub says : IsPieceText script done (behind_header standing records) here text
+  pub counted : faults ≡ standing.faults + here
+  pub place : left.place ≡ place_behind (behind_header standing records).place done
+  pub same : left.publications ≡ length script.batches
+
+-- ---- why a piece isn't reported
+
+module _ (script : ScriptContents) (records : Records) (standing : Standing) (fault : TraceFault) where
+  by_kind : (kind : Refusal) → piece_fault (length script.batches) standing.place records ≡ Some fault
+      → PieceFails script records standing (trace_fault_as kind fault)
+  by_kind kinds.Memory e = tt
+  by_kind kind e = inl e
+
+  pub piece_fails : (piece_fault (length script.batches) standing.place records ≡ Some fault)
+      ⊎ (fault ≡ no_memory_for_rows) ⊎ (fault ≡ no_input_for_rows)
+      ⊎ ((fault ≡ too_long_for_rows) × (2 ^ 64 ≤ (place_behind standing.place records).next))
+      → PieceFails script records standing (fault_of_trace fault)
+  piece_fails (inl e) = by_kind fault.kind e
+  piece_fails (inr (inl memory)) = rw memory tt
+  piece_fails (inr (inr (inl input))) = rw input (inr (inl refl))
+  piece_fails (inr (inr (inr (long, many)))) = rw long (inr (inr (refl, many)))
+
+-- ---- the header
+
+rows_as_left : (begun : Bool) (records : Records)
+    → row_records (has_begun begun records) (row_records begun records) ≡ row_records begun records
+rows_as_left true records = refl
+rows_as_left false [] = refl
+rows_as_left false (header ∷ rows) = refl
+
+module _ (publications : ℕ) (last : Option ℕ) (next : ℕ) where
+  fault_as_left : (begun : Bool) (records : Records)
+      → first_fault_at publications (has_begun begun records) last next (row_records begun records)
+      ≡ first_row_fault publications last next (row_records begun records)
+  fault_as_left true records = refl
+  fault_as_left false [] = refl
+  fault_as_left false (header ∷ rows) = refl
+
+place_as_left : (begun : Bool) (last : Option ℕ) (next : ℕ) (bare : Option ℕ) (records : Records)
+    → place_behind (record { begun = has_begun begun records; last = last; next = next; bare = bare })
+    (row_records begun records)
+    ≡ place_behind (record { begun = begun; last = last; next = next; bare = bare }) records
+place_as_left true last next bare records = refl
+place_as_left false last next bare [] = refl
+place_as_left false last next bare (header ∷ rows) = refl
+
+has_header : (begun : Bool) (records front : Records) (fields : List (List ℕ)) (behind : Records)
+    → row_records begun records ≡ front ++ fields ∷ behind → has_begun begun records ≡ true
+has_header true records front fields behind e = refl
+has_header false (header ∷ rows) front fields behind e = refl
+has_header false [] front fields behind e =
+    let none = ap (λ (l : Records). length l) e in
+    let some = length-append front (fields ∷ behind) in
+    absurd (omega arith)
+
+-- ---- before the first row
+
+or_none : (bare : Option ℕ) → bare ≡ option_or bare None
+or_none None = refl
+or_none (Some number) = refl
+
+at_start : (begun : Bool) (last : Option ℕ) (next : ℕ) (bare : Option ℕ)
+    → record { begun = begun; last = last; next = next; bare = bare }
+    ≡ place_behind (record { begun = begun; last = last; next = next; bare = bare }) []
+at_start begun last next bare = by begun
+  where
+    number : next ≡ next + 0
+    number = omega arith
+
+    by : (begun : Bool) → record { begun = begun; last = last; next = next; bare = bare }
+        ≡ place_behind (record { begun = begun; last = last; next = next; bare = bare }) []
+    by true = λ i. record { begun = true; last = last; next = number i; bare = or_none bare i }
+    by false = λ i. record { begun = false; last = last; next = number i; bare = or_none bare i }
+
+no_fault : (publications : ℕ) (last : Option ℕ) (next : ℕ) (begun : Bool)
+    → first_fault_at publications begun last next [] ≡ None
+no_fault publications last next true = refl
+no_fault publications last next false = refl
+
+none_said : (begun : Bool) → [] ≡ filter_map row_of_record (row_records begun [])
+none_said true = refl
+none_said false = refl
+
+pub none_reported : (script : ScriptContents) (standing : Standing) (records : Records) (left : RowsLeft)
+    → left ≡ record {
+      records = row_records standing.place.begun records;
+      publications = length script.batches;
+      place = (behind_header standing records).place;
+    } → Reported script standing records left standing.faults []
+unfolding report_text_from
+none_reported script standing records left is =
+    let start = (behind_header standing records).place in record {
+      done = [];
+      all = ap (λ (l : RowsLeft). l.records) (sym is);
+      here = 0;
+      says = record {
+        fine = no_fault (length script.batches) start.last start.next start.begun;
+        rows = [];
+        decisions = [];
+        said = none_said start.begun;
+        decided = tt;
+        report = refl;
+        counted = refl;
+      };
+      counted = omega arith;
+      place = ap (λ (l : RowsLeft). l.place) is ∙ at_start start.begun start.last start.next start.bare;
+      same = ap (λ (l : RowsLeft). l.publications) is;
+    }
+
+-- ---- one row more
+
+row_place : (place : Place) (fields : List (List ℕ)) (row : Row) → place.begun ≡ true
+    → row_in fields ≡ Ok (row_fields row) → place_after place row ≡ place_behind place (fields ∷ [])
+row_place place fields row begun said = rw (begun, is_bare_record, said) refl
+
+module _ {script : ScriptContents} {standing : Standing} {records : Records} {left : RowsLeft} {faults : ℕ}
+    {text : List ℕ} (so_far : Reported script standing records left faults text) where
+  -- no more are refused than there are rows
+  pub few : standing.faults ≤ standing.place.next → faults ≤ left.place.next
+  few within =
+      let here = few_refused script so_far.done (behind_header standing records) so_far.here text so_far.says in
+      let next : left.place.next ≡ (place_behind (behind_header standing records).place so_far.done).next =
+      ap (λ (p : Place). p.next) so_far.place in
+      let counted = so_far.counted in
+      omega arith
+
+  begun_before : (fields : List (List ℕ)) (behind : Records) → left.records ≡ fields ∷ behind
+      → left.place.begun ≡ true
+  begun_before fields behind e =
+      let header = has_header standing.place.begun records so_far.done fields behind
+      (so_far.all ∙ ap (λ (l : Records). so_far.done ++ l) e) in
+      ap (λ (p : Place). p.begun) so_far.place ∙ by (has_begun standing.place.begun records) header
+    where
+      by : (begun : Bool) → begun ≡ true → has_begun begun so_far.done ≡ true
+      by true e = refl
+      by false e = absurd cc
+
+  module _ {row : Row} {after : RowsLeft} (is : IsNextRow left row after) where
+    fault_here : row_fault (length script.batches) left.place.last (row_in is.fields) ≡ None
+    fault_here = rw so_far.same at is.fine
+
+    no_row_fault : first_row_fault (length script.batches) left.place.last left.place.next (is.fields ∷ []) ≡ None
+    no_row_fault = rw fault_here refl
+
+    -- it asks for no fewer publications than the row before, and for no more than there are
+    pub in_order : (least_of (length script.batches) left.place.last ≤ row.after) × (row.after ≤ length script.batches)
+    in_order =
+        let order = rw is.said at
+        (rows_in_order (length script.batches) (is.fields ∷ []) left.place.last left.place.next no_row_fault) in
+        (order.0, order.1)
+
+    pub last_is : after.place.last ≡ Some row.after
+    last_is = ap (λ (p : Place). p.last) is.place
+
+    begun : left.place.begun ≡ true
+    begun = begun_before is.fields after.records is.next
+
+    pub one_row : (decision : Decision) (written : List ℕ) (more : ℕ) → Decides script row decision
+        → written ≡ text ++ report_row left.place.next row.access decision
+        → more ≡ faults + cond decision.allowed 0 1 → Reported script standing records after more written
+    unfolding report_text_from
+    one_row decision written more by_bytes written_is more_is =
+        let start = behind_header standing records in
+        let mid : Standing = record { place = left.place; faults = 0 } in
+        let own = cond decision.allowed 0 1 in
+        let line = report_row left.place.next row.access decision in
+        let one : IsPieceText script (is.fields ∷ []) mid own line = record {
+          fine = rw begun no_row_fault;
+          rows = row ∷ [];
+          decisions = decision ∷ [];
+          said = rw (begun, is.said) refl;
+          decided = (by_bytes, tt);
+          report = sym (append-nil line);
+          counted = let pushed = refused-push [] decision in omega arith;
+        } in
+        let meets : left.place ≡ record (place_behind start.place so_far.done) { bare = left.place.bare } =
+        so_far.place ∙ ap (λ (bare : Option ℕ). record (place_behind start.place so_far.done) { bare = bare })
+        (sym (ap (λ (p : Place). p.bare) so_far.place)) in
+        record {
+          done = so_far.done ++ is.fields ∷ [];
+          all = so_far.all ∙ ap (λ (l : Records). so_far.done ++ l) is.next
+              ∙ sym (append_assoc so_far.done (is.fields ∷ []) after.records);
+          here = so_far.here + own;
+          says = rw written_is (joined_texts script so_far.done start so_far.here text so_far.says (is.fields ∷ []) mid
+              meets own line one);
+          counted = let counted = so_far.counted in omega arith;
+          place = is.place ∙ row_place left.place is.fields row begun is.said
+              ∙ ap (λ (p : Place). place_behind p (is.fields ∷ [])) so_far.place
+              ∙ sym (places_in_turn start.place so_far.done (is.fields ∷ []));
+          same = is.publications ∙ so_far.same;
+        }
+
+  -- ---- the end
+
+  rows_alone : (begun : Bool) (rows : Records)
+      → ((fields : List (List ℕ)) (behind : Records) → rows ≡ fields ∷ behind → begun ≡ true)
+      → first_fault_at (length script.batches) begun left.place.last left.place.next rows
+      ≡ first_row_fault (length script.batches) left.place.last left.place.next rows
+  rows_alone true rows header = refl
+  rows_alone false [] header = refl
+  rows_alone false (fields ∷ behind) header =
+      let absent : false ≡ true = header fields behind refl in absurd cc
+
+  module _ (opened : piece_fault (length script.batches) standing.place records
+      ≡ first_row_fault (length script.batches) standing.place.last standing.place.next
+      (row_records standing.place.begun records))
+    where
+      fault_left : piece_fault (length script.batches) standing.place records
+          ≡ first_row_fault (length script.batches) left.place.last left.place.next left.records
+      fault_left =
+          let publications = length script.batches in
+          let start = (behind_header standing records).place in
+          opened
+          ∙ sym (fault_as_left publications start.last start.next standing.place.begun records)
+          ∙ ap (piece_fault publications start) so_far.all
+          ∙ in_turn publications start.last start.next start.begun so_far.done left.records
+          ∙ ap (λ (x : Option TraceFault). option_or x
+          (piece_fault publications (place_behind start so_far.done) left.records)) so_far.says.fine
+          ∙ ap (λ (p : Place). piece_fault publications p left.records) (sym so_far.place)
+          ∙ rows_alone left.place.begun left.records begun_before
+
+      pub all_reported : (report : PieceReport) → left.records ≡ [] → items_of report.texts.items ≡ text
+          → report.behind ≡ record { place = left.place; faults = faults }
+          → IsPieceReported script records standing report
+      all_reported report none texts behind =
+          let start = (behind_header standing records).place in
+          let done : row_records standing.place.begun records ≡ so_far.done =
+          so_far.all ∙ ap (λ (l : Records). so_far.done ++ l) none ∙ append-nil so_far.done in
+          record {
+            faults = so_far.here;
+            says = record {
+              fine = fault_left
+                  ∙ ap (first_row_fault (length script.batches) left.place.last left.place.next) none;
+              rows = so_far.says.rows;
+              decisions = so_far.says.decisions;
+              said = so_far.says.said
+                  ∙ ap (λ (l : Records). filter_map row_of_record (row_records start.begun l)) (sym done)
+                  ∙ ap (filter_map row_of_record) (rows_as_left standing.place.begun records);
+              decided = so_far.says.decided;
+              report = texts ∙ so_far.says.report;
+              counted = so_far.says.counted;
+            };
+            place = ap (λ (s : Standing). s.place) behind ∙ so_far.place ∙ ap (place_behind start) (sym done)
+                ∙ place_as_left standing.place.begun start.last start.next start.bare records;
+            refused = ap (λ (s : Standing). s.faults) behind ∙ so_far.counted;
+          }
+
+      pub row_fails : (fault : TraceFault)
+          → (first_row_fault left.publications left.place.last left.place.next left.records ≡ Some fault)
+          ⊎ (fault ≡ no_memory_for_rows) ⊎ (fault ≡ no_input_for_rows)
+          ⊎ ((fault ≡ too_long_for_rows) × (2 ^ 64 ≤ left.place.next + length left.records))
+          → PieceFails script records standing (fault_of_trace fault)
+      row_fails fault (inl e) = piece_fails script records standing fault (inl (fault_left ∙ rw so_far.same at e))
+      row_fails fault (inr (inl memory)) = piece_fails script records standing fault (inr (inl memory))
+      row_fails fault (inr (inr (inl input))) = piece_fails script records standing fault (inr (inr (inl input)))
+      row_fails fault (inr (inr (inr (long, many)))) =
+          let start = (behind_header standing records).place in
+          let next : left.place.next ≡ (place_behind start so_far.done).next =
+          ap (λ (p : Place). p.next) so_far.place in
+          let fewer = fewer_rows start.begun so_far.done in
+          let all = ap (λ (l : Records). length l) so_far.all in
+          let both = length-append so_far.done left.records in
+          piece_fails script records standing fault (inr (inr (inr (long, omega arith))))
