@@ -1,5 +1,6 @@
 /* Times `pmp audit` on a trace of the most bytes, with and without checkers, and then `pmp audit --long` on one of 1 GiB
-   by one, two and four jobs, each beside an audit of the same files in plain C, by a Spike-like unit. */
+   by one, two and four jobs, each beside two audits of the same files in C, by a Spike-like unit: a plain one by fgets,
+   sscanf and printf, and one that is tuned, which has the whole trace in memory and reads and writes its own numbers. */
 #define _GNU_SOURCE
 #include "regions.h"
 #include "spike_like.h"
@@ -19,7 +20,11 @@ enum { MAX_TRACE = 16777216, LONG_TRACE = 1073741824, PUBLICATIONS = 10, ROUNDS 
 #define SCRIPT "bench/out/audit.pmp"
 #define TRACE "bench/out/audit.csv"
 #define PROVED_REPORT "bench/out/audit.proved"
+#define REPORT_OF_1 PROVED_REPORT "1"
+#define REPORT_OF_2 PROVED_REPORT "2"
+#define REPORT_OF_4 PROVED_REPORT "4"
 #define PLAIN_REPORT "bench/out/audit.plain"
+#define TUNED_REPORT "bench/out/audit.tuned"
 
 static void *checked(void *pointer, const char *what) {
     if (pointer == NULL) {
@@ -65,7 +70,7 @@ static size_t write_trace(size_t most) {
     return rows;
 }
 
-/* The plain audit. */
+/* The audits in C. */
 
 static char *read_all(const char *path, size_t *size) {
     FILE *file = checked(fopen(path, "r"), path);
@@ -157,8 +162,48 @@ static unsigned answer_to(const struct spike_like *unit, const struct request *i
     return spike_like_decide(unit, it->mode, it->kind, it->start, it->length);
 }
 
+static struct publication publications[PUBLICATIONS + 1];
+
+/* Does publications until so many are done. */
+static void publish(struct spike_like *unit, size_t *done, size_t after) {
+    for (; *done < after; (*done)++)
+        for (size_t i = 0; i < publications[*done].count; i++)
+            spike_like_write(unit, publications[*done].writes[i].number, publications[*done].writes[i].value);
+}
+
 static void plain_audit(void) {
-    static struct publication publications[PUBLICATIONS + 1];
+    static const char *const codes[3] = {"1", "5", "7"};
+    size_t size, row = 0, done = 0, after;
+    struct spike_like unit;
+    char line[64], mode, kind[8];
+    uint64_t start, length;
+    read_publications(read_all(SCRIPT, &size), publications);
+    FILE *file = checked(fopen(TRACE, "r"), TRACE), *output = checked(fopen(PLAIN_REPORT, "w"), PLAIN_REPORT);
+    spike_like_reset(&unit, 16);
+    checked(fgets(line, sizeof line, file), TRACE);
+    while (fgets(line, sizeof line, file) != NULL) {
+        if (sscanf(line, "%zu,%c,%7[a-z],0x%" SCNx64 ",%" SCNu64, &after, &mode, kind, &start, &length) != 5)
+            exit(2);
+        publish(&unit, &done, after);
+        struct request request = {
+            .mode = mode == 'M' ? MACHINE : mode == 'S' ? SUPERVISOR : USER,
+            .kind = *kind == 'f' ? FETCH : *kind == 'l' ? LOAD : STORE,
+            .start = start,
+            .length = length,
+        };
+        unsigned answer = answer_to(&unit, &request), allowed = answer & ALLOWED;
+        fprintf(output, "%zu,%s,%s,%s,", ++row, allowed ? "allow" : "fault", allowed ? "" : codes[request.kind],
+                answer & SPLIT ? "split" : answer & NO_MATCH ? "none" : "rule");
+        if (answer & NO_MATCH)
+            fputc('\n', output);
+        else
+            fprintf(output, "%u\n", answer & 255);
+    }
+    fclose(file);
+    fclose(output);
+}
+
+static void tuned_audit(void) {
     size_t size, row = 0, done = 0;
     struct spike_like unit;
     read_publications(read_all(SCRIPT, &size), publications);
@@ -169,12 +214,10 @@ static void plain_audit(void) {
     for (char *at = strchr(text, '\n') + 1; at < end;) {
         uint64_t after = read_number(&at);
         struct request request = read_access(&at);
-        for (; done < after; done++)
-            for (size_t i = 0; i < publications[done].count; i++)
-                spike_like_write(&unit, publications[done].writes[i].number, publications[done].writes[i].value);
+        publish(&unit, &done, after);
         add_answer(++row, answer_to(&unit, &request), request.kind);
     }
-    FILE *file = checked(fopen(PLAIN_REPORT, "w"), PLAIN_REPORT);
+    FILE *file = checked(fopen(TUNED_REPORT, "w"), TUNED_REPORT);
     fwrite(report, 1, report_end - report, file);
     fclose(file);
 }
@@ -215,6 +258,7 @@ static struct run run(char *const words[], const char *output) {
 struct subject {
     const char *name;
     char *words[8];
+    const char *output;
     const char *report;
     struct run best;
 };
@@ -225,7 +269,7 @@ static void run_rounds(struct subject *subjects, size_t count, unsigned rounds) 
         subjects[i].best = (struct run){1e18, 0};
     for (unsigned round = 0; round < rounds; round++) {
         for (size_t i = 0; i < count; i++) {
-            struct run one = run(subjects[i].words, subjects[i].report), *best = &subjects[i].best;
+            struct run one = run(subjects[i].words, subjects[i].output), *best = &subjects[i].best;
             if (one.seconds < best->seconds)
                 best->seconds = one.seconds;
             if (one.mebibytes > best->mebibytes)
@@ -234,10 +278,10 @@ static void run_rounds(struct subject *subjects, size_t count, unsigned rounds) 
     }
 }
 
-/* The plain audit writes its report by itself, and nothing to its output. */
+/* Those in C write their reports by themselves, and nothing to their output. */
 static size_t compare(const struct subject *subjects, size_t count) {
     size_t wanted_size, size;
-    char *wanted = read_all(PLAIN_REPORT, &wanted_size);
+    char *wanted = read_all(subjects[0].report, &wanted_size);
     for (size_t i = 1; i < count; i++) {
         char *report = read_all(subjects[i].report, &size);
         if (size != wanted_size || memcmp(report, wanted, size) != 0) {
@@ -250,13 +294,13 @@ static size_t compare(const struct subject *subjects, size_t count) {
     return wanted_size;
 }
 
-static void tell(const struct subject *subject, double plain, size_t rows, size_t most) {
+static void tell(const struct subject *subject, double tuned, size_t rows, size_t most) {
     struct run run = subject->best;
-    printf("%-12s %6.3f s %6.2f times plain C %12.0f rows/s %7.1f MiB, %.2f times the trace\n", subject->name,
-           run.seconds, run.seconds / plain, rows / run.seconds, run.mebibytes, run.mebibytes * 1048576.0 / most);
+    printf("%-12s %6.3f s %6.2f times tuned C %12.0f rows/s %7.1f MiB, %.2f times the trace\n", subject->name,
+           run.seconds, run.seconds / tuned, rows / run.seconds, run.mebibytes, run.mebibytes * 1048576.0 / most);
 }
 
-/* Times the subjects, of which plain C is the first, on a trace of just under so many bytes. */
+/* Times the subjects, of which tuned C is the first, on a trace of just under so many bytes. */
 static void time_on(size_t most, struct subject *subjects, size_t count, unsigned rounds) {
     size_t rows = write_trace(most);
     run_rounds(subjects, count, rounds);
@@ -268,26 +312,32 @@ static void time_on(size_t most, struct subject *subjects, size_t count, unsigne
 
 int main(int count, char **words) {
     if (count != 2) {
-        fprintf(stderr, "usage: audit PROGRAM, or audit plain\n");
+        fprintf(stderr, "usage: audit PROGRAM, audit plain, or audit tuned\n");
         return 2;
     }
     if (strcmp(words[1], "plain") == 0) {
         plain_audit();
         return 0;
     }
+    if (strcmp(words[1], "tuned") == 0) {
+        tuned_audit();
+        return 0;
+    }
     char *pmp = words[1];
     struct subject whole[] = {
-        {.name = "plain C", .words = {words[0], "plain"}, .report = "/dev/null"},
-        {.name = "proved", .words = {pmp, "audit", SCRIPT, TRACE}, .report = PROVED_REPORT},
-        {.name = "1 checker", .words = {pmp, "audit", SCRIPT, TRACE, "--checkers", "1"}, .report = PROVED_REPORT "1"},
-        {.name = "2 checkers", .words = {pmp, "audit", SCRIPT, TRACE, "--checkers", "2"}, .report = PROVED_REPORT "2"},
-        {.name = "4 checkers", .words = {pmp, "audit", SCRIPT, TRACE, "--checkers", "4"}, .report = PROVED_REPORT "4"},
+        {"tuned C", {words[0], "tuned"}, "/dev/null", TUNED_REPORT, {0, 0}},
+        {"plain C", {words[0], "plain"}, "/dev/null", PLAIN_REPORT, {0, 0}},
+        {"proved", {pmp, "audit", SCRIPT, TRACE}, PROVED_REPORT, PROVED_REPORT, {0, 0}},
+        {"1 checker", {pmp, "audit", SCRIPT, TRACE, "--checkers", "1"}, REPORT_OF_1, REPORT_OF_1, {0, 0}},
+        {"2 checkers", {pmp, "audit", SCRIPT, TRACE, "--checkers", "2"}, REPORT_OF_2, REPORT_OF_2, {0, 0}},
+        {"4 checkers", {pmp, "audit", SCRIPT, TRACE, "--checkers", "4"}, REPORT_OF_4, REPORT_OF_4, {0, 0}},
     };
     struct subject pieces[] = {
-        {.name = "plain C", .words = {words[0], "plain"}, .report = "/dev/null"},
-        {.name = "1 job", .words = {pmp, "audit", "--long", SCRIPT, TRACE, "--jobs", "1"}, .report = PROVED_REPORT "1"},
-        {.name = "2 jobs", .words = {pmp, "audit", "--long", SCRIPT, TRACE, "--jobs", "2"}, .report = PROVED_REPORT "2"},
-        {.name = "4 jobs", .words = {pmp, "audit", "--long", SCRIPT, TRACE, "--jobs", "4"}, .report = PROVED_REPORT "4"},
+        {"tuned C", {words[0], "tuned"}, "/dev/null", TUNED_REPORT, {0, 0}},
+        {"plain C", {words[0], "plain"}, "/dev/null", PLAIN_REPORT, {0, 0}},
+        {"1 job", {pmp, "audit", "--long", SCRIPT, TRACE, "--jobs", "1"}, REPORT_OF_1, REPORT_OF_1, {0, 0}},
+        {"2 jobs", {pmp, "audit", "--long", SCRIPT, TRACE, "--jobs", "2"}, REPORT_OF_2, REPORT_OF_2, {0, 0}},
+        {"4 jobs", {pmp, "audit", "--long", SCRIPT, TRACE, "--jobs", "4"}, REPORT_OF_4, REPORT_OF_4, {0, 0}},
     };
     write_script();
     time_on(MAX_TRACE, whole, sizeof whole / sizeof *whole, ROUNDS);

@@ -34,8 +34,8 @@ pub fn write_texts<W: Write>(writer: &mut W, texts: &[Vec<u8>]) -> Result<(), Ou
     ensures err { OnErr result
         (AppendsBeginning (W.contents writer.old) (W.contents writer.new) (items_of texts.now)) }
 {
-    for text in texts {
-        write_out(writer, text)?;
+    for part in texts {
+        write_out(writer, part)?;
     }
     Ok(())
 }

@@ -6,6 +6,7 @@ ghost use Rattle.pmp_text.specs.Numbers.{is_bare, numeral, word_number};
 use crate::lines::ADDRESS_DIGITS;
 
 /// The number with one more digit at its end, if it is below `2^64`.
+#[inline(always)]
 fn with_digit(number: u64, radix: u32, digit: u32) -> Option<u64>
     ensures { MatchOption result (2 ^ 64 ≤ number * radix + digit)
         (λ longer. (longer ≡ number * radix + digit) × (longer < 2 ^ 64)) }
@@ -17,6 +18,7 @@ fn with_digit(number: u64, radix: u32, digit: u32) -> Option<u64>
 
 /// The number that the digits write, where there is at least one and at most `most` of them and the number is
 /// below `2^64`.
+#[inline(always)]
 #[tactic(auto, unfolding(crate::specs::Numbers::numeral, crate::specs::Numbers::is_numeral))]
 pub fn read_numeral(digits: &[u8], radix: u32, most: usize) -> Option<u64>
     requires low { 2 ≤ radix }

@@ -107,6 +107,7 @@ fn write_all<S: Sink>(out: &mut S, file: &RegFile, since: &[Since]) -> Result<()
 /// LOCK is `frozen` where writes leave the entry as it is, and `bypassed` where they would but for rule-locking bypass;
 /// ADDRESS is `frozen` where they leave its address register as it is. SINCE and HOLDS are the numbers in `since`, if
 /// any.
+#[inline(never)]
 pub fn write_entries<S: Sink>(out: &mut S, file: &RegFile, since: &[Since]) -> Result<(), NoMemory>
     requires { length file.now.entries ≤ length since.now }
     ensures ok { OnOk result

@@ -274,6 +274,7 @@ fn write_all<S: Sink>(
 /// what a line of `write_runs` says, its size, and whether its owner is held or frozen. It tells how many publications
 /// are done and which of lockdown, allow-list policy and rule-locking bypass are on. The map is the one that was built
 /// from this file.
+#[inline(never)]
 pub fn write_picture<S: Sink>(
     out: &mut S,
     file: &RegFile,

@@ -87,6 +87,7 @@ impl<'a> fmt::Display for Lines<'a> {
 }
 
 /// Appends a line for each register: its name, a blank, `0x` and sixteen hexadecimal digits.
+#[inline(never)]
 #[tactic(auto, unfolding(crate::specs::Dumps::dump_text))]
 pub fn write_registers<S: Sink>(out: &mut S, file: &RegFile) -> Result<(), NoMemory>
     ensures ok { OnOk result (S.text out.new ≡ S.text out.old ++ dump_text file.now) }

@@ -57,6 +57,7 @@ impl<'a> fmt::Display for RunLines<'a> {
 /// Appends a line for each run of the register file, `FIRST,LAST,OWNER,MRIGHTS,SURIGHTS` and LF: the first and the last
 /// byte in fourteen hexadecimal digits, the lowest-numbered entry that matches them or a dash, and what that gives
 /// machine mode and the other two. The map is the one that was built from this file.
+#[inline(never)]
 pub fn write_runs<S: Sink>(out: &mut S, file: &RegFile, map: &RunMap) -> Result<(), NoMemory>
     requires { map.now ≡ file.now }
     ensures ok { OnOk result ((text : List ℕ) × IsMapText file.now text × (S.text out.new ≡ S.text out.old ++ text)) }

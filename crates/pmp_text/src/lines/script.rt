@@ -66,6 +66,7 @@ fn gives_back(text: &[u8], file: &RegFile) -> bool
 /// Appends a script of version 3 that begins with this register file, and does nothing: what the hart is, and a line
 /// for each register that doesn't keep zero. Reading it gives the file: it is read back before it is appended, and one
 /// that gave another file would not be.
+#[inline(never)]
 pub fn write_script<S: Sink>(out: &mut S, file: &RegFile) -> Result<(), NoMemory>
     ensures ok { OnOk result ((text : List ℕ) × GivesBack file.now text
         × (S.text out.new ≡ S.text out.old ++ text)) }

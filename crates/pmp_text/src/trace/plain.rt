@@ -33,7 +33,7 @@ fn word_behind(before: u8, text: &[u8]) -> Option<(&[u8], &[u8])>
 fn is_apart(byte: u8) -> bool
     ensures { result ≡ needs_byte default_writer byte }
 {
-    matches!(byte, b',' | b'"' | b'\r' | b'\n')
+    byte <= b',' && matches!(byte, b',' | b'"' | b'\r' | b'\n')
 }
 
 /// The words of a line between two LF, if it is a plain line of five, and the text from its own LF on.

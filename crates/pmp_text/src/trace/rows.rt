@@ -170,12 +170,28 @@ impl<'a> RowReader<'a> {
             return next_said(&mut self.records);
         };
         let Some((words, rest)) = plain_line(text) else {
-            self.records = Records::open(self.alloc, text);
-            self.lines = None;
-            return next_said(&mut self.records);
+            return self.leave_lines(text);
         };
         self.lines = Some(rest);
         Ok(Some(RowFields::of_words(words)))
+    }
+
+    /// What the next record says, if there is one, where what is left is no plain line. It stands alone since each row
+    /// would else clear the room of a reader.
+    #[cold]
+    #[inline(never)]
+    fn leave_lines(&mut self, text: &'a [u8]) -> Result<Option<Said>, TraceFault>
+        requires { self.old.records ≡ records_of text.now }
+        ensures some { IfOk result (λ found. IfSome found (λ said.
+            IsNext self.old.records said self.new.records)) }
+        ensures end { result ≡ Ok None → (self.old.records ≡ []) × (self.new.records ≡ []) }
+        ensures failed { IfErr result (λ fault. (fault ≡ no_memory_for_rows) ⊎ (fault ≡ no_input_for_rows)) }
+        ensures publications { self.new.publications ≡ self.old.publications }
+        ensures place { self.new.place ≡ self.old.place }
+    {
+        self.records = Records::open(self.alloc, text);
+        self.lines = None;
+        next_said(&mut self.records)
     }
 
     /// The next row, if there is one. After an error no more is said of what is left.
