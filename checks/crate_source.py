@@ -1,0 +1,160 @@
+"""The text of a crate: where each function stands, and which functions a definition reaches."""
+import os
+import re
+
+PARTS = ("src", "specs", "proofs")
+
+
+class Fault(Exception):
+    """Why an edit can't be tried."""
+
+
+class Source:
+    """The files of a crate by their paths, and its functions by theirs."""
+
+    FN = re.compile(r'^([ \t]*)(?:pub(?:\(\w+\))? )?(?:const )?(?:extern "C" )?fn (\w+)', re.M)
+    ATTRIBUTES = re.compile(r"(?:^[ \t]*#\[.*\]\n)*\Z", re.M)
+    OWNER = re.compile(
+        r"^impl(?:<[^{]*?>)? (?:([\w:]+)(?:<([\w:]+)[^{]*>)?\s+for )?([\w:]+)|^(?:pub )?trait (\w+)|^}", re.M
+    )
+    TYPE = re.compile(r"^(?:pub(?:\(\w+\))? )?(?:struct|enum) (\w+)", re.M)
+    CONTRACT = re.compile(r"\b(ensures|requires|ghost)\b")
+    USE = re.compile(r"^\s*(?:pub )?(?:ghost )?use [^;]*;|^use .*|//.*|--.*", re.M)
+    WORDS = r"(?:(?:abbrev|pub|unfoldable|record|enum) )*([^\s:({]+)"
+    BLOCK = re.compile(r"^(?:unfolding .*\n)*(?!use |pub mod |mod |unfolding |--)" + WORDS, re.M)
+    INNER = re.compile(rf"^ +{WORDS} : ", re.M)
+    RECORD = re.compile(r"^( +)(?:pub )?record (\S+) .*\n(?:\1 +.*\n)*", re.M)
+
+    def __init__(self, folder):
+        self.texts = {}
+        for part in PARTS:
+            for at, _, names in os.walk(f"{folder}/{part}"):
+                for path in (f"{at}/{it}" for it in names):
+                    with open(path, encoding="utf-8") as it:
+                        self.texts[os.path.relpath(path, folder)] = it.read()
+        sources = [it for it in self.texts if it.startswith("src/")]
+        self.homes = {name: module_of(it) for it in sources for name in self.TYPE.findall(self.texts[it])}
+        self.places = {name: place for it in sources for name, place in self.functions_of(it)}
+        self.heads = {name: words_of(self.texts[file][at:body]) for name, (file, at, body, *_) in self.places.items()}
+        self.wholes = {name: words_of(self.text_of(name)) for name in self.places}
+        self.blocks = [it for file in self.texts if file.endswith(".antt") for it in self.blocks_of(file)]
+        self.types = set().union(*(words_of(self.beside_functions(it)) for it in sources))
+
+    def functions_of(self, file):
+        """The path below the crate of each function of the file, as rt check prints it, with where it stands: its file,
+        its beginning with its attributes, its body's, its end, and whether it is a trait's. A method has the module of
+        its type."""
+        text = self.texts[file]
+        for found in self.FN.finditer(text):
+            module, owner, is_of_trait = module_of(file), [], False
+            if found[1]:
+                trait, given, type_, own = list(self.OWNER.finditer(text, 0, found.start()))[-1].groups("")
+                given = "".join(it[:1].upper() + it[1:] for it in given.split("::"))
+                owner = [own or type_.rpartition("::")[2] + trait.rpartition("::")[2] + given]
+                is_of_trait = bool(own or trait)
+                module = module if is_of_trait else self.homes.get(type_, module)
+            body = re.compile(rf"{{}}$|^{found[1]}{{|{{$|;$", re.M).search(text, found.end()).end()
+            is_long = text[body - 1 : body + 1] == "{\n"
+            end = text.find(f"\n{found[1]}}}", body) + len(found[1]) + 2 if is_long else body
+            start = self.ATTRIBUTES.search(text, 0, found.start()).start()
+            yield "::".join([*module, *owner, found[2]]), (file, start, body, end, is_of_trait)
+
+    def text_of(self, place):
+        file, start, _, end, _ = self.places[place]
+        return self.texts[file][start:end]
+
+    def copied(self, edit):
+        """The text of the edit's function with all that it changes, or None where a copy can't stand behind it, or the
+        edit changes something else too."""
+        file, *_, is_of_trait = self.places[edit.place]
+        text = self.text_of(edit.place)
+        for where, old, new in edit.pairs:
+            if is_of_trait or where != file or text.count(old) != 1:
+                return None
+            text = text.replace(old, new)
+        return text
+
+    def span(self, place, file, old):
+        """Where a text of an edit begins and ends, which has to stand once in the function, or else in the file."""
+        text, (its, start, _, end, _) = self.texts.get(file, ""), self.places[place]
+        if its != file or text.count(old, start, end) != 1:
+            start, end = 0, len(text)
+        if (found := text.count(old, start, end)) != 1:
+            raise Fault(f"its 'old:' text stands in {file} {found} times, and not once")
+        at = text.find(old, start)
+        return at, at + len(old)
+
+    def blocks_of(self, file):
+        """The declarations of a definition's or a proof's file: their names, their words, and in the folder of whose
+        proof they stand."""
+        text = self.texts[file]
+        function = "::".join(file.split("/")[1:-1])
+        starts = [it.start() for it in self.BLOCK.finditer(text)] + [len(text)]
+        for at, to in zip(starts, starts[1:]):
+            names = {self.BLOCK.match(text, at)[1]}
+            if names == {"module"}:
+                names = set(self.INNER.findall(self.RECORD.sub(r"\1\2 : ", text[at:to])))
+            yield names, words_of(self.USE.sub("", text[at:to])), function in self.places and function
+
+    def beside_functions(self, file):
+        """The text of a file but for its functions and what it imports: types, and what their contracts say."""
+        text, at, found = self.texts[file], 0, []
+        for _, start, _, end, _ in sorted(it for it in self.places.values() if it[0] == file):
+            found.append(text[at:start])
+            at = max(at, end)
+        return self.USE.sub("", "".join([*found, text[at:]]))
+
+    def place_of(self, edit):
+        """The edit's function as places has it. Of a method for a type with arguments, whose name rt makes of these
+        too, it is the one in which the edit stands."""
+        if edit.function in self.places:
+            return edit.function
+        file, old, _ = edit.pairs[0]
+        around = self.around(file, self.texts.get(file, "").find(old))
+        if around and around.rpartition("::")[2] == edit.function.rpartition("::")[2]:
+            return around
+        raise Fault(f"there is no function {edit.function}")
+
+    def around(self, file, at):
+        """The function in which that stands, or nothing."""
+        return next((it for it, place in self.places.items() if place[0] == file and place[1] <= at < place[3]), None)
+
+    def reached(self, edit):
+        """The functions whose goals the edit may open, or None where that isn't known."""
+        names, reached = set(), {edit.place}
+        for file, at, to, new in edit.changes:
+            text, function = self.texts[file], self.around(file, at)
+            if file.endswith(".antt"):
+                names.add([it[1] for it in self.BLOCK.finditer(text, 0, to)][-1])
+            elif function and at >= self.places[function][2] and not self.CONTRACT.search(text[at:to] + new):
+                reached.add(function)
+            else:
+                return None
+        return self.closed(names, reached)
+
+    def closed(self, names, reached):
+        """The functions, with those that say one of the names, or what says one."""
+        count = -1
+        while count != len(names) + len(reached):
+            count = len(names) + len(reached)
+            for said, words, function in self.blocks:
+                if names & words and function:
+                    reached.add(function)
+                elif names & words:
+                    names |= said
+            for name, words in self.wholes.items():
+                if names & words:
+                    reached.add(name)
+                if names & self.heads[name]:
+                    names.add(name.rpartition("::")[2])
+        return None if names & self.types else reached
+
+
+def module_of(file):
+    """The path of a file's module below the crate."""
+    return [it for it in file.removeprefix("src/").removesuffix(".rt").split("/") if it not in ("lib", "main")]
+
+
+def words_of(text):
+    """The names that stand in a text, a part of one that has dots by itself."""
+    return set(re.findall(r"[^\s(){}\[\],.:;&*]+", text))
