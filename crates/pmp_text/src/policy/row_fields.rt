@@ -54,17 +54,30 @@ pub struct Words<'a> {
 fn seven_fields(fields: &ByteRecord) -> Option<Words<'_>>
     ensures { option_map seen_seven result ≡ seven_fields (fields_of fields.now) }
 {
-    if fields.get(7).is_some() {
+    let (Some(from), Some(to), Some(modes), Some(kind)) = (
+        fields.get(0),
+        fields.get(1),
+        fields.get(2),
+        fields.get(3),
+    ) else {
         return None;
-    }
+    };
+    let (Some(first), Some(last), Some(demand), None) = (
+        fields.get(4),
+        fields.get(5),
+        fields.get(6),
+        fields.get(7),
+    ) else {
+        return None;
+    };
     Some(Words {
-        from: fields.get(0)?,
-        to: fields.get(1)?,
-        modes: fields.get(2)?,
-        kind: fields.get(3)?,
-        first: fields.get(4)?,
-        last: fields.get(5)?,
-        demand: fields.get(6)?,
+        from,
+        to,
+        modes,
+        kind,
+        first,
+        last,
+        demand,
     })
 }
 
