@@ -19,12 +19,13 @@ def refusals(text=None):
     """By number, in their order: the name, what was wanted, what to do, and the exit status."""
     text = text or text_of(REFUSALS)
     numbers = {name: int(number) for name, number in re.findall(r"^    (\w+) = (\d+),$", text, re.MULTILINE)}
-    texts = re.findall(r'Refusal::(\w+) => \(\s*"(\w+)",\s*"([^"]*)",\s*"([^"]*)",?\s*\)', text)
+    texts = [dict(re.findall(r'Refusal::(\w+) =>\s*"([^"]*)",', it)) for it in text.split("-> &'static str")[1:]]
     third = re.findall(r"Refusal::(\w+)", "".join(re.findall(r"^.* => 3,$", text, re.MULTILINE)))
-    if not numbers or not third or [it[:2] for it in texts] != [(name, name) for name in numbers]:
+    if not numbers or not third or [[*it] for it in texts] != [[*numbers]] * 3 or [*texts[0].values()] != [*numbers]:
         sys.exit(f"{REFUSALS} isn't as known here")
-    return {numbers[name]: {"name": name, "wanted": plain(wanted), "remedy": plain(remedy),
-                            "status": 3 if name in third else 2} for name, _, wanted, remedy in texts}
+    _, wanted, remedies = texts
+    return {number: {"name": name, "wanted": plain(wanted[name]), "remedy": plain(remedies[name]),
+                     "status": 3 if name in third else 2} for name, number in numbers.items()}
 
 
 def plain(text, quote=""):

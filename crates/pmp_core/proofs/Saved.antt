@@ -1,10 +1,10 @@
 -- Registers saved and restored.
-use Rattle.std.proofs.Common.{◌≡◌, ℕ, ◌%◌, ◌<◌, ◌≤◌, Bool, true, false, List, length, map}
-use Rattle.std.proofs.Common.{cond, replicate}
+use Rattle.std.proofs.Common.{◌≡◌, ◌≢◌, ℕ, ◌+◌, ◌%◌, ◌<◌, ◌≤◌, Bool, true, false, List, length, map, set}
+use Rattle.std.proofs.Common.{cond, replicate, get_or-set_other, get_or-set_same, length-set}
 use Rattle.std.proofs.Math.Nat.{mod-lt, mod-eq_of_lt}
 use Rattle.std.proofs.Common.{slice_index, refl, sym, ap, ◌∙◌, inl, inr, arith}
 use Rattle.std.specs.List.{range_with_len}
-use Rattle.std.proofs.lemmas.Bool.{cases_lt}
+use Rattle.std.proofs.lemmas.Bool.{cases_eq, cases_lt}
 use Rattle.std.proofs.lemmas.List.{get_or_past, get_or-replicate}
 use Rattle.std.proofs.lemmas.List.FromFn.{fill_by_all, length-map-range_with_len, get_or-map-range_with_len}
 use Rattle.pmp_core.specs.Entry.{Entry}
@@ -32,6 +32,21 @@ pub record IsFilledTo (f : ℕ → ℕ) (xs : List ℕ) (place : ℕ) : Type 0 w
   pub len : length xs ≡ 64
   pub done : (k : ℕ) → k < place → slice_index xs k ≡ f k
   pub rest : (k : ℕ) → place ≤ k → k < 64 → slice_index xs k ≡ 0
+
+pub filled_more : (f : ℕ → ℕ) (xs : List ℕ) (place x : ℕ) → place < 64 → x ≡ f place → IsFilledTo f xs place
+    → IsFilledTo f (set xs place x) (place + 1)
+filled_more f xs place x inside is so_far =
+    let there : place < length xs = rw so_far.len inside in
+    record {
+      len = length-set xs place x ∙ so_far.len;
+      done = λ k below. elim (cases_eq k place) [
+        | inl here ↦ rw here (get_or-set_same xs place x 0 there ∙ is)
+        | inr apart ↦ rw get_or-set_other (so_far.done k (omega arith))
+      ];
+      rest = λ k from below.
+          let apart : k ≢ place = λ same. absurd (omega arith) in
+          rw get_or-set_other (so_far.rest k (omega arith) below);
+    }
 
 -- a table so filled is all of f, where f is zero from there on
 pub filled : (f : ℕ → ℕ) (xs : List ℕ) (place : ℕ) → IsFilledTo f xs place

@@ -179,6 +179,28 @@ pub record AreWrittenTo (old new : SavedRegisters) (bytes : List ℕ) (first ind
   pub done : (k : ℕ) → first ≤ k → k < index → slice_index new.configurations k ≡ slice_index bytes (k - first)
   pub rest : (k : ℕ) → (first ≤ k → index ≤ k) → slice_index new.configurations k ≡ slice_index old.configurations k
 
+pub written_more : (old new : SavedRegisters) (bytes : List ℕ) (first index : ℕ) → first ≤ index → index < first + 8
+    → index < 64 → AreWrittenTo old new bytes first index
+    → AreWrittenTo old (record new {
+      configurations = set new.configurations index (slice_index bytes (index - first));
+    }) bytes first (index + 1)
+written_more old new bytes first index from near inside so_far =
+    let there : index < length new.configurations = rw so_far.len inside in
+    record {
+      addresses = so_far.addresses;
+      mseccfg = so_far.mseccfg;
+      number = so_far.number;
+      most = omega arith;
+      len = length-set new.configurations index _ ∙ so_far.len;
+      done = λ k low below. elim (cases_eq k index) [
+        | inl here ↦ rw here (get_or-set_same new.configurations index _ 0 there)
+        | inr apart ↦ rw get_or-set_other (so_far.done k low (omega arith))
+      ];
+      rest = λ k outside.
+          let apart : k ≢ index = λ same. absurd (omega (arith, outside (omega arith))) in
+          rw get_or-set_other (so_far.rest k (λ low. omega (arith, outside low)));
+    }
+
 module _ (old new : SavedRegisters) (q value word end : ℕ) (even : q % 2 ≡ 0)
     (is : configuration_word (configurations_written (restored_file old) q value) (4 * q) ≡ word)
     (all : min (length (restored_file old).entries) (4 * q + 8) ≤ end)

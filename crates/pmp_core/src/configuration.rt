@@ -22,7 +22,7 @@ pub enum AddressMatching {
 }
 
 /// A configuration byte, whose bits 6 and 5 are zero. A contract sees its fields.
-#[derive(Clone, Copy, Debug, PartialEq, Eq)]
+#[derive(Clone, Copy)]
 pub struct Configuration {
     byte: u8,
 }

@@ -1,9 +1,10 @@
 -- Where held bytes are cut.
-use Rattle.std.proofs.Common.{◌≡◌, ℕ, false, List, [], ◌++◌, length, take, drop}
+use Rattle.std.proofs.Common.{◌≡◌, ◌<◌, ℕ, ◌+◌, false, true, List, [], ◌++◌, length, take, drop}
 use Rattle.std.proofs.Common.{Option, refl, sym, ap, ◌∙◌, append-nil, arith}
 use Rattle.std.specs.List.{list_any}
-use Rattle.std.proofs.lemmas.List.{length-drop, take-append-drop}
-use Rattle.pmp_text.specs.Cutting.{IsFilled, IsUncut}
+use Rattle.std.specs.Prelude.{slice_index}
+use Rattle.std.proofs.lemmas.List.{drop_more, length-drop, length-take-le, take-append-drop, take_more}
+use Rattle.pmp_text.specs.Cutting.{IsFilled, IsFront, IsUncut}
 use Rattle.pmp_text.specs.Tables.{is_line_end}
 
 module _ (limit : ℕ) (held : List ℕ) (old new : Option (List ℕ)) (filled : List ℕ) where
@@ -23,3 +24,24 @@ module _ (limit : ℕ) (held : List ℕ) (old new : Option (List ℕ)) (filled :
           let left = length-drop 1 filled in omega arith,
     );
   }
+
+  pub front : IsFilled limit held old new filled false → (end : ℕ) → 0 < end → end < length filled
+      → is_line_end (slice_index filled end) ≡ true → (left piece : List ℕ) → left ≡ drop end filled
+      → piece ≡ take (end + 1) filled → IsFront limit held old new left piece
+  front f end some inside ends left piece left_is piece_is =
+      let most : length filled ≡ limit = f.full refl in
+      let behind = drop_more filled end 0 inside in record {
+        taken = f.taken;
+        consumed = f.consumed;
+        before = take end filled;
+        some = let count = length-take-le end filled (omega arith) in omega arith;
+        line_end = slice_index filled end;
+        behind = drop (end + 1) filled;
+        ends = ends;
+        split = sym f.joined ∙ sym (take-append-drop end filled)
+            ∙ ap (λ (l : List ℕ). take end filled ++ l) behind;
+        piece_is = piece_is ∙ take_more filled end 0 inside;
+        left_is = left_is ∙ behind;
+        within = let count = length-drop end filled in rw left_is (omega arith);
+        short = let count = length-take-le (end + 1) filled (omega arith) in rw piece_is (omega arith);
+      }

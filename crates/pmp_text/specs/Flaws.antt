@@ -1,5 +1,5 @@
 -- Where a line or a row is at fault.
-use Rattle.std.specs.Prelude.{ℕ, Option, Some, None, Result, Err}
+use Rattle.std.specs.Prelude.{ℕ, Option, Some, None, Result, Ok, Err}
 use Rattle.pmp_text.specs.declared.flaw.Flaw.{Flaw}
 use Rattle.pmp_text.specs.declared.refusal.Refusal.{Refusal}
 use Rattle.pmp_text.specs.declared.refusal.Refusal.TheVariants.{BadRow}
@@ -26,3 +26,8 @@ at_row number flaw = record { kind = flaw.kind; row = number; field = flaw.part 
 abbrev pub of_part : {X Y : Type 0} → (index : ℕ) → (says : Option X) → (X → Result Y Flaw) → Result Y Flaw
 of_part index None next = Err (part index BadRow)
 of_part index (Some x) next = next x
+
+-- one thing after another: the first flaw is the flaw
+abbrev pub and_then : {X Y : Type 0} → Result X Flaw → (X → Result Y Flaw) → Result Y Flaw
+and_then (Ok x) next = next x
+and_then (Err flaw) next = Err flaw

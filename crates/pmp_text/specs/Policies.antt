@@ -23,7 +23,7 @@ use Rattle.pmp_text.specs.declared.trace.TraceFault.{TraceFault}
 use Rattle.pmp_text.specs.AccessWords.{kind_named}
 use Rattle.pmp_text.specs.Numbers.{is_bare, word_number}
 use Rattle.pmp_text.specs.Tables.{behind_header, fault_or_rows, within_limit}
-use Rattle.pmp_text.specs.Flaws.{at_row, of_part, part, as_whole}
+use Rattle.pmp_text.specs.Flaws.{and_then, at_row, of_part, part, as_whole}
 
 -- ---- words
 
@@ -127,14 +127,27 @@ policy_fields row = record {
   is_bare = row.is_bare;
 }
 
--- what seven words say beside a script with so many publications: from how many publications to how many, modes,
--- kinds, the first byte and the last, and a demand
-abbrev pub policy_of_fields : (publications : ℕ) → SevenFields → Result PolicyFields Flaw
-policy_of_fields publications words =
-    of_part 0 (word_number words.from) (λ from. of_part 1 (to_named publications from words.to) (λ to.
-    of_part 2 (modes_named words.modes) (λ modes. of_part 3 (kinds_named words.kind) (λ kinds.
+-- what seven words say of publications beside a script with so many: from how many to how many
+unfoldable pub publications_said : (publications : ℕ) → SevenFields → Result (ℕ × ℕ) Flaw
+publications_said publications words =
+    of_part 0 (word_number words.from) (λ from. of_part 1 (to_named publications from words.to) (λ to. Ok (from, to)))
+
+-- of accesses: modes and kinds
+unfoldable pub accesses_said : SevenFields → Result (Modes × Kinds) Flaw
+accesses_said words =
+    of_part 2 (modes_named words.modes) (λ modes. of_part 3 (kinds_named words.kind) (λ kinds. Ok (modes, kinds)))
+
+-- of bytes: the first and the last
+unfoldable pub bytes_said : SevenFields → Result (ℕ × ℕ) Flaw
+bytes_said words =
     of_part 4 (word_number words.first) (λ first. of_part 5 (at_least first (word_number words.last)) (λ last.
-    of_part 6 (demand_named words.demand) (λ demand. Ok (record {
+    Ok (first, last)))
+
+-- all that they say, and the demand
+unfoldable pub policy_of_fields : (publications : ℕ) → SevenFields → Result PolicyFields Flaw
+policy_of_fields publications words =
+    and_then (publications_said publications words) (λ (from, to). and_then (accesses_said words) (λ (modes, kinds).
+    and_then (bytes_said words) (λ (first, last). of_part 6 (demand_named words.demand) (λ demand. Ok (record {
       from = from;
       to = to;
       modes = modes;
@@ -143,7 +156,7 @@ policy_of_fields publications words =
       last = last;
       demand = demand;
       is_bare = is_bare words.first || is_bare words.last;
-    }))))))))
+    })))))
 
 -- what a record says as a row, or what of it says nothing
 abbrev pub policy_in : (publications : ℕ) → List (List ℕ) → Result PolicyFields Flaw

@@ -21,10 +21,13 @@ pub fn read_mode(word: &[u8]) -> Option<Mode>
 pub fn read_kind(word: &[u8]) -> Option<Kind>
     ensures { result ≡ kind_named word.now }
 {
-    match word {
-        b"fetch" => Some(Kind::Fetch),
-        b"load" => Some(Kind::Load),
-        b"store" => Some(Kind::Store),
-        _ => None,
+    if word == b"fetch".as_slice() {
+        Some(Kind::Fetch)
+    } else if word == b"load".as_slice() {
+        Some(Kind::Load)
+    } else if word == b"store".as_slice() {
+        Some(Kind::Store)
+    } else {
+        None
     }
 }

@@ -23,7 +23,8 @@ fn read_plain_number(digits: &[u8], most: u64) -> Option<u64>
     if digits.len() == 2 && digits[0] == b'0' {
         return None;
     }
-    read_numeral(digits, 10, 2).filter(|number| *number <= most)
+    let number = read_numeral(digits, 10, 2)?;
+    (number <= most).then_some(number)
 }
 
 #[tactic(auto, unfolding(crate::specs::Names::register_number))]
@@ -47,7 +48,7 @@ pub fn read_register(word: &[u8]) -> Result<Csr, Refusal>
     ensures { result ≡ register_named word.now }
 {
     let number = read_register_number(word).ok_or(Refusal::BadName)?;
-    let number = u16::try_from(number).map_err(|_| Refusal::BadName)?;
+    let number = u16::try_from(number).or(Err(Refusal::BadName))?;
     Csr::from_number(number).map_err(|fault| match fault {
         CsrFault::OddCfg => Refusal::OddCfg,
         CsrFault::NotPmp => Refusal::BadName,

@@ -86,17 +86,35 @@ impl Refusal {
     pub fn name(self) -> &'static str
         ensures { result.now ≡ name_of self }
     {
-        self.texts().0
-    }
-
-    /// What was wanted in place of what is refused.
-    pub fn wanted(self) -> &'static str {
-        self.texts().1
-    }
-
-    /// What to do about it.
-    pub fn remedy(self) -> &'static str {
-        self.texts().2
+        match self {
+            Refusal::BadLength => "BadLength",
+            Refusal::PastEnd => "PastEnd",
+            Refusal::BadVersion => "BadVersion",
+            Refusal::BadLine => "BadLine",
+            Refusal::BadName => "BadName",
+            Refusal::OddCfg => "OddCfg",
+            Refusal::BadNumber => "BadNumber",
+            Refusal::BatchFull => "BatchFull",
+            Refusal::Unpublished => "Unpublished",
+            Refusal::TooLong => "TooLong",
+            Refusal::BadHeader => "BadHeader",
+            Refusal::BadRow => "BadRow",
+            Refusal::BadAfter => "BadAfter",
+            Refusal::Order => "Order",
+            Refusal::BadWord => "BadWord",
+            Refusal::NoPlace => "NoPlace",
+            Refusal::Full => "Full",
+            Refusal::Moved => "Moved",
+            Refusal::Memory => "Memory",
+            Refusal::Input => "Input",
+            Refusal::Output => "Output",
+            Refusal::LateHead => "LateHead",
+            Refusal::Twice => "Twice",
+            Refusal::BadEntries => "BadEntries",
+            Refusal::BadBits => "BadBits",
+            Refusal::NotHeld => "NotHeld",
+            Refusal::BadGrain => "BadGrain",
+        }
     }
 
     /// The program's exit status: 3 where memory, an input, the output or a shared unit failed it, and else 2.
@@ -112,142 +130,87 @@ impl Refusal {
         }
     }
 
-    /// Its name, what was wanted, and what to do.
-    fn texts(self) -> (&'static str, &'static str, &'static str)
-        ensures { result.0.now ≡ name_of self }
-    {
+    /// What was wanted in place of what is refused.
+    pub fn wanted(self) -> &'static str {
         match self {
-            Refusal::BadLength => (
-                "BadLength",
-                "a length from 1 to 4096",
-                "give at least one byte; make several accesses of a longer range",
-            ),
-            Refusal::PastEnd => (
-                "PastEnd",
-                "a last byte below 2^56",
-                "look for a digit too many in the address",
-            ),
-            Refusal::BadVersion => (
-                "BadVersion",
+            Refusal::BadLength => "a length from 1 to 4096",
+            Refusal::PastEnd => "a last byte below 2^56",
+            Refusal::BadVersion =>
                 "pmp 1 for a unit of 16 entries, pmp 2 for one of 64, or pmp 3 for any hart, before every line but comments",
-                "make it the first line, in lower case and with no other word; save the script as UTF-8 without a byte-order mark, each line ended by LF",
-            ),
-            Refusal::BadLine => (
-                "BadLine",
+            Refusal::BadLine =>
                 "write NAME VALUE, reset or publish; with pmp 3 also set NAME VALUE, expect NAME VALUE, and hart with entries N, grain BYTES, bits N or smepmp yes or no",
-                "write each CSR write as write NAME VALUE, without =; begin with pmp 3 for hart, set and expect; begin comments with #, on lines of their own",
-            ),
-            Refusal::BadName => (
-                "BadName",
+            Refusal::BadName =>
                 "mseccfg, pmpcfg0, pmpcfg2, .. pmpcfg14, pmpaddr0 to pmpaddr63, or the register's number after 0x",
-                "write it so, in lower case and without leading zeros; leave out writes to other registers",
-            ),
-            Refusal::OddCfg => (
-                "OddCfg",
-                "a pmpcfg register with an even number, since RV64 has no odd ones",
-                "write both halves to the even one before it; RV32 firmware can't be replayed",
-            ),
-            Refusal::BadNumber => (
-                "BadNumber",
+            Refusal::OddCfg => "a pmpcfg register with an even number, since RV64 has no odd ones",
+            Refusal::BadNumber =>
                 "a number below 2^64: 1 to 20 decimal digits, or 0x and 1 to 16 hexadecimal digits",
-                "put 0x before hexadecimal digits and nothing behind them; leave out signs and underscores: a register's -1 is 0xffffffffffffffff",
-            ),
-            Refusal::BatchFull => (
-                "BatchFull",
-                "at most 64 writes and resets before a publish",
-                "put a publish between them",
-            ),
-            Refusal::Unpublished => (
-                "Unpublished",
-                "a publish after this event",
-                "end the script with a publish",
-            ),
-            Refusal::TooLong => (
-                "TooLong",
+            Refusal::BatchFull => "at most 64 writes and resets before a publish",
+            Refusal::Unpublished => "a publish after this event",
+            Refusal::TooLong =>
                 "at most 1048576 bytes of a script, and 16777216 of a trace or a policy; of a long trace, shorter lines",
-                "cut the script at a publish and leave comments out; take --long for a trace, and shorter lines there; split a policy",
-            ),
-            Refusal::BadHeader => (
-                "BadHeader",
+            Refusal::BadHeader =>
                 "after,mode,kind,start,length for a trace, from,to,modes,kind,first,last,demand for a policy",
-                "make it the first line, above the rows, without blanks",
-            ),
-            Refusal::BadRow => (
-                "BadRow",
+            Refusal::BadRow =>
                 "as many fields as the header names, each of its form: see pmp help trace and pmp help policy",
-                "write each field in its form and between commas, and nothing else: no blank, comment or line end",
-            ),
-            Refusal::BadAfter => (
-                "BadAfter",
-                "at most as many publications as the script has",
-                "ask for fewer, or see whether the script lacks a publish",
-            ),
-            Refusal::Order => (
-                "Order",
-                "at least as many publications as in the row before",
-                "sort the trace by its first field",
-            ),
-            Refusal::BadWord => (
-                "BadWord",
+            Refusal::BadAfter => "at most as many publications as the script has",
+            Refusal::Order => "at least as many publications as in the row before",
+            Refusal::BadWord =>
                 "words as the command's help has them: stdin for one input alone, --jobs and --first-row with --long, --checkers without",
-                "see the command's help: pmp help check, and so on",
-            ),
-            Refusal::NoPlace => (
-                "NoPlace",
-                "a place for each checker in the unit that they share",
-                "ask for fewer, or leave --checkers out",
-            ),
-            Refusal::Full => ("Full", "room for a batch in the unit", "begin another unit"),
-            Refusal::Moved => (
-                "Moved",
-                "no more publications than a checker was told of",
-                "please report it: no order of the threads leads there",
-            ),
-            Refusal::Memory => (
-                "Memory",
-                "memory",
-                "end other programs, raise the limit, or cut the trace",
-            ),
-            Refusal::Input => (
-                "Input",
+            Refusal::NoPlace => "a place for each checker in the unit that they share",
+            Refusal::Full => "room for a batch in the unit",
+            Refusal::Moved => "no more publications than a checker was told of",
+            Refusal::Memory => "memory",
+            Refusal::Input =>
                 "a path that can be opened and read; stdin is standard input, and a dash isn't",
-                "see that the path is right and may be read",
-            ),
-            Refusal::Output => (
-                "Output",
-                "an output that takes the whole answer",
-                "throw away what was written, which is a beginning of the answer",
-            ),
-            Refusal::LateHead => (
-                "LateHead",
-                "hart and set before the first write, reset or publish",
-                "move the line above them; a register may be written instead",
-            ),
-            Refusal::Twice => (
-                "Twice",
-                "each field of the hart once, and each register set once",
-                "leave one of the two lines out",
-            ),
-            Refusal::BadEntries => (
-                "BadEntries",
-                "0 to 64 entries",
+            Refusal::Output => "an output that takes the whole answer",
+            Refusal::LateHead => "hart and set before the first write, reset or publish",
+            Refusal::Twice => "each field of the hart once, and each register set once",
+            Refusal::BadEntries => "0 to 64 entries",
+            Refusal::BadBits => "34 to 56 address bits",
+            Refusal::NotHeld => "a value that the register of this hart keeps",
+            Refusal::BadGrain => "a grain of 4, 8, 16 and so on to 4096 bytes",
+        }
+    }
+
+    /// What to do about it.
+    pub fn remedy(self) -> &'static str {
+        match self {
+            Refusal::BadLength => "give at least one byte; make several accesses of a longer range",
+            Refusal::PastEnd => "look for a digit too many in the address",
+            Refusal::BadVersion =>
+                "make it the first line, in lower case and with no other word; save the script as UTF-8 without a byte-order mark, each line ended by LF",
+            Refusal::BadLine =>
+                "write each CSR write as write NAME VALUE, without =; begin with pmp 3 for hart, set and expect; begin comments with #, on lines of their own",
+            Refusal::BadName =>
+                "write it so, in lower case and without leading zeros; leave out writes to other registers",
+            Refusal::OddCfg =>
+                "write both halves to the even one before it; RV32 firmware can't be replayed",
+            Refusal::BadNumber =>
+                "put 0x before hexadecimal digits and nothing behind them; leave out signs and underscores: a register's -1 is 0xffffffffffffffff",
+            Refusal::BatchFull => "put a publish between them",
+            Refusal::Unpublished => "end the script with a publish",
+            Refusal::TooLong =>
+                "cut the script at a publish and leave comments out; take --long for a trace, and shorter lines there; split a policy",
+            Refusal::BadHeader => "make it the first line, above the rows, without blanks",
+            Refusal::BadRow =>
+                "write each field in its form and between commas, and nothing else: no blank, comment or line end",
+            Refusal::BadAfter => "ask for fewer, or see whether the script lacks a publish",
+            Refusal::Order => "sort the trace by its first field",
+            Refusal::BadWord => "see the command's help: pmp help check, and so on",
+            Refusal::NoPlace => "ask for fewer, or leave --checkers out",
+            Refusal::Full => "begin another unit",
+            Refusal::Moved => "please report it: no order of the threads leads there",
+            Refusal::Memory => "end other programs, raise the limit, or cut the trace",
+            Refusal::Input => "see that the path is right and may be read",
+            Refusal::Output => "throw away what was written, which is a beginning of the answer",
+            Refusal::LateHead => "move the line above them; a register may be written instead",
+            Refusal::Twice => "leave one of the two lines out",
+            Refusal::BadEntries =>
                 "give how many PMP entries the hart has, which are those from pmpaddr0 on",
-            ),
-            Refusal::BadBits => (
-                "BadBits",
-                "34 to 56 address bits",
-                "give the bits of a physical address, not those of a register",
-            ),
-            Refusal::NotHeld => (
-                "NotHeld",
-                "a value that the register of this hart keeps",
+            Refusal::BadBits => "give the bits of a physical address, not those of a register",
+            Refusal::NotHeld =>
                 "give the hart lines of the hart that had the value; clear the bits that no hart keeps, as 63 to 54 of a pmpaddr, which QEMU before 11 keeps",
-            ),
-            Refusal::BadGrain => (
-                "BadGrain",
-                "a grain of 4, 8, 16 and so on to 4096 bytes",
-                "give the grain in bytes, not the manual's G",
-            ),
+            Refusal::BadGrain => "give the grain in bytes, not the manual's G",
         }
     }
 }

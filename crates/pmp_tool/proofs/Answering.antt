@@ -5,14 +5,12 @@ use Rattle.pmp_audit.specs.Answers.{IsRefused}
 use Rattle.pmp_audit.specs.declared.fault.AuditFault.{AuditFault}
 use Rattle.pmp_audit.specs.declared.long_audit.TheConstants.{PIECE}
 use Rattle.pmp_audit.specs.LongAudit.{StopsLong}
-use Rattle.pmp_tool.specs.declared.command.Command.{Command}
 use Rattle.pmp_tool.specs.declared.failure.Failure.{Failure}
 use Rattle.pmp_tool.specs.declared.outcome.Outcome.{Outcome}
 use Rattle.pmp_tool.specs.declared.request.Request.{Request}
 use Rattle.pmp_tool.specs.Failures.{unaudited}
 use Rattle.pmp_tool.specs.Inputs.{AreBytesOf, GivesBytesOf, Inputs}
-use Rattle.pmp_tool.specs.Requests.{Declines, RequestFails, Stops, taken}
-use Rattle.pmp_tool.specs.Runs.{CommandFails}
+use Rattle.pmp_tool.specs.Requests.{Declines, RequestFails, Stops}
 
 -- a call's refusal is its failure
 pub declined : {A : Type 0} {Says : A → List ℕ → Type 0} {Refuses : AuditFault → Type 0}
@@ -24,15 +22,13 @@ pub stopped : {script trace : List ℕ} {first : ℕ} {before after : Option (Li
     → StopsLong PIECE script first trace before after fault → Stops before after script first trace (unaudited fault)
 stopped fault stops = record { fault = fault; is = refl; stops = stops }
 
--- what is asked for of a script that was read fails
-pub failed : (scripts traces : Inputs) (command : Command) (script : List ℕ) (before after : Option (List ℕ))
-    → AreBytesOf (scripts command.script.now) script → (request : Request) → command.request ≡ request
-    → (result : Result Outcome Failure) (failure : Failure) → IsErrAnd result (λ told. told ≡ failure)
+-- a failure for which what is asked for of a script gets no answer
+pub refused_so : (before after : Option (List ℕ)) (scripts traces : Inputs) (script : List ℕ) (request : Request)
+    (result : Result Outcome Failure) (failure : Failure) → IsErrAnd result (λ told. told ≡ failure)
     → RequestFails before after scripts traces script request failure
-    → IfErr result (CommandFails scripts traces command before after)
-failed scripts traces command script before after read request asks (Ok outcome) failure is fails = tt
-failed scripts traces command script before after read request asks (Err told) failure is fails =
-    rw is (taken script failure read (rw asks fails))
+    → IfErr result (RequestFails before after scripts traces script request)
+refused_so before after scripts traces script request (Ok outcome) failure is fails = tt
+refused_so before after scripts traces script request (Err told) failure is fails = rw is fails
 
 -- what a reader of an input has left are the input's bytes
 pub bytes_given : (known remaining : Option (List ℕ)) (bytes : List ℕ) → GivesBytesOf known remaining

@@ -2,17 +2,20 @@
 
 ghost use Rattle.std.specs.Prelude.{◌≡◌, IfOk, IfErr};
 ghost use Rattle.pmp_tool.specs.Inputs.{AreBytesOf};
-ghost use Rattle.pmp_tool.specs.Requests.{IsUnread, old_side};
+ghost use Rattle.pmp_audit.specs.Answers.{IsWritten};
+ghost use Rattle.pmp_tool.specs.Requests.{IsUnread, RequestFails, RequestSays, old_side};
 ghost use Rattle.pmp_tool.specs.Runs.{CommandAnswers, CommandFails};
+ghost use Rattle.pmp_tool.specs.declared.request.Request.TheVariants as request;
 
 use crate::command::Command;
 use crate::failure::Failure;
 use crate::inputs::Inputs;
 use crate::jobs::processors;
 use crate::outcome::Outcome;
-use crate::request::Request;
+use crate::request::{Audit, Diff, LongAudit, Request};
 use pmp_audit::{
-    OpenGate, PIECE, Side, audit, audit_long, audit_shared, check, check_policy, diff, show, writes,
+    OpenGate, PIECE, Pace, Side, audit, audit_long, audit_shared, check, check_policy, diff, show,
+    writes,
 };
 use std::alloc::Global;
 use std::io::Write;
@@ -33,41 +36,117 @@ pub fn answer<R: Threads + Wait + Sync, I: Inputs, O: Write>(
         (O.contents out.old) (O.contents out.new)) }
 {
     let script = script_at(inputs, command.script, old_side(command.request))?;
-    match command.request {
+    answer_request(rt, alloc, &script, command.request, inputs, out)
+}
+
+/// Does what is asked for of a script.
+fn answer_request<R: Threads + Wait + Sync, I: Inputs, O: Write>(
+    rt: &R,
+    alloc: Global,
+    script: &[u8],
+    request: Request<'_>,
+    inputs: &mut I,
+    out: &mut O,
+) -> Result<Outcome, Failure>
+    ensures ok { IfOk result (IsWritten (RequestSays (I.scripts inputs.old) (I.traces inputs.old) script.now
+        request.entry) (O.contents out.old) (O.contents out.new)) }
+    ensures err { IfErr result (RequestFails (O.contents out.old) (O.contents out.new) (I.scripts inputs.old)
+        (I.traces inputs.old) script.now request.entry) }
+{
+    match request {
         Request::Check(asked) => {
-            let decision = check(alloc, &script, &asked.access, asked.after, out)?;
+            let decision = check(alloc, script, &asked.access, asked.after, out)?;
             Ok(Outcome::Decided(decision, asked))
         }
-        Request::Audit(asked) => {
-            let trace = inputs.trace(asked.trace)?;
-            let summary = match asked.checkers {
-                Some(k) => audit_shared(rt, alloc, &OpenGate, k as u8, &script, &trace, out)?,
-                None => audit(alloc, &script, &trace, out)?,
-            };
-            Ok(Outcome::Audited(summary))
-        }
-        Request::LongAudit(asked) => {
-            let mut rows = inputs.open_trace(asked.trace)?;
-            let jobs = asked.jobs.unwrap_or_else(|| processors(rt)) as usize;
-            let summary = audit_long(rt, alloc, jobs, &script, asked.first, PIECE, &mut rows, out)?;
-            Ok(Outcome::Audited(summary))
-        }
-        Request::Policy(path, pace) => {
-            let policy = inputs.trace(path)?;
-            Ok(Outcome::Judged(check_policy(alloc, pace, &script, &policy, out)?))
-        }
+        Request::Audit(asked) => answer_audit(rt, alloc, script, asked, inputs, out),
+        Request::LongAudit(asked) => answer_long_audit(rt, alloc, script, asked, inputs, out),
+        Request::Policy(path, pace) => answer_policy(alloc, script, path, pace, inputs, out),
         Request::Show(view, after) => {
-            show(alloc, view, &script, after, out)?;
+            show(alloc, view, script, after, out)?;
             Ok(Outcome::Listed)
         }
-        Request::Writes => Ok(Outcome::Replayed(writes(alloc, &script, out)?)),
-        Request::Diff(asked) => {
-            let new = script_at(inputs, asked.new, Some(Side::New))?;
-            let (old_after, new_after) = (asked.old_after, asked.new_after);
-            let rows = diff(alloc, &script, old_after, &new, new_after, asked.only, out)?;
-            Ok(Outcome::Compared(rows))
-        }
+        Request::Writes => Ok(Outcome::Replayed(writes(alloc, script, out)?)),
+        Request::Diff(asked) => answer_diff(alloc, script, asked, inputs, out),
     }
+}
+
+/// Audits a trace that is taken whole.
+fn answer_audit<R: Threads + Wait + Sync, I: Inputs, O: Write>(
+    rt: &R,
+    alloc: Global,
+    script: &[u8],
+    asked: Audit<'_>,
+    inputs: &mut I,
+    out: &mut O,
+) -> Result<Outcome, Failure>
+    ensures ok { IfOk result (IsWritten (RequestSays (I.scripts inputs.old) (I.traces inputs.old) script.now
+        (request.Audit asked.entry)) (O.contents out.old) (O.contents out.new)) }
+    ensures err { IfErr result (RequestFails (O.contents out.old) (O.contents out.new) (I.scripts inputs.old)
+        (I.traces inputs.old) script.now (request.Audit asked.entry)) }
+{
+    let trace = inputs.trace(asked.trace)?;
+    let summary = match asked.checkers {
+        Some(k) => audit_shared(rt, alloc, &OpenGate, k as u8, script, &trace, out)?,
+        None => audit(alloc, script, &trace, out)?,
+    };
+    Ok(Outcome::Audited(summary))
+}
+
+/// Audits a trace of any length.
+fn answer_long_audit<R: Threads + Wait + Sync, I: Inputs, O: Write>(
+    rt: &R,
+    alloc: Global,
+    script: &[u8],
+    asked: LongAudit<'_>,
+    inputs: &mut I,
+    out: &mut O,
+) -> Result<Outcome, Failure>
+    ensures ok { IfOk result (IsWritten (RequestSays (I.scripts inputs.old) (I.traces inputs.old) script.now
+        (request.LongAudit asked.entry)) (O.contents out.old) (O.contents out.new)) }
+    ensures err { IfErr result (RequestFails (O.contents out.old) (O.contents out.new) (I.scripts inputs.old)
+        (I.traces inputs.old) script.now (request.LongAudit asked.entry)) }
+{
+    let mut rows = inputs.open_trace(asked.trace)?;
+    let jobs = asked.jobs.unwrap_or_else(|| processors(rt)) as usize;
+    let summary = audit_long(rt, alloc, jobs, script, asked.first, PIECE, &mut rows, out)?;
+    Ok(Outcome::Audited(summary))
+}
+
+/// Judges the rows of a policy.
+fn answer_policy<I: Inputs, O: Write>(
+    alloc: Global,
+    script: &[u8],
+    path: &str,
+    pace: Pace,
+    inputs: &mut I,
+    out: &mut O,
+) -> Result<Outcome, Failure>
+    ensures ok { IfOk result (IsWritten (RequestSays (I.scripts inputs.old) (I.traces inputs.old) script.now
+        (request.Policy path.entry pace)) (O.contents out.old) (O.contents out.new)) }
+    ensures err { IfErr result (RequestFails (O.contents out.old) (O.contents out.new) (I.scripts inputs.old)
+        (I.traces inputs.old) script.now (request.Policy path.entry pace)) }
+{
+    let policy = inputs.trace(path)?;
+    Ok(Outcome::Judged(check_policy(alloc, pace, script, &policy, out)?))
+}
+
+/// Compares the script with a new one.
+fn answer_diff<I: Inputs, O: Write>(
+    alloc: Global,
+    script: &[u8],
+    asked: Diff<'_>,
+    inputs: &mut I,
+    out: &mut O,
+) -> Result<Outcome, Failure>
+    ensures ok { IfOk result (IsWritten (RequestSays (I.scripts inputs.old) (I.traces inputs.old) script.now
+        (request.Diff asked.entry)) (O.contents out.old) (O.contents out.new)) }
+    ensures err { IfErr result (RequestFails (O.contents out.old) (O.contents out.new) (I.scripts inputs.old)
+        (I.traces inputs.old) script.now (request.Diff asked.entry)) }
+{
+    let new = script_at(inputs, asked.new, Some(Side::New))?;
+    let (old_after, new_after) = (asked.old_after, asked.new_after);
+    let rows = diff(alloc, script, old_after, &new, new_after, asked.only, out)?;
+    Ok(Outcome::Compared(rows))
 }
 
 /// Which side the command's script is on, where there are two.

@@ -1,11 +1,13 @@
 //! The arguments of the program's commands.
 
-ghost use Rattle.std.specs.Prelude.{◌≡◌, false};
+ghost use Rattle.std.specs.Prelude.{◌≡◌, false, pos};
 ghost use Rattle.clap.specs.Words.{rule_of};
+ghost use Rattle.clap.specs.declared.builder.value_parser.ValueParser.TheVariants.{Signed};
 ghost use Rattle.pmp_tool.specs.Arguments.{count_rule, flag_rule, id_of, option_rule, rule_in, word_rule};
 
 use crate::help;
 use crate::jobs::JOBS;
+use clap::builder::ValueParser;
 use clap::{Arg, ArgAction, value_parser};
 use pmp_share::CHECKERS;
 use std::alloc::Global;
@@ -38,33 +40,83 @@ pub enum Argument {
 }
 
 impl Argument {
-    /// The id by which `clap` knows it, its name in the help, where it has a word, and what the help says of it.
+    /// The id by which `clap` knows it.
     #[tactic(auto, unfolding(crate::specs::Arguments::rule_in))]
-    pub fn texts<'a>(self) -> (&'a str, &'a str, &'a str)
-        ensures { result.0.now ≡ id_of self }
+    pub fn id<'a>(self) -> &'a str
+        ensures { result.now ≡ id_of self }
     {
+        use Argument::*;
         match self {
-            Argument::Script => ("script", "SCRIPT", help::SCRIPT),
-            Argument::Old => ("script", "OLD", help::OLD),
-            Argument::New => ("new", "NEW", help::NEW),
-            Argument::Trace => ("trace", "TRACE", help::TRACE),
-            Argument::Policy => ("policy", "POLICY", help::POLICY_PATH),
-            Argument::Mode => ("mode", "MODE", help::MODE),
-            Argument::Kind => ("kind", "KIND", help::KIND),
-            Argument::Start => ("start", "START", help::START),
-            Argument::Length => ("length", "LENGTH", help::LENGTH),
-            Argument::Explain => ("explain", "", help::EXPLAIN),
-            Argument::Long => ("long", "", help::LONG),
-            Argument::EachWrite => ("each-write", "", help::EACH_WRITE),
-            Argument::AsScript => ("as-script", "", help::AS_SCRIPT),
-            Argument::After => ("after", "N", help::AFTER),
-            Argument::OldAfter => ("old-after", "N", help::OLD_AFTER),
-            Argument::NewAfter => ("new-after", "M", help::NEW_AFTER),
-            Argument::Expect => ("expect", "ANSWER", help::EXPECT),
-            Argument::Only => ("only", "CHANGE", help::ONLY),
-            Argument::FirstRow => ("first-row", "N", help::FIRST_ROW),
-            Argument::Checkers => ("checkers", "K", help::CHECKERS),
-            Argument::Jobs => ("jobs", "N", help::JOBS),
+            Script | Old => "script",
+            New => "new",
+            Trace => "trace",
+            Policy => "policy",
+            Mode => "mode",
+            Kind => "kind",
+            Start => "start",
+            Length => "length",
+            Explain => "explain",
+            Long => "long",
+            EachWrite => "each-write",
+            AsScript => "as-script",
+            After => "after",
+            OldAfter => "old-after",
+            NewAfter => "new-after",
+            Expect => "expect",
+            Only => "only",
+            FirstRow => "first-row",
+            Checkers => "checkers",
+            Jobs => "jobs",
+        }
+    }
+
+    /// Its name in the help, where it has a word.
+    pub fn name<'a>(self) -> &'a str {
+        use Argument::*;
+        match self {
+            Script => "SCRIPT",
+            Old => "OLD",
+            New => "NEW",
+            Trace => "TRACE",
+            Policy => "POLICY",
+            Mode => "MODE",
+            Kind => "KIND",
+            Start => "START",
+            Length => "LENGTH",
+            Explain | Long | EachWrite | AsScript => "",
+            After | OldAfter | FirstRow | Jobs => "N",
+            NewAfter => "M",
+            Expect => "ANSWER",
+            Only => "CHANGE",
+            Checkers => "K",
+        }
+    }
+
+    /// What the help says of it.
+    fn help<'a>(self) -> &'a str {
+        use Argument::*;
+        match self {
+            Script => help::SCRIPT,
+            Old => help::OLD,
+            New => help::NEW,
+            Trace => help::TRACE,
+            Policy => help::POLICY_PATH,
+            Mode => help::MODE,
+            Kind => help::KIND,
+            Start => help::START,
+            Length => help::LENGTH,
+            Explain => help::EXPLAIN,
+            Long => help::LONG,
+            EachWrite => help::EACH_WRITE,
+            AsScript => help::AS_SCRIPT,
+            After => help::AFTER,
+            OldAfter => help::OLD_AFTER,
+            NewAfter => help::NEW_AFTER,
+            Expect => help::EXPECT,
+            Only => help::ONLY,
+            FirstRow => help::FIRST_ROW,
+            Checkers => help::CHECKERS,
+            Jobs => help::JOBS,
         }
     }
 
@@ -75,7 +127,7 @@ impl Argument {
         ensures local { result.global ≡ false }
     {
         use Argument::*;
-        let (id, name, help) = self.texts();
+        let (id, name, help) = (self.id(), self.name(), self.help());
         match self {
             Explain | Long | EachWrite => flag(alloc, id, help),
             AsScript => flag(alloc, id, help).long("script"),
@@ -138,5 +190,12 @@ fn count<'a>(alloc: Global, id: &'a str, name: &'a str, most: u8, help: &'a str)
     ensures rule { rule_of result ≡ count_rule id.entry.now most }
     ensures local { result.global ≡ false }
 {
-    option(alloc, id, name, help).value_parser(value_parser!(u8).range(1..=i64::from(most)))
+    option(alloc, id, name, help).value_parser(from_one(most))
+}
+
+/// Reads a number from 1 to `most`.
+fn from_one<'a>(most: u8) -> ValueParser<'a>
+    ensures { result ≡ Signed (pos 1) (pos most) }
+{
+    value_parser!(u8).range(1..=i64::from(most))
 }

@@ -34,7 +34,7 @@ fn read_name(word: &str) -> Option<CommandName>
     CommandName::ALL
         .iter()
         .copied()
-        .find(|name| name.texts().0 == word)
+        .find(|name| name.word() == word)
 }
 
 /// The subcommand that `clap` found in the words, and what it found for it.

@@ -68,8 +68,7 @@ fn top<'a>(alloc: Global) -> Built<'a>
 fn command<'a>(alloc: Global, name: CommandName) -> Built<'a>
     ensures { IsBuilt result (command_app name) }
 {
-    let (word, about, more) = name.texts();
-    let mut command = named(alloc, word, about, more);
+    let mut command = named(alloc, name.word(), name.about(), name.more());
     let arguments = name.arguments();
     for argument in arguments {
         command = command.arg(argument.arg(alloc))?;

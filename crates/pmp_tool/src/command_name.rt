@@ -34,20 +34,50 @@ impl CommandName {
         CommandName::Diff,
     ];
 
-    /// The word that names it, what the help says of it in a line, and what behind its arguments.
-    pub fn texts<'a>(self) -> (&'a str, &'a str, &'a str)
-        ensures { result.0.now ≡ command_word self }
+    /// The word that names it.
+    pub fn word<'a>(self) -> &'a str
+        ensures { result.now ≡ command_word self }
     {
         match self {
-            CommandName::Check => ("check", help::CHECK, topics::MORE_OF_CHECK),
-            CommandName::Audit => ("audit", help::AUDIT, topics::MORE_OF_AUDIT),
-            CommandName::Policy => ("policy", help::POLICY, topics::MORE_OF_POLICY),
-            CommandName::Dump => ("dump", help::DUMP, topics::MORE_OF_DUMP),
-            CommandName::Map => ("map", help::MAP, topics::MORE_OF_MAP),
-            CommandName::Picture => ("picture", help::PICTURE, topics::MORE_OF_PICTURE),
-            CommandName::Entries => ("entries", help::ENTRIES, topics::MORE_OF_ENTRIES),
-            CommandName::Writes => ("writes", help::WRITES, topics::MORE_OF_WRITES),
-            CommandName::Diff => ("diff", help::DIFF, topics::MORE_OF_DIFF),
+            CommandName::Check => "check",
+            CommandName::Audit => "audit",
+            CommandName::Policy => "policy",
+            CommandName::Dump => "dump",
+            CommandName::Map => "map",
+            CommandName::Picture => "picture",
+            CommandName::Entries => "entries",
+            CommandName::Writes => "writes",
+            CommandName::Diff => "diff",
+        }
+    }
+
+    /// What the help says of it in a line.
+    pub fn about<'a>(self) -> &'a str {
+        match self {
+            CommandName::Check => help::CHECK,
+            CommandName::Audit => help::AUDIT,
+            CommandName::Policy => help::POLICY,
+            CommandName::Dump => help::DUMP,
+            CommandName::Map => help::MAP,
+            CommandName::Picture => help::PICTURE,
+            CommandName::Entries => help::ENTRIES,
+            CommandName::Writes => help::WRITES,
+            CommandName::Diff => help::DIFF,
+        }
+    }
+
+    /// What the help says behind its arguments.
+    pub fn more<'a>(self) -> &'a str {
+        match self {
+            CommandName::Check => topics::MORE_OF_CHECK,
+            CommandName::Audit => topics::MORE_OF_AUDIT,
+            CommandName::Policy => topics::MORE_OF_POLICY,
+            CommandName::Dump => topics::MORE_OF_DUMP,
+            CommandName::Map => topics::MORE_OF_MAP,
+            CommandName::Picture => topics::MORE_OF_PICTURE,
+            CommandName::Entries => topics::MORE_OF_ENTRIES,
+            CommandName::Writes => topics::MORE_OF_WRITES,
+            CommandName::Diff => topics::MORE_OF_DIFF,
         }
     }
 

@@ -76,36 +76,70 @@ fn explanation(
     kept: &Kept,
 ) -> Result<String, AllocError> {
     let mut text = String::new(alloc);
-    let mut has_bare_address = false;
-    if let Some(input) = input_of(line, kept) {
-        let path = input.path.as_str();
-        match spot_of(line, input) {
-            Some(spot) => {
-                spot.write_to(&mut text, path)?;
-                has_bare_address = is_bare_address(spot.marked());
-            }
-            None => write_input(&mut text, path)?,
-        }
-    }
+    write_explanation(alloc, &mut text, words, line, kept)?;
+    Ok(text)
+}
+
+fn write_explanation(
+    alloc: Global,
+    text: &mut String,
+    words: &[String],
+    line: &FaultLine,
+    kept: &Kept,
+) -> Result<(), AllocError> {
+    let in_input = write_spot(text, line, kept)?;
     if line.refusal == Refusal::BadAfter
         && let Some(script) = kept.inputs().get(usize::from(is_new(line.place)))
     {
-        write_count(alloc, &mut text, script)?;
+        write_count(alloc, text, script)?;
     }
-    if let Place::Word(argument) = line.place
-        && let Some(word) = word_of(alloc, words, argument)
-    {
-        write_word(&mut text, word)?;
-        has_bare_address = is_bare_address(word.as_bytes());
-    }
-    write_wanted(&mut text, line)?;
+    let in_word = write_asked_word(alloc, text, words, line)?;
+    write_wanted(text, line)?;
+    write_remedy(text, line, in_input || in_word)
+}
+
+/// Names the input that is at fault and shows its line: whether an address is at fault there as the program writes it.
+fn write_spot(text: &mut String, line: &FaultLine, kept: &Kept) -> Result<bool, AllocError> {
+    let Some(input) = input_of(line, kept) else {
+        return Ok(false);
+    };
+    let path = input.path.as_str();
+    let Some(spot) = spot_of(line, input) else {
+        write_input(text, path)?;
+        return Ok(false);
+    };
+    spot.write_to(text, path)?;
+    Ok(is_bare_address(spot.marked()))
+}
+
+/// Shows the word that is at fault: whether it is an address as the program writes it.
+fn write_asked_word(
+    alloc: Global,
+    text: &mut String,
+    words: &[String],
+    line: &FaultLine,
+) -> Result<bool, AllocError> {
+    let Place::Word(argument) = line.place else {
+        return Ok(false);
+    };
+    let Some(word) = word_of(alloc, words, argument) else {
+        return Ok(false);
+    };
+    write_word(text, word)?;
+    Ok(is_bare_address(word.as_bytes()))
+}
+
+fn write_remedy(
+    text: &mut String,
+    line: &FaultLine,
+    has_bare_address: bool,
+) -> Result<(), AllocError> {
     let remedy = if has_bare_address && is_address(line.place) {
         WITH_PREFIX
     } else {
         line.refusal.remedy()
     };
-    writeln!(text, "to do: {remedy}")?;
-    Ok(text)
+    Ok(writeln!(text, "to do: {remedy}")?)
 }
 
 /// What to do with an address as the program writes it.
@@ -120,8 +154,8 @@ fn is_new(place: Place) -> bool {
 fn is_address(place: Place) -> bool {
     match place {
         Place::Word(argument) => matches!(argument, Argument::Start),
-        Place::TraceRow(fault) => fault.field.is_some_and(is_trace_address),
-        Place::PolicyRow(fault) => fault.field.is_some_and(is_policy_address),
+        Place::TraceRow(fault) => is_trace_address(fault.field),
+        Place::PolicyRow(fault) => is_policy_address(fault.field),
         _ => false,
     }
 }
@@ -133,17 +167,21 @@ fn is_bare_address(word: &[u8]) -> bool {
 
 /// Says what was wanted: of a word or a field that isn't of its form, that form.
 fn write_wanted(text: &mut String, line: &FaultLine) -> Result<(), AllocError> {
-    let field = match (line.refusal, line.place) {
-        (Refusal::BadWord, Place::Word(argument)) => {
-            let ((_, name, _), form) = (argument.texts(), argument.wanted());
-            return Ok(writeln!(text, "wanted: {name}: {form}")?);
-        }
-        (Refusal::BadRow, Place::TraceRow(fault)) => fault.field.and_then(trace_field),
-        (Refusal::BadRow, Place::PolicyRow(fault)) => fault.field.and_then(policy_field),
-        _ => None,
-    };
-    let wanted = field.unwrap_or(line.refusal.wanted());
+    if let (Refusal::BadWord, Place::Word(argument)) = (line.refusal, line.place) {
+        let (name, form) = (argument.name(), argument.wanted());
+        return Ok(writeln!(text, "wanted: {name}: {form}")?);
+    }
+    let wanted = wanted_field(line).unwrap_or(line.refusal.wanted());
     Ok(writeln!(text, "wanted: {wanted}")?)
+}
+
+/// The form of the field that isn't of its form.
+fn wanted_field(line: &FaultLine) -> Option<&'static str> {
+    match (line.refusal, line.place) {
+        (Refusal::BadRow, Place::TraceRow(fault)) => trace_field(fault.field?),
+        (Refusal::BadRow, Place::PolicyRow(fault)) => policy_field(fault.field?),
+        _ => None,
+    }
 }
 
 /// The input that is at fault.
@@ -184,12 +222,17 @@ fn write_input(text: &mut String, path: &str) -> Result<(), AllocError> {
 
 /// Says how many publications a script has.
 fn write_count(alloc: Global, text: &mut String, input: &KeptInput) -> Result<(), AllocError> {
+    let Some(count) = publications_of(alloc, &input.bytes) else {
+        return Ok(());
+    };
+    text.push_str("publications of ")?;
+    show_text(text, input.path.as_str())?;
+    Ok(writeln!(text, ": {count}")?)
+}
+
+/// How many publications a script has, where it can be read.
+fn publications_of(alloc: Global, script: &[u8]) -> Option<u64> {
     let mut log = GrowingLog::new(alloc);
-    if let Ok(script) = read_script(&mut log, &input.bytes) {
-        let count = script.batches();
-        text.push_str("publications of ")?;
-        show_text(text, input.path.as_str())?;
-        writeln!(text, ": {count}")?;
-    }
-    Ok(())
+    let script = read_script(&mut log, script).ok()?;
+    Some(script.batches())
 }

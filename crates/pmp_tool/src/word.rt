@@ -92,7 +92,7 @@ impl Form for Only {
 pub fn word<'a>(words: &ArgMatches<'a>, argument: Argument) -> Option<&'a str>
     ensures { option_map (λ word. word.now) result ≡ word_in argument (rows_of (found_of words.now)) }
 {
-    words.get_str(argument.texts().0)
+    words.get_str(argument.id())
 }
 
 /// Whether an option is used.

@@ -3,11 +3,14 @@
 ghost use Rattle.std.specs.Prelude.{◌≡◌, ◌≤◌, IfOk, IfErr, None, Ok, Some, option_map};
 ghost use Rattle.csv.specs.Records.{fields_of};
 ghost use Rattle.pmp_text.specs.Policies.{
+  accesses_said,
+  bytes_said,
   is_policy_header,
   policy_fields,
   policy_fields_fault,
   policy_in,
   policy_row_fault,
+  publications_said,
   seven_fields,
 };
 ghost use Rattle.pmp_text.specs.Steps.Views.{seen_seven};
@@ -51,17 +54,30 @@ pub struct Words<'a> {
 fn seven_fields(fields: &ByteRecord) -> Option<Words<'_>>
     ensures { option_map seen_seven result ≡ seven_fields (fields_of fields.now) }
 {
-    if fields.get(7).is_some() {
+    let (Some(from), Some(to), Some(modes), Some(kind)) = (
+        fields.get(0),
+        fields.get(1),
+        fields.get(2),
+        fields.get(3),
+    ) else {
         return None;
-    }
+    };
+    let (Some(first), Some(last), Some(demand), None) = (
+        fields.get(4),
+        fields.get(5),
+        fields.get(6),
+        fields.get(7),
+    ) else {
+        return None;
+    };
     Some(Words {
-        from: fields.get(0)?,
-        to: fields.get(1)?,
-        modes: fields.get(2)?,
-        kind: fields.get(3)?,
-        first: fields.get(4)?,
-        last: fields.get(5)?,
-        demand: fields.get(6)?,
+        from,
+        to,
+        modes,
+        kind,
+        first,
+        last,
+        demand,
     })
 }
 
@@ -81,20 +97,52 @@ pub fn is_policy_header(fields: &ByteRecord) -> bool
         && words.demand == b"demand".as_slice()
 }
 
+impl Words<'_> {
+    /// From how many publications to how many of so many they speak.
+    #[tactic(auto, unfolding(crate::specs::Policies::publications_said))]
+    fn publications(self, publications: u64) -> Result<(u64, u64), Flaw>
+        ensures said { result ≡ publications_said publications (seen_seven self.entry) }
+        ensures forward { IfOk result (λ said. said.0 ≤ publications → said.0 ≤ said.1) }
+    {
+        let from = read_word_number(self.from).ok_or(Refusal::BadRow.part(0))?;
+        let to = read_to(publications, from, self.to).ok_or(Refusal::BadRow.part(1))?;
+        Ok((from, to))
+    }
+
+    /// Of which modes and kinds they speak.
+    #[tactic(auto, unfolding(crate::specs::Policies::accesses_said))]
+    fn accesses(self) -> Result<(Modes, Kinds), Flaw>
+        ensures { result ≡ accesses_said (seen_seven self.entry) }
+    {
+        let modes = read_modes(self.modes).ok_or(Refusal::BadRow.part(2))?;
+        let kinds = read_kinds(self.kind).ok_or(Refusal::BadRow.part(3))?;
+        Ok((modes, kinds))
+    }
+
+    /// From which byte to which one.
+    #[tactic(auto, unfolding(crate::specs::Policies::bytes_said))]
+    fn bytes(self) -> Result<(u64, u64), Flaw>
+        ensures said { result ≡ bytes_said (seen_seven self.entry) }
+        ensures ordered { IfOk result (λ said. said.0 ≤ said.1) }
+    {
+        let first = read_word_number(self.first).ok_or(Refusal::BadRow.part(4))?;
+        let last = read_at_least(first, self.last).ok_or(Refusal::BadRow.part(5))?;
+        Ok((first, last))
+    }
+}
+
 impl PolicyFields {
     /// What a record says as a row beside a script with so many publications, or which field says nothing.
+    #[tactic(auto, unfolding(crate::specs::Policies::policy_of_fields))]
     pub fn read(fields: &ByteRecord, publications: u64) -> Result<PolicyFields, Flaw>
         ensures said { result ≡ policy_in publications (fields_of fields.now) }
         ensures forward { IfOk result (λ row. row.from ≤ publications → row.from ≤ row.to) }
         ensures ordered { IfOk result (λ row. row.first ≤ row.last) }
     {
         let words = seven_fields(fields).ok_or(Refusal::BadRow.whole())?;
-        let from = read_word_number(words.from).ok_or(Refusal::BadRow.part(0))?;
-        let to = read_to(publications, from, words.to).ok_or(Refusal::BadRow.part(1))?;
-        let modes = read_modes(words.modes).ok_or(Refusal::BadRow.part(2))?;
-        let kinds = read_kinds(words.kind).ok_or(Refusal::BadRow.part(3))?;
-        let first = read_word_number(words.first).ok_or(Refusal::BadRow.part(4))?;
-        let last = read_at_least(first, words.last).ok_or(Refusal::BadRow.part(5))?;
+        let (from, to) = words.publications(publications)?;
+        let (modes, kinds) = words.accesses()?;
+        let (first, last) = words.bytes()?;
         let demand = read_demand(words.demand).ok_or(Refusal::BadRow.part(6))?;
         Ok(PolicyFields {
             from,

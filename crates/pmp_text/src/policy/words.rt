@@ -64,7 +64,8 @@ pub fn read_modes(word: &[u8]) -> Option<Modes>
 pub fn read_at_least(least: u64, word: &[u8]) -> Option<u64>
     ensures { result ≡ at_least least (word_number word.now) }
 {
-    read_word_number(word).filter(|number| *number >= least)
+    let number = read_word_number(word)?;
+    (number >= least).then_some(number)
 }
 
 /// The greatest number of publications that a row speaks of, from the least one on: the word's, or all that there are

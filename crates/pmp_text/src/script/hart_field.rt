@@ -14,7 +14,7 @@ use pmp_core::{Hart, HartFault};
 pub const GRAINS: [u64; 11] = [4, 8, 16, 32, 64, 128, 256, 512, 1024, 2048, 4096];
 
 /// One thing that a head says of the hart.
-#[derive(Clone, Copy, Debug, PartialEq, Eq)]
+#[derive(Clone, Copy)]
 pub enum HartField {
     Entries(u8),
     /// The manual's G.

@@ -52,14 +52,12 @@ impl ScriptReading {
     {
         match read_statement(version, line.bytes) {
             Ok(Statement::Event(event)) => {
-                self.batch.add(log, line.number, event)?;
                 self.head.end();
-                Ok(())
+                self.batch.add(log, line.number, event)
             }
             Ok(Statement::Publish) => {
-                self.batch.publish(log)?;
                 self.head.end();
-                Ok(())
+                self.batch.publish(log)
             }
             Ok(Statement::Head(statement)) => self.head.take(line.number, statement),
             Ok(Statement::Expect(register, value)) => Ok(log.expect(Expectation {

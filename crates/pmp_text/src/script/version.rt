@@ -10,7 +10,7 @@ use crate::script::words::Words;
 use pmp_core::Size;
 
 /// A version of scripts.
-#[derive(Clone, Copy, Debug, PartialEq, Eq)]
+#[derive(Clone, Copy)]
 pub enum Version {
     /// Version 1 or 2: for the usual hart of this size.
     Sized(Size),

@@ -25,14 +25,14 @@ pub fn trace_field(index: usize) -> Option<&'static str> {
     TRACE.get(index).copied()
 }
 
-/// Whether the field of a trace with this index is an address.
-pub fn is_trace_address(index: usize) -> bool {
-    index == 3
+/// Whether a row of a trace has an address at this index.
+pub fn is_trace_address(index: Option<usize>) -> bool {
+    matches!(index, Some(3))
 }
 
-/// Whether the field of a policy with this index is an address.
-pub fn is_policy_address(index: usize) -> bool {
-    matches!(index, 4 | 5)
+/// Whether a row of a policy has an address at this index.
+pub fn is_policy_address(index: Option<usize>) -> bool {
+    matches!(index, Some(4 | 5))
 }
 
 /// What the field of a policy with this index has to be.

@@ -66,13 +66,27 @@ impl<'a> Spot<'a> {
         if self.line.is_empty() {
             return Ok(());
         }
-        let from = self.start.saturating_sub(BEFORE);
+        self.show(text)?;
+        self.mark(text)
+    }
+
+    /// Where the part of the line begins that is shown.
+    fn shown_from(self) -> usize {
+        self.start.saturating_sub(BEFORE)
+    }
+
+    fn show(self, text: &mut String) -> Result<(), AllocError> {
         text.push_str("  ")?;
-        for byte in self.line.iter().skip(from).take(SHOWN) {
+        for byte in self.line.iter().skip(self.shown_from()).take(SHOWN) {
             show_byte(text, *byte)?;
         }
-        text.push_str("\n  ")?;
-        // An empty field has a mark, too.
+        text.push('\n')
+    }
+
+    /// Marks what is at fault below it. An empty field has a mark, too.
+    fn mark(self, text: &mut String) -> Result<(), AllocError> {
+        text.push_str("  ")?;
+        let from = self.shown_from();
         let end = self.end.max(self.start.saturating_add(1));
         for at in from..end.min(from.saturating_add(SHOWN)) {
             text.push(if at < self.start { ' ' } else { '^' })?;

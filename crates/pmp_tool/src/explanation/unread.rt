@@ -14,6 +14,20 @@ pub fn explain_unread<R: Env, E: Write>(
     refusal: Refusal,
     err: &mut E,
 ) -> Result<(), OutputFault> {
+    let (asks, number) = look_at(words);
+    if !asks {
+        return Ok(());
+    }
+    if let Some(number) = number {
+        writeln!(err, "in word {number}, which isn't UTF-8")?;
+    }
+    let wanted = refusal.wanted();
+    let remedy = refusal.remedy();
+    Ok(writeln!(err, "wanted: {wanted}\nto do: {remedy}")?)
+}
+
+/// Whether one of the words is `--explain`, and the number of the first that isn't UTF-8.
+fn look_at<R: Env>(words: &R) -> (bool, Option<usize>) {
     let mut room = [0; ROOM];
     let mut number = None;
     let mut asks = false;
@@ -30,13 +44,5 @@ pub fn explain_unread<R: Env, E: Write>(
             Err(FillError::NotPresent) => break,
         }
     }
-    if !asks {
-        return Ok(());
-    }
-    if let Some(number) = number {
-        writeln!(err, "in word {number}, which isn't UTF-8")?;
-    }
-    let wanted = refusal.wanted();
-    let remedy = refusal.remedy();
-    Ok(writeln!(err, "wanted: {wanted}\nto do: {remedy}")?)
+    (asks, number)
 }

@@ -6,5 +6,5 @@ use Rattle.pmp_tool.proofs.word.word.Goals as goal
 pub returns : goal.returns
 returns c =
     let found = found_of c.args.words.now in
-    c.get_str.ensures ∙ first_value-rows found c.texts.result.0.now
-    ∙ ap (λ id. first_of id (rows_of found)) c.texts.ensures
+    c.get_str.ensures ∙ first_value-rows found c.id.result.now
+    ∙ ap (λ id. first_of id (rows_of found)) c.id.ensures

@@ -1,4 +1,4 @@
-use Rattle.std.proofs.Common.{◌≡◌, ℕ, ◌≤◌, length, refl, ap, ◌∙◌, arith}
+use Rattle.std.proofs.Common.{◌≡◌, ℕ, ◌<◌, ◌≤◌, length, refl, ap, ◌∙◌, arith}
 use Rattle.std.proofs.lemmas.List.{get_or-replicate}
 use Rattle.pmp_core.specs.Entry.{Entry}
 use Rattle.pmp_core.specs.declared.saved_registers.SavedRegisters.{SavedRegisters}
@@ -7,7 +7,7 @@ use Rattle.pmp_core.specs.Mseccfg.{mseccfg_value}
 use Rattle.pmp_core.specs.RegisterFile.{RegisterFile, reset_entry, entry_at}
 use Rattle.pmp_core.specs.SavedRegisters.{hart_number, restored_file, saved_registers}
 use Rattle.pmp_core.proofs.Restored.{entry_past}
-use Rattle.pmp_core.proofs.Saved.{filled, restored_legal, restored_saved}
+use Rattle.pmp_core.proofs.Saved.{filled, filled_more, restored_legal, restored_saved}
 use Rattle.pmp_core.proofs.saved_registers.SavedRegisters.canonical.Goals as goal
 use Rattle.pmp_core.proofs.saved_registers.SavedRegisters.canonical.Goals.{After-number}
 
@@ -24,6 +24,18 @@ loop-place-init c = (
     rest = λ k from below. get_or-replicate 64 k 0 0 below;
   },
 )
+
+pub loop-place-preserved : goal.loop-place-preserved
+loop-place-preserved c =
+    let loop = c.loop-place in
+    let is = c.of-registers.ensures in
+    let inside : loop.place < 64 = omega arith in (
+      filled_more _ loop.addresses loop.place _ inside
+          (c.address.ensures.kept ∙ ap (λ (f : RegisterFile). (entry_at f.entries loop.place).address) is) loop.invariant.0,
+      filled_more _ loop.configurations loop.place _ inside
+          (c.byte.ensures ∙ ap byte_of (c.configuration.ensures
+          ∙ ap (λ (f : RegisterFile). (entry_at f.entries loop.place).configuration) is)) loop.invariant.1,
+    )
 
 saved : (c : After-number) → (let numbers : SavedRegisters = record {
   addresses = c.loop-place.addresses;

@@ -6,9 +6,14 @@ use Rattle.pmp_core.specs.RegisterWrite.{configurations_written, written}
 use Rattle.pmp_core.specs.SavedRegisters.{restored_file}
 use Rattle.pmp_core.specs.WriteReasons.{reasons_of}
 use Rattle.pmp_core.proofs.Writes.{configurations_canonical, configurations_restored, even_value, even_where}
-use Rattle.pmp_core.proofs.Writes.{reads_same}
+use Rattle.pmp_core.proofs.Writes.{reads_same, written_more}
 use Rattle.pmp_core.proofs.saved_registers.SavedRegisters.write_configurations.Goals as goal
 use Rattle.pmp_core.proofs.saved_registers.SavedRegisters.write_configurations.Goals.{After-read}
+
+pub loop-index-preserved : goal.loop-index-preserved
+loop-index-preserved c =
+    let loop = c.loop-index in
+    written_more c.args.self.now loop.self _ _ loop.index (omega arith) (omega arith) (omega arith) loop.invariant
 
 abbrev file : After-read → RegisterFile
 file c = restored_file c.args.self.now

@@ -1,0 +1,55 @@
+use Rattle.pmp_tool.specs.declared.request.Request.TheVariants as request
+use Rattle.pmp_tool.specs.Failures.{unaudited}
+use Rattle.pmp_tool.proofs.Answering.{declined, refused_so}
+use Rattle.pmp_tool.proofs.answer.answer_request.Goals as goal
+
+pub returns-in_err-decision-in-Check-clause-err : goal.returns-in_err-decision-in-Check-clause-err
+returns-in_err-decision-in-Check-clause-err g c =
+    let fault = c.in_err-decision-in-Check.field-0.0 in
+    let exit = c.from_residual in
+    rw c.in-Check.is
+    (refused_so _ _ (g.I.Inputs.scripts c.args.inputs.now) (g.I.Inputs.traces c.args.inputs.now) c.args.script.now
+    (request.Check c.in-Check.asked) exit.result (unaudited fault) exit.ensures.1
+    (declined fault c.in_err-decision-in-Check.ensures.err))
+
+pub returns-in_err-show-in-Show-clause-err : goal.returns-in_err-show-in-Show-clause-err
+returns-in_err-show-in-Show-clause-err g c =
+    let fault = c.in_err-show-in-Show.field-0.0 in
+    let exit = c.from_residual-in_err-show-in-Show in
+    rw c.in-Show.is
+    (refused_so _ _ (g.I.Inputs.scripts c.args.inputs.now) (g.I.Inputs.traces c.args.inputs.now) c.args.script.now
+    (request.Show c.in-Show.view c.in-Show.after) exit.result (unaudited fault) exit.ensures.1
+    (declined fault c.in_err-show-in-Show.ensures.err))
+
+pub returns-in_err-writes-in-Writes-clause-err : goal.returns-in_err-writes-in-Writes-clause-err
+returns-in_err-writes-in-Writes-clause-err g c =
+    let fault = c.in_err-writes-in-Writes.field-0.0 in
+    let exit = c.from_residual-in_err-writes-in-Writes in
+    rw c.in-Writes.is
+    (refused_so _ _ (g.I.Inputs.scripts c.args.inputs.now) (g.I.Inputs.traces c.args.inputs.now) c.args.script.now
+    request.Writes exit.result (unaudited fault) exit.ensures.1
+    (declined fault c.in_err-writes-in-Writes.ensures.err))
+
+pub returns-in-Audit-clause-ok : goal.returns-in-Audit-clause-ok
+returns-in-Audit-clause-ok g c = rw c.in-Audit.is c.answer_audit.ensures.ok
+
+pub returns-in-Audit-clause-err : goal.returns-in-Audit-clause-err
+returns-in-Audit-clause-err g c = rw c.in-Audit.is c.answer_audit.ensures.err
+
+pub returns-in-LongAudit-clause-ok : goal.returns-in-LongAudit-clause-ok
+returns-in-LongAudit-clause-ok g c = rw c.in-LongAudit.is c.answer_long_audit.ensures.ok
+
+pub returns-in-LongAudit-clause-err : goal.returns-in-LongAudit-clause-err
+returns-in-LongAudit-clause-err g c = rw c.in-LongAudit.is c.answer_long_audit.ensures.err
+
+pub returns-in-Policy-clause-ok : goal.returns-in-Policy-clause-ok
+returns-in-Policy-clause-ok g c = rw c.in-Policy.is c.answer_policy.ensures.ok
+
+pub returns-in-Policy-clause-err : goal.returns-in-Policy-clause-err
+returns-in-Policy-clause-err g c = rw c.in-Policy.is c.answer_policy.ensures.err
+
+pub returns-in-Diff-clause-ok : goal.returns-in-Diff-clause-ok
+returns-in-Diff-clause-ok g c = rw c.in-Diff.is c.answer_diff.ensures.ok
+
+pub returns-in-Diff-clause-err : goal.returns-in-Diff-clause-err
+returns-in-Diff-clause-err g c = rw c.in-Diff.is c.answer_diff.ensures.err
