@@ -29,6 +29,7 @@ pub struct Judged {
 }
 
 /// Whether a byte of the row's range may have moved.
+#[inline(always)]
 fn is_moved(row: &PolicyRow, moved: Option<Span>) -> bool
     ensures { result ≡ false → (byte : ℕ) → row.now.first ≤ byte → byte ≤ row.now.last → ¬ (IsMoved moved byte) }
 {
@@ -55,6 +56,7 @@ impl Judged {
 
     /// The first run that breaks the row's demand in this state, where none did in the state before, if the row asked
     /// of it: then only bytes that moved can.
+    #[inline(always)]
     fn broken_in(&self, state: &State) -> Option<Run>
         ensures { (self.now.from < state.now.done → (before : RegisterFile)
             × AreAlikeBeside before state.now.file state.now.moved × IsFirstIn before self.now.row None)
@@ -67,6 +69,7 @@ impl Judged {
     }
 
     /// The row's breach in this state, of which it asks, where it has none before.
+    #[inline(always)]
     fn breach_in(&self, state: &State) -> Option<Breach>
         requires { (self.now.from ≤ state.now.done) × (state.now.done ≤ self.now.to) }
         ensures { (states : ℕ → RegisterFile) → IsStateOf states state.now
@@ -85,6 +88,7 @@ impl Judged {
     }
 
     /// Asks for a breach in this state, unless there is one before, or the row doesn't ask of the state.
+    #[inline(always)]
     fn ask(&mut self, state: &State)
         ensures judged { (pace : Pace) (script : ScriptContents) → IsStateOf (state_after pace script) state.now
             → IsJudged pace script state.now.done self.old → IsJudged pace script (state.now.done + 1) self.new }
