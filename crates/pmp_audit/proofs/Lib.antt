@@ -22,7 +22,7 @@ pub mod WrittenAnswers
 pub mod WrittenEvents
 pub mod PolicyAnswers
 pub mod PolicySteps
-pub mod PolicySearch
+pub mod PolicySweep
 pub mod PolicyVerdicts
 pub mod OnePolicyAnswer
 pub mod Differences

@@ -2,24 +2,25 @@
 use Rattle.std.proofs.Common.{◌≡◌, ℕ, ◌+◌, ◌<◌, ◌/◌, ◌%◌, inl, inr, List, [], ◌∷◌, ◌++◌, length, map, All}
 use Rattle.std.proofs.Common.{Some, Result, Ok, IfOk, refl, sym, ap, ◌∙◌, arith, subst, get_or, take}
 use Rattle.std.proofs.Common.{append_assoc}
-use Rattle.std.specs.Prelude.{slice_get}
+use Rattle.std.specs.Prelude.{Contains, Err, IfErr, slice_get}
 use Rattle.std.specs.List.{enumerate_from}
-use Rattle.std.proofs.lemmas.List.{length-append, length_push, get_or_at, length-map, get_or-map, take_more}
+use Rattle.std.proofs.lemmas.List.{length-append, length_push, get_or_append_left, get_or_at, get_or_push, length-map}
+use Rattle.std.proofs.lemmas.List.{get_or-map, take_more}
 use Rattle.std.proofs.lemmas.List.FromFn.{get_or-enumerate_from, length-enumerate_from}
 use Rattle.std.proofs.lemmas.Bool.{cases_lt}
 use Rattle.std.proofs.lemmas.Option.{slice_get_within, slice_get_cases, get_or_from_slice_get}
 use Rattle.std.proofs.lemmas.Option.{same_Some, slice_get-get_or}
 use Rattle.pmp_core.specs.declared.decision.Decision.{Decision}
 use Rattle.pmp_core.specs.RegisterFile.{RegisterFile}
-use Rattle.pmp_share.specs.Batches.{file_from}
+use Rattle.pmp_share.specs.Batches.{Batches, file_from}
 use Rattle.pmp_share.specs.declared.knowledge.Known.{Known}
 use Rattle.pmp_share.specs.Tokens.{PublisherToken}
 use Rattle.pmp_text.specs.declared.trace.Row.{Row}
 use Rattle.pmp_audit.specs.declared.fault.AuditFault.{AuditFault}
 use Rattle.pmp_audit.specs.declared.shared_audit.job.Done.{Done}
 use Rattle.pmp_audit.specs.declared.shared_audit.job.Job.{Job}
-use Rattle.pmp_audit.specs.Rounds.{AreCheckersOf, AreDealt, AreJobs, IsJob}
-use Rattle.pmp_audit.specs.Working.{IsDone, decided_in}
+use Rattle.pmp_audit.specs.Rounds.{AreCheckersOf, AreDealt, AreJobs, AreResults, IsJob, IsResult}
+use Rattle.pmp_audit.specs.Working.{IsDone, StopsRound, decided_in}
 use Rattle.pmp_audit.proofs.Dealing.{slice_get-push_old, slice_get-push_new}
 
 -- ---- one decision more
@@ -101,24 +102,15 @@ done_at results all worker done same at =
     ∙ get_or-map Ok all worker done (Ok done) (slice_get_within all worker done at)
     ∙ ap Ok (get_or_from_slice_get all worker done done at)
 
--- what a call of `work` says of its job
-abbrev pub IsDoneAs : (workers first : ℕ) → List Row → Job → Result Done AuditFault → Type 0
-IsDoneAs workers first rows job result =
-    IfOk result (IsDone job.checker.unit (file_from job.checker.unit.base job.notice.list) job.worker workers first
-    rows)
-
 -- each of so many workers was given a job, and all brought back what `work` says of it
-module _ (publisher : PublisherToken) (count workers first : ℕ) (rows : List Row) (jobs : List Job)
-    (results : List (Result Done AuditFault)) (all : List Done)
-    (are : AreJobs publisher count jobs) (as_many : workers ≡ count) (same : results ≡ map Ok all)
-    (each : (i : ℕ) (d : Result Done AuditFault) → i < length jobs
-    → (job : Job) × ((e : Job) → get_or jobs i e ≡ job) × IsDoneAs workers first rows job (get_or results i d))
-    (length_is : length results ≡ count) where
+module _ (publisher : PublisherToken) (count first : ℕ) (rows : List Row) (jobs : List Job)
+    (results : List (Result Done AuditFault)) (all : List Done) (are : AreJobs publisher count jobs)
+    (same : results ≡ map Ok all) (made : AreResults (length jobs) first rows jobs results) where
   abbrev file : RegisterFile
   file = file_from publisher.unit.base publisher.published
 
   all_many : length all ≡ count
-  all_many = sym (length-map all Ok) ∙ sym (ap (λ (l : List (Result Done AuditFault)). length l) same) ∙ length_is
+  all_many = sym (length-map all Ok) ∙ sym (ap (λ (l : List (Result Done AuditFault)). length l) same) ∙ made.many ∙ are.many
 
   -- so each is done with the rows of its number, in the file of what is published
   pub all_met : (worker : ℕ) (done : Done) → slice_get all worker ≡ Some done
@@ -126,13 +118,15 @@ module _ (publisher : PublisherToken) (count workers first : ℕ) (rows : List R
   all_met worker done at =
       let inside : worker < length jobs =
       let within = slice_get_within all worker done at in omega (arith, all_many, are.many) in
-      let (job, job_is, is) = each worker (Ok done) inside in
+      let (job, job_is, is) = made.each worker (Ok done) inside in
       let at_job : slice_get jobs worker ≡ Some job = slice_get-get_or jobs worker job inside ∙ ap Some (job_is job) in
-      let own : IsDone job.checker.unit (file_from job.checker.unit.base job.notice.list) job.worker workers first
-      rows done = subst (IsDoneAs workers first rows job) (done_at results all worker done same at) is in
+      let own : IsDone job.checker.unit (file_from job.checker.unit.base job.notice.list) job.worker (length jobs) first
+      rows done = subst (λ (r : Result Done AuditFault). IfOk r (IsDone job.checker.unit
+      (file_from job.checker.unit.base job.notice.list) job.worker (length jobs) first rows))
+      (done_at results all worker done same at) is.done in
       let j : IsJob publisher worker job = are.each worker job at_job in
       let told : job.notice.list ≡ publisher.published = ap (λ (n : Known). n.list) j.notice in
-      let number : workers ≡ length all = as_many ∙ sym all_many in
+      let number : length jobs ≡ length all = are.many ∙ sym all_many in
       rw (j.same_unit, told, j.numbered, number) at own
 
   pub all_dealt_out : AreDealt first (decided_in file rows) all
@@ -153,4 +147,41 @@ module _ (publisher : PublisherToken) (count workers first : ℕ) (rows : List R
               ap (λ (c : Known). c.unit) here ∙ (all_met i done at).same_unit
           | inr (past, _) ↦ absurd (omega (arith, many))
         ];
+  }
+
+-- what stopped a worker may stop the round
+pub stopped : (publisher : PublisherToken) (count first : ℕ) (rows : List Row) (jobs : List Job)
+    (results : List (Result Done AuditFault)) (fault : AuditFault) → AreJobs publisher count jobs
+    → AreResults (length jobs) first rows jobs results → Contains results (Err fault)
+    → StopsRound publisher.published fault
+stopped publisher count first rows jobs results fault are made (k, within, at) =
+    let inside : k < length jobs = omega (arith, made.many, within) in
+    let (job, job_is, is) = made.each k (Err fault) inside in
+    let own : StopsRound job.notice.list fault =
+    subst (λ (r : Result Done AuditFault). IfErr r (StopsRound job.notice.list)) at is.refused in
+    let j : IsJob publisher k job = are.each k job (slice_get-get_or jobs k job inside ∙ ap Some (job_is job)) in
+    subst (λ (told : Batches). StopsRound told fault) (ap (λ (n : Known). n.list) j.notice) own
+
+-- ---- one result more
+
+module _ (workers first : ℕ) (rows : List Row) (jobs : List Job) (results : List (Result Done AuditFault))
+    (so_far : AreResults workers first rows jobs results) (job : Job) (result : Result Done AuditFault)
+    (is : IsResult workers first rows job result) where
+  pub one_result : AreResults workers first rows (jobs ++ job ∷ []) (results ++ result ∷ [])
+  one_result = record {
+    many = length_push results result ∙ ap (λ (n : ℕ). n + 1) so_far.many ∙ sym (length_push jobs job);
+    each = λ i d inside. elim (cases_lt i (length jobs)) [
+      | inl before ↦
+          let (old, old_is, was) = so_far.each i d before in (
+            old,
+            (λ e. get_or_append_left jobs (job ∷ []) e i before ∙ old_is e),
+            rw (get_or_append_left results (result ∷ []) d i (omega (arith, so_far.many))) was,
+          )
+      | inr last ↦
+          let here : length jobs ≡ i = omega (arith, length_push jobs job) in (
+            job,
+            (λ e. get_or_push jobs job e i here),
+            rw (get_or_push results result d i (so_far.many ∙ here)) is,
+          )
+    ];
   }

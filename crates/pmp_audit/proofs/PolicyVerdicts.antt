@@ -1,12 +1,11 @@
 -- The verdicts on a policy's rows, one after another.
 use Rattle.std.proofs.Common.{◌≡◌, ℕ, ◌+◌, ◌<◌, ◌≤◌, cond, List, [], ◌∷◌, ◌++◌, length, map, None, Ok, Option, Some}
-use Rattle.std.proofs.Common.{get_or, take, sym, ap, ◌∙◌, append_assoc, arith}
-use Rattle.std.specs.Prelude.{count_by, is_some}
-use Rattle.std.specs.List.{enumerate_from, flat_map, position_from}
+use Rattle.std.proofs.Common.{get_or, suc, take, sym, ap, ◌∙◌, append_assoc, arith}
+use Rattle.std.specs.Prelude.{All, count_by, is_some}
+use Rattle.std.specs.List.{AllZip, enumerate_from, flat_map, position_from}
 use Rattle.std.specs.Option.{option_or}
-use Rattle.std.proofs.lemmas.List.{append-nil, flat_map_more, length-append, take_more}
+use Rattle.std.proofs.lemmas.List.{append-nil, flat_map_more, length-append, length-map, map-append, take_more}
 use Rattle.std.proofs.lemmas.List.Sums.{count_by-le-length, sum_by_push}
-use Rattle.std.proofs.lemmas.Slice.Zip.{AllZip-long, all_zipped_more}
 use Rattle.pmp_text.specs.declared.lines.verdict.Breach.{Breach}
 use Rattle.pmp_text.specs.declared.policy.PolicyRow.{PolicyRow}
 use Rattle.pmp_text.specs.Contents.{ScriptContents}
@@ -18,7 +17,9 @@ use Rattle.pmp_text.proofs.PieceFaults.{position_apart}
 use Rattle.pmp_audit.specs.declared.policy_check.PolicySummary.{PolicySummary}
 use Rattle.pmp_audit.specs.declared.policy_check.steps.Pace.{Pace}
 use Rattle.pmp_audit.specs.PolicyCheck.{IsVerdict, PolicySays, policy_summary, verdicts_text}
-use Rattle.pmp_audit.specs.PolicyRows.{AreJudged}
+use Rattle.pmp_audit.specs.declared.policy_check.sweep.Judged.{Judged}
+use Rattle.pmp_audit.specs.PolicyRows.{AreWritten}
+use Rattle.pmp_audit.specs.PolicySweep.{rows_of, verdicts_of}
 
 verdicts_text-push : (verdicts : List (Option Breach)) (verdict : Option Breach)
     → verdicts_text (verdicts ++ verdict ∷ []) ≡ verdicts_text verdicts ++ verdict_row (length verdicts + 1) verdict
@@ -43,85 +44,97 @@ bare_push rows row =
     ap (λ (n : ℕ). option_or (position_from (λ row. row.is_bare) 1 rows) (cond row.is_bare (Some n) None)) number
     ∙ sym (position_apart (λ (r : PolicyRow). r.is_bare) rows (row ∷ []) 1)
 
-module _ (pace : Pace) (script : ScriptContents) where
-  pub none_judged : (held : List ℕ) (summary : PolicySummary) → summary.rows ≡ 0 → summary.broken ≡ 0
-      → summary.bare ≡ None → AreJudged pace script [] held held summary
-  unfolding verdicts_text
-  none_judged held summary rows broken bare = record {
-    verdicts = [];
-    judged = tt;
-    text_is = sym (append-nil held);
-    counted = same_summary summary (policy_summary [] []) rows broken bare;
-  }
+pub none_written : (held : List ℕ) (summary : PolicySummary) → summary.rows ≡ 0 → summary.broken ≡ 0
+    → summary.bare ≡ None → AreWritten [] held held summary
+unfolding verdicts_text
+none_written held summary rows broken bare = record {
+  text_is = sym (append-nil held);
+  counted = same_summary summary (policy_summary [] []) rows broken bare;
+}
 
-  module _ (rows : List PolicyRow) (before held : List ℕ) (summary : PolicySummary)
-      (so_far : AreJudged pace script rows before held summary) where
-    one_each : length so_far.verdicts ≡ length rows
-    one_each = AllZip-long (IsVerdict pace script) rows so_far.verdicts so_far.judged
+module _ (judged : List Judged) (before held : List ℕ) (summary : PolicySummary)
+    (so_far : AreWritten judged before held summary) where
+  abbrev asked : List PolicyRow
+  asked = rows_of judged
 
-    pub rows_so_far : summary.rows ≡ length rows
-    rows_so_far = ap (λ (s : PolicySummary). s.rows) so_far.counted ∙ one_each
+  abbrev verdicts : List (Option Breach)
+  verdicts = verdicts_of judged
 
-    pub broken_so_far : summary.broken ≤ summary.rows
-    broken_so_far = rw so_far.counted (count_by-le-length is_some so_far.verdicts)
+  verdicts_so_far : summary.rows ≡ length verdicts
+  verdicts_so_far = ap (λ (s : PolicySummary). s.rows) so_far.counted
 
-    module _ (row : PolicyRow) (verdict : Option Breach) (after : List ℕ) (more : PolicySummary) where
-      abbrev pub IsCounted : Type 0
-      IsCounted = (more.rows ≡ summary.rows + 1) × (more.broken ≡ summary.broken + cond (is_some verdict) 1 0)
-          × (more.bare ≡ option_or summary.bare (cond row.is_bare (Some (summary.rows + 1)) None))
+  pub rows_so_far : summary.rows ≡ length judged
+  rows_so_far = verdicts_so_far ∙ length-map judged (λ one. one.verdict)
 
-      counted : IsCounted → more ≡ policy_summary (rows ++ row ∷ []) (so_far.verdicts ++ verdict ∷ [])
-      counted (one_more, broken, bare) =
-          let verdicts = so_far.verdicts ++ verdict ∷ [] in
-          let many : more.rows ≡ length verdicts = one_more
-          ∙ ap (λ (s : PolicySummary). s.rows + 1) so_far.counted
-          ∙ sym (length-append so_far.verdicts (verdict ∷ [])) in
-          let faults : more.broken ≡ count_by is_some verdicts = broken
-          ∙ ap (λ (s : PolicySummary). s.broken + cond (is_some verdict) 1 0) so_far.counted
-          ∙ sym (sum_by_push (λ (v : Option Breach). cond (is_some v) 1 0) so_far.verdicts verdict) in
-          let first : more.bare ≡ position_from (λ row. row.is_bare) 1 (rows ++ row ∷ []) = bare
-          ∙ (λ i. option_or (so_far.counted i).bare (cond row.is_bare (Some (rows_so_far i + 1)) None))
-          ∙ bare_push rows row in
-          same_summary more (policy_summary (rows ++ row ∷ []) verdicts) many faults first
+  pub broken_so_far : summary.broken ≤ summary.rows
+  broken_so_far = rw so_far.counted (count_by-le-length is_some verdicts)
 
-      written : more.rows ≡ summary.rows + 1 → after ≡ held ++ verdict_row more.rows verdict
-          → after ≡ before ++ verdicts_text (so_far.verdicts ++ verdict ∷ [])
-      written one_more appended =
-          let number : more.rows ≡ length so_far.verdicts + 1 =
-          one_more ∙ ap (λ (s : PolicySummary). s.rows + 1) so_far.counted in
-          let last = verdict_row (length so_far.verdicts + 1) verdict in
-          appended ∙ ap (λ (n : ℕ). held ++ verdict_row n verdict) number
-          ∙ ap (λ l. l ++ last) so_far.text_is ∙ append_assoc before (verdicts_text so_far.verdicts) last
-          ∙ ap (λ l. before ++ l) (sym (verdicts_text-push so_far.verdicts verdict))
+  module _ (one : Judged) (after : List ℕ) (more : PolicySummary) where
+    abbrev pub IsCounted : Type 0
+    IsCounted = (more.rows ≡ summary.rows + 1) × (more.broken ≡ summary.broken + cond (is_some one.verdict) 1 0)
+        × (more.bare ≡ option_or summary.bare (cond one.row.is_bare (Some (summary.rows + 1)) None))
 
-      pub one_judged : IsVerdict pace script row verdict → after ≡ held ++ verdict_row more.rows verdict
-          → IsCounted → AreJudged pace script (rows ++ row ∷ []) before after more
-      one_judged is appended all = record {
-        verdicts = so_far.verdicts ++ verdict ∷ [];
-        judged = all_zipped_more (IsVerdict pace script) rows so_far.verdicts row verdict so_far.judged is;
-        text_is = written all.0 appended;
-        counted = counted all;
-      }
+    counted : IsCounted → more ≡ policy_summary (asked ++ one.row ∷ []) (verdicts ++ one.verdict ∷ [])
+    counted (one_more, broken, bare) =
+        let many : more.rows ≡ length (verdicts ++ one.verdict ∷ []) =
+        one_more ∙ ap (λ (n : ℕ). n + 1) verdicts_so_far ∙ sym (length-append verdicts (one.verdict ∷ [])) in
+        let faults : more.broken ≡ count_by is_some (verdicts ++ one.verdict ∷ []) = broken
+        ∙ ap (λ (s : PolicySummary). s.broken + cond (is_some one.verdict) 1 0) so_far.counted
+        ∙ sym (sum_by_push (λ (v : Option Breach). cond (is_some v) 1 0) verdicts one.verdict) in
+        let long : summary.rows ≡ length asked = rows_so_far ∙ sym (length-map judged (λ one. one.row)) in
+        let first : more.bare ≡ position_from (λ row. row.is_bare) 1 (asked ++ one.row ∷ []) = bare
+        ∙ (λ i. option_or (so_far.counted i).bare (cond one.row.is_bare (Some (long i + 1)) None))
+        ∙ bare_push asked one.row in
+        same_summary more (policy_summary (asked ++ one.row ∷ []) (verdicts ++ one.verdict ∷ [])) many faults first
+
+    written : more.rows ≡ summary.rows + 1 → after ≡ held ++ verdict_row more.rows one.verdict
+        → after ≡ before ++ verdicts_text (verdicts ++ one.verdict ∷ [])
+    written one_more appended =
+        let number : more.rows ≡ length verdicts + 1 = one_more ∙ ap (λ (n : ℕ). n + 1) verdicts_so_far in
+        let last = verdict_row (length verdicts + 1) one.verdict in
+        appended ∙ ap (λ (n : ℕ). held ++ verdict_row n one.verdict) number
+        ∙ ap (λ l. l ++ last) so_far.text_is ∙ append_assoc before (verdicts_text verdicts) last
+        ∙ ap (λ l. before ++ l) (sym (verdicts_text-push verdicts one.verdict))
+
+    pub one_written : after ≡ held ++ verdict_row more.rows one.verdict → IsCounted
+        → AreWritten (judged ++ one ∷ []) before after more
+    one_written appended all =
+        let rows_more = sym (map-append (λ (j : Judged). j.row) judged (one ∷ [])) in
+        let verdicts_more = sym (map-append (λ (j : Judged). j.verdict) judged (one ∷ [])) in
+        record {
+          text_is = written all.0 appended ∙ ap (λ vs. before ++ verdicts_text vs) verdicts_more;
+          counted = counted all ∙ (λ i. policy_summary (rows_more i) (verdicts_more i));
+        }
 
 -- the rows before place i, and the one there
-module _ (rows : List PolicyRow) (i : ℕ) (row : PolicyRow) (inside : i < length rows)
-    (row_is : row ≡ get_or rows i row) where
-  pub one_row_more : take (i + 1) rows ≡ take i rows ++ row ∷ []
-  one_row_more = take_more rows i row inside ∙ ap (λ (r : PolicyRow). take i rows ++ r ∷ []) (sym row_is)
+module _ (judged : List Judged) (i : ℕ) (one : Judged) (inside : i < length judged)
+    (is : one ≡ get_or judged i one) where
+  pub one_row_more : take (i + 1) judged ≡ take i judged ++ one ∷ []
+  one_row_more = take_more judged i one inside ∙ ap (λ (j : Judged). take i judged ++ j ∷ []) (sym is)
+
+each_judged : (R : PolicyRow → Option Breach → Type 0) (judged : List Judged)
+    → All (λ one. R one.row one.verdict) judged → AllZip R (rows_of judged) (verdicts_of judged)
+each_judged R [] all = tt
+each_judged R (one ∷ judged) all = (
+  all 0 one (omega arith),
+  each_judged R judged (λ k d inside. all (suc k) d (omega arith)),
+)
 
 pub policy_says : (pace : Pace) (script policy : List ℕ) (contents : ScriptContents) (rows : List PolicyRow)
-    (before after text : List ℕ) (summary : PolicySummary) → script_meaning script ≡ Ok contents
-    → policy_meaning (length contents.batches) policy ≡ Ok (map policy_fields rows)
-    → AreJudged pace contents rows before after summary → before ≡ [] → text ≡ after
-    → PolicySays pace script policy summary text
-policy_says pace script policy contents rows before after text summary script_means policy_means judged empty same =
+    (judged : List Judged) (before after text : List ℕ) (summary : PolicySummary)
+    → script_meaning script ≡ Ok contents
+    → policy_meaning (length contents.batches) policy ≡ Ok (map policy_fields rows) → rows_of judged ≡ rows
+    → All (λ one. IsVerdict pace contents one.row one.verdict) judged → AreWritten judged before after summary
+    → before ≡ [] → text ≡ after → PolicySays pace script policy summary text
+policy_says pace script policy contents rows judged before after text summary script_means policy_means same all
+    written empty whole =
     record {
       contents = contents;
       script_means = script_means;
-      rows = rows;
-      policy_means = policy_means;
-      verdicts = judged.verdicts;
-      judged = judged.judged;
-      text_is = same ∙ judged.text_is ∙ ap (λ front. front ++ verdicts_text judged.verdicts) empty;
-      counted = judged.counted;
+      rows = rows_of judged;
+      policy_means = policy_means ∙ ap (λ (l : List PolicyRow). Ok (map policy_fields l)) (sym same);
+      verdicts = verdicts_of judged;
+      judged = each_judged (IsVerdict pace contents) judged all;
+      text_is = whole ∙ written.text_is ∙ ap (λ front. front ++ verdicts_text (verdicts_of judged)) empty;
+      counted = written.counted;
     }

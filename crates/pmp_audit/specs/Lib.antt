@@ -27,4 +27,5 @@ pub mod Rounds
 pub mod LongPieces
 pub mod LongParts
 pub mod PolicyQuestions
+pub mod PolicySweep
 pub mod PolicyRows

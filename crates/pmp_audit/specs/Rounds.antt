@@ -1,10 +1,11 @@
 -- What is decided between two publications of a shared audit.
-use Rattle.std.specs.Prelude.{◌≡◌, ℕ, ◌==◌, ◌≤◌, List, [], ◌∷◌, All, length, map, take, drop, slice_get, Some}
-use Rattle.std.specs.Prelude.{if◌then◌else◌}
-use Rattle.std.specs.List.{enumerate_from}
+use Rattle.std.specs.Prelude.{◌≡◌, ℕ, ◌==◌, ◌<◌, ◌≤◌, List, [], ◌∷◌, All, length, map, take, drop, slice_get, Some}
+use Rattle.std.specs.Prelude.{IfErr, IfOk, Result, if◌then◌else◌}
+use Rattle.std.specs.List.{enumerate_from, slice_index_or}
 use Rattle.pmp_core.specs.declared.decision.Decision.{Decision}
 use Rattle.pmp_core.specs.Ranges.{decision_of}
 use Rattle.pmp_share.specs.declared.knowledge.Known.{Known}
+use Rattle.pmp_share.specs.Batches.{file_from}
 use Rattle.pmp_share.specs.Known.{known}
 use Rattle.pmp_share.specs.Tokens.{PublisherToken, UnitId}
 use Rattle.pmp_text.specs.declared.trace.Row.{Row}
@@ -12,9 +13,10 @@ use Rattle.pmp_text.specs.Contents.{ScriptContents}
 use Rattle.pmp_text.specs.Reports.{file_of_script}
 use Rattle.pmp_text.specs.TraceFaults.{IsInOrder, afters}
 use Rattle.pmp_text.specs.Traces.{row_fields}
+use Rattle.pmp_audit.specs.declared.fault.AuditFault.{AuditFault}
 use Rattle.pmp_audit.specs.declared.shared_audit.job.Job.{Job}
 use Rattle.pmp_audit.specs.declared.shared_audit.job.Done.{Done}
-use Rattle.pmp_audit.specs.Working.{IsDealt}
+use Rattle.pmp_audit.specs.Working.{IsDealt, IsDone, StopsRound}
 
 -- the rows at the front that ask for just so many publications
 abbrev pub asking : (after : ℕ) → List Row → List Row
@@ -47,6 +49,19 @@ pub record IsJob (publisher : PublisherToken) (worker : ℕ) (job : Job) : Type 
 pub record AreJobs (publisher : PublisherToken) (count : ℕ) (jobs : List Job) : Type 0 where
   pub many : length jobs ≡ count
   pub each : (worker : ℕ) (job : Job) → slice_get jobs worker ≡ Some job → IsJob publisher worker job
+
+-- what the job of one of so many workers may come to: its rows of the round are decided, or something stopped it
+pub record IsResult (workers first : ℕ) (rows : List Row) (job : Job) (result : Result Done AuditFault) : Type 0 where
+  pub done : IfOk result (IsDone job.checker.unit (file_from job.checker.unit.base job.notice.list) job.worker workers
+      first rows)
+  pub refused : IfErr result (StopsRound job.notice.list)
+
+-- each job has such a result, at its place
+pub record AreResults (workers first : ℕ) (rows : List Row) (jobs : List Job) (results : List (Result Done AuditFault))
+    : Type 0 where
+  pub many : length results ≡ length jobs
+  pub each : (i : ℕ) (d : Result Done AuditFault) → i < length jobs → (job : Job)
+      × ((e : Job) → slice_index_or jobs i e ≡ job) × IsResult workers first rows job (slice_index_or results i d)
 
 -- each worker brings its share of these decisions, the first of which is of the row with this number
 abbrev pub AreDealt : (first : ℕ) → List Decision → List Done → Type 0

@@ -7,16 +7,17 @@ ghost use Rattle.pmp_text.specs.Verdicts.{verdict_row};
 ghost use Rattle.pmp_audit.specs.Answers.{Declines, IsAppended, IsWritten, IsRefused};
 ghost use Rattle.pmp_audit.specs.Fault.{fault_of_policy};
 ghost use Rattle.pmp_audit.specs.PolicyCheck.{PolicySays, PolicyRefuses, VerdictRefuses, VerdictSays};
-ghost use Rattle.pmp_audit.specs.PolicyRows.{AreJudged};
+ghost use Rattle.pmp_audit.specs.PolicyRows.{AreWritten};
 
 mod question;
 mod search;
 mod steps;
+mod sweep;
 
 use crate::answer::write_answer;
 use crate::fault::AuditFault;
-use crate::policy_check::search::judge;
 use crate::policy_check::steps::Steps;
+use crate::policy_check::sweep::{Judged, judge, unjudged};
 use pmp_text::{
     Breach, EventLog, GrowingLog, PolicyFields, PolicyRow, Sink, read_policy, read_script,
     write_verdict,
@@ -39,7 +40,8 @@ pub struct PolicySummary {
 /// writes a row for each, numbered from 1: that it holds, or its first breach, in time and then in address.
 ///
 /// The script's fault comes before any of the policy. The text is whole before its first byte is written, so every
-/// refusal but `Output` leaves the output untouched. The time grows with the product of events and rows.
+/// refusal but `Output` leaves the output untouched. The states are gone through once, and a row is asked again where a
+/// byte of its range may have moved; else a row costs a state the comparison of two ranges.
 pub fn check_policy<W: Write>(
     alloc: Global,
     pace: Pace,
@@ -59,9 +61,12 @@ pub fn check_policy<W: Write>(
         Ok(rows) => rows,
         Err(fault) => return Err(AuditFault::of_policy(fault)),
     };
-    let mut text = Vec::new(alloc);
     let script = &script;
-    let summary = write_verdicts(&mut text, &Steps { script, pace }, &rows)?;
+    let steps = Steps { script, pace };
+    let mut judged = unjudged(alloc, &steps, &rows)?;
+    judge(&steps, &mut judged);
+    let mut text = Vec::new(alloc);
+    let summary = write_verdicts(&mut text, &judged)?;
     write_answer(writer, &text, Ok(summary))
 }
 
@@ -88,23 +93,21 @@ pub fn append_verdict<L: EventLog, S: Sink>(
         Err(flaw) => return Err(AuditFault::Policy(flaw.at_row(number))),
     };
     let script = &script;
-    let verdict = judge(&Steps { script, pace }, &row);
+    let steps = Steps { script, pace };
+    let mut judged = [Judged::new(&steps, &row)];
+    judge(&steps, &mut judged);
+    let [Judged { verdict, .. }] = judged;
     write_verdict(out, number, verdict)?;
     Ok(verdict)
 }
 
 /// Appends the verdicts on the rows.
-fn write_verdicts(
-    out: &mut Vec<u8>,
-    steps: &Steps<'_>,
-    rows: &[PolicyRow],
-) -> Result<PolicySummary, AllocError>
-    requires { All (λ row. row.to ≤ length steps.now.script.now.batches) rows.now }
-    ensures { IfOk result (AreJudged steps.now.pace steps.now.script.now rows.now out.old.items out.new.items) }
+fn write_verdicts(out: &mut Vec<u8>, judged: &[Judged]) -> Result<PolicySummary, AllocError>
+    ensures { IfOk result (AreWritten judged.now out.old.items out.new.items) }
 {
     let mut summary = PolicySummary::default();
-    for row in rows {
-        summary.add_row(out, row, judge(steps, row))?;
+    for one in judged {
+        summary.add_row(out, &one.row, one.verdict)?;
     }
     Ok(summary)
 }

@@ -12,6 +12,7 @@ mod hand;
 mod job;
 mod merging;
 mod rounds;
+mod running;
 mod working;
 
 use crate::answer::write_answer;
@@ -34,7 +35,7 @@ use std::thread::Threads;
 /// The script's publications are done one at a time, and after each, and before the first, the rows that ask for just
 /// these go to the workers: of those with one `after`, worker `w` takes the rows whose place, from 0, modulo `k` is
 /// `w`. The next publication is done once all of them are decided. Where no thread can be made, a worker's rows are
-/// decided on the calling thread.
+/// decided on the calling thread, and so are those of workers that have few, if the gate says that it doesn't wait.
 ///
 /// Besides the refusals of `audit` there are `Share(NoPlace)` and `Moved`, both only where neither input has a fault.
 /// Whatever the answer is, the workers have ended. It may wait.

@@ -16,6 +16,7 @@ pub mod Held
 pub mod Protection
 pub mod Sizes
 pub mod Others
+pub mod Moves
 pub mod Spans
 pub mod StoredBytes
 pub mod HartNumbers

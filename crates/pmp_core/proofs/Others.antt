@@ -14,6 +14,7 @@ use Rattle.pmp_core.specs.RegisterWrite.{holds_byte_of, holds, is_tor, written}
 use Rattle.pmp_core.specs.Matching.{Matches, low_address}
 use Rattle.pmp_core.specs.Decision.{IsDecider, IsDecisionBy, IsLeast, Touches}
 use Rattle.pmp_core.specs.Rights.{has_entries}
+use Rattle.pmp_core.specs.Moved.{IsSameEntry}
 use Rattle.pmp_core.specs.OthersLaw.{OthersLaw, may_move}
 use Rattle.pmp_core.proofs.Legal.{configured_place, length-written, profile-written}
 use Rattle.pmp_core.proofs.Locks.{configured_address, low_kept, other_address, same_bytes}
@@ -85,9 +86,7 @@ least_alike P Q to from (Some i) found = (to i found.0, λ j below h. found.1 j 
 
 -- entry i matches no byte of the access in either file, or is the same in both
 abbrev pub IsSame : (one other : RegisterFile) → Access → ℕ → Type 0
-IsSame one other access i = (¬ (Touches one access i) × ¬ (Touches other access i))
-    ⊎ ((entry_at other.entries i ≡ entry_at one.entries i)
-    × ((byte : ℕ) → Matches other i byte ↔ Matches one i byte))
+IsSame one other access i = (¬ (Touches one access i) × ¬ (Touches other access i)) ⊎ IsSameEntry one other i
 
 module _ (one other : RegisterFile) (mseccfg : other.mseccfg ≡ one.mseccfg)
     (some : has_entries other ≡ has_entries one) (access : Access)
@@ -108,9 +107,7 @@ module _ (one other : RegisterFile) (mseccfg : other.mseccfg ≡ one.mseccfg)
   decider = least_alike (Touches one access) (Touches other access) touches touched_before
 
   -- the entry that decides is the same in both files
-  alike : (i : ℕ) → IsDecider one access (Some i)
-      → (entry_at other.entries i ≡ entry_at one.entries i)
-      × ((byte : ℕ) → Matches other i byte ↔ Matches one i byte)
+  alike : (i : ℕ) → IsDecider one access (Some i) → IsSameEntry one other i
   alike i found = elim (same i) [ inl clear ↦ absurd (clear.0 found.0) | inr is ↦ is ]
 
   pub decided_by : (allowed : Bool) (cause : Cause) → IsDecisionBy one access allowed cause
@@ -142,7 +139,7 @@ others_law file csr value = record {
       let same : (i : ℕ) → IsSame file after access i = λ i. elim (cases_Bool (may_move file csr i)) [
         | inl moves ↦ inl (clear i moves)
         | inr stays ↦ inr (
-          entry_kept file value csr i (holds_none file value csr i stays),
+          ap (λ (entry : Entry). entry.configuration) (entry_kept file value csr i (holds_none file value csr i stays)),
           λ byte. bytes_kept file value csr i byte stays,
         )
       ] in

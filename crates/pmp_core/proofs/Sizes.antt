@@ -221,7 +221,10 @@ decision_alike : (n : ℕ) (one other : RegisterFile) → 0 < n → HasRoom n on
 decision_alike n one other some first second alike access decision =
     let present = some_entries n other some second ∙ sym (some_entries n one some first) in
     decided_by one other (sym alike.mseccfg) present access
-    (λ i. inr (sym (alike.entries i), λ byte. matches_alike n one other alike i byte)) decision.allowed decision.cause
+    (λ i. inr (
+      ap (λ (entry : Entry). entry.configuration) (sym (alike.entries i)),
+      λ byte. matches_alike n one other alike i byte,
+    )) decision.allowed decision.cause
 
 pub size_law : SizeLaw
 size_law hart n m events access some more is named =

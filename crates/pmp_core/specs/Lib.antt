@@ -11,6 +11,7 @@ pub mod Span
 pub mod Perms
 pub mod Rights
 pub mod Decision
+pub mod Moved
 pub mod FaultCode
 pub mod Grain
 pub mod RegisterWrite

@@ -12,6 +12,7 @@ mod event;
 mod hart;
 pub mod laws;
 mod lock;
+mod moved;
 mod mseccfg;
 mod perms;
 mod range;

@@ -1,6 +1,7 @@
 //! An audit by several workers, which pass a gate.
 
 use pmp_audit::{Gate, Summary, audit_shared};
+use std::alloc::{AllocError, Global};
 use std::sync::atomic::{AtomicBool, AtomicU64, Ordering};
 
 /// Two publications: entry 0 reads a page, then entry 1 does in its place.
@@ -65,6 +66,21 @@ fn zero() -> AtomicU64 {
     AtomicU64::new(0)
 }
 
+/// So many rows, of which the first ask for no publication, and the others for two.
+fn trace_of(alloc: Global, first: u64, rows: u64) -> Result<Vec<u8>, AllocError> {
+    let mut trace = Vec::new(alloc);
+    trace.extend_from_slice(b"after,mode,kind,start,length\n".as_slice())?;
+    for row in 0..rows {
+        let text = if row < first {
+            b"0,U,load,0x80000000,4\n".as_slice()
+        } else {
+            b"2,U,load,0x80000000,4\n".as_slice()
+        };
+        trace.extend_from_slice(text)?;
+    }
+    Ok(trace)
+}
+
 /// Each row passes the gate once, by the worker whose turn it is, before that worker's next row, in both rounds. A body
 /// that runs its workers one after another, or fewer of them, is refused here: the first waits for the others in vain.
 /// So is one that passes the gate twice with a row, or not at all, or by another worker, or out of order.
@@ -86,17 +102,9 @@ fn workers_overlap(rt: HostRuntime) {
         is_wrong: AtomicBool::new(false),
         missed: AtomicBool::new(false),
     };
-    let mut trace = Vec::new(rt.alloc());
-    let header = b"after,mode,kind,start,length\n".as_slice();
-    trace.extend_from_slice(header).ok().expect(&rt, "memory");
-    for row in 1..ROWS + 1 {
-        let text = if row < SECOND {
-            b"0,U,load,0x80000000,4\n".as_slice()
-        } else {
-            b"2,U,load,0x80000000,4\n".as_slice()
-        };
-        trace.extend_from_slice(text).ok().expect(&rt, "memory");
-    }
+    let trace = trace_of(rt.alloc(), SECOND - 1, ROWS)
+        .ok()
+        .expect(&rt, "memory");
     let mut report = Vec::new(rt.alloc());
     let answer = audit_shared(
         &rt,
@@ -122,4 +130,59 @@ fn workers_overlap(rt: HostRuntime) {
     assert!(rt; !gate.is_wrong.load(Ordering::SeqCst), "another row");
     assert!(rt; gate.calls.load(Ordering::SeqCst) == ROWS);
     assert!(rt; gate.rows.load(Ordering::SeqCst) == 0xffff_fffe);
+}
+
+/// Looks at each row that passes, and holds no worker.
+#[derive(Drop)]
+struct Turns {
+    calls: AtomicU64,
+    /// The worker and the row that passed last.
+    last: AtomicU64,
+    is_wrong: AtomicBool,
+}
+
+impl Gate for Turns {
+    fn pass(&self, worker: u8, row: u64) {
+        let turn = u64::from(worker) * 64 + row % 64;
+        if self.last.swap(turn, Ordering::SeqCst) >= turn {
+            self.is_wrong.store(true, Ordering::SeqCst);
+        }
+        self.calls.fetch_add(1, Ordering::SeqCst);
+    }
+
+    fn may_wait(&self) -> bool {
+        false
+    }
+}
+
+/// Where the gate doesn't wait, workers with few rows take turns: each decides all of its rows before the next one
+/// begins.
+#[test]
+fn workers_take_turns(rt: HostRuntime) {
+    let gate = Turns {
+        calls: zero(),
+        last: zero(),
+        is_wrong: AtomicBool::new(false),
+    };
+    let trace = trace_of(rt.alloc(), ROWS, ROWS).ok().expect(&rt, "memory");
+    let mut report = Vec::new(rt.alloc());
+    let answer = audit_shared(
+        &rt,
+        rt.alloc(),
+        &gate,
+        8,
+        SCRIPT,
+        trace.as_slice(),
+        &mut report,
+    );
+    assert!(rt;
+        answer
+            == Ok(Summary {
+                rows: 31,
+                faults: 31,
+                bare: None,
+            })
+    );
+    assert!(rt; !gate.is_wrong.load(Ordering::SeqCst), "out of turn");
+    assert!(rt; gate.calls.load(Ordering::SeqCst) == ROWS);
 }

@@ -1,10 +1,11 @@
 //! The states of a register file that a policy asks of.
 
-ghost use Rattle.std.specs.Prelude.{◌≡◌, ◌+◌, ◌<◌, ◌≤◌, [], length};
+ghost use Rattle.std.specs.Prelude.{◌≡◌, ◌+◌, ◌<◌, ◌≤◌, ◌^◌, [], length};
 ghost use Rattle.std.specs.List.{slice_index_or};
 ghost use Rattle.pmp_audit.specs.PolicyCheck.{state_after, step_count, steps_of};
+ghost use Rattle.pmp_audit.specs.PolicySweep.{IsStateOf};
 
-use pmp_core::{Event, RegFile};
+use pmp_core::{Event, RegFile, Span};
 use pmp_text::Script;
 
 /// How often a policy asks.
@@ -21,6 +22,16 @@ pub enum Pace {
 pub struct Steps<'a> {
     pub script: &'a Script<'a>,
     pub pace: Pace,
+}
+
+/// The register file after some steps, and what the last of them moved.
+#[derive(Clone, Copy)]
+pub struct State {
+    /// How many steps are done.
+    pub done: u64,
+    pub file: RegFile,
+    /// Of the bytes outside nothing is decided otherwise than in the state before.
+    pub moved: Option<Span>,
 }
 
 impl<'a> Steps<'a> {
@@ -46,24 +57,29 @@ impl<'a> Steps<'a> {
         }
     }
 
-    /// Does the step with this index in the register file that those before it leave.
-    pub fn advance(&self, file: &mut RegFile, index: u64)
-        requires inside { index < length (steps_of self.now.pace self.now.script.now.batches) }
-        requires before { file.old ≡ state_after self.now.pace self.now.script.now index }
-        ensures { file.new ≡ state_after self.now.pace self.now.script.now (index + 1) }
+    /// The state before the first step.
+    pub fn start(&self) -> State
+        ensures is { IsStateOf (state_after self.now.pace self.now.script.now) result }
+        ensures done { result.done ≡ 0 }
     {
-        file.run_events(self.step(index));
+        State {
+            done: 0,
+            file: self.script.start(),
+            moved: None,
+        }
     }
 
-    /// The register file after so many steps.
-    pub fn state_after(&self, done: u64) -> RegFile
-        requires { done ≤ length (steps_of self.now.pace self.now.script.now.batches) }
-        ensures { result ≡ state_after self.now.pace self.now.script.now done }
+    /// Does the next step.
+    pub fn advance(&self, state: &mut State)
+        requires inside { state.old.done < length (steps_of self.now.pace self.now.script.now.batches) }
+        requires fits { state.old.done + 1 < 2 ^ 64 }
+        requires before { IsStateOf (state_after self.now.pace self.now.script.now) state.old }
+        ensures after { IsStateOf (state_after self.now.pace self.now.script.now) state.new }
+        ensures done { state.new.done ≡ state.old.done + 1 }
     {
-        let mut file = self.script.start();
-        for index in 0..done {
-            self.advance(&mut file, index);
-        }
-        file
+        let before = state.file;
+        state.file.run_events(self.step(state.done));
+        state.moved = state.file.registers().moved_since(&before.registers());
+        state.done += 1;
     }
 }

@@ -5,13 +5,12 @@ ghost use Rattle.pmp_share.specs.declared.fault.ShareFault.TheVariants.{Full};
 ghost use Rattle.pmp_share.specs.declared.opening.TheConstants.{CHECKERS};
 ghost use Rattle.pmp_share.specs.Batches.{file_from};
 ghost use Rattle.pmp_audit.specs.Rounds.{AreCheckersOf, AreJobs, asking};
-ghost use Rattle.pmp_audit.specs.Working.{IsDone, StopsRound, decided_in};
+ghost use Rattle.pmp_audit.specs.Working.{StopsRound, decided_in};
 
 use super::asking::asking;
-use super::hand::Hand;
-use super::job::{Done, Job};
+use super::job::Job;
 use super::merging::{all_done, checkers_of, merge};
-use super::working::work;
+use super::running::run_jobs;
 use crate::fault::AuditFault;
 use crate::gate::Gate;
 use pmp_core::Decision;
@@ -19,7 +18,6 @@ use pmp_share::{Checker, Publisher, ShareFault};
 use pmp_text::Row;
 use std::alloc::Global;
 use std::sync::Wait;
-use std::thread;
 use std::thread::Threads;
 
 /// A job for each checker, with a notice of what is published. The workers are numbered in the checkers' order.
@@ -70,38 +68,14 @@ fn round<R: Threads + Wait + Sync, G: Gate + Sync>(
 {
     let first = decided.len() as u64 + 1;
     let jobs = jobs_of(alloc, publisher, checkers)?;
-    let workers = jobs.len() as u8;
-    let results = thread::map_vec(
-        rt,
-        jobs,
-        &|job: Job| -> Result<Done, AuditFault>
-            requires { (0 < workers) × (first + length rows.now ≤ 2 ^ 64) }
-            ensures done { IfOk result (IsDone job.checker.unit (file_from job.checker.unit.base job.notice.list)
-                job.worker workers first rows.entry.now) }
-            ensures refused { IfErr result (StopsRound job.notice.list) }
-        {
-            let Job {
-                worker,
-                checker,
-                notice,
-            } = job;
-            let hand = Hand {
-                rows,
-                first,
-                worker,
-                workers,
-            };
-            work(alloc, checker, notice, hand, gate)
-        },
-    )?;
+    let results = run_jobs(rt, alloc, gate, jobs, rows, first)?;
     let all = all_done(alloc, results)?;
     merge(decided, &all, rows.len())?;
     Ok(checkers_of(alloc, all)?)
 }
 
 /// Decides the next rows, as far as they ask for just `after` publications, which are done, by no more workers than
-/// there are such rows: a checker for which there is no row gets no job, where there is one row alone no thread is
-/// started, and where there is none, no worker.
+/// there are such rows: a checker for which there is no row gets no job, and where there is none, no worker is started.
 pub(crate) fn decide_asking<R: Threads + Wait + Sync, G: Gate + Sync>(
     rt: &R,
     alloc: Global,

@@ -1,18 +1,30 @@
-use Rattle.std.proofs.Common.{refl}
+use Rattle.std.proofs.Common.{◌≡◌, ◌<◌, ◌∙◌, List, ap, arith, get_or, length, refl, subst, sym}
+use Rattle.std.proofs.lemmas.List.{get_or-map}
+use Rattle.pmp_text.specs.declared.policy.PolicyRow.{PolicyRow}
 use Rattle.pmp_text.specs.Verdicts.{verdict_row}
+use Rattle.pmp_audit.specs.declared.policy_check.sweep.Judged.{Judged}
+use Rattle.pmp_audit.specs.PolicyCheck.{IsVerdict}
 use Rattle.pmp_audit.proofs.policy_check.append_verdict.Goals as goal
 
 pub returns-clause-ok : goal.returns-clause-ok
-returns-clause-ok g c = record {
-  text = verdict_row c.args.number c.judge-verdict.result;
-  says = record {
-    contents = c.in_ok-script.script;
-    script_means = c.in_ok-script.ensures;
-    row = c.in-Ok.row;
-    row_is = c.in-Ok.ensures.ok.1;
-    proper = rw (← c.batches.ensures) c.in-Ok.ensures.ok.0;
-    judged = c.judge-verdict.ensures;
-    text_is = refl;
-  };
-  appended = c.in_ok-write_verdict.ensures.ok;
-}
+returns-clause-ok g c =
+    let all = c.judge.new.rows in
+    let one = get_or all 0 c.index-judged-0.result in
+    let row = c.in-Ok.row in
+    let inside : 0 < length all = omega (arith, c.judge.auto.rows) in
+    let same : one.row ≡ row = sym (get_or-map (λ (j : Judged). j.row) all 0 c.index-judged-0.result row inside)
+    ∙ ap (λ (l : List PolicyRow). get_or l 0 row) c.judge.ensures.rows ∙ c.new-2.ensures.row in
+    record {
+      text = verdict_row c.args.number one.verdict;
+      says = record {
+        contents = c.in_ok-script.script;
+        script_means = c.in_ok-script.ensures;
+        row = row;
+        row_is = c.in-Ok.ensures.ok.1;
+        proper = rw (← c.batches.ensures) c.in-Ok.ensures.ok.0;
+        judged = subst (λ (r : PolicyRow). IsVerdict c.args.pace c.in_ok-script.script r one.verdict) same
+            (c.judge.ensures.judged 0 c.index-judged-0.result inside);
+        text_is = refl;
+      };
+      appended = c.in_ok-write_verdict.ensures.ok;
+    }

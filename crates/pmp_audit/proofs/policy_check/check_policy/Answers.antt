@@ -1,22 +1,35 @@
-use Rattle.std.proofs.Common.{◌≡◌, length, map, Ok}
+use Rattle.std.proofs.Common.{◌≡◌, ◌∙◌, List, ap, arith, length, map, Ok}
+use Rattle.std.proofs.lemmas.List.{take_at}
 use Rattle.pmp_text.specs.Policies.{policy_fields, policy_meaning}
+use Rattle.pmp_audit.specs.declared.policy_check.sweep.Judged.{Judged}
 use Rattle.pmp_audit.specs.PolicyCheck.{PolicyRefuses, PolicySays}
+use Rattle.pmp_audit.specs.PolicySweep.{rows_of}
 use Rattle.pmp_audit.proofs.PolicyVerdicts.{policy_says}
 use Rattle.pmp_audit.proofs.WrittenAnswers.{answered, refused}
 use Rattle.pmp_audit.proofs.policy_check.check_policy.Goals as goal
 use Rattle.pmp_audit.proofs.policy_check.check_policy.Goals.{After-write_answer}
 
 says : (g : _) (c : After-write_answer g)
-    → PolicySays c.args.pace c.args.script.now c.args.policy.now c.in_ok-summary.summary c.deref-2.result.now
+    → PolicySays c.args.pace c.args.script.now c.args.policy.now c.in_ok-summary.summary c.deref-3.result.now
 says g c =
     let script = c.in_ok-script.script in
     let rows = c.deref.result.now in
+    let judged = c.judge.new.rows in
     let policy_means : policy_meaning (length script.batches) c.args.policy.now ≡ Ok (map policy_fields rows) =
     rw (c.deref.ensures.value, ← c.batches.ensures) c.in-Ok.ensures.given in
-    policy_says c.args.pace c.args.script.now c.args.policy.now script rows _ _ c.deref-2.result.now
-    c.in_ok-summary.summary c.in_ok-script.ensures policy_means
-    c.in_ok-summary.ensures c.new-text.ensures.items
-    c.deref-2.ensures.value
+    let given = c.deref_mut.ensures.value in
+    let same : rows_of judged ≡ rows = c.judge.ensures.rows ∙ ap rows_of given ∙ c.in_ok-judged.ensures.rows in
+    let long : length judged ≡ c.in_ok-judged.judged.len = omega (
+      arith,
+      c.judge.auto.rows,
+      ap (λ (l : List Judged). length l) given,
+      c.in_ok-judged.judged.ok.0,
+    ) in
+    let left : c.deref-2.result.now ≡ judged = c.deref-2.ensures.value
+    ∙ take_at judged _ c.in_ok-judged.judged.len long in
+    policy_says c.args.pace c.args.script.now c.args.policy.now script rows judged _ _ c.deref-3.result.now
+    c.in_ok-summary.summary c.in_ok-script.ensures policy_means same c.judge.ensures.judged
+    (rw left at c.in_ok-summary.ensures) c.new-text.ensures.items c.deref-3.ensures.value
 
 pub returns-clause-ok : goal.returns-clause-ok
 returns-clause-ok g c =

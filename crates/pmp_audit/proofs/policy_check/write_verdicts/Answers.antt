@@ -1,30 +1,27 @@
 use Rattle.std.proofs.Common.{take, arith}
 use Rattle.std.proofs.lemmas.List.{length-take-le}
-use Rattle.pmp_audit.proofs.PolicyVerdicts.{none_judged, one_judged, one_row_more, rows_so_far}
+use Rattle.pmp_audit.proofs.PolicyVerdicts.{none_written, one_row_more, one_written, rows_so_far}
 use Rattle.pmp_audit.proofs.policy_check.write_verdicts.Goals as goal
 
-pub loop-row-init : goal.loop-row-init
-loop-row-init c =
-    let steps = c.args.steps.now in
-    none_judged steps.pace steps.script.now c.args.out.now.items c.default-summary.result c.default-summary.ensures.0
+pub loop-one-init : goal.loop-one-init
+loop-one-init c = none_written c.args.out.now.items c.default-summary.result c.default-summary.ensures.0
     c.default-summary.ensures.1.0 c.default-summary.ensures.1.1
 
 pub add_row-requires-clause-rows : goal.add_row-requires-clause-rows
 add_row-requires-clause-rows c =
-    let steps = c.args.steps.now in
-    let done = rows_so_far steps.pace steps.script.now (take c.loop-row.row-index c.args.rows.now) c.args.out.now.items
-    c.loop-row.out.items c.loop-row.summary c.loop-row.invariant in
-    let i = c.loop-row.row-index in
-    let test = c.loop-row-test.true in
-    let count = length-take-le i c.args.rows.now (omega (arith, test)) in
+    let i = c.loop-one.one-index in
+    let all = c.args.judged.now in
+    let done = rows_so_far (take i all) c.args.out.now.items c.loop-one.out.items c.loop-one.summary
+    c.loop-one.invariant in
+    let test = c.loop-one-test.true in
+    let count = length-take-le i all (omega (arith, test)) in
     omega (arith, done, count, test)
 
-pub loop-row-preserved : goal.loop-row-preserved
-loop-row-preserved c =
-    let steps = c.args.steps.now in
-    let rows = c.args.rows.now in
-    let i = c.loop-row.row-index in
-    rw (one_row_more rows i c.row-item.result c.loop-row-test.true c.row-item.is)
-    (one_judged steps.pace steps.script.now (take i rows) c.args.out.now.items c.loop-row.out.items c.loop-row.summary
-    c.loop-row.invariant c.row-item.result c.judge.result c.add_row.new.out.items c.add_row.new.self c.judge.ensures
-    c.in_ok-add_row.ensures.written (c.add_row.ensures.rows, c.add_row.ensures.broken, c.add_row.ensures.bare))
+pub loop-one-preserved : goal.loop-one-preserved
+loop-one-preserved c =
+    let i = c.loop-one.one-index in
+    let all = c.args.judged.now in
+    rw (one_row_more all i c.one-item.result c.loop-one-test.true c.one-item.is)
+    (one_written (take i all) c.args.out.now.items c.loop-one.out.items c.loop-one.summary c.loop-one.invariant
+    c.one-item.result c.add_row.new.out.items c.add_row.new.self c.in_ok-add_row.ensures.written
+    (c.add_row.ensures.rows, c.add_row.ensures.broken, c.add_row.ensures.bare))

@@ -1,0 +1,146 @@
+//! The rows of a policy, judged side by side in one pass over the states.
+
+ghost use Rattle.std.specs.Prelude.{◌≡◌, ◌+◌, ◌<◌, ◌≤◌, ℕ, All, IfOk, None, false, length};
+ghost use Rattle.pmp_core.specs.Moved.{AreAlikeBeside, IsMoved};
+ghost use Rattle.pmp_core.specs.RegisterFile.{RegisterFile};
+ghost use Rattle.pmp_text.specs.Contents.{ScriptContents};
+ghost use Rattle.pmp_audit.specs.declared.policy_check.steps.Pace.{Pace};
+ghost use Rattle.pmp_audit.specs.PolicyCheck.{IsFirstIn, IsVerdict, state_after};
+ghost use Rattle.pmp_audit.specs.PolicySweep.{IsJudged, IsStateOf, IsVerdictBefore, rows_of};
+
+use crate::policy_check::question::Question;
+use crate::policy_check::search::first_run;
+use crate::policy_check::steps::{State, Steps};
+use pmp_core::Span;
+use pmp_map::Run;
+use pmp_text::{Breach, Demand, PolicyRow};
+use std::alloc::{AllocError, Global};
+
+/// A row of a policy, and its verdict as far as the states went.
+#[derive(Clone, Copy)]
+pub struct Judged {
+    pub row: PolicyRow,
+    /// How many steps are done in the first state that the row asks of.
+    from: u64,
+    /// How many steps are done in the last state that the row asks of.
+    to: u64,
+    /// Its first breach, or none so far.
+    pub verdict: Option<Breach>,
+}
+
+/// Whether a byte of the row's range may have moved.
+#[inline(always)]
+fn is_moved(row: &PolicyRow, moved: Option<Span>) -> bool
+    ensures { result ≡ false → (byte : ℕ) → row.now.first ≤ byte → byte ≤ row.now.last → ¬ (IsMoved moved byte) }
+{
+    match moved {
+        Some(span) => span.first <= row.last && row.first <= span.last,
+        None => false,
+    }
+}
+
+impl Judged {
+    /// The row before the first state.
+    pub fn new(steps: &Steps<'_>, row: &PolicyRow) -> Judged
+        requires { row.now.to ≤ length steps.now.script.now.batches }
+        ensures judged { IsJudged steps.now.pace steps.now.script.now 0 result }
+        ensures row { result.row ≡ row.now }
+    {
+        Judged {
+            row: *row,
+            from: steps.count(row.from),
+            to: steps.count(row.to),
+            verdict: None,
+        }
+    }
+
+    /// The first run that breaks the row's demand in this state, where none did in the state before, if the row asked
+    /// of it: then only bytes that moved can.
+    #[inline(always)]
+    fn broken_in(&self, state: &State) -> Option<Run>
+        ensures { (self.now.from < state.now.done → (before : RegisterFile)
+            × AreAlikeBeside before state.now.file state.now.moved × IsFirstIn before self.now.row None)
+            → IsFirstIn state.now.file self.now.row result }
+    {
+        if self.from < state.done && !is_moved(&self.row, state.moved) {
+            return None;
+        }
+        first_run(&state.file, &self.row, Question::IsBroken)
+    }
+
+    /// The row's breach in this state, of which it asks, where it has none before.
+    #[inline(always)]
+    fn breach_in(&self, state: &State) -> Option<Breach>
+        requires { (self.now.from ≤ state.now.done) × (state.now.done ≤ self.now.to) }
+        ensures { (states : ℕ → RegisterFile) → IsStateOf states state.now
+            → IsVerdictBefore states self.now.row self.now.from self.now.to state.now.done None
+            → IsVerdictBefore states self.now.row self.now.from self.now.to (state.now.done + 1) result }
+    {
+        let done = state.done;
+        if let Some(run) = self.broken_in(state) {
+            return Some(Breach { done, run });
+        }
+        if self.row.demand == Demand::Held && done == self.to {
+            let run = first_run(&state.file, &self.row, Question::IsNotHeld)?;
+            return Some(Breach { done, run });
+        }
+        None
+    }
+
+    /// Asks for a breach in this state, unless there is one before, or the row doesn't ask of the state.
+    #[inline(always)]
+    fn ask(&mut self, state: &State)
+        ensures judged { (pace : Pace) (script : ScriptContents) → IsStateOf (state_after pace script) state.now
+            → IsJudged pace script state.now.done self.old → IsJudged pace script (state.now.done + 1) self.new }
+        ensures row { self.new.row ≡ self.old.row }
+    {
+        if self.verdict.is_none() && self.from <= state.done && state.done <= self.to {
+            self.verdict = self.breach_in(state);
+        }
+    }
+}
+
+/// Asks all rows for a breach in this state.
+fn ask_all(rows: &mut [Judged], state: &State)
+    ensures judged { (pace : Pace) (script : ScriptContents) → IsStateOf (state_after pace script) state.now
+        → All (IsJudged pace script state.now.done) rows.old
+        → All (IsJudged pace script (state.now.done + 1)) rows.new }
+    ensures rows { rows_of rows.new ≡ rows_of rows.old }
+{
+    for row in rows.iter_mut() {
+        row.ask(state);
+    }
+}
+
+/// The rows before the first state.
+pub fn unjudged(
+    alloc: Global,
+    steps: &Steps<'_>,
+    rows: &[PolicyRow],
+) -> Result<Vec<Judged>, AllocError>
+    requires { All (λ row. row.to ≤ length steps.now.script.now.batches) rows.now }
+    ensures judged { IfOk result (λ all. All (IsJudged steps.now.pace steps.now.script.now 0) all.items) }
+    ensures rows { IfOk result (λ all. rows_of all.items ≡ rows.now) }
+{
+    let mut all = Vec::new(alloc);
+    for row in rows {
+        all.push(Judged::new(steps, row))?;
+    }
+    Ok(all)
+}
+
+/// Judges the rows in all states that they ask of. A state costs what its step may have moved: of the rows that have no
+/// breach only those that begin in it, or have such bytes, ask it.
+pub fn judge(steps: &Steps<'_>, rows: &mut [Judged])
+    requires { All (IsJudged steps.now.pace steps.now.script.now 0) rows.old }
+    ensures judged { All (λ one. IsVerdict steps.now.pace steps.now.script.now one.row one.verdict) rows.new }
+    ensures rows { rows_of rows.new ≡ rows_of rows.old }
+{
+    let last = steps.count(steps.script.batches());
+    let mut state = steps.start();
+    ask_all(rows, &state);
+    while state.done < last {
+        steps.advance(&mut state);
+        ask_all(rows, &state);
+    }
+}
