@@ -22,7 +22,7 @@ pub enum AddressMatching {
 }
 
 /// A configuration byte, whose bits 6 and 5 are zero. A contract sees its fields.
-#[derive(Clone, Copy)]
+#[derive(Clone, Copy, PartialEq, Eq)]
 pub struct Configuration {
     byte: u8,
 }

@@ -40,7 +40,7 @@ impl Flags for Mseccfg {
 }
 
 /// What `mseccfg` says of the unit.
-#[derive(Clone, Copy)]
+#[derive(Clone, Copy, PartialEq, Eq)]
 pub struct MseccfgFields {
     /// MML: rules bind machine mode by another table, and it executes by locked rules alone.
     pub mml: bool,
