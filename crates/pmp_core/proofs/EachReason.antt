@@ -1,6 +1,5 @@
 -- The reasons for a write, one by one.
-use borrow.Author.Tests.{tests}
-use Rattle.std.proofs.Common.{rules, ◌==◌, ◌≡◌, ℕ, zero, suc, ◌+◌, ◌-◌, ◌<◌, ◌≤◌, Bool, true, false, cond, List, [], ◌∷◌, length}
+use Rattle.std.proofs.Common.{◌==◌, ◌≡◌, ℕ, zero, suc, ◌+◌, ◌-◌, ◌<◌, ◌≤◌, Bool, true, false, cond, List, [], ◌∷◌, length}
 use Rattle.std.proofs.Common.{get_or, refl, sym, ◌∙◌, inl, inr, arith}
 use Rattle.std.specs.List.{range_with_len, list_any, filter}
 use Rattle.std.proofs.lemmas.Bool.{false≢true, false_from_ne_true, or_from, cases_Bool, cases_lt, and_right}
@@ -145,4 +144,5 @@ has_none file csr value none =
 
 pub no_reasons : (file : RegisterFile) (csr : Csr) (value : ℕ) → HasNone file csr value
     → write_reasons file csr value ≡ []
-no_reasons file csr value h = search (rules, tests)
+no_reasons file csr value h =
+    rw (h.absent, h.bits, h.frozen, h.tor, h.reserved, h.lockdown, h.sticky, h.bypass, h.grain) refl

@@ -56,7 +56,18 @@ matching_back Na4 = refl
 matching_back Napot = refl
 
 pub configuration_back : (c : Configuration) → configuration_of (byte_of c) ≡ c
-configuration_back c = search (rules, tests)
+configuration_back c =
+    let (locked, matching, execute, write, read) =
+    parts_back (bit_of c.locked) (field_of c.matching) (bit_of c.execute) (bit_of c.write) (bit_of c.read)
+    (bit_le c.locked) (field_le c.matching) (bit_le c.execute) (bit_le c.write) (bit_le c.read) in
+    let is_one : ℕ → Bool = λ bit. bit == 1 in
+    λ i. record {
+      locked = (ap is_one locked ∙ bit_back c.locked) i;
+      matching = (ap matching_of matching ∙ matching_back c.matching) i;
+      execute = (ap is_one execute ∙ bit_back c.execute) i;
+      write = (ap is_one write ∙ bit_back c.write) i;
+      read = (ap is_one read ∙ bit_back c.read) i;
+    }
 
 read_back : (byte : ℕ) → byte < 256 → (byte_of (configuration_of byte) == byte) ≡ is_plain byte
 read_back byte small =

@@ -15,10 +15,10 @@ use Rattle.pmp_core.specs.declared.saved_registers.SavedRegisters.{SavedRegister
 use Rattle.pmp_core.specs.Configuration.{Configuration, byte_of, configuration_of}
 use Rattle.pmp_core.specs.Hart.{Profile, word_addresses}
 use Rattle.pmp_core.specs.Mseccfg.{mseccfg_fields, mseccfg_value}
-use Rattle.pmp_core.specs.RegisterFile.{RegisterFile, IsLegal, entry_at}
+use Rattle.pmp_core.specs.RegisterFile.{RegisterFile, IsLegal, entry_at, reset_entry}
 use Rattle.pmp_core.specs.RegisterValue.{configuration_word, register_value}
 use Rattle.pmp_core.specs.RegisterWrite.{configured, configurations_written, is_address_frozen, stored}
-use Rattle.pmp_core.specs.RegisterWrite.{written}
+use Rattle.pmp_core.specs.RegisterWrite.{admitted, written}
 use Rattle.pmp_core.specs.SavedRegisters.{fields_in, hart_in, hart_number, restored_entry, restored_file, saved_hart}
 use Rattle.pmp_core.specs.SavedRegisters.{saved_registers}
 use Rattle.pmp_core.proofs.Configuring.{configured_at, kept_above, kept_below, kept_odd}
@@ -26,7 +26,7 @@ use Rattle.pmp_core.proofs.Legal.{configured_place, length-written, step_legal, 
 use Rattle.pmp_core.proofs.Locks.{configured_address, other_address}
 use Rattle.pmp_core.proofs.Places.{entries_by}
 use Rattle.pmp_core.proofs.Restored.{entry_in, entry_past, file_is, few_in, length_in, mseccfg_in, profile_in}
-use Rattle.pmp_core.proofs.Saved.{fields_back, restored_legal}
+use Rattle.pmp_core.proofs.Saved.{fields_back, restored_legal, stored_as_is}
 use Rattle.pmp_core.proofs.StoredBytes.{byte_plain, configuration_back}
 use Rattle.pmp_core.proofs.WordBytes.{byte, word_gives}
 
@@ -81,7 +81,13 @@ module _ (new : SavedRegisters) (file : RegisterFile) (legal : IsLegal file) (ha
   pub entry_by : (k : ℕ) → slice_index new.configurations k ≡ byte_of (entry_at file.entries k).configuration
       → slice_index new.addresses k % word_addresses (hart_in new) ≡ (entry_at file.entries k).address
       → restored_entry new k ≡ entry_at file.entries k
-  entry_by k byte address = search (rules, tests)
+  entry_by k byte address =
+      let c = (entry_at file.entries k).configuration in
+      let stored : admitted file.mseccfg.mml true reset_entry.configuration c ≡ c =
+      stored_as_is file.mseccfg.mml reset_entry.configuration c (λ off. legal.unreserved off k) in
+      let configuration : (restored_entry new k).configuration ≡ c =
+      rw (byte, fields, hart, configuration_back c, stored, legal.chosen k) refl in
+      λ i. record { configuration = configuration i; address = address i }
 
 -- the same numbers stand for the same entry
 pub same_entry : (old new : SavedRegisters) → new.entries ≡ old.entries → new.mseccfg ≡ old.mseccfg → (k : ℕ)
