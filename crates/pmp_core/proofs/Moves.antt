@@ -11,7 +11,9 @@ use Rattle.pmp_core.specs.declared.range.ByteRange.{ByteRange}
 use Rattle.pmp_core.specs.declared.span.Span.{Span}
 use Rattle.pmp_core.specs.Configuration.{Configuration, byte_of, configuration_of}
 use Rattle.pmp_core.specs.Decision.{IsByteOf}
-use Rattle.pmp_core.specs.Matching.{Matches}
+use Rattle.pmp_core.specs.Entry.{Entry}
+use Rattle.pmp_core.specs.Hart.{Profile, profile_by}
+use Rattle.pmp_core.specs.Matching.{Matches, low_address}
 use Rattle.pmp_core.specs.Moved.{AreAlikeBeside, IsMoved, IsMovedWithin, IsSameEntry, joined}
 use Rattle.pmp_core.specs.Ranges.{range_of}
 use Rattle.pmp_core.specs.RegisterFile.{IsLegal, RegisterFile, entry_at}
@@ -60,6 +62,19 @@ same_fields one other same =
     ∙ ap (λ (b : Bool). record { mml = other.mml; mmwp = b; rlb = one.rlb }) ((booleans_Decides _ _).0 rest.0)
     ∙ ap (λ (b : Bool). record { mml = other.mml; mmwp = other.mmwp; rlb = b }) ((booleans_Decides _ _).0 rest.1)
 
+pub same_profile : (one other : Profile)
+    → not (eqb one.entries other.entries && (eqb one.grain other.grain
+    && (eqb one.address_bits other.address_bits && beq one.has_smepmp other.has_smepmp))) ≡ false → one ≡ other
+same_profile one other same =
+    let all = and_parts _ _ (not-false _ same) in
+    let rest = and_parts _ _ all.1 in
+    let last = and_parts _ _ rest.1 in
+    let entries = eqb-true _ _ all.0 in
+    let grain = eqb-true _ _ rest.0 in
+    let bits = eqb-true _ _ last.0 in
+    let smepmp = (booleans_Decides _ _).0 last.1 in
+    (λ i. profile_by (entries i) (grain i) (bits i) (smepmp i))
+
 module _ (one other : RegisterFile) (i : ℕ) where
   pub same_entry : IsLegal one → IsLegal other
       → (entry_at other.entries i).configuration ≡ (entry_at one.entries i).configuration
@@ -72,6 +87,13 @@ module _ (one other : RegisterFile) (i : ℕ) where
           (λ matches. there.1 (rw range at (here.0 matches))),
           (λ matches. here.1 (rw (← range) at (there.0 matches))),
         ),
+  )
+
+  pub kept_entry : other.profile ≡ one.profile → entry_at other.entries i ≡ entry_at one.entries i
+      → low_address other.entries i ≡ low_address one.entries i → IsSameEntry one other i
+  kept_entry hart entry low = (
+    ap (λ (e : Entry). e.configuration) entry,
+    λ byte. rw (hart, entry, low) (λ matches. matches, λ matches. matches),
   )
 
   pub moved_within : (before now : Option Span) → IsSpan one i before → IsSpan other i now

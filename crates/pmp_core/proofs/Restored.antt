@@ -1,5 +1,5 @@
 -- The file that plain numbers stand for, part by part.
-use Rattle.std.proofs.Common.{◌≡◌, ℕ, ◌-◌, ◌^◌, ◌<◌, ◌≤◌, List, length, slice_index, refl}
+use Rattle.std.proofs.Common.{◌≡◌, ℕ, ◌-◌, ◌^◌, ◌%◌, ◌<◌, ◌≤◌, List, length, slice_index, refl, true}
 use Rattle.std.proofs.Common.{sym, ap, ◌∙◌, arith}
 use Rattle.std.proofs.Math.Nat.{mod-lt}
 use Rattle.std.proofs.Math.Pow.{pow_mono}
@@ -8,8 +8,9 @@ use Rattle.pmp_core.specs.Entry.{Entry}
 use Rattle.pmp_core.specs.declared.mseccfg.MseccfgFields.{MseccfgFields}
 use Rattle.pmp_core.specs.declared.register_write.TheConstants.{WORD_ADDRESSES}
 use Rattle.pmp_core.specs.declared.saved_registers.SavedRegisters.{SavedRegisters}
-use Rattle.pmp_core.specs.Hart.{Profile}
+use Rattle.pmp_core.specs.Hart.{Profile, word_addresses}
 use Rattle.pmp_core.specs.RegisterFile.{RegisterFile, file_of, reset_entry, entry_at}
+use Rattle.pmp_core.specs.RegisterWrite.{stored_over}
 use Rattle.pmp_core.specs.SavedRegisters.{hart_in, fields_in, restored_entry, restored_entries, restored_file}
 use Rattle.pmp_core.proofs.HartNumbers.{is_hart}
 use Rattle.pmp_core.proofs.Legal.{zero_fits}
@@ -77,3 +78,25 @@ module _ (saved : SavedRegisters) (file : RegisterFile) (is : restored_file save
       let within : i < length (restored_file saved).entries =
       omega (arith, ap (λ (f : RegisterFile). length f.entries) is) in
       sym (entry_in saved i within) ∙ ap (λ (f : RegisterFile). entry_at f.entries i) is
+
+-- entry i is the same where it is kept as the same numbers, on one hart with one mseccfg
+module _ (one other : SavedRegisters) (file after : RegisterFile) (is : restored_file one ≡ file)
+    (too : restored_file other ≡ after) (i : ℕ) (inside : i < length file.entries) (within : i < length after.entries)
+    (hart : file.profile ≡ after.profile) (mseccfg : file.mseccfg ≡ after.mseccfg) where
+  same_hart : hart_in one ≡ hart_in other
+  same_hart = sym (profile_in one) ∙ ap (λ (f : RegisterFile). f.profile) is ∙ hart
+      ∙ sym (ap (λ (f : RegisterFile). f.profile) too) ∙ profile_in other
+
+  same_fields : fields_in one ≡ fields_in other
+  same_fields = sym (mseccfg_in one) ∙ ap (λ (f : RegisterFile). f.mseccfg) is ∙ mseccfg
+      ∙ sym (ap (λ (f : RegisterFile). f.mseccfg) too) ∙ mseccfg_in other
+
+  pub same_by_numbers : slice_index one.addresses i ≡ slice_index other.addresses i
+      → slice_index one.configurations i ≡ slice_index other.configurations i
+      → entry_at file.entries i ≡ entry_at after.entries i
+  same_by_numbers address byte =
+      let restored : restored_entry one i ≡ restored_entry other i = (λ j. record {
+        configuration = stored_over (same_hart j).grain (same_fields j).mml true reset_entry.configuration (byte j);
+        address = address j % word_addresses (same_hart j);
+      }) in
+      sym (entry_seen one file is i inside) ∙ restored ∙ entry_seen other after too i within

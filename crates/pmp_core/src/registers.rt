@@ -1,6 +1,6 @@
 //! A unit's registers as they are read: a view of the plain numbers that keep them.
 
-ghost use Rattle.std.specs.Prelude.{◌≡◌, ◌*◌, ◌/◌, ◌^◌, ◌<◌, ◌≤◌, MatchOption, length};
+ghost use Rattle.std.specs.Prelude.{◌≡◌, ◌*◌, ◌/◌, ◌^◌, ◌<◌, ◌≤◌, IsTrue, MatchOption, length};
 ghost use Rattle.pmp_core.specs.declared.csr.Csr.{Csr};
 ghost use Rattle.pmp_core.specs.declared.register_write.TheConstants.{WORD_ADDRESSES};
 ghost use Rattle.pmp_core.specs.Configuration.{byte_of};
@@ -144,6 +144,19 @@ impl<'a> Registers<'a> {
     {
         let words = self.hart.word_addresses();
         self.numbers.addresses[index] % words
+    }
+
+    /// Whether the entry is kept as the same numbers in both. On one hart, with one `mseccfg`, it is the same then.
+    #[inline(always)]
+    pub(crate) fn has_same_numbers(&self, other: &Registers<'_>, index: usize) -> bool
+        requires here { index < length self.now.entries }
+        requires there { index < length other.now.entries }
+        ensures { IsTrue result → self.now.profile ≡ other.now.profile → self.now.mseccfg ≡ other.now.mseccfg
+            → entry_at self.now.entries index ≡ entry_at other.now.entries index }
+    {
+        let _counts = (self.count(), other.count());
+        self.numbers.addresses[index] == other.numbers.addresses[index]
+            && self.numbers.configurations[index] == other.numbers.configurations[index]
     }
 
     /// The entry's configuration byte, and zero where there is no entry.

@@ -1,7 +1,9 @@
-use Rattle.std.proofs.Common.{◌≡◌, ◌∙◌, sym, arith, inl, inr, rules}
+use Rattle.std.proofs.Common.{◌≡◌, ◌∙◌, ap, sym, arith, inl, inr, length, rules}
 use Rattle.std.proofs.lemmas.Bool.{cases_lt}
-use Rattle.pmp_core.proofs.Moves.{alike_beside, moved_before, moved_now, same_fields}
+use Rattle.pmp_core.specs.Hart.{Profile}
+use Rattle.pmp_core.proofs.Moves.{alike_beside, moved_before, moved_now, same_fields, same_profile}
 use Rattle.pmp_core.proofs.registers.Registers.moved_since.Goals as goal
+use Rattle.pmp_core.proofs.registers.Registers.moved_since.Goals.{After-count-index-end}
 
 pub loop-index-preserved : goal.loop-index-preserved
 loop-index-preserved c = record {
@@ -16,16 +18,28 @@ loop-index-preserved c = record {
   none = λ same. search rules;
 }
 
+same : (c : After-count-index-end) → c.args.self.now.profile ≡ c.args.before.now.profile
+same c = sym c.hart.ensures ∙ same_profile _ _ (sym c.if-ne.ensures) ∙ c.hart-2.ensures
+
+as_many : (c : After-count-index-end) → length c.args.self.now.entries ≡ length c.args.before.now.entries
+as_many c = c.count.ensures.legal.count ∙ ap (λ (p : Profile). p.entries) (same c) ∙ sym c.count-2.ensures.legal.count
+
+pub moved_by-requires-clause-before : goal.moved_by-requires-clause-before
+moved_by-requires-clause-before c = omega (
+  arith,
+  c.loop-index-test.true,
+  c.count-index-end.ensures.count,
+  as_many (goal.at.moved_by-requires-clause-before c).After-count-index-end,
+)
+
 pub returns-clause-beside : goal.returns-clause-beside
 returns-clause-beside c =
+    let many = as_many (goal.at.returns-clause-beside c).After-count-index-end in
     alike_beside c.args.before.now c.args.self.now c.count-2.ensures.legal c.count.ensures.legal c.loop-index.moved
-    (sym c.count.ensures.count ∙ c.if-count.false ∙ c.count-2.ensures.count)
-    (sym c.fields.ensures ∙ same_fields _ _ (sym c.if-ne.ensures) ∙ c.fields-else-count.ensures)
+    many (sym c.fields.ensures ∙ same_fields _ _ (sym c.if-ne-2.ensures) ∙ c.fields-else-ne.ensures)
     (λ i inside. c.loop-index.invariant.within i (omega (
       arith,
       c.loop-index-test.false,
-      c.count.ensures.count,
-      c.count-2.ensures.count,
       c.count-index-end.ensures.count,
-      c.if-count.false,
+      many,
     )))
