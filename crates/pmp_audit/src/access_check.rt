@@ -18,6 +18,7 @@ use std::io::Write;
 /// writes its report row, with the number 1.
 ///
 /// The row is whole before its first byte is written, so every refusal but `Output` leaves the output untouched.
+#[inline(never)]
 pub fn check<W: Write>(
     alloc: Global,
     script: &[u8],

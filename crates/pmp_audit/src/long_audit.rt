@@ -33,6 +33,7 @@ pub const PIECE: usize = 1 << 23;
 /// The rows of a piece are read, and then decided, in `jobs` parts at a time, each on a thread of its own where one can
 /// be made, while the calling thread takes the next piece; all have ended when the call answers. None is started for a
 /// `jobs` of 0 or 1.
+#[inline(never)]
 pub fn audit_long<T: Threads + Sync, R: Read, W: Write>(
     rt: &T,
     alloc: Global,

@@ -42,6 +42,7 @@ pub struct PolicySummary {
 /// The script's fault comes before any of the policy. The text is whole before its first byte is written, so every
 /// refusal but `Output` leaves the output untouched. The states are gone through once, and a row is asked again where a
 /// byte of its range may have moved; else a row costs a state the comparison of two ranges.
+#[inline(never)]
 pub fn check_policy<W: Write>(
     alloc: Global,
     pace: Pace,

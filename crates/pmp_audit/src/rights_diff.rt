@@ -23,6 +23,7 @@ use std::io::Write;
 ///
 /// The old script's fault comes first. The text is whole before its first byte is written, so every refusal but
 /// `Output` leaves the output untouched.
+#[inline(never)]
 pub fn diff<W: Write>(
     alloc: Global,
     old: &[u8],

@@ -39,6 +39,7 @@ use std::thread::Threads;
 ///
 /// Besides the refusals of `audit` there are `Share(NoPlace)` and `Moved`, both only where neither input has a fault.
 /// Whatever the answer is, the workers have ended. It may wait.
+#[inline(never)]
 pub fn audit_shared<R: Threads + Wait + Sync, G: Gate + Sync, W: Write>(
     rt: &R,
     alloc: Global,

@@ -57,6 +57,7 @@ fn bare_place(rows: &[Row]) -> Option<usize>
 /// The script's fault comes before any of the trace. The report is whole before its first byte is written, so every
 /// refusal but `Output` leaves the output untouched. The time grows with the events and the rows, not with their
 /// product.
+#[inline(never)]
 pub fn audit<W: Write>(
     alloc: Global,
     script: &[u8],

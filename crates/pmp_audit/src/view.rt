@@ -70,6 +70,7 @@ pub fn map_of<W: Write>(
 /// is none.
 ///
 /// The text is whole before its first byte is written, so every refusal but `Output` leaves the output untouched.
+#[inline(never)]
 pub fn show<W: Write>(
     alloc: Global,
     view: View,

@@ -35,6 +35,7 @@ pub struct WriteSummary {
 /// there, and whether that is what is expected.
 ///
 /// The text is whole before its first byte is written, so every refusal but `Output` leaves the output untouched.
+#[inline(never)]
 pub fn writes<W: Write>(
     alloc: Global,
     script: &[u8],
