@@ -102,7 +102,11 @@ fn joined(
         return Ok(None);
     };
     let behind = front.behind.place;
-    if behind != (Place { bare: behind.bare, ..middle.place }) {
+    let likely = Place {
+        bare: behind.bare,
+        ..middle.place
+    };
+    if behind != likely {
         return Ok(None);
     }
     let Some(faults) = front.behind.faults.checked_add(back.behind.faults) else {

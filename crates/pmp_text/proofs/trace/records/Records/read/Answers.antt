@@ -15,6 +15,8 @@ pub returns-clause-end : goal.returns-clause-end
 returns-clause-end c e =
     let found : c.in_ok-found.found ≡ false = cc in
     let reading = c.self.invariant c.if-self.false in
-    rw (← c.self.view_is, c.if-self.false, found)
-    (no_record_left c.self.inside.reader c.read_byte_record.new.self (fields_of c.read_byte_record.new.row) reading
-    (rw found at (c.in_ok-found.ensures.reads reading.untrimmed reading.ready)), refl)
+    rw (← c.self.view_is, c.if-self.false, found) (
+      no_record_left c.self.inside.reader c.read_byte_record.new.self (fields_of c.read_byte_record.new.row) reading
+          (rw found at (c.in_ok-found.ensures.reads reading.untrimmed reading.ready)),
+      refl,
+    )
