@@ -70,7 +70,10 @@ fn middle_line_end(text: &[u8]) -> Option<usize>
 fn likely_behind(place: Place, text: &[u8]) -> Standing
     ensures { result ≡ record { place = record result.place { bare = None }; faults = 0 } }
 {
-    let lines = text.iter().filter(|byte| **byte == b'\n').count() as u64;
+    let mut lines: u64 = 0;
+    for byte in text {
+        lines = lines.wrapping_add(u64::from(*byte == b'\n'));
+    }
     Standing {
         place: Place {
             begun: true,
