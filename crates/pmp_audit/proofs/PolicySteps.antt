@@ -46,12 +46,3 @@ no_fewer Events batches from to forward =
     (flat_map-append (λ batch. batch) (take from batches) (take more (drop from batches)))
     ∙ length-append (joined (take from batches)) (joined (take more (drop from batches))) in
     omega (arith, events)
-
--- the steps of publications that there are are among the script's
-pub counts_within : (pace : Pace) (batches : List (List Event)) (publications : ℕ) → publications ≤ length batches
-    → step_count pace batches publications ≤ length (steps_of pace batches)
-counts_within Publications batches publications inside = inside
-counts_within Events batches publications inside =
-    let fewer = no_fewer Events batches publications (length batches) inside in
-    let all : take (length batches) batches ≡ batches = take_all (length batches) batches (omega arith) in
-    omega (arith, fewer, ap (λ (l : List (List Event)). length (joined l)) all, length-map (joined batches) alone)

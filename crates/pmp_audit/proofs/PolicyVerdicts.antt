@@ -66,9 +66,6 @@ module _ (judged : List Judged) (before held : List ℕ) (summary : PolicySummar
   pub rows_so_far : summary.rows ≡ length judged
   rows_so_far = verdicts_so_far ∙ length-map judged (λ one. one.verdict)
 
-  pub broken_so_far : summary.broken ≤ summary.rows
-  broken_so_far = rw so_far.counted (count_by-le-length is_some verdicts)
-
   module _ (one : Judged) (after : List ℕ) (more : PolicySummary) where
     abbrev pub IsCounted : Type 0
     IsCounted = (more.rows ≡ summary.rows + 1) × (more.broken ≡ summary.broken + cond (is_some one.verdict) 1 0)

@@ -43,10 +43,6 @@ module _ (script : ScriptContents) where
     left : drop i rows ≡ row ∷ drop (i + 1) rows
     left = drop_more rows i row inside ∙ ap (λ (r : Row). r ∷ drop (i + 1) rows) (sym row_is)
 
-    pub order_of_rest : (done : ℕ) → IsInOrder (length script.batches) done (afters (map row_fields (drop i rows)))
-        → IsInOrder (length script.batches) row.after (afters (map row_fields (drop (i + 1) rows)))
-    order_of_rest done order = (rw left at order).2
-
 -- ---- a whole report
 
 pub audit_says : (script trace : List ℕ) (contents : ScriptContents) (rows : List Row) (before after text : List ℕ)

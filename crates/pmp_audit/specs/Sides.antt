@@ -15,8 +15,3 @@ fault_on side fault = fault
 -- the script is refused, or memory ran out
 abbrev pub FailsFile : (script : List ℕ) → (after : Option ℕ) → AuditFault → Type 0
 FailsFile script after = Declines (FileRefuses script after)
-
--- the same of the one on this side
-abbrev pub FailsOn : Side → (script : List ℕ) → (after : Option ℕ) → AuditFault → Type 0
-FailsOn side script after fault =
-    (plain : AuditFault) × FailsFile script after plain × (fault ≡ fault_on side plain)

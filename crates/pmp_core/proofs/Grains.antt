@@ -58,13 +58,6 @@ read_within grain n Tor address fits small = omega (arith, tor_most grain addres
 read_within grain n Na4 address fits small = small
 read_within grain n Napot address fits small = napot_within grain n address fits small
 
--- with the finest grain all is read as it is kept
-pub read_finest : (matching : AddressMatching) (address : ℕ) → read_address 0 matching address ≡ address
-read_finest Off address = omega arith
-read_finest Tor address = omega arith
-read_finest Na4 address = refl
-read_finest Napot address = omega arith
-
 -- ---- configurations
 
 -- a mode other than NA4 can be chosen

@@ -34,10 +34,6 @@ use Rattle.pmp_map.specs.Tables.{AreTables, IsFound}
 
 -- ---- causes
 
-pub fault_most : (allowed : Bool) → fault_number Fetch allowed ≤ 7
-fault_most true = omega arith
-fault_most false = omega arith
-
 pub cause_most : (owner : Option ℕ) → IfSome owner (λ i. i < 256) → cause_number (whole_cause owner) ≤ 512
 cause_most None small = omega arith
 cause_most (Some i) small = omega arith

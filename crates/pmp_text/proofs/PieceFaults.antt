@@ -13,12 +13,10 @@ use Rattle.pmp_text.specs.LongTraces.{Records, first_fault_at, has_begun, is_bar
 use Rattle.pmp_text.specs.Tables.{is_line_end}
 use Rattle.pmp_text.specs.LongTraces.{piece_fault, place_behind, row_records}
 use Rattle.pmp_text.specs.Tables.{records_of}
-use Rattle.pmp_text.specs.TraceFaults.{IsInOrder, afters}
 use Rattle.pmp_text.specs.Traces.{after_of, first_row_fault, is_header, row_fault, row_fields, row_of_record, row_in}
 use Rattle.pmp_text.proofs.BrokenRows.{no_row, no_header}
 use Rattle.pmp_text.proofs.CutTexts.{IsApart, cut_in_two}
 use Rattle.pmp_text.specs.Tables.{is_broken}
-use Rattle.pmp_text.proofs.LeastRows.{least_of, rows_in_order}
 use Rattle.pmp_text.specs.Flaws.{at_row, as_whole}
 
 or_assoc : {X : Type 0} (x y z : Option X) → option_or x (option_or y z) ≡ option_or (option_or x y) z
@@ -26,29 +24,11 @@ or_assoc None y z = refl
 or_assoc (Some fault) y z = refl
 
 module _ (publications : ℕ) where
-  from_none : (least : ℕ) (order : List ℕ) → IsInOrder publications least order → IsInOrder publications 0 order
-  from_none least [] in_order = tt
-  from_none least (after ∷ more) in_order = (omega arith, in_order.1, in_order.2)
-
-  rows_from_none : (last : Option ℕ) (next : ℕ) (rows : Records) → first_row_fault publications last next rows ≡ None
-      → IsInOrder publications 0 (afters (filter_map row_of_record rows))
-  rows_from_none last next rows e = from_none (least_of publications last) (afters (filter_map row_of_record rows))
-      (rows_in_order publications rows last next e)
-
   pub behind : (named : Bool) (last : Option ℕ) (next : ℕ) (rows : Records)
       → cond named (first_row_fault publications last next rows) (Some (at_row 0 (as_whole BadHeader))) ≡ None
       → first_row_fault publications last next rows ≡ None
   behind true last next rows e = e
   behind false last next rows e = absurd cc
-
-  -- the rows of a piece without a fault are in order
-  pub piece_in_order : (begun : Bool) (last : Option ℕ) (next : ℕ) (records : Records)
-      → first_fault_at publications begun last next records ≡ None
-      → IsInOrder publications 0 (afters (filter_map row_of_record (row_records begun records)))
-  piece_in_order true last next records e = rows_from_none last next records e
-  piece_in_order false last next [] e = tt
-  piece_in_order false last next (header ∷ rows) e =
-      rows_from_none last next rows (behind (is_header header) last next rows e)
 
   -- ---- records after records
 
