@@ -194,8 +194,12 @@ module _ (one other : RegisterFile) where
   pub past_at : (i : ℕ) → length one.entries ≤ i → length other.entries ≤ i → moved_at one other i ≡ None
   unfolding moved_at
   past_at i past too =
-      rw (range_past one i past, range_past other i too, get_or_past one.entries i reset_entry past,
-      get_or_past other.entries i reset_entry too) refl
+      rw (
+        range_past one i past,
+        range_past other i too,
+        get_or_past one.entries i reset_entry past,
+        get_or_past other.entries i reset_entry too,
+      ) refl
 
   module _ (legal : IsLegal one) (too : IsLegal other) where
     pub within_at : (i : ℕ) → IsMovedWithin one other (moved_at one other i) i
@@ -297,7 +301,7 @@ module _ (file : RegisterFile) (value : ℕ) (legal : IsLegal file) where
         let old = file.mseccfg in
         let new = (after Mseccfg).mseccfg in
         let fields : new ≡ old = sym (fields_back new.mml new.mmwp new.rlb) ∙ ap mseccfg_fields (eqb-true _ _ same)
-            ∙ fields_back old.mml old.mmwp old.rlb in
+        ∙ fields_back old.mml old.mmwp old.rlb in
         alike_beside file (after Mseccfg) legal (legal_after Mseccfg) _ refl fields (λ i inside. left Mseccfg _ i refl)
     | inr apart ↦ rw apart (λ access clear. absurd (clear access.start (omega arith) (omega arith)))
   ]
