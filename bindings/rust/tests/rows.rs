@@ -1,6 +1,7 @@
 //! The rows of `rows.txt`, on each of their harts, before and after the map is built.
 
 use std::error::Error;
+use std::ops::RangeInclusive;
 use tilvenka_pmp::{
     is_compatible, version, Access, Cause, Csr, Hart, Kind, Mode, NoAccess, NoHart,
 };
@@ -77,6 +78,23 @@ fn read(unit: &Unit, question: &str) -> String {
         .map_or_else(absence, |value| format!("{value:#x}"))
 }
 
+/// An access of a byte that didn't move is decided as before. Bytes at both ends of each run stand for all.
+fn stays_beside(moved: &Option<RangeInclusive<u64>>, before: &Unit, after: &Unit) {
+    let runs = before.runs().into_iter().chain(after.runs());
+    let is_moved = |byte: &u64| moved.as_ref().map_or(false, |it| it.contains(byte));
+    for byte in runs
+        .flat_map(|it| [it.first, it.last])
+        .filter(|it| !is_moved(it))
+    {
+        for mode in [Mode::User, Mode::Supervisor, Mode::Machine] {
+            for kind in [Kind::Fetch, Kind::Load, Kind::Store] {
+                let access = Access::new(mode, kind, byte, 1);
+                assert_eq!(before.decide(&access), after.decide(&access), "{access:x?}");
+            }
+        }
+    }
+}
+
 /// A write is changed where the registers are others, and stored where the register reads the value.
 fn write(unit: &Unit, question: &str) -> String {
     let (name, value) = question.split_once(' ').unwrap();
@@ -91,6 +109,7 @@ fn write(unit: &Unit, question: &str) -> String {
             assert_eq!(written.is_changed, after != *unit);
             assert_eq!(written.is_stored(), after.read(csr) == Ok(value));
             assert_eq!(after.is_built(), unit.is_built() && !written.is_changed);
+            stays_beside(&written.moved, unit, &after);
             let moved = written.moved.map_or(",".to_string(), |it| {
                 format!("{:#x},{:#x}", it.start(), it.end())
             });
