@@ -53,7 +53,8 @@ def expect_compatible(library: ctypes.CDLL, path: str) -> None:
     version.restype, size.restype = ctypes.c_uint32, ctypes.c_uint64
     version.argtypes, size.argtypes = [], []
     if version() // 100 != VERSION // 100 or size() != ctypes.sizeof(Unit):
-        raise ImportError(f"{path} is of version {parts(version())}, this module is for {parts(VERSION)}")
+        found, wanted = f"{parts(version())}, with units of {size()} bytes", f"{parts(VERSION)}, with {ctypes.sizeof(Unit)}"
+        raise ImportError(f"{path} is of version {found}; this module is for {wanted}")
 
 
 def parts(number: int) -> Tuple[int, int, int]:

@@ -41,8 +41,9 @@ impl Unit {
     pub fn new(hart: impl Into<Hart>) -> Unit {
         assert!(
             is_compatible(),
-            "libtilvenka_pmp is of version {:?}",
-            version()
+            "libtilvenka_pmp is of version {:?}, and not one for {}",
+            version(),
+            env!("CARGO_PKG_VERSION")
         );
         let map = ffi::Map {
             starts: [0; ffi::PLACES],
