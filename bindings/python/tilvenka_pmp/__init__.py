@@ -256,8 +256,8 @@ class Unit:
 
     def settle(self, questions: int) -> bool:
         """Builds the map where it isn't built and so many questions (decisions and rights) since the last change pay
-        for it. Answers whether it is built then. Count from 0 at each write that is_changed, and one more at each
-        question.
+        for it. Answers whether it is built then. Count from 0 after a reset, a restore and each write that is_changed,
+        and one more at each question, before which this is called.
 
         >>> unit = Unit()
         >>> unit.write("pmpcfg0", 0x19).is_changed

@@ -118,8 +118,8 @@ impl Unit {
     }
 
     /// Builds the map where it isn't built and so many questions (decisions and rights) since the last change pay for
-    /// it. Answers whether it is built then. Count from 0 at each write that [changed](Written::is_changed) something,
-    /// and one more at each question.
+    /// it. Answers whether it is built then. Count from 0 after a reset, a restore and each write that
+    /// [changed](Written::is_changed) something, and one more at each question, before which this is called.
     ///
     /// ```
     /// # use tilvenka_pmp::{Csr, Size, Unit};
