@@ -32,10 +32,14 @@ impl Hart {
             && grain.is_power_of_two()
             && (4..=4096).contains(&grain)
             && (34..=56).contains(&address_bits);
-        is_one.then(|| Hart(ffi::hart(entries, grain, address_bits, has_smepmp)))
+        let is_usual = grain == 4 && address_bits == 56 && has_smepmp;
+        is_one.then(|| match entries {
+            16 | 64 if is_usual => Hart(u64::from(entries)),
+            _ => Hart(ffi::hart(entries, grain, address_bits, has_smepmp)),
+        })
     }
 
-    /// The number that `TILVENKA_PMP_HART` has for it.
+    /// The number that saved registers have for it.
     pub(crate) fn number(self) -> u64 {
         self.0
     }
@@ -56,7 +60,8 @@ impl TryFrom<u64> for Hart {
         let grain = 4u16.checked_shl(u32::from(shift)).unwrap_or(0);
         match number {
             16 | 64 => Some(Hart(number)),
-            _ => Hart::new(entries, grain, bits, smepmp == 1).filter(|it| it.0 == number),
+            _ => Hart::new(entries, grain, bits, smepmp == 1)
+                .filter(|_| ffi::hart(entries, grain, bits, smepmp == 1) == number),
         }
         .ok_or(NoHart)
     }

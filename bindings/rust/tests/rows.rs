@@ -291,6 +291,15 @@ fn reasons_are_a_set() {
 }
 
 #[test]
+fn harts_are_equal_where_they_are_one() {
+    let sixteen = Hart::from(Size::Sixteen);
+    assert_eq!(Hart::new(16, 4, 56, true), Some(sixteen));
+    assert_eq!(Hart::try_from(0x100013810), Ok(sixteen));
+    assert_ne!(Hart::new(16, 8, 56, true), Some(sixteen));
+    assert_ne!(Hart::new(16, 4, 56, false), Some(sixteen));
+}
+
+#[test]
 fn the_library_is_of_this_version() {
     let (major, minor, patch) = version();
     assert!(is_compatible());
