@@ -41,6 +41,8 @@ struct peer {
     void (*prepare)(const struct write *writes, size_t count);
     /* Makes these writes as the unit stands, and what has to be made of them before the next question. */
     void (*change)(const struct write *writes, size_t count);
+    /* Makes this write, and answers whether a TLB has to forget pages then: those from the first byte to the last. */
+    bool (*moves)(struct write write, uint64_t *first, uint64_t *last);
     /* Makes these writes alone. */
     void (*write)(const struct write *writes, size_t count);
     /* Reads the registers of these numbers. */
