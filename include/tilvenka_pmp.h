@@ -4,8 +4,9 @@
  * The caller owns the unit: a struct of plain numbers without pointers. It may be copied, and zeroed memory is a unit
  * of sixteen entries after reset, whose map isn't built. No call keeps a pointer, allocates, or has a condition on the
  * numbers that it is given: whatever they are, the answer is defined. Pointers have to be valid and aligned, and two of
- * one call may not overlap. Reset, restore and save also take memory that holds nothing yet. Calls on different units
- * need no lock. Calls on one unit may run at once where all of them take it as const.
+ * one call may not overlap, but for those of save and restore. Reset, restore and save also take memory that holds
+ * nothing yet. Calls on different units need no lock. Calls on one unit may run at once where all of them take it as
+ * const.
  *
  * Reading the struct is like a call that takes it as const. Decisions, rights and runs go by the map where it is built,
  * and a build keeps one that is. So change the registers by these calls alone: whoever writes to the struct itself, or
@@ -33,6 +34,13 @@ extern "C" {
 #define TILVENKA_PMP_ASSERT _Static_assert
 #define TILVENKA_PMP_ALIGNMENT _Alignof
 #endif
+
+/* The version of this header, as tilvenka_pmp_version gives that of the library: 200 is 0.2.0. */
+#define TILVENKA_PMP_VERSION_MAJOR 0
+#define TILVENKA_PMP_VERSION_MINOR 2
+#define TILVENKA_PMP_VERSION_PATCH 0
+#define TILVENKA_PMP_VERSION \
+    (10000 * TILVENKA_PMP_VERSION_MAJOR + 100 * TILVENKA_PMP_VERSION_MINOR + TILVENKA_PMP_VERSION_PATCH)
 
 enum {
     TILVENKA_PMP_MAX_ENTRIES = 64,
@@ -81,16 +89,22 @@ enum { TILVENKA_PMP_PMPCFG0 = 0x3a0, TILVENKA_PMP_PMPADDR0 = 0x3b0, TILVENKA_PMP
 /* The bits of mseccfg that the unit has. Those of other extensions, as Zkr's, are the emulator's to keep. */
 enum { TILVENKA_PMP_MML = 1, TILVENKA_PMP_MMWP = 2, TILVENKA_PMP_RLB = 4 };
 
-/* What a write or a read of a CSR came to. */
+/* What a call came to that answers a status. tilvenka_pmp_is_done tells whether it was done; where it wasn't, nothing
+ * changed. */
 enum {
-    /* A read is done; or a write is, the register reads the value, and none is another than before. */
-    TILVENKA_PMP_DONE = 0,
+    /* A read, a reset or a restore is done; or a write is, the register reads the value, and what is kept is as before. */
+    TILVENKA_PMP_UNCHANGED = 0,
     /* An odd pmpcfg register, which RV64 doesn't have (3.7.1). */
     TILVENKA_PMP_ODD_CONFIGURATION = 1,
-    /* No register of the unit. */
+    /* No register of the unit. mseccfg is none on a hart without Smepmp. */
     TILVENKA_PMP_NO_REGISTER = 2,
-    /* The bit of a write that is done, and by which a register isn't as before. */
+    /* The number that a reset or a restore was given names no hart. */
+    TILVENKA_PMP_NO_HART = 3,
+    /* The bit of a write that is done, and by which what is kept isn't as before. The register may read the same, where
+     * the grain hides the bits that changed. */
     TILVENKA_PMP_CHANGED = 4,
+    /* The bit of tilvenka_pmp_write_moved: some access may be decided otherwise than before. */
+    TILVENKA_PMP_MOVED = 8,
     /* Bits of a write that is done: why the register doesn't read the value. There is one exactly where it doesn't. */
     TILVENKA_PMP_ABSENT = 1 << 8, /* the value isn't zero for an entry, or a register, that the unit doesn't have */
     TILVENKA_PMP_BITS = 1 << 9, /* it has bits that the register doesn't have */
@@ -127,13 +141,19 @@ enum {
     TILVENKA_PMP_NO_RANGE = 16
 };
 
-/* A hart other than those of 16 and of 64 entries with a grain of 4 bytes, addresses of 56 bits and Smepmp: so many
- * entries, 0 to 64, the manual's G, 0 to 10, where the grain is 2^(G+2) bytes, addresses of so many bits, 34 to 56, and
- * whether it has mseccfg. With other numbers, however large, it is that of 16 entries. */
+/* The number of a hart: how many entries it has, 0 to 64, its grain in bytes, a power of two from 4 to 4096, how many
+ * bits an address has, 34 to 56, and whether it has mseccfg. With an argument that is none of these it names no hart.
+ * 16 and 64 by themselves name the harts of so many entries with a grain of 4 bytes, addresses of 56 bits and Smepmp. */
 #define TILVENKA_PMP_HART(entries, grain, address_bits, smepmp) \
     (TILVENKA_PMP_BYTE(entries) | TILVENKA_PMP_BYTE(address_bits) << 8 | ((smepmp) ? UINT64_C(1) : 0) << 16 \
-        | TILVENKA_PMP_BYTE(grain) << 24 | UINT64_C(1) << 32)
+        | TILVENKA_PMP_G(grain) << 24 | UINT64_C(1) << 32)
 #define TILVENKA_PMP_BYTE(number) ((uint64_t)(number) < 255 ? (uint64_t)(number) : UINT64_C(255))
+/* The manual's G, where the grain is 2^(G+2) bytes, and 255 where it is no grain. */
+#define TILVENKA_PMP_G(grain) \
+    ((grain) == 4 ? UINT64_C(0) : (grain) == 8 ? UINT64_C(1) : (grain) == 16 ? UINT64_C(2) \
+        : (grain) == 32 ? UINT64_C(3) : (grain) == 64 ? UINT64_C(4) : (grain) == 128 ? UINT64_C(5) \
+        : (grain) == 256 ? UINT64_C(6) : (grain) == 512 ? UINT64_C(7) : (grain) == 1024 ? UINT64_C(8) \
+        : (grain) == 2048 ? UINT64_C(9) : (grain) == 4096 ? UINT64_C(10) : UINT64_C(255))
 
 /* All registers. What a register lacks is ignored: bits 63 to 54 of an address, or more on a hart with fewer, bits 6
  * and 5 of a configuration byte, all of mseccfg but MML, MMWP and RLB. An address is all that was written, also below
@@ -142,7 +162,8 @@ typedef struct tilvenka_pmp_registers {
     uint64_t addresses[TILVENKA_PMP_MAX_ENTRIES]; /* pmpaddr0 and so on: bits 55 to 2 of a byte address */
     uint8_t configurations[TILVENKA_PMP_MAX_ENTRIES];
     uint64_t mseccfg;
-    uint64_t entries; /* the hart: 64, what TILVENKA_PMP_HART gives, or else 16 */
+    /* The number of the hart. One that names none stands for 16 in every call but restore. */
+    uint64_t entries;
 } tilvenka_pmp_registers;
 
 /* The map is the library's own; where `runs` is 0 it isn't built. */
@@ -166,9 +187,15 @@ TILVENKA_PMP_ASSERT(offsetof(tilvenka_pmp_map, rows) == 8 * 217 + 8, "the rows l
 TILVENKA_PMP_ASSERT(TILVENKA_PMP_ALIGNMENT(tilvenka_pmp_unit) == 8, "the unit is aligned otherwise");
 TILVENKA_PMP_ASSERT(sizeof(tilvenka_pmp_unit) == 592 + 8 * 217 + 8 + 32 * 217, "the unit is laid out otherwise");
 
-/* Resets the unit, which from now on is of the hart that `entries` says: of 64 entries where it is 64, of the one that
- * TILVENKA_PMP_HART gave, and else of 16. The map isn't built. */
-void tilvenka_pmp_reset(tilvenka_pmp_unit *unit, uint64_t entries);
+/* The version of the library: 10000 times the major number, 100 times the minor one, and the patch. */
+uint32_t tilvenka_pmp_version(void);
+
+/* How many bytes a unit has in the library. */
+uint64_t tilvenka_pmp_unit_size(void);
+
+/* Resets the unit, which from now on is of the hart that the number names: 16, 64, or what TILVENKA_PMP_HART gave. The
+ * map isn't built. It answers TILVENKA_PMP_NO_HART where the number names none, and the unit is as before. */
+uint32_t tilvenka_pmp_reset(tilvenka_pmp_unit *unit, uint64_t hart);
 
 /* Writes the CSR with this number, 0x3a0 to 0x3ef or 0x747, as firmware does in machine mode: locks, reserved bits and
  * sticky bits as 3.7.1 and Smepmp say. With TILVENKA_PMP_CHANGED the registers aren't as before, and the map isn't
@@ -176,12 +203,27 @@ void tilvenka_pmp_reset(tilvenka_pmp_unit *unit, uint64_t entries);
  * there: they read as zero, and a write to them is done and changes nothing. */
 uint32_t tilvenka_pmp_write(tilvenka_pmp_unit *unit, uint32_t csr, uint64_t value);
 
-/* Reads the CSR with this number. Unless it is TILVENKA_PMP_DONE, `value` stays. */
+/* Writes it too, and says what to flush. The status is the same, and has TILVENKA_PMP_MOVED where some access may be
+ * decided otherwise than before: then `first` and `last` are the first and the last byte of what moved, and else they
+ * stay. In each mode and of each kind, an access with no byte from the first to the last is decided as before, by the
+ * same cause. Nothing moved where nothing changed, or where the entries that changed matched no byte and match none.
+ * What moved reaches from the lowest to the highest byte that they matched or match: of a pmpcfg those of its entries
+ * that changed, of a pmpaddr its own and the next where that is TOR. A change of mseccfg moves all, 0 to 2^56 - 1. */
+uint32_t tilvenka_pmp_write_moved(tilvenka_pmp_unit *unit, uint32_t csr, uint64_t value, uint64_t *first,
+                                  uint64_t *last);
+
+/* Reads the CSR with this number. Unless the answer is TILVENKA_PMP_UNCHANGED, `value` stays. */
 uint32_t tilvenka_pmp_read(const tilvenka_pmp_unit *unit, uint32_t csr, uint64_t *value);
 
 /* Builds the map, by which a decision is a search in place of a walk: once after the last of several writes. One that
  * is built is left. */
 void tilvenka_pmp_build(tilvenka_pmp_unit *unit);
+
+/* Builds the map where it isn't built and pays: where so many questions (decisions, rights, runs) since the last change
+ * take longer without it. It answers whether the map is built then. The caller counts: a number that is 0 after each
+ * TILVENKA_PMP_CHANGED, reset and restore, and one more at each question, before which it makes this call. The map pays
+ * from the 16th question on, once their number times that of the entries that are on is 160 or more. */
+bool tilvenka_pmp_settle(tilvenka_pmp_unit *unit, uint64_t questions);
 
 bool tilvenka_pmp_is_built(const tilvenka_pmp_unit *unit);
 
@@ -203,16 +245,35 @@ uint32_t tilvenka_pmp_rights(const tilvenka_pmp_unit *unit, tilvenka_pmp_mode mo
 uint32_t tilvenka_pmp_run(const tilvenka_pmp_unit *unit, tilvenka_pmp_mode mode, uint64_t address, uint64_t *first,
                           uint64_t *last);
 
-/* A snapshot: all registers, with zeros for what a unit of sixteen lacks. */
-void tilvenka_pmp_save(const tilvenka_pmp_unit *unit, tilvenka_pmp_registers *registers);
+/* What tilvenka_pmp_save and tilvenka_pmp_restore call with memory apart from the unit. */
+void tilvenka_pmp_save_to(const tilvenka_pmp_unit *unit, tilvenka_pmp_registers *registers);
+uint32_t tilvenka_pmp_restore_from(tilvenka_pmp_unit *unit, const tilvenka_pmp_registers *registers);
+
+/* A snapshot: all registers, with zeros for what the hart lacks, and its number, so that it can be restored. It may be
+ * `&unit->registers`, where it puts each register's number right and leaves the map. */
+static inline void tilvenka_pmp_save(const tilvenka_pmp_unit *unit, tilvenka_pmp_registers *registers) {
+    tilvenka_pmp_registers saved;
+    tilvenka_pmp_save_to(unit, &saved);
+    *registers = saved;
+}
 
 /* Takes a snapshot back, whatever its numbers are and whatever the unit's locks; a reserved combination of R and W is
- * stored as a write stores it. The map isn't built. */
-void tilvenka_pmp_restore(tilvenka_pmp_unit *unit, const tilvenka_pmp_registers *registers);
+ * stored as a write stores it. It may be `&unit->registers`. The map isn't built. It answers TILVENKA_PMP_NO_HART where
+ * `entries` names no hart, and the unit is as before. */
+static inline uint32_t tilvenka_pmp_restore(tilvenka_pmp_unit *unit, const tilvenka_pmp_registers *registers) {
+    const tilvenka_pmp_registers saved = *registers;
+    return tilvenka_pmp_restore_from(unit, &saved);
+}
 
-/* Whether a write or a read was done. */
+/* Whether the library is one for this header: of its major and minor version, and with its struct. */
+static inline bool tilvenka_pmp_is_compatible(void) {
+    return tilvenka_pmp_version() / 100 == TILVENKA_PMP_VERSION / 100
+        && tilvenka_pmp_unit_size() == sizeof(tilvenka_pmp_unit);
+}
+
+/* Whether the call was done. */
 static inline bool tilvenka_pmp_is_done(uint32_t status) {
-    return status != TILVENKA_PMP_ODD_CONFIGURATION && status != TILVENKA_PMP_NO_REGISTER;
+    return status < TILVENKA_PMP_ODD_CONFIGURATION || status > TILVENKA_PMP_NO_HART;
 }
 
 /* Whether the register reads what was written. */
@@ -220,16 +281,17 @@ static inline bool tilvenka_pmp_is_stored(uint32_t status) {
     return tilvenka_pmp_is_done(status) && status < TILVENKA_PMP_ABSENT;
 }
 
-/* Whether the number is that of a hart as TILVENKA_PMP_HART gives it for numbers in their ranges. */
+/* Whether the number names a hart: 16, 64, or what TILVENKA_PMP_HART gives for arguments in their ranges. */
 static inline bool tilvenka_pmp_is_hart(uint64_t hart) {
     const uint64_t bits = hart >> 8 & 0xff, grain = hart >> 24 & 0xff;
-    return hart >> 32 == 1 && (hart & 0xff) <= TILVENKA_PMP_MAX_ENTRIES && bits >= 34 && bits <= 56 && grain <= 10;
+    return hart == 16 || hart == 64
+        || (hart >> 32 == 1 && (hart >> 17 & 0x7f) == 0 && (hart & 0xff) <= TILVENKA_PMP_MAX_ENTRIES && bits >= 34
+            && bits <= 56 && grain <= 10);
 }
 
 /* How many entries the hart has that `entries` says. */
 static inline unsigned tilvenka_pmp_count(const tilvenka_pmp_registers *registers) {
-    const uint64_t hart = registers->entries;
-    return tilvenka_pmp_is_hart(hart) ? (unsigned)(hart & 0xff) : hart == 64 ? 64 : 16;
+    return tilvenka_pmp_is_hart(registers->entries) ? (unsigned)(registers->entries & 0xff) : 16;
 }
 
 /* How many entries aren't off; NA4 is off where the grain is above 4 bytes. Where none is on, no entry matches any

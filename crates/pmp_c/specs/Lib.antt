@@ -2,4 +2,5 @@
 pub mod RangeRights
 pub mod RunAnswer
 pub mod Unit
+pub mod Settling
 pub mod Status

@@ -1,5 +1,5 @@
 -- What the numbers of a unit stand for.
-use Rattle.std.specs.Prelude.{◌≡◌, ◌≢◌, ◌<◌}
+use Rattle.std.specs.Prelude.{◌≡◌, ◌≢◌, ℕ, ◌+◌, ◌*◌, ◌<◌}
 use Rattle.pmp_core.specs.RegisterFile.{RegisterFile}
 use Rattle.pmp_core.specs.SavedRegisters.{restored_file, saved_registers}
 use Rattle.pmp_c.specs.declared.unit.Unit.{Unit}
@@ -31,3 +31,11 @@ pub record IsBuilt (old new : Unit) : Type 0 where
 pub record IsChanged (old new : Unit) : Type 0 where
   pub file : file_of_unit new ≢ file_of_unit old
   pub unbuilt : new.map.runs ≡ 0
+
+-- how many bytes a unit has: registers, where runs begin, how many there are, and a row of 16 for each
+abbrev pub unit_size : ℕ
+unit_size = 592 + 8 * 217 + 8 + 32 * 217
+
+-- 10,000 times the major number, 100 times the minor one, and the patch
+abbrev pub version : ℕ
+version = 10000 * 0 + 100 * 2 + 0

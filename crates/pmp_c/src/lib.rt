@@ -8,58 +8,110 @@
 //! where numbers name no access.
 #![tactic(auto)]
 
-ghost use Rattle.std.specs.Prelude.{◌≡◌, ◌<◌, ◌≤◌, ◌↔◌, ◌⊎◌, Err, IsTrue, MatchResult};
+ghost use Rattle.std.specs.Prelude.{◌≡◌, ◌<◌, ◌≤◌, ◌↔◌, ◌⊎◌, Err, IsTrue, MatchResult, false, true};
 ghost use Rattle.pmp_core.specs.declared.access.Access.{Access};
 ghost use Rattle.pmp_core.specs.declared.access.Mode.{Mode};
 ghost use Rattle.pmp_core.specs.declared.access.TheConstants.{ADDRESS_LIMIT};
-ghost use Rattle.pmp_core.specs.Csr.{numbered};
 ghost use Rattle.pmp_core.specs.Ranges.{decision_of};
 ghost use Rattle.pmp_core.specs.RegisterFile.{reset_file};
 ghost use Rattle.pmp_core.specs.RegisterValue.{register_value};
-ghost use Rattle.pmp_core.specs.SavedRegisters.{saved_registers, restored_file, saved_hart};
+ghost use Rattle.pmp_core.specs.SavedRegisters.{names_hart, saved_registers, restored_file, saved_hart};
 ghost use Rattle.pmp_map.specs.Answer.{answer_number, no_access, no_cause};
 ghost use Rattle.pmp_map.specs.Request.{IsNamed, mode_number};
 ghost use Rattle.pmp_c.specs.RangeRights.{IsRangeOf, IsRightsNumber, no_range};
 ghost use Rattle.pmp_c.specs.RunAnswer.{IsRunAnswer};
-ghost use Rattle.pmp_c.specs.Status.{status_number, IsWriteAnswer};
-ghost use Rattle.pmp_c.specs.Unit.{file_of_unit, IsBuilt, IsSetTo, IsUnit};
+ghost use Rattle.pmp_c.specs.Settling.{IsSettled};
+ghost use Rattle.pmp_c.specs.Status.{ends, no_hart, register_in, status_number, IsMoveAnswer, IsWriteAnswer};
+ghost use Rattle.pmp_c.specs.Unit.{file_of_unit, unit_size, version, IsBuilt, IsSetTo, IsUnit};
 
 mod numbers;
 mod unit;
 
-use crate::numbers::{CHANGED, NO_RANGE, REASONS, TAKEN, csr_of, refusal_status, rights_number};
-use pmp_core::{ADDRESS_LIMIT, Hart, Registers, SavedRegisters};
+use crate::numbers::{MOVED, NO_HART, NO_RANGE, UNCHANGED, refusal_status, rights_number};
+use pmp_core::{ADDRESS_LIMIT, Hart, SavedRegisters};
 use pmp_map::{NO_CAUSE, access_of, cause_number, mode_of, no_access, whole_cause};
 pub use unit::Unit;
 
-/// Resets a unit of the hart with this number, as `SavedRegisters` has it: 64 is one of sixty-four entries, one with
-/// bit 32 set may spell another, and every other number is one of sixteen (Volume II, 3.7.1). All registers are zero.
+/// The version of the library: 10,000 times the major number, 100 times the minor one, and the patch.
 #[unsafe(no_mangle)]
-pub extern "C" fn tilvenka_pmp_reset(unit: &mut Unit, entries: u64)
-    ensures { IsSetTo (reset_file (saved_hart entries)) unit.new }
+pub extern "C" fn tilvenka_pmp_version() -> u32
+    ensures { result ≡ version }
 {
-    unit.registers = SavedRegisters::reset_on(Hart::from_number(entries));
-    unit.map.runs = 0;
+    200
+}
+
+/// How many bytes a unit has, by which a caller sees that it has the same struct.
+#[unsafe(no_mangle)]
+pub extern "C" fn tilvenka_pmp_unit_size() -> u64
+    ensures { result ≡ unit_size }
+{
+    size_of::<Unit>() as u64
+}
+
+/// Resets a unit of the hart that this number names: 16 and 64 one of so many entries (Volume II, 3.7.1), and one with
+/// bit 32 set the hart that it spells, as `SavedRegisters` has it. All registers are zero. Answers 0, or 3 where the
+/// number names no hart, and then the unit is as before.
+#[unsafe(no_mangle)]
+pub extern "C" fn tilvenka_pmp_reset(unit: &mut Unit, hart: u64) -> u32
+    ensures done { names_hart hart ≡ true → (result ≡ 0) × IsSetTo (reset_file (saved_hart hart)) unit.new }
+    ensures refused { names_hart hart ≡ false → (result ≡ no_hart) × (unit.new ≡ unit.old) }
+{
+    match Hart::named(hart) {
+        Some(hart) => {
+            unit.registers = SavedRegisters::reset_on(hart);
+            unit.map.runs = 0;
+            UNCHANGED
+        }
+        None => NO_HART,
+    }
 }
 
 /// Writes a register (Volume II, 3.7.1 and Smepmp), by its CSR number. Answers 1 for an odd `pmpcfg` and 2 for what is
-/// no PMP register: these change nothing. Else it answers the sum of 4 where a register is another than before, and
-/// then the map is to be built again, and of 256 times the reasons why this one doesn't read the value, a bit for each.
+/// no PMP register of the hart: these change nothing. Else it answers the sum of 4 where a register is another than
+/// before, and then the map is to be built again, and of 256 times the reasons why this one doesn't read the value, a
+/// bit for each.
 #[unsafe(no_mangle)]
 pub extern "C" fn tilvenka_pmp_write(unit: &mut Unit, csr: u32, value: u64) -> u32
-    ensures { MatchResult (numbered csr)
+    ensures { MatchResult (register_in (file_of_unit unit.old) csr)
         (λ named. IsWriteAnswer unit.old unit.new named value result)
         (λ fault. (result ≡ status_number (Err fault)) × (unit.new ≡ unit.old)) }
 {
-    match csr_of(csr) {
+    match unit.register(csr) {
         Ok(csr) => {
             let written = unit.registers.write(csr, value);
-            let reasons = REASONS * u32::from(written.reasons.bits());
-            if written.is_changed {
-                unit.map.runs = 0;
-                CHANGED + reasons
-            } else {
-                TAKEN + reasons
+            unit.noted(&written)
+        }
+        Err(fault) => refusal_status(fault),
+    }
+}
+
+/// Writes a register as `tilvenka_pmp_write` does, and answers 8 more where some access may be decided otherwise than
+/// before: then `first` and `last` are the first and the last byte of what moved, and in every mode and kind an access
+/// with none of these is decided as before. Else they stay.
+#[unsafe(no_mangle)]
+pub extern "C" fn tilvenka_pmp_write_moved(
+    unit: &mut Unit,
+    csr: u32,
+    value: u64,
+    first: &mut u64,
+    last: &mut u64,
+) -> u32
+    ensures { MatchResult (register_in (file_of_unit unit.old) csr)
+        (λ named. IsMoveAnswer unit.old unit.new named value (ends first.old last.old) (ends first.new last.new) result)
+        (λ fault. (result ≡ status_number (Err fault)) × (unit.new ≡ unit.old)
+        × (ends first.new last.new ≡ ends first.old last.old)) }
+{
+    match unit.register(csr) {
+        Ok(csr) => {
+            let (written, moved) = unit.registers.write_moved(csr, value);
+            let status = unit.noted(&written);
+            match moved {
+                Some(span) => {
+                    *first = span.first;
+                    *last = span.last;
+                    status + MOVED
+                }
+                None => status,
             }
         }
         Err(fault) => refusal_status(fault),
@@ -69,15 +121,15 @@ pub extern "C" fn tilvenka_pmp_write(unit: &mut Unit, csr: u32, value: u64) -> u
 /// Reads a register, by its CSR number. Answers 0, or as a write does where it doesn't.
 #[unsafe(no_mangle)]
 pub extern "C" fn tilvenka_pmp_read(unit: &Unit, csr: u32, value: &mut u64) -> u32
-    ensures status { result ≡ status_number (numbered csr) }
-    ensures value { MatchResult (numbered csr)
+    ensures status { result ≡ status_number (register_in (file_of_unit unit.now) csr) }
+    ensures value { MatchResult (register_in (file_of_unit unit.now) csr)
         (λ named. value.new ≡ register_value (file_of_unit unit.now) named)
         (λ fault. value.new ≡ value.old) }
 {
-    match csr_of(csr) {
+    match unit.register(csr) {
         Ok(csr) => {
             *value = unit.registers.read(csr);
-            TAKEN
+            UNCHANGED
         }
         Err(fault) => refusal_status(fault),
     }
@@ -88,9 +140,19 @@ pub extern "C" fn tilvenka_pmp_read(unit: &Unit, csr: u32, value: &mut u64) -> u
 pub extern "C" fn tilvenka_pmp_build(unit: &mut Unit)
     ensures { IsBuilt unit.old unit.new }
 {
-    if unit.map.runs == 0 {
-        unit.map.fill(&Registers::of(&unit.registers));
+    unit.build();
+}
+
+/// Builds the map where it isn't built and so many questions since the last change pay for it, on these registers.
+/// Answers whether it is built then.
+#[unsafe(no_mangle)]
+pub extern "C" fn tilvenka_pmp_settle(unit: &mut Unit, questions: u64) -> bool
+    ensures { IsSettled unit.old unit.new questions result }
+{
+    if unit.map.runs == 0 && unit.pays(questions) {
+        unit.build();
     }
+    unit.map.runs > 0
 }
 
 /// Whether the map is built.
@@ -183,20 +245,31 @@ pub extern "C" fn tilvenka_pmp_run(
     }
 }
 
-/// Writes the registers out, with zeros for what the unit doesn't have.
+/// Writes the registers out, with zeros for what the unit doesn't have. Their number names the hart, so that they can
+/// be restored.
 #[unsafe(no_mangle)]
-pub extern "C" fn tilvenka_pmp_save(unit: &Unit, registers: &mut SavedRegisters)
+pub extern "C" fn tilvenka_pmp_save_to(unit: &Unit, registers: &mut SavedRegisters)
     ensures saved { registers.new ≡ saved_registers (file_of_unit unit.now) }
     ensures restored { restored_file registers.new ≡ file_of_unit unit.now }
+    ensures named { names_hart registers.new.entries ≡ true }
 {
     *registers = unit.registers.canonical();
 }
 
-/// Sets the registers: every choice of numbers stands for a unit. The map is then to be built again.
+/// Sets the registers, whatever their numbers are: but for the hart's, every choice stands for a unit. The map is then
+/// to be built again. Answers 0, or 3 where `entries` names no hart, and then the unit is as before.
 #[unsafe(no_mangle)]
-pub extern "C" fn tilvenka_pmp_restore(unit: &mut Unit, registers: &SavedRegisters)
-    ensures { IsSetTo (restored_file registers.now) unit.new }
+pub extern "C" fn tilvenka_pmp_restore_from(unit: &mut Unit, registers: &SavedRegisters) -> u32
+    ensures done { names_hart registers.now.entries ≡ true
+        → (result ≡ 0) × IsSetTo (restored_file registers.now) unit.new }
+    ensures refused { names_hart registers.now.entries ≡ false → (result ≡ no_hart) × (unit.new ≡ unit.old) }
 {
-    unit.registers = registers.canonical();
-    unit.map.runs = 0;
+    match Hart::named(registers.entries) {
+        Some(_) => {
+            unit.registers = registers.canonical();
+            unit.map.runs = 0;
+            UNCHANGED
+        }
+        None => NO_HART,
+    }
 }

@@ -1,20 +1,40 @@
 //! The numbers that calls take and answer.
 
-ghost use Rattle.std.specs.Prelude.{◌≡◌, Err};
+ghost use Rattle.std.specs.Prelude.{◌≡◌, ◌^◌, ◌<◌, Err};
 ghost use Rattle.pmp_core.specs.Csr.{numbered};
 ghost use Rattle.pmp_c.specs.RangeRights.{rights_number};
-ghost use Rattle.pmp_c.specs.Status.{status_number};
+ghost use Rattle.pmp_c.specs.Status.{status_number, write_number};
 
-use pmp_core::{Csr, CsrFault, Perms};
+use pmp_core::{Csr, CsrFault, Perms, Written};
 
-/// The status of a call that took the register's number.
-pub const TAKEN: u32 = 0;
+/// The status of a call that is done, and by which no register is another than before.
+pub const UNCHANGED: u32 = 0;
+
+/// The status of a call that was given a number that names no hart.
+pub const NO_HART: u32 = 3;
 
 /// The bit of a write that changed a register.
-pub const CHANGED: u32 = 4;
+const CHANGED: u32 = 4;
+
+/// The bit of a write that moved bytes.
+pub const MOVED: u32 = 8;
 
 /// What the reasons of a write are multiplied by.
-pub const REASONS: u32 = 256;
+const REASONS: u32 = 256;
+
+/// What a write came to.
+#[inline(always)]
+pub fn write_status(written: &Written) -> u32
+    ensures number { result ≡ write_number written.now }
+    ensures most { result < 2 ^ 31 }
+{
+    let reasons = REASONS * u32::from(written.reasons.bits());
+    if written.is_changed {
+        CHANGED + reasons
+    } else {
+        UNCHANGED + reasons
+    }
+}
 
 /// The status of a call that didn't.
 pub fn refusal_status(fault: CsrFault) -> u32

@@ -1,14 +1,21 @@
 //! The unit: its registers, and the tables of its map.
 
-ghost use Rattle.std.specs.Prelude.{◌≡◌, ◌+◌, ◌<◌, ◌≤◌};
+ghost use Rattle.std.specs.Prelude.{◌≡◌, ◌+◌, ◌^◌, ◌<◌, ◌≤◌, false, true};
 ghost use Rattle.pmp_core.specs.declared.access.TheConstants.{ADDRESS_LIMIT};
 ghost use Rattle.pmp_core.specs.Ranges.{decision_of};
+ghost use Rattle.pmp_core.specs.RegisterFile.{entries_on};
+ghost use Rattle.pmp_core.specs.declared.size.TheConstants.{MAX_ENTRIES};
 ghost use Rattle.pmp_map.specs.Answer.{answer_number};
 ghost use Rattle.pmp_map.specs.RangeRights.{AreRangeRights};
 ghost use Rattle.pmp_map.specs.Runs.{IsRunAround};
-ghost use Rattle.pmp_c.specs.Unit.{file_of_unit, IsUnit};
+ghost use Rattle.pmp_c.specs.Settling.{pays};
+ghost use Rattle.pmp_c.specs.Status.{register_in, write_number};
+ghost use Rattle.pmp_c.specs.Unit.{file_of_unit, IsBuilt, IsUnit};
 
-use pmp_core::{Access, Mode, Perms, Registers, SavedRegisters};
+use crate::numbers::{csr_of, write_status};
+use pmp_core::{
+    Access, Csr, CsrFault, MAX_ENTRIES, Mode, Perms, Registers, SavedRegisters, Written,
+};
 use pmp_map::{Run, Tables, answer_number, rights_in, run_around};
 
 /// A unit. All zero it is one of sixteen entries after reset, whose map isn't built.
@@ -21,6 +28,62 @@ pub struct Unit {
 }
 
 impl Unit {
+    /// The register of its hart with this CSR number.
+    #[inline(always)]
+    pub fn register(&self, number: u32) -> Result<Csr, CsrFault>
+        ensures { result ≡ register_in (file_of_unit self.now) number }
+    {
+        match csr_of(number) {
+            Ok(Csr::Mseccfg) if !Registers::of(&self.registers).hart().has_smepmp() => {
+                Err(CsrFault::NotPmp)
+            }
+            found => found,
+        }
+    }
+
+    /// What a write came to that its registers have taken. If one is another than before, the map isn't built.
+    #[inline(always)]
+    pub fn noted(&mut self, written: &Written) -> u32
+        ensures number { result ≡ write_number written.now }
+        ensures most { result < 2 ^ 31 }
+        ensures registers { self.new.registers ≡ self.old.registers }
+        ensures unbuilt { written.now.is_changed ≡ true → self.new.map.runs ≡ 0 }
+        ensures kept { written.now.is_changed ≡ false → self.new ≡ self.old }
+    {
+        if written.is_changed {
+            self.map.runs = 0;
+        }
+        write_status(written)
+    }
+
+    /// Builds the map, where it isn't built.
+    #[inline(never)]
+    pub fn build(&mut self)
+        ensures { IsBuilt self.old self.new }
+    {
+        if self.map.runs == 0 {
+            self.map.fill(&Registers::of(&self.registers));
+        }
+    }
+
+    /// How many entries are on.
+    fn entries_on(&self) -> usize
+        ensures on { result ≡ entries_on (file_of_unit self.now) }
+        ensures most { result ≤ MAX_ENTRIES }
+    {
+        match Registers::on_standard(&self.registers) {
+            Some(registers) => registers.entries_on(),
+            None => Registers::of(&self.registers).entries_on(),
+        }
+    }
+
+    /// Whether so many questions pay for a map of these registers.
+    pub fn pays(&self, questions: u64) -> bool
+        ensures { result ≡ pays self.now questions }
+    {
+        questions >= 16 && questions.min(160) * self.entries_on() as u64 >= 160
+    }
+
     /// The answer by the registers, without the map.
     #[cold]
     #[inline(never)]

@@ -1,6 +1,6 @@
 -- Harts as numbers.
 use borrow.Author.Tests.{tests}
-use Rattle.std.proofs.Common.{rules, ◌≡◌, ℕ, ◌+◌, ◌*◌, ◌/◌, ◌%◌, ◌^◌, ◌≤◌, true, ◌==◌, Option, Some, None}
+use Rattle.std.proofs.Common.{rules, ◌≡◌, ℕ, ◌+◌, ◌*◌, ◌/◌, ◌%◌, ◌^◌, ◌≤◌, true, false, ◌==◌, MatchOption, Option, Some, None}
 use Rattle.std.specs.Option.{is_none}
 use Rattle.pmp_core.specs.declared.hart.HartFault.{HartFault}
 use Rattle.std.proofs.Common.{refl, sym, ap, ◌∙◌, inl, inr, arith}
@@ -9,7 +9,7 @@ use Rattle.pmp_core.specs.Configuration.{bit_of}
 use Rattle.pmp_core.specs.Hart.{Profile, IsProfile, hart_fault, profile_with, profile_of}
 use Rattle.pmp_core.specs.declared.size.Size.{Size}
 use Rattle.pmp_core.specs.declared.size.Size.TheVariants.{Sixteen, SixtyFour}
-use Rattle.pmp_core.specs.SavedRegisters.{is_usual, hart_number, spelled_hart, saved_hart}
+use Rattle.pmp_core.specs.SavedRegisters.{is_usual, hart_number, spelled_hart, spells_hart, names_hart, saved_hart}
 
 pub usual : (n : ℕ) → n ≤ 64 → IsProfile (profile_with n)
 usual n few = record { few = few; fine = omega arith; wide = omega arith; narrow = omega arith }
@@ -49,23 +49,47 @@ pub saved_other : (number : ℕ) → (number / 2 ^ 32 ≡ 1 → ⊥) → (number
 unfolding saved_hart
 saved_other number other few = rw (ne_eqb (number / 2 ^ 32) 1 other, ne_eqb number 64 few) refl
 
-pub saved_spelled : (number : ℕ) → number / 2 ^ 32 ≡ 1 → hart_fault (spelled_hart number) ≡ None
-    → saved_hart number ≡ spelled_hart number
+pub saved_spelled : (number : ℕ) → spells_hart number ≡ true → saved_hart number ≡ spelled_hart number
 unfolding saved_hart
-saved_spelled number marked none = rw (eq-eqb (number / 2 ^ 32) 1 marked, none) refl
+saved_spelled number is = rw is refl
 
-pub saved_faulty : (number : ℕ) (fault : HartFault) → number / 2 ^ 32 ≡ 1
-    → hart_fault (spelled_hart number) ≡ Some fault → saved_hart number ≡ profile_with 16
+pub saved_unspelled : (number : ℕ) → number / 2 ^ 32 ≡ 1 → spells_hart number ≡ false
+    → saved_hart number ≡ profile_with 16
 unfolding saved_hart
-saved_faulty number fault marked some = search (rules, tests)
+saved_unspelled number marked none =
+    rw (none, ne_eqb number 64 (λ same. omega (arith, marked, same))) refl
+
+-- ---- which numbers name one
+
+pub named_16 : (number : ℕ) → number ≡ 16 → names_hart number ≡ true
+unfolding names_hart
+named_16 number is = rw (eq-eqb number 16 is) refl
+
+pub named_64 : (number : ℕ) → number ≡ 64 → names_hart number ≡ true
+unfolding names_hart
+named_64 number is = rw is refl
+
+module _ (number : ℕ) (few : number ≡ 16 → ⊥) (many : number ≡ 64 → ⊥) where
+  named_plain : names_hart number ≡ spells_hart number
+  unfolding names_hart
+  named_plain = rw (ne_eqb number 16 few, ne_eqb number 64 many) refl
+
+  pub named_unmarked : (number / 2 ^ 32 ≡ 1 → ⊥) → names_hart number ≡ false
+  named_unmarked other = named_plain ∙ rw (ne_eqb (number / 2 ^ 32) 1 other) refl
+
+  pub named_spelled : (hart : Option Profile)
+      → MatchOption hart (spells_hart number ≡ false) (λ h. (spells_hart number ≡ true) × (h ≡ spelled_hart number))
+      → MatchOption hart (names_hart number ≡ false) (λ h. (names_hart number ≡ true) × (h ≡ saved_hart number))
+  named_spelled None none = named_plain ∙ none
+  named_spelled (Some hart) some = (named_plain ∙ some.0, some.1 ∙ sym (saved_spelled number some.0))
 
 -- ---- and each hart has one
 
 parts_back : (n g a s : ℕ) → n ≤ 64 → g ≤ 10 → a ≤ 56 → s ≤ 1
     → (let number = n + 2 ^ 8 * a + 2 ^ 16 * s + 2 ^ 24 * g + 2 ^ 32 in
     (number % 2 ^ 8 ≡ n) × (number / 2 ^ 24 % 2 ^ 8 ≡ g) × (number / 2 ^ 8 % 2 ^ 8 ≡ a) × (number / 2 ^ 16 % 2 ≡ s)
-    × (number / 2 ^ 32 ≡ 1))
-parts_back n g a s hn hg ha hs = (omega arith, omega arith, omega arith, omega arith, omega arith)
+    × (number / 2 ^ 32 ≡ 1) × (number / 2 ^ 17 % 2 ^ 7 ≡ 0))
+parts_back n g a s hn hg ha hs = (omega arith, omega arith, omega arith, omega arith, omega arith, omega arith)
 
 module _ (profile : Profile) (is : IsProfile profile) where
   usual_back : is_usual profile ≡ true → saved_hart profile.entries ≡ profile
@@ -94,4 +118,24 @@ module _ (profile : Profile) (is : IsProfile profile) where
   number_back = elim (cases_Bool (is_usual profile)) [
     | inl so ↦ rw so (usual_back so)
     | inr other ↦ rw other spelled_back
+  ]
+
+  spelled_name : spells_hart (profile.entries + 2 ^ 8 * profile.address_bits + 2 ^ 16 * bit_of profile.has_smepmp
+      + 2 ^ 24 * profile.grain + 2 ^ 32) ≡ true
+  spelled_name = search (rules, tests)
+
+  usual_name : is_usual profile ≡ true → names_hart profile.entries ≡ true
+  usual_name h =
+      let either = (and_parts _ _ (and_parts _ _ (and_parts _ _ h).0).0).0 in
+      elim (or_cases (profile.entries == 16) (profile.entries == 64) either) [
+        | inl few ↦ named_16 profile.entries (eqb-true profile.entries 16 few)
+        | inr many ↦ named_64 profile.entries (eqb-true profile.entries 64 many)
+      ]
+
+  -- the number of a hart names it
+  pub named_number : names_hart (hart_number profile) ≡ true
+  unfolding hart_number names_hart
+  named_number = elim (cases_Bool (is_usual profile)) [
+    | inl so ↦ rw so (usual_name so)
+    | inr other ↦ rw (other, spelled_name) (search (rules, tests))
   ]

@@ -1,11 +1,18 @@
 -- What two register files decide alike.
-use Rattle.std.proofs.Common.{◌≡◌, ℕ, ◌<◌, ◌≤◌, Option, Some, None, length, sym, ap, ◌∙◌, inl, inr, arith}
-use Rattle.std.proofs.Common.{Bool, ◌&&◌, eqb, false, not, refl, true}
+use borrow.Author.Tests.{tests}
+use Rattle.std.proofs.Common.{◌≡◌, ◌≢◌, ℕ, zero, suc, ◌+◌, ◌-◌, ◌*◌, ◌<◌, ◌≤◌, Option, Some, None, length, sym, ap, ◌∙◌, inl, inr}
+use Rattle.std.proofs.Common.{arith, rules, ◌==◌, Bool, ◌&&◌, eqb, false, not, refl, true}
 use Rattle.std.specs.Bool.{beq}
 use Rattle.std.specs.Cmp.{booleans_Decides}
-use Rattle.std.proofs.lemmas.Bool.{and_parts, cases_lt, eqb-true, not-false}
+use Rattle.std.proofs.lemmas.Bool.{and_parts, cases_Bool, cases_lt, eqb-true, not-false, or_cases}
+use Rattle.std.proofs.lemmas.List.{get_or_past}
+use native.Mathlib.Numerals.{unary_clauses}
+use Rattle.std.proofs.lemmas.Bool.Decides.{nat_tests}
 use Rattle.pmp_core.specs.declared.access.Access.{Access}
 use Rattle.pmp_core.specs.declared.access.TheConstants.{ADDRESS_LIMIT}
+use Rattle.pmp_core.specs.declared.csr.Csr.{Csr}
+use Rattle.pmp_core.specs.declared.csr.Csr.TheVariants.{Cfg, Addr, Mseccfg}
+use Rattle.pmp_core.specs.declared.event.Event.TheVariants.{Write}
 use Rattle.pmp_core.specs.declared.mseccfg.MseccfgFields.{MseccfgFields}
 use Rattle.pmp_core.specs.declared.range.ByteRange.{ByteRange}
 use Rattle.pmp_core.specs.declared.span.Span.{Span}
@@ -14,14 +21,21 @@ use Rattle.pmp_core.specs.Decision.{IsByteOf}
 use Rattle.pmp_core.specs.Entry.{Entry}
 use Rattle.pmp_core.specs.Hart.{Profile, profile_by}
 use Rattle.pmp_core.specs.Matching.{Matches, low_address}
-use Rattle.pmp_core.specs.Moved.{AreAlikeBeside, IsMoved, IsMovedWithin, IsSameEntry, joined}
-use Rattle.pmp_core.specs.Ranges.{range_of}
-use Rattle.pmp_core.specs.RegisterFile.{IsLegal, RegisterFile, entry_at}
+use Rattle.pmp_core.specs.Moved.{AreAlikeBeside, IsMoved, IsMovedWithin, IsSameEntry, is_same_entry, joined}
+use Rattle.pmp_core.specs.Moved.{moved_among, moved_at, moved_by}
+use Rattle.pmp_core.specs.Mseccfg.{mseccfg_fields}
+use Rattle.pmp_core.specs.OthersLaw.{MovedLaw, may_move}
+use Rattle.pmp_core.specs.Ranges.{range_of, range_on}
+use Rattle.pmp_core.specs.RegisterFile.{IsLegal, RegisterFile, entry_at, reset_entry}
+use Rattle.pmp_core.specs.RegisterValue.{register_value}
+use Rattle.pmp_core.specs.RegisterWrite.{is_tor, written}
 use Rattle.pmp_core.specs.Rights.{has_entries}
-use Rattle.pmp_core.specs.Span.{IsSpan}
-use Rattle.pmp_core.proofs.Legal.{legal_addresses}
+use Rattle.pmp_core.specs.Span.{IsSpan, span_of}
+use Rattle.pmp_core.proofs.Legal.{legal_addresses, length-written, step_legal}
 use Rattle.pmp_core.proofs.Matches.{matches_range, range_past}
-use Rattle.pmp_core.proofs.Others.{IsSame, decided_by}
+use Rattle.pmp_core.proofs.Others.{IsSame, bytes_kept, decided_by, entry_kept, holds_none, mseccfg_kept}
+use Rattle.pmp_core.proofs.Saved.{fields_back}
+use Rattle.pmp_core.proofs.Spans.{is_span}
 use Rattle.pmp_core.proofs.StoredBytes.{configuration_back}
 
 -- ---- spans
@@ -162,3 +176,145 @@ module _ (one other : RegisterFile) (legal : IsLegal one) (too : IsLegal other) 
     decided_by other one (sym mseccfg) (sym some) access (λ i. swapped one other i access (same access clear i))
         decision.allowed decision.cause,
   )
+
+-- ---- a write
+
+joined_none : (one : Option Span) → joined one None ≡ one
+joined_none None = refl
+joined_none (Some one) = refl
+
+module _ (one other : RegisterFile) where
+  -- an entry that is kept as it is
+  pub kept_at : (i : ℕ) → other.profile ≡ one.profile → entry_at other.entries i ≡ entry_at one.entries i
+      → low_address other.entries i ≡ low_address one.entries i → moved_at one other i ≡ None
+  unfolding moved_at range_on
+  kept_at i hart entry low = rw (hart, entry, low) (search (rules, tests))
+
+  -- an entry that neither has
+  pub past_at : (i : ℕ) → length one.entries ≤ i → length other.entries ≤ i → moved_at one other i ≡ None
+  unfolding moved_at
+  past_at i past too =
+      rw (
+        range_past one i past,
+        range_past other i too,
+        get_or_past one.entries i reset_entry past,
+        get_or_past other.entries i reset_entry too,
+      ) refl
+
+  module _ (legal : IsLegal one) (too : IsLegal other) where
+    pub within_at : (i : ℕ) → IsMovedWithin one other (moved_at one other i) i
+    unfolding moved_at
+    within_at i = elim (cases_Bool (is_same_entry one other i)) [
+      | inl same ↦
+          let both = and_parts _ _ same in
+          inl (same_entry one other i legal too (same_configuration _ _ both.0) (same_range _ _ both.1))
+      | inr apart ↦ rw apart (moved_within one other i (span_of one i) (span_of other i)
+          (is_span one i (legal_addresses one legal)) (is_span other i (legal_addresses other too)))
+    ]
+
+    pub within_among : (first count place : ℕ) → place < count
+        → IsMovedWithin one other (moved_among one other first count) (first + place)
+    unfolding moved_among
+    within_among first zero place below = absurd (omega arith)
+    within_among first (suc count) place below = elim (cases_lt place count) [
+      | inl before ↦ moved_before one other (first + place) (moved_among one other first count)
+          (moved_at one other (first + count)) (within_among first count place before)
+      | inr here ↦
+          let same : place ≡ count = omega arith in
+          rw same (moved_now one other (first + count) (moved_among one other first count)
+          (moved_at one other (first + count)) (within_at (first + count)))
+    ]
+
+-- what moved so far, and an entry more
+pub more_among : (one other : RegisterFile) (first count : ℕ) (moved more : Option Span)
+    → moved ≡ moved_among one other first count → more ≡ moved_at one other (first + count)
+    → joined moved more ≡ moved_among one other first (count + 1)
+unfolding moved_among
+more_among one other first count moved more so_far is = simp unary_clauses (rw (so_far, is) refl)
+
+pub none_at : (file : RegisterFile) (i : ℕ) → moved_at file file i ≡ None
+none_at file i = kept_at file file i refl refl refl
+
+none_among : (file : RegisterFile) (first count : ℕ) → moved_among file file first count ≡ None
+unfolding moved_among
+none_among file first zero = refl
+none_among file first (suc count) = rw (none_among file first count, none_at file (first + count)) refl
+
+-- where nothing changed
+pub none_by : (file : RegisterFile) (csr : Csr) → moved_by file file csr ≡ None
+unfolding moved_by
+none_by file (Cfg q) = none_among file (4 * q) 8
+none_by file (Addr i) = none_among file i 2
+none_by file Mseccfg = search (rules, tests)
+
+-- the entries that the register may move
+moved_place : (file : RegisterFile) (q i : ℕ) → may_move file (Cfg q) i ≡ true → (4 * q ≤ i) × (i < 4 * q + 8)
+moved_place file q i moves = grind (arith, nat_tests)
+
+module _ (file : RegisterFile) (value : ℕ) (legal : IsLegal file) where
+  module _ (csr : Csr) where
+    abbrev after : RegisterFile
+    after = written file csr value
+
+    legal_after : IsLegal after
+    legal_after = step_legal file legal (Write csr value)
+
+    left : (moved : Option Span) (i : ℕ) → may_move file csr i ≡ false → IsMovedWithin file after moved i
+    left moved i stays = inl (
+      ap (λ (entry : Entry). entry.configuration) (entry_kept file value csr i (holds_none file value csr i stays)),
+      λ byte. bytes_kept file value csr i byte stays,
+    )
+
+    by_places : (moved : Option Span) → csr ≢ Mseccfg
+        → ((i : ℕ) → may_move file csr i ≡ true → IsMovedWithin file after moved i) → AreAlikeBeside file after moved
+    by_places moved other each = alike_beside file after legal legal_after moved (length-written file csr value)
+        (mseccfg_kept file csr value other) (λ i inside. elim (cases_Bool (may_move file csr i)) [
+          | inl moves ↦ each i moves
+          | inr stays ↦ left moved i stays
+        ])
+
+  by_configurations : (q : ℕ) → AreAlikeBeside file (after (Cfg q)) (moved_by file (after (Cfg q)) (Cfg q))
+  unfolding moved_by
+  by_configurations q = by_places (Cfg q) (moved_among file (after (Cfg q)) (4 * q) 8) (λ same. search rules) (λ i moves.
+      let inside = moved_place file q i moves in
+      let place : 4 * q + (i - 4 * q) ≡ i = omega (arith, inside.0) in
+      rw place at (within_among file (after (Cfg q)) legal (legal_after (Cfg q)) (4 * q) 8 (i - 4 * q)
+      (omega (arith, inside.0, inside.1))))
+
+  by_address : (j : ℕ) → AreAlikeBeside file (after (Addr j)) (moved_by file (after (Addr j)) (Addr j))
+  unfolding moved_by
+  by_address j = by_places (Addr j) (moved_among file (after (Addr j)) j 2) (λ same. search rules) (λ i moves.
+      let tor = is_tor (entry_at file.entries i).configuration.matching in
+      elim (or_cases (i == j) (i == suc j && tor) moves) [
+        | inl own ↦
+            let here : j + 0 ≡ i = omega (arith, eqb-true i j own) in
+            rw here at (within_among file (after (Addr j)) legal (legal_after (Addr j)) j 2 0 (omega arith))
+        | inr above ↦
+            let next : j + 1 ≡ i = omega (arith, eqb-true i (suc j) (and_parts (i == suc j) tor above).0) in
+            rw next at (within_among file (after (Addr j)) legal (legal_after (Addr j)) j 2 1 (omega arith))
+      ])
+
+  by_mseccfg : AreAlikeBeside file (after Mseccfg) (moved_by file (after Mseccfg) Mseccfg)
+  unfolding moved_by
+  by_mseccfg = elim (cases_Bool (register_value (after Mseccfg) Mseccfg == register_value file Mseccfg)) [
+    | inl same ↦
+        let old = file.mseccfg in
+        let new = (after Mseccfg).mseccfg in
+        let fields : new ≡ old = sym (fields_back new.mml new.mmwp new.rlb) ∙ ap mseccfg_fields (eqb-true _ _ same)
+        ∙ fields_back old.mml old.mmwp old.rlb in
+        alike_beside file (after Mseccfg) legal (legal_after Mseccfg) _ refl fields (λ i inside. left Mseccfg _ i refl)
+    | inr apart ↦ rw apart (λ access clear. absurd (clear access.start (omega arith) (omega arith)))
+  ]
+
+pub moved_law : MovedLaw
+moved_law file (Cfg q) value legal = by_configurations file value legal q
+moved_law file (Addr j) value legal = by_address file value legal j
+moved_law file Mseccfg value legal = by_mseccfg file value legal
+
+-- of two files one of which a write made of the other
+module _ (one other : RegisterFile) (csr : Csr) (by : (value : ℕ) × (other ≡ written one csr value)) where
+  pub same_count : length other.entries ≡ length one.entries
+  same_count = ap (λ (file : RegisterFile). length file.entries) by.1 ∙ length-written one csr by.0
+
+  pub beside_by : (moved : Option Span) → IsLegal one → moved ≡ moved_by one other csr → AreAlikeBeside one other moved
+  beside_by moved legal is = rw (is, by.1) (moved_law one csr by.0 legal)

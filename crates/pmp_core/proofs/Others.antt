@@ -63,12 +63,12 @@ module _ (file : RegisterFile) (value : ℕ) where
       (λ same. eqb-false i (suc j) apart (sym below ∙ ap suc same))))
   low_same Mseccfg i none tor = refl
 
-  holds_none : (csr : Csr) (i : ℕ) → may_move file csr i ≡ false → holds csr i ≡ false
+  pub holds_none : (csr : Csr) (i : ℕ) → may_move file csr i ≡ false → holds csr i ≡ false
   holds_none (Cfg q) i none = none
   holds_none (Addr j) i none = (or_parts (i == j) _ none).0
   holds_none Mseccfg i none = refl
 
-  bytes_kept : (csr : Csr) (i byte : ℕ) → may_move file csr i ≡ false
+  pub bytes_kept : (csr : Csr) (i byte : ℕ) → may_move file csr i ≡ false
       → Matches (written file csr value) i byte ↔ Matches file i byte
   bytes_kept csr i byte none =
       let entry = entry_at file.entries i in
@@ -124,7 +124,7 @@ module _ (one other : RegisterFile) (mseccfg : other.mseccfg ≡ one.mseccfg)
     rw (mseccfg, (alike i h.0).0) h.2,
   )
 
-mseccfg_kept : (file : RegisterFile) (csr : Csr) (value : ℕ) → csr ≢ Mseccfg
+pub mseccfg_kept : (file : RegisterFile) (csr : Csr) (value : ℕ) → csr ≢ Mseccfg
     → (written file csr value).mseccfg ≡ file.mseccfg
 mseccfg_kept file (Cfg q) value other = refl
 mseccfg_kept file (Addr j) value other = refl

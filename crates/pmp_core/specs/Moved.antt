@@ -1,13 +1,21 @@
 -- What a change of the registers may move (Volume II, 3.7.1.1 and 3.7.1.3).
-use Rattle.std.specs.Prelude.{◌≡◌, ◌↔◌, ℕ, ◌<◌, ◌⊎◌, min, max, Option, Some, None}
+use Rattle.std.specs.Prelude.{◌≡◌, ◌↔◌, ℕ, zero, suc, ◌+◌, ◌-◌, ◌*◌, ◌<◌, ◌==◌, ◌⊎◌, min, max, Bool, ◌&&◌}
+use Rattle.std.specs.Prelude.{if◌then◌else◌, Option, Some, None}
 use Rattle.pmp_core.specs.declared.access.Access.{Access}
 use Rattle.pmp_core.specs.declared.access.TheConstants.{ADDRESS_LIMIT}
+use Rattle.pmp_core.specs.declared.csr.Csr.{Csr}
+use Rattle.pmp_core.specs.declared.csr.Csr.TheVariants.{Cfg, Addr, Mseccfg}
 use Rattle.pmp_core.specs.declared.decision.Decision.{Decision}
+use Rattle.pmp_core.specs.declared.range.ByteRange.{ByteRange}
+use Rattle.pmp_core.specs.declared.register_write.TheConstants.{ENTRIES_PER_CFG}
 use Rattle.pmp_core.specs.declared.span.Span.{Span}
+use Rattle.pmp_core.specs.Configuration.{byte_of}
 use Rattle.pmp_core.specs.Decision.{IsByteOf, IsDecision}
 use Rattle.pmp_core.specs.Matching.{Matches}
+use Rattle.pmp_core.specs.Ranges.{range_of}
 use Rattle.pmp_core.specs.RegisterFile.{RegisterFile, entry_at}
-use Rattle.pmp_core.specs.Span.{IsInSpan}
+use Rattle.pmp_core.specs.RegisterValue.{register_value}
+use Rattle.pmp_core.specs.Span.{IsInSpan, span_of}
 
 -- the byte is one of those that moved, if there are any
 abbrev pub IsMoved : (moved : Option Span) → (byte : ℕ) → Type 0
@@ -37,3 +45,32 @@ abbrev pub joined : (one other : Option Span) → Option Span
 joined None other = other
 joined (Some one) None = Some one
 joined (Some one) (Some other) = Some (record { first = min one.first other.first; last = max one.last other.last })
+
+-- ---- by a write: `laws::law_moved` says that it leaves the decisions on all other accesses
+
+abbrev pub is_same_range : (one other : ByteRange) → Bool
+is_same_range one other = one.start == other.start && one.end == other.end
+
+-- entry i has one configuration in both files, and one range
+abbrev pub is_same_entry : (one other : RegisterFile) → ℕ → Bool
+is_same_entry one other i =
+    byte_of (entry_at other.entries i).configuration == byte_of (entry_at one.entries i).configuration
+    && is_same_range (range_of other i) (range_of one i)
+
+-- what entry i matches in either file, if it isn't the same
+unfoldable pub moved_at : (one other : RegisterFile) → ℕ → Option Span
+moved_at one other i = if is_same_entry one other i then None else joined (span_of other i) (span_of one i)
+
+-- what so many entries match, from the first on, of those that aren't the same
+unfoldable pub moved_among : (one other : RegisterFile) → (first count : ℕ) → Option Span
+moved_among one other first zero = None
+moved_among one other first (suc count) =
+    joined (moved_among one other first count) (moved_at one other (first + count))
+
+-- by a write to the register: of eight entries, of an entry and the one that it is the low end of (3.7.1.1), or all
+unfoldable pub moved_by : (one other : RegisterFile) → Csr → Option Span
+moved_by one other (Cfg q) = moved_among one other (4 * q) ENTRIES_PER_CFG
+moved_by one other (Addr i) = moved_among one other i 2
+moved_by one other Mseccfg =
+    if register_value other Mseccfg == register_value one Mseccfg then None
+    else Some (record { first = 0; last = ADDRESS_LIMIT - 1 })

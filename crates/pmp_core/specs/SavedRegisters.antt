@@ -37,10 +37,14 @@ abbrev pub spelled_hart : (number : ℕ) → Profile
 spelled_hart number =
     profile_by (number % 2 ^ 8) (number / 2 ^ 24 % 2 ^ 8) (number / 2 ^ 8 % 2 ^ 8) (number / 2 ^ 16 % 2 == 1)
 
--- bits 63 to 32 are 1, and there is such a hart
+-- bits 63 to 32 are 1 and bits 23 to 17 are 0, and there is such a hart
 abbrev pub spells_hart : (number : ℕ) → Bool
 spells_hart number =
-    number / 2 ^ 32 == 1 && is_none (hart_fault (spelled_hart number))
+    number / 2 ^ 32 == 1 && number / 2 ^ 17 % 2 ^ 7 == 0 && is_none (hart_fault (spelled_hart number))
+
+-- 16 and 64 name the usual harts, and any other number the one that it spells, if it spells one
+unfoldable pub names_hart : (number : ℕ) → Bool
+names_hart number = number == ENTRIES || number == MAX_ENTRIES || spells_hart number
 
 -- the hart that a number stands for: one that it spells, for 64 the usual one of 64 entries, and else that of 16
 unfoldable pub saved_hart : (number : ℕ) → Profile

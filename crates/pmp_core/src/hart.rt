@@ -1,6 +1,6 @@
 //! The hart of a unit: the number of its entries, its grain, its address bits, and whether it has Smepmp.
 
-ghost use Rattle.std.specs.Prelude.{◌≡◌, ◌<◌, ◌≤◌, IfOk, IfErr, MatchOption, None, Some};
+ghost use Rattle.std.specs.Prelude.{◌≡◌, ◌<◌, ◌≤◌, IfOk, IfErr, MatchOption, None, Some, false, true};
 ghost use Rattle.pmp_core.specs.declared.hart.TheConstants.{MAX_GRAIN};
 ghost use Rattle.pmp_core.specs.declared.register_write.TheConstants.{WORD_ADDRESSES};
 ghost use Rattle.pmp_core.specs.declared.size.TheConstants.{MAX_ENTRIES};
@@ -59,7 +59,7 @@ impl Model for Hart {
 
 impl Hart {
     ghost use Rattle.std.specs.Prelude.{◌/◌, ◌^◌};
-    ghost use Rattle.pmp_core.specs.SavedRegisters.{is_usual, hart_number, saved_hart};
+    ghost use Rattle.pmp_core.specs.SavedRegisters.{is_usual, hart_number, names_hart, saved_hart, spelled_hart, spells_hart};
     ghost use Rattle.pmp_core.specs.Grain.{napot_address, read_address, tor_address};
     ghost use Rattle.pmp_core.specs.Hart.{hart_fault, profile_by, profile_of, word_addresses};
 
@@ -157,22 +157,43 @@ impl Hart {
     {
         match Hart::standard(number) {
             Some(hart) => hart,
-            None => Hart::spelled(number),
+            None => match Hart::spelled(number) {
+                Some(hart) => hart,
+                None => Hart::of(Size::Sixteen),
+            },
         }
     }
 
-    /// The hart that a number with bit 32 spells, or the usual one of sixteen entries.
+    /// The hart that a number names: 16 and 64 are those that `of` gives, and another is the one that it spells.
+    pub fn named(number: u64) -> Option<Hart>
+        ensures { MatchOption result (names_hart number ≡ false)
+            (λ hart. (names_hart number ≡ true) × (hart ≡ saved_hart number)) }
+    {
+        if number == 16 || number == 64 {
+            return Some(Hart::from_number(number));
+        }
+        if number >> 32 != 1 {
+            return None;
+        }
+        Hart::spelled(number)
+    }
+
+    /// The hart that a number with bit 32 spells, if there is such a hart.
     #[inline(always)]
-    fn spelled(number: u64) -> Hart
+    fn spelled(number: u64) -> Option<Hart>
         requires { number / 2 ^ 32 ≡ 1 }
-        ensures { result ≡ saved_hart number }
+        ensures { MatchOption result (spells_hart number ≡ false)
+            (λ hart. (spells_hart number ≡ true) × (hart ≡ spelled_hart number)) }
     {
         let entries = (number % 256) as u8;
         let address_bits = (number / 256 % 256) as u8;
         let grain = (number / 16777216 % 256) as u8;
+        if number / 131072 % 128 != 0 {
+            return None;
+        }
         match Hart::new(entries, grain, address_bits, number / 65536 % 2 == 1) {
-            Ok(hart) => hart,
-            Err(_) => Hart::of(Size::Sixteen),
+            Ok(hart) => Some(hart),
+            Err(_) => None,
         }
     }
 

@@ -10,7 +10,7 @@ ghost use Rattle.pmp_core.specs.Matching.{Matches};
 ghost use Rattle.pmp_core.specs.Decision.{IsOwner, IsDecider, IsDecision};
 ghost use Rattle.pmp_core.specs.RightsLaw.{BarredRulesLaw, StoreLaw};
 ghost use Rattle.pmp_core.specs.PartsLaw.{PartsLaw};
-ghost use Rattle.pmp_core.specs.OthersLaw.{OthersLaw};
+ghost use Rattle.pmp_core.specs.OthersLaw.{MovedLaw, OthersLaw};
 ghost use Rattle.pmp_core.specs.ProtectionLaw.{FewerRightsLaw, MachineCodeLaw, ProtectedLaw};
 ghost use Rattle.pmp_core.specs.ReachableLaw.{LegalLaw, ReachableLaw};
 ghost use Rattle.pmp_core.specs.StickyLaw.{FrozenAddressLaw, StickyLaw};
@@ -153,6 +153,12 @@ pub fn law_parts()
 #[tactic(auto, using(crate::proofs::Others::others_law))]
 pub fn law_others()
     ensures { OthersLaw }
+{}
+
+/// A write leaves the decisions on accesses with no byte of the entries that it moved, in a legal register file: of the
+/// eight of a configuration register those that aren't as before.
+pub fn law_moved()
+    ensures { MovedLaw }
 {}
 
 /// Every legal register file is one that a reset and events give. So what is restored is never a state that a hart

@@ -1,11 +1,24 @@
 //! The bytes that a change of the registers may have moved.
 
-ghost use Rattle.std.specs.Prelude.{◌≡◌, ◌<◌, IsTrue, None, length};
-ghost use Rattle.pmp_core.specs.Moved.{AreAlikeBeside, IsMovedWithin, IsSameEntry, joined};
+ghost use Rattle.std.specs.Prelude.{◌≡◌, ◌<◌, ◌+◌, ◌^◌, ℕ, IsTrue, None, false, length};
+ghost use Rattle.pmp_core.specs.declared.csr.Csr.{Csr};
+ghost use Rattle.pmp_core.specs.Moved.{AreAlikeBeside, is_same_entry, joined, moved_among, moved_at, moved_by};
+ghost use Rattle.pmp_core.specs.RegisterWrite.{written};
+ghost use Rattle.pmp_core.specs.SavedRegisters.{restored_file};
+ghost use Rattle.pmp_core.specs.Writing.{IsWritten};
 
 use crate::access::ADDRESS_LIMIT;
+use crate::csr::Csr;
+use crate::register_write::{ENTRIES_PER_CFG, Written};
 use crate::registers::Registers;
+use crate::saved_registers::SavedRegisters;
 use crate::span::Span;
+
+/// Every byte.
+const ALL: Span = Span {
+    first: 0,
+    last: ADDRESS_LIMIT - 1,
+};
 
 /// The least span that has both.
 fn joined(one: Option<Span>, other: Option<Span>) -> Option<Span>
@@ -28,7 +41,7 @@ impl<'a> Registers<'a> {
         requires before { index < length before.now.entries }
         requires hart { self.now.profile ≡ before.now.profile }
         requires mseccfg { self.now.mseccfg ≡ before.now.mseccfg }
-        ensures { IsTrue result → IsSameEntry before.now self.now index }
+        ensures { IsTrue result → moved_at before.now self.now index ≡ None }
     {
         self.has_same_numbers(before, index)
             && match index.checked_sub(1) {
@@ -37,26 +50,96 @@ impl<'a> Registers<'a> {
             }
     }
 
+    /// Whether the entry has the configuration and the range that it had.
+    #[inline(always)]
+    fn is_same(&self, before: &Registers<'_>, index: usize) -> bool
+        requires now { index < length self.now.entries }
+        requires before { index < length before.now.entries }
+        ensures { result ≡ is_same_entry before.now self.now index }
+    {
+        let _counts = (self.count(), before.count());
+        self.configuration(index) == before.configuration(index)
+            && self.range(index) == before.range(index)
+    }
+
     /// What the entry matches now or matched before, if it isn't the same.
     #[inline(always)]
-    fn moved_by(&self, before: &Registers<'_>, index: usize) -> Option<Span>
+    #[tactic(auto, unfolding(crate::specs::Moved::moved_at))]
+    fn moved_at(&self, before: &Registers<'_>, index: usize) -> Option<Span>
         requires now { index < length self.now.entries }
         requires before { index < length before.now.entries }
         requires hart { self.now.profile ≡ before.now.profile }
         requires mseccfg { self.now.mseccfg ≡ before.now.mseccfg }
-        ensures within { IsMovedWithin before.now self.now result index }
-        ensures none { before.now ≡ self.now → result ≡ None }
+        ensures { result ≡ moved_at before.now self.now index }
     {
         if self.keeps(before, index) {
             return None;
         }
-        let _counts = (self.count(), before.count());
-        if self.configuration(index) == before.configuration(index)
-            && self.range(index) == before.range(index)
-        {
+        if self.is_same(before, index) {
             return None;
         }
         joined(self.span(index), before.span(index))
+    }
+
+    /// What so many entries match now or matched before, from the first on, of those that aren't the same.
+    #[inline(always)]
+    fn moved_among(&self, before: &Registers<'_>, first: usize, count: usize) -> Option<Span>
+        requires end { first + count < 2 ^ 64 }
+        requires count { length self.now.entries ≡ length before.now.entries }
+        requires hart { self.now.profile ≡ before.now.profile }
+        requires mseccfg { self.now.mseccfg ≡ before.now.mseccfg }
+        ensures { result ≡ moved_among before.now self.now first count }
+    {
+        let mut moved = None;
+        for place in 0..count {
+            let index = first + place;
+            let more = if index < self.count() {
+                self.moved_at(before, index)
+            } else {
+                None
+            };
+            moved = joined(moved, more);
+        }
+        moved
+    }
+
+    /// What the entries match now or matched before that a write to this register moved, or all bytes.
+    #[inline(always)]
+    fn moved_by(&self, before: &Registers<'_>, csr: Csr) -> Option<Span>
+        requires { (value : ℕ) × (self.now ≡ written before.now csr value) }
+        ensures { result ≡ moved_by before.now self.now csr }
+    {
+        match csr {
+            Csr::Cfg(register) => {
+                self.moved_among(before, 4 * usize::from(register), ENTRIES_PER_CFG)
+            }
+            Csr::Addr(register) => self.moved_among(before, usize::from(register), 2),
+            Csr::Mseccfg => self.moved_by_fields(before),
+        }
+    }
+
+    /// All bytes where `mseccfg` is another.
+    #[inline(always)]
+    #[tactic(auto, unfolding(crate::specs::Moved::moved_by))]
+    fn moved_by_fields(&self, before: &Registers<'_>) -> Option<Span>
+        ensures { result ≡ moved_by before.now self.now Csr.Mseccfg }
+    {
+        if self.read(Csr::Mseccfg) == before.read(Csr::Mseccfg) {
+            return None;
+        }
+        Some(ALL)
+    }
+
+    /// The same as `moved_since` where one write to this register lies between: it looks at the entries that the
+    /// register may move, and at no other.
+    #[inline(always)]
+    pub fn moved_by_write(&self, before: &Registers<'_>, csr: Csr) -> Option<Span>
+        requires { (value : ℕ) × (self.now ≡ written before.now csr value) }
+        ensures moved { result ≡ moved_by before.now self.now csr }
+        ensures beside { AreAlikeBeside before.now self.now result }
+    {
+        let _count = before.count();
+        self.moved_by(before, csr)
     }
 
     /// The first and the last byte that may be decided otherwise than by the registers before: from the lowest to the
@@ -68,15 +151,33 @@ impl<'a> Registers<'a> {
     {
         let _counts = (self.count(), before.count());
         if self.hart() != before.hart() || self.fields() != before.fields() {
-            return Some(Span {
-                first: 0,
-                last: ADDRESS_LIMIT - 1,
-            });
+            return Some(ALL);
         }
         let mut moved = None;
         for index in 0..self.count() {
-            moved = joined(moved, self.moved_by(before, index));
+            moved = joined(moved, self.moved_at(before, index));
         }
         moved
+    }
+}
+
+impl SavedRegisters {
+    /// Writes a register, and says too which bytes may be decided otherwise than before, as `Registers::moved_since`
+    /// does: of the entries that the register may move. None where nothing changed, or where those that changed match
+    /// no byte before and after.
+    #[tactic(auto, using(crate::proofs::Moves::none_by))]
+    pub fn write_moved(&mut self, csr: Csr, value: u64) -> (Written, Option<Span>)
+        ensures written { IsWritten self.old self.new csr value result.0 }
+        ensures moved { result.1 ≡ moved_by (restored_file self.old) (restored_file self.new) csr }
+        ensures beside { AreAlikeBeside (restored_file self.old) (restored_file self.new) result.1 }
+        ensures none { result.0.is_changed ≡ false → result.1 ≡ None }
+    {
+        let before = *self;
+        let written = self.write(csr, value);
+        if !written.is_changed {
+            return (written, None);
+        }
+        let moved = Registers::of(self).moved_by_write(&Registers::of(&before), csr);
+        (written, moved)
     }
 }

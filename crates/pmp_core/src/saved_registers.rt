@@ -1,8 +1,8 @@
 //! The registers of a unit as plain numbers.
 
-ghost use Rattle.std.specs.Prelude.{◌≡◌};
+ghost use Rattle.std.specs.Prelude.{◌≡◌, true};
 ghost use Rattle.pmp_core.specs.RegisterFile.{reset_file};
-ghost use Rattle.pmp_core.specs.SavedRegisters.{restored_file, saved_registers};
+ghost use Rattle.pmp_core.specs.SavedRegisters.{names_hart, restored_file, saved_registers};
 
 use crate::hart::Hart;
 use crate::registers::Registers;
@@ -42,6 +42,7 @@ impl SavedRegisters {
     pub fn canonical(&self) -> SavedRegisters
         ensures saved { result ≡ saved_registers (restored_file self.now) }
         ensures restored { restored_file result ≡ restored_file self.now }
+        ensures named { names_hart result.entries ≡ true }
     {
         let registers = Registers::of(self);
         let mut addresses = [0; MAX_ENTRIES];

@@ -3,7 +3,7 @@
 pub use crate::topics::MORE;
 
 /// The version of the project.
-pub const VERSION: &str = "0.1.0";
+pub const VERSION: &str = "0.2.0";
 
 pub const ABOUT: &str =
     "Decides accesses to physical memory as the PMP unit of one RV64 hart does.";

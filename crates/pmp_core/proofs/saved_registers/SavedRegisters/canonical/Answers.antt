@@ -1,11 +1,13 @@
-use Rattle.std.proofs.Common.{◌≡◌, ℕ, ◌<◌, ◌≤◌, length, refl, ap, ◌∙◌, arith}
+use Rattle.std.proofs.Common.{◌≡◌, ℕ, true, ◌<◌, ◌≤◌, length, refl, ap, ◌∙◌, arith}
 use Rattle.std.proofs.lemmas.List.{get_or-replicate}
 use Rattle.pmp_core.specs.Entry.{Entry}
 use Rattle.pmp_core.specs.declared.saved_registers.SavedRegisters.{SavedRegisters}
 use Rattle.pmp_core.specs.Configuration.{byte_of}
 use Rattle.pmp_core.specs.Mseccfg.{mseccfg_value}
 use Rattle.pmp_core.specs.RegisterFile.{RegisterFile, reset_entry, entry_at}
-use Rattle.pmp_core.specs.SavedRegisters.{hart_number, restored_file, saved_registers}
+use Rattle.pmp_core.specs.SavedRegisters.{hart_number, names_hart, restored_file, saved_registers}
+use Rattle.pmp_core.specs.Hart.{IsProfile}
+use Rattle.pmp_core.proofs.HartNumbers.{named_number}
 use Rattle.pmp_core.proofs.Restored.{entry_past}
 use Rattle.pmp_core.proofs.Saved.{filled, filled_more, restored_legal, restored_saved}
 use Rattle.pmp_core.proofs.saved_registers.SavedRegisters.canonical.Goals as goal
@@ -36,6 +38,10 @@ loop-place-preserved c =
           (c.byte.ensures ∙ ap byte_of (c.configuration.ensures
           ∙ ap (λ (f : RegisterFile). (entry_at f.entries loop.place).configuration) is)) loop.invariant.1,
     )
+
+named_of : (file : RegisterFile) → IsProfile file.profile → names_hart (saved_registers file).entries ≡ true
+unfolding saved_registers
+named_of file is = named_number file.profile is
 
 saved : (c : After-number) → (let numbers : SavedRegisters = record {
   addresses = c.loop-place.addresses;
@@ -70,3 +76,9 @@ returns-clause-saved c = saved (goal.at.returns-clause-saved c).After-number
 pub returns-clause-restored : goal.returns-clause-restored
 returns-clause-restored c = ap restored_file (saved (goal.at.returns-clause-restored c).After-number)
     ∙ restored_saved (restored_file c.args.self.now) (restored_legal c.args.self.now)
+
+pub returns-clause-named : goal.returns-clause-named
+returns-clause-named c =
+    let file = restored_file c.args.self.now in
+    ap (λ (saved : SavedRegisters). names_hart saved.entries) (saved (goal.at.returns-clause-named c).After-number)
+    ∙ named_of file (restored_legal c.args.self.now).profile
