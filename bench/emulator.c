@@ -42,22 +42,29 @@ struct guest {
     unsigned times;
     int offsets[2];
     bool is_pair;            /* from a page's end, and not from where the entries cut the other page */
+    bool is_loaded_first;    /* the values of all nine writes before the first of them */
     bool is_firmware_listed; /* by the first entry behind those of the domain, which gives nobody else a right */
 };
 
+#define SWITCH(PAGES) .switches = 40000, .pages = PAGES
+#define LOADS(TIMES, ...) .times = TIMES, .offsets = __VA_ARGS__
+#define OF_CUT_PAGE {-PAGE / 2, 0}
+
 static const struct guest guests[] = {
-    {.name = "a switch, 8 pages", .switches = 40000, .pages = 8},
-    {.name = "a switch, 1 page", .switches = 40000, .pages = 1},
-    {.name = "a switch, 8 pages, firmware's entry is early", .switches = 40000, .pages = 8, .is_firmware_listed = true},
-    {.name = "a switch, 1 page, firmware's entry is early", .switches = 40000, .pages = 1, .is_firmware_listed = true},
-    {.name = "a switch, 8 loads from a page that is cut", .switches = 10000, .times = 1, .offsets = {-2048, 0}},
-    {.name = "a switch, 16 of them", .switches = 10000, .times = 2, .offsets = {-2048, 0}},
-    {.name = "a switch, 24 of them", .switches = 10000, .times = 3, .offsets = {-2048, 0}},
-    {.name = "a switch, 40 of them", .switches = 10000, .times = 5, .offsets = {-2048, 0}},
-    {.name = "a switch, 80 of them", .switches = 10000, .times = 10, .offsets = {-2048, 0}},
-    {.name = "a load from a page that is cut", .switches = 10, .times = 10000, .offsets = {-2048, 0}},
-    {.name = "a load that is misaligned", .switches = 10, .times = 10000, .offsets = {1, 1033}, .is_pair = true},
-    {.name = "a load across a page's end", .switches = 10, .times = 10000, .offsets = {-4, -4}, .is_pair = true},
+    {"a switch, 8 pages", SWITCH(8)},
+    {"a switch, 1 page", SWITCH(1)},
+    {"8 pages, values loaded first", SWITCH(8), .is_loaded_first = true},
+    {"1 page, values loaded first", SWITCH(1), .is_loaded_first = true},
+    {"8 pages, and the firmware's entry is early", SWITCH(8), .is_loaded_first = true, .is_firmware_listed = true},
+    {"1 page, and the firmware's entry is early", SWITCH(1), .is_loaded_first = true, .is_firmware_listed = true},
+    {"a switch, 8 loads from a cut page", 10000, LOADS(1, OF_CUT_PAGE)},
+    {"a switch, 16 loads from it", 10000, LOADS(2, OF_CUT_PAGE)},
+    {"a switch, 24 loads from it", 10000, LOADS(3, OF_CUT_PAGE)},
+    {"a switch, 40 loads from it", 10000, LOADS(5, OF_CUT_PAGE)},
+    {"a switch, 80 loads from it", 10000, LOADS(10, OF_CUT_PAGE)},
+    {"a load from a cut page", 10, LOADS(10000, OF_CUT_PAGE)},
+    {"a misaligned load in a page", 10, LOADS(10000, {1, 1033}), .is_pair = true},
+    {"a load across a page's end", 10, LOADS(10000, {-4, -4}), .is_pair = true},
 };
 
 static uint8_t ram[RAM_SIZE];
@@ -129,7 +136,7 @@ static uint64_t set_memory(const struct guest *guest) {
     struct code firmware = {(uint32_t *)(void *)ram, 0}, user = {(uint32_t *)(void *)(ram + (USER_CODE - RAM_START)), 0};
     for (uint64_t at = FIRST_PAGE; at < RAM_START + RAM_SIZE; at += 8)
         put_word(at, at * UINT64_C(0x9e3779b97f4a7c15));
-    handler = emit_firmware(&firmware);
+    handler = emit_firmware(&firmware, guest->is_loaded_first);
     uint64_t refused = set_rows(guest->switches);
     if (guest->pages) {
         emit_touches(&user, guest->pages);

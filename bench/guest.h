@@ -67,18 +67,24 @@ static void read_register(struct code *code, unsigned to, unsigned csr) {
 enum { CSR_MSTATUS = 0x300, CSR_MTVEC = 0x305, CSR_MEPC = 0x341, CSR_MCAUSE = 0x342, CSR_MTVAL = 0x343 };
 enum { WORD_MRET = 0x30200073, WORD_ECALL = 0x73, WORD_EBREAK = 0x100073, CALL_OF_USER = 8 };
 
-/* Nine writes to the unit, whose values are loaded before the first, and on to the domain of the row. Answers where the
-   switch begins. */
-static unsigned emit_switch(struct code *code) {
+/* Nine writes to the unit. Each value is loaded before its write, or all of them before the first write. */
+static void emit_writes(struct code *code, bool is_loaded_first) {
     static const uint8_t values[SWITCHED + 1] = {12, 13, 14, 15, 16, 17, 28, 29, 30};
+    for (unsigned place = 0; is_loaded_first && place <= SWITCHED; place++)
+        load_double(code, values[place], TABLE, 8 * place);
+    for (unsigned place = 0; place <= SWITCHED; place++) {
+        if (!is_loaded_first)
+            load_double(code, values[place], TABLE, 8 * place);
+        write_register(code, place < SWITCHED ? PMPADDR0 + place : PMPCFG0, values[place]);
+    }
+}
+
+/* The writes, and on to the domain of the row. Answers where the switch begins. */
+static unsigned emit_switch(struct code *code, bool is_loaded_first) {
     write_register(code, CSR_MTVEC, HANDLER);
     write_register(code, CSR_MSTATUS, STATUS);
     unsigned start = code->count;
-    for (unsigned place = 0; place <= SWITCHED; place++)
-        load_double(code, values[place], TABLE, 8 * place);
-    for (unsigned entry = 0; entry < SWITCHED; entry++)
-        write_register(code, PMPADDR0 + entry, values[entry]);
-    write_register(code, PMPCFG0, values[SWITCHED]);
+    emit_writes(code, is_loaded_first);
     load_double(code, BASE, TABLE, 8 * SWITCHED + 8);
     add_number(code, TABLE, TABLE, 8 * ROW_WORDS);
     branch(code, 1, TABLE, TABLE_END, 2);
@@ -90,8 +96,8 @@ static unsigned emit_switch(struct code *code) {
 
 /* Firmware at the start of memory. A fault is counted, and its instruction passed over; a call ends the domain's turn.
    Answers where the handler is. */
-static uint64_t emit_firmware(struct code *code) {
-    unsigned start = emit_switch(code), handler = code->count;
+static uint64_t emit_firmware(struct code *code, bool is_loaded_first) {
+    unsigned start = emit_switch(code, is_loaded_first), handler = code->count;
     read_register(code, TEMPORARY, CSR_MCAUSE);
     add_number(code, OTHER, 0, CALL_OF_USER);
     branch(code, 0, TEMPORARY, OTHER, 8);

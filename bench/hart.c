@@ -50,7 +50,7 @@ static void forget_moved(struct tlb *tlb, uint64_t generation) {
 
 /* Other modes are asked for nothing until the hart goes there. */
 static void forget(struct hart *hart, struct span moved) {
-    if (moved.first == 0 && moved.last == UINT64_MAX) {
+    if (moved.first == 0 && moved.last == LAST_BYTE) {
         forget_all(hart);
         return;
     }

@@ -28,6 +28,9 @@ enum { SPLIT = 256, NO_MATCH = 512, NO_ACCESS = 513, ALLOWED = 1024 };
 /* The rights of a page are a set of the first three, or MIXED where not all its bytes have the same entry. */
 enum { READABLE = 1, WRITABLE = 2, EXECUTABLE = 4, MIXED = 8 };
 
+/* Of all memory. */
+#define LAST_BYTE ((UINT64_C(1) << 56) - 1)
+
 /* How requests come: one after the other as fast as they are answered, or each only once the one before is. */
 enum pace { FREE, IN_TURN };
 

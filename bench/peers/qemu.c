@@ -23,7 +23,7 @@ static void prepare(const struct write *writes, size_t count) {
 
 static bool moves(struct write one, uint64_t *first, uint64_t *last) {
     *first = 0;
-    *last = UINT64_MAX;
+    *last = LAST_BYTE;
     env.is_flushed = false;
     write(&one, 1);
     return env.is_flushed;

@@ -17,7 +17,7 @@ static void prepare(const struct write *writes, size_t count) {
 static bool moves(struct write write, uint64_t *first, uint64_t *last) {
     uint64_t before = spike_like_read(&unit, write.number);
     *first = 0;
-    *last = UINT64_MAX;
+    *last = LAST_BYTE;
     spike_like_write(&unit, write.number, write.value);
     return spike_like_read(&unit, write.number) != before;
 }

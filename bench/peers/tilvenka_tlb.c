@@ -6,8 +6,6 @@ static tilvenka_pmp_unit unit;
 /* Since the last change. */
 static uint64_t questions;
 
-#include "settle.h"
-
 static void prepare(const struct write *writes, size_t count) {
     tilvenka_pmp_reset(&unit, ENTRIES);
     questions = 0;
@@ -22,7 +20,7 @@ static void read(const struct write *writes, size_t count, uint64_t *values) {
 
 static bool moves_all(struct write write, uint64_t *first, uint64_t *last) {
     *first = 0;
-    *last = UINT64_MAX;
+    *last = LAST_BYTE;
     return tilvenka_pmp_write(&unit, write.number, write.value) & TILVENKA_PMP_CHANGED;
 }
 
