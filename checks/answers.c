@@ -27,7 +27,7 @@ static void try_runs(void) {
     for (unsigned i = 0; i < sizeof RUNS / sizeof *RUNS; i++) {
         for (uint64_t entries = 16; entries <= 64; entries += 48) {
             tilvenka_pmp_unit unit;
-            tilvenka_pmp_reset(&unit, entries);
+            reset(&unit, entries);
             write_all(&unit, RUNS[i].writes);
             for (unsigned built = 0; built < 2; built++) {
                 uint64_t first, last;
@@ -47,15 +47,15 @@ static const struct {
     uint32_t status;
 } WRITES[] = {
     {"", 0x3b0, 5, TILVENKA_PMP_CHANGED},
-    {"3b0=5", 0x3b0, 5, TILVENKA_PMP_DONE},
+    {"3b0=5", 0x3b0, 5, TILVENKA_PMP_UNCHANGED},
     {"3b0=5", 0x3b0, 0xffc0000000000005, TILVENKA_PMP_BITS},
     {"", 0x3b0, 0x40000000000005, TILVENKA_PMP_CHANGED + TILVENKA_PMP_BITS},
     {"", 0x3c0, 5, TILVENKA_PMP_ABSENT},
     {"", 0x3c0, 0x40000000000000, TILVENKA_PMP_ABSENT + TILVENKA_PMP_BITS},
     {"3a0=80", 0x3b0, 5, TILVENKA_PMP_FROZEN},
-    {"3a0=80", 0x3b0, 0, TILVENKA_PMP_DONE},
+    {"3a0=80", 0x3b0, 0, TILVENKA_PMP_UNCHANGED},
     {"3b0=5 3a0=8900", 0x3b0, 6, TILVENKA_PMP_LOW_END},
-    {"3b0=5 3a0=8900", 0x3b0, 5, TILVENKA_PMP_DONE},
+    {"3b0=5 3a0=8900", 0x3b0, 5, TILVENKA_PMP_UNCHANGED},
     {"3b0=5 3a0=900", 0x3b0, 6, TILVENKA_PMP_CHANGED},
     {"747=4 3b0=5 3a0=8900", 0x3b0, 6, TILVENKA_PMP_CHANGED},
     {"3a0=1d", 0x3a0, 0x7d, TILVENKA_PMP_BITS},
@@ -87,6 +87,17 @@ static void try_writes(void) {
     }
 }
 
+// What a call came to: done but for three statuses.
+static void try_statuses(void) {
+    for (uint32_t status = 0; status < 2048; status++)
+        expect(tilvenka_pmp_is_done(status)
+                   == (status != TILVENKA_PMP_ODD_CONFIGURATION && status != TILVENKA_PMP_NO_REGISTER
+                       && status != TILVENKA_PMP_NO_HART), "done", status);
+    expect(!tilvenka_pmp_is_stored(TILVENKA_PMP_ODD_CONFIGURATION) && !tilvenka_pmp_is_stored(TILVENKA_PMP_NO_REGISTER)
+               && tilvenka_pmp_is_stored(TILVENKA_PMP_CHANGED + TILVENKA_PMP_MOVED)
+               && !tilvenka_pmp_is_stored(TILVENKA_PMP_CHANGED + TILVENKA_PMP_ABSENT), "stored", 0);
+}
+
 static void try_parts(void) {
     expect(tilvenka_pmp_entry(63) == 63 && tilvenka_pmp_entry(5 * 1024 + SPLIT + 9) == 9, "entry of an answer", 0);
     expect(tilvenka_pmp_entry(NONE) >= 64 && tilvenka_pmp_entry(NO_ACCESS + 1024) >= 64, "no entry of an answer", 0);
@@ -102,7 +113,7 @@ static void try_entries_on(void) {
     tilvenka_pmp_unit unit = {0};
     write_all(&unit, "3a0=1f0000100008 3a2=9800000000000000");
     expect(tilvenka_pmp_entries_on(&unit) == 4, "entries on", 16);
-    tilvenka_pmp_reset(&unit, 64);
+    reset(&unit, 64);
     write_all(&unit, "3a0=7 3ae=800000000000000");
     expect(tilvenka_pmp_entries_on(&unit) == 1, "entries on", 64);
 }
@@ -127,12 +138,13 @@ static void try_csrs(void) {
         named[number]++;
     }
     for (uint32_t number = 0; number < 0x800; number++)
-        expect(named[number] == (status_of(number) == TILVENKA_PMP_DONE), "one name for a CSR", number);
+        expect(named[number] == (status_of(number) == TILVENKA_PMP_UNCHANGED), "one name for a CSR", number);
 }
 
 int main(void) {
     try_runs();
     try_writes();
+    try_statuses();
     try_parts();
     try_entries_on();
     try_csrs();

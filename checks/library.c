@@ -65,7 +65,7 @@ static void try_decisions(void) {
         const struct decision *row = &DECISIONS[i];
         for (uint64_t entries = 16; entries <= 64; entries += 48) {
             tilvenka_pmp_unit unit;
-            tilvenka_pmp_reset(&unit, entries);
+            reset(&unit, entries);
             write_all(&unit, row->writes);
             uint32_t answer = decide(&unit, row->mode, row->kind, row->start, row->length);
             expect(answer == row->answer, "decision", i);
@@ -119,11 +119,11 @@ static void try_sizes(void) {
     for (uint64_t entries = 16; entries <= 64; entries += 48) {
         tilvenka_pmp_unit unit;
         bool is_large = entries == 64;
-        tilvenka_pmp_reset(&unit, entries);
+        reset(&unit, entries);
         write_all(&unit, "3bf=10 3c0=20 3a4=89 3bf=0");
         expect(read_csr(&unit, 0x3bf) == (is_large ? 0x10 : 0), "the last address", entries);
         expect(read_csr(&unit, 0x3a4) == (is_large ? 0x89 : 0), "the third word", entries);
-        tilvenka_pmp_reset(&unit, entries);
+        reset(&unit, entries);
         write_all(&unit, "3ef=3fffffffffffff 3ae=1900000000000000");
         uint32_t answer = decide(&unit, U, LOAD, 0xffffffffffffff, 1);
         expect(answer == (is_large ? 63 : NONE + 5 * 1024), "the last byte", entries);
@@ -137,7 +137,7 @@ static bool is_named_right(tilvenka_pmp_unit *unit, uint32_t csr) {
     uint32_t status = status_of(csr);
     uint64_t value = 77;
     bool is_right = tilvenka_pmp_read(unit, csr, &value) == status;
-    is_right &= value == (status == TILVENKA_PMP_DONE ? 0 : 77);
+    is_right &= value == (status == TILVENKA_PMP_UNCHANGED ? 0 : 77);
     before = *unit;
     is_right &= tilvenka_pmp_write(unit, csr, 0) == status;
     return is_right && memcmp(unit, &before, sizeof before) == 0;
@@ -246,23 +246,50 @@ static uint64_t entries_of(tilvenka_pmp_unit *unit) {
     return read_csr(unit, PMPADDR0 + 63) == (saved.entries == 64 ? 5 : 0) ? saved.entries : UINT64_MAX;
 }
 
+// A number that names no hart is refused, and the unit stays one of 64 entries.
 static void try_wide_sizes(void) {
     tilvenka_pmp_unit unit;
     tilvenka_pmp_registers registers = {0};
+    reset(&unit, 64);
     for (unsigned bit = 0; bit < 64; bit++) {
         registers.entries = 64 ^ UINT64_C(1) << bit;
-        tilvenka_pmp_reset(&unit, registers.entries);
-        expect(entries_of(&unit) == 16, "reset with bit", bit);
-        tilvenka_pmp_restore(&unit, &registers);
-        expect(entries_of(&unit) == 16, "snapshot of a size with bit", bit);
-        unit.map.runs = UINT64_C(1) << bit;
-        expect(tilvenka_pmp_is_built(&unit), "map with bit", bit);
+        expect(tilvenka_pmp_reset(&unit, registers.entries) == TILVENKA_PMP_NO_HART && entries_of(&unit) == 64,
+               "reset with bit", bit);
+        expect(tilvenka_pmp_restore(&unit, &registers) == TILVENKA_PMP_NO_HART && entries_of(&unit) == 64,
+               "snapshot of a size with bit", bit);
     }
-    registers.entries = 64;
-    tilvenka_pmp_restore(&unit, &registers);
-    expect(entries_of(&unit) == 64, "snapshot of a size", 64);
-    tilvenka_pmp_reset(&unit, 64);
-    expect(entries_of(&unit) == 64, "reset", 64);
+    for (unsigned bit = 0; bit < 64; bit++) {
+        unit.map.runs = UINT64_C(1) << bit;
+        expect(tilvenka_pmp_is_built(&unit) && tilvenka_pmp_settle(&unit, 0), "map with bit", bit);
+    }
+    for (uint64_t entries = 16; entries <= 64; entries += 48) {
+        registers.entries = entries;
+        expect(tilvenka_pmp_restore(&unit, &registers) == TILVENKA_PMP_UNCHANGED && entries_of(&unit) == entries,
+               "snapshot of a size", entries);
+        expect(tilvenka_pmp_reset(&unit, 80 - entries) == TILVENKA_PMP_UNCHANGED && entries_of(&unit) == 80 - entries,
+               "reset", entries);
+    }
+}
+
+// Zeroed memory is a unit of 16, and so is one whose memory says a number that names no hart: it is saved as 16.
+static void try_unnamed(void) {
+    static const uint64_t numbers[] = {0, 8, 32, 65, UINT64_MAX, TILVENKA_PMP_HART(65, 4, 56, 1)};
+    for (unsigned i = 0; i < sizeof numbers / sizeof *numbers; i++) {
+        tilvenka_pmp_unit unit = {.registers = {.entries = numbers[i]}};
+        expect(entries_of(&unit) == 16, "a number of no hart", i);
+        expect(tilvenka_pmp_restore(&unit, &unit.registers) == TILVENKA_PMP_NO_HART, "it isn't restored", i);
+        tilvenka_pmp_save(&unit, &unit.registers);
+        expect(unit.registers.entries == 16 && tilvenka_pmp_restore(&unit, &unit.registers) == TILVENKA_PMP_UNCHANGED,
+               "what is saved is restored", i);
+    }
+}
+
+static void try_version(void) {
+    expect(tilvenka_pmp_version() == TILVENKA_PMP_VERSION, "version", tilvenka_pmp_version());
+    expect(TILVENKA_PMP_VERSION == 10000 * TILVENKA_PMP_VERSION_MAJOR + 100 * TILVENKA_PMP_VERSION_MINOR
+               + TILVENKA_PMP_VERSION_PATCH, "parts of the version", TILVENKA_PMP_VERSION);
+    expect(tilvenka_pmp_unit_size() == sizeof(tilvenka_pmp_unit), "size of a unit", tilvenka_pmp_unit_size());
+    expect(tilvenka_pmp_is_compatible(), "a library for the header", 0);
 }
 
 // Smepmp's truth table: L, R, W, X, and what machine mode and the other modes then have.
@@ -362,7 +389,7 @@ static void try_snapshot(void) {
     memset(&saved, 0xff, sizeof saved);
     memset(&other, 0xff, sizeof other);
     tilvenka_pmp_save(&unit, &saved);
-    tilvenka_pmp_restore(&other, &saved);
+    expect(tilvenka_pmp_restore(&other, &saved) == TILVENKA_PMP_UNCHANGED, "a snapshot is restored", 0);
     tilvenka_pmp_save(&other, &again);
     expect(memcmp(&saved, &again, sizeof saved) == 0 && !tilvenka_pmp_is_built(&other), "snapshot", 0);
     expect(saved.addresses[0] == 0x200001ff && saved.addresses[1] == 7 && saved.configurations[0] == 0x9f
@@ -460,6 +487,24 @@ static bool agrees(tilvenka_pmp_unit *unit) {
     return is_same;
 }
 
+// Whether the unit takes its own registers: a save puts their numbers right and leaves the map, and a restore takes
+// them, as if they lay apart.
+static bool takes_its_own(tilvenka_pmp_unit *unit, const tilvenka_pmp_registers *saved) {
+    static tilvenka_pmp_unit before;
+    before = *unit;
+    tilvenka_pmp_save(unit, &unit->registers);
+    bool is_right = memcmp(&unit->registers, saved, sizeof *saved) == 0;
+    is_right &= memcmp(&unit->map, &before.map, sizeof before.map) == 0;
+    is_right &= tilvenka_pmp_restore(unit, &unit->registers) == TILVENKA_PMP_UNCHANGED;
+    is_right &= memcmp(&unit->registers, saved, sizeof *saved) == 0 && unit->map.runs == 0;
+    *unit = before;
+    if (!tilvenka_pmp_is_hart(unit->registers.entries))
+        return is_right && tilvenka_pmp_restore(unit, &unit->registers) == TILVENKA_PMP_NO_HART
+            && memcmp(unit, &before, sizeof before) == 0;
+    is_right &= tilvenka_pmp_restore(unit, &unit->registers) == TILVENKA_PMP_UNCHANGED;
+    return is_right && memcmp(&unit->registers, saved, sizeof *saved) == 0;
+}
+
 static bool try_random_unit(tilvenka_pmp_unit *unit) {
     static tilvenka_pmp_unit other;
     tilvenka_pmp_registers saved;
@@ -472,8 +517,9 @@ static bool try_random_unit(tilvenka_pmp_unit *unit) {
     is_right &= !tilvenka_pmp_is_done(status) || tilvenka_pmp_is_stored(status) == (read_csr(unit, csr) == value);
     is_right &= ask(unit) && agrees(unit) && ask(unit);
     tilvenka_pmp_save(unit, &saved);
-    tilvenka_pmp_restore(&other, &saved);
-    return is_right && memcmp(&other.registers, &saved, sizeof saved) == 0;
+    is_right &= tilvenka_pmp_restore(&other, &saved) == TILVENKA_PMP_UNCHANGED;
+    is_right &= memcmp(&other.registers, &saved, sizeof saved) == 0 && other.map.runs == 0;
+    return is_right && takes_its_own(unit, &saved);
 }
 
 // The unit ends right before a page that may not be touched, or begins right after one.
@@ -497,6 +543,8 @@ int main(void) {
     try_wide_words();
     try_wide_values();
     try_wide_sizes();
+    try_unnamed();
+    try_version();
     try_truth_table();
     try_ranges();
     try_snapshot();

@@ -47,14 +47,20 @@ static inline void write_all(tilvenka_pmp_unit *unit, const char *writes) {
 
 static inline uint64_t read_csr(const tilvenka_pmp_unit *unit, uint32_t csr) {
     uint64_t value = UINT64_MAX;
-    return tilvenka_pmp_read(unit, csr, &value) == TILVENKA_PMP_DONE ? value : UINT64_MAX;
+    return tilvenka_pmp_read(unit, csr, &value) == TILVENKA_PMP_UNCHANGED ? value : UINT64_MAX;
 }
 
 // What a call answers to the number of a register, and to one of none.
 static inline uint32_t status_of(uint32_t csr) {
     if (csr >= PMPCFG0 && csr < PMPADDR0)
-        return csr % 2 == 1 ? TILVENKA_PMP_ODD_CONFIGURATION : TILVENKA_PMP_DONE;
-    return (csr >= PMPADDR0 && csr < PMPADDR0 + 64) || csr == MSECCFG ? TILVENKA_PMP_DONE : TILVENKA_PMP_NO_REGISTER;
+        return csr % 2 == 1 ? TILVENKA_PMP_ODD_CONFIGURATION : TILVENKA_PMP_UNCHANGED;
+    return (csr >= PMPADDR0 && csr < PMPADDR0 + 64) || csr == MSECCFG ? TILVENKA_PMP_UNCHANGED : TILVENKA_PMP_NO_REGISTER;
+}
+
+// A unit after reset of a hart that is there.
+static inline void reset(tilvenka_pmp_unit *unit, uint64_t hart) {
+    if (tilvenka_pmp_reset(unit, hart) != TILVENKA_PMP_UNCHANGED)
+        abort();
 }
 
 // A number from anywhere in the range, the same for each run.

@@ -143,7 +143,8 @@ enum {
 
 /* The number of a hart: how many entries it has, 0 to 64, its grain in bytes, a power of two from 4 to 4096, how many
  * bits an address has, 34 to 56, and whether it has mseccfg. With an argument that is none of these it names no hart.
- * 16 and 64 by themselves name the harts of so many entries with a grain of 4 bytes, addresses of 56 bits and Smepmp. */
+ * It is a constant where they are, and may evaluate an argument more than once. 16 and 64 by themselves name the harts
+ * of so many entries with a grain of 4 bytes, addresses of 56 bits and Smepmp. */
 #define TILVENKA_PMP_HART(entries, grain, address_bits, smepmp) \
     (TILVENKA_PMP_BYTE(entries) | TILVENKA_PMP_BYTE(address_bits) << 8 | ((smepmp) ? UINT64_C(1) : 0) << 16 \
         | TILVENKA_PMP_G(grain) << 24 | UINT64_C(1) << 32)
