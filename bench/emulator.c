@@ -17,12 +17,13 @@ enum { DOMAINS = 8, ROW_COUNT = 64, MAX_UNITS = 8 };
 /* Of the entries behind those of a domain, which are on in every guest. */
 enum { FIRMWARE_ENTRY = 8, CUT_ENTRY = ENTRIES - 4, PAIR_ENTRY = ENTRIES - 2, CODE_ENTRY = ENTRIES - 1 };
 
-extern const struct peer settled, unbuilt, all_moved, built, spike_like, qemu;
+extern const struct peer with_runs, settled, unbuilt, all_moved, built, spike_like, qemu;
 
 static const struct {
     const struct peer *peer;
     const char *head;
 } units[] = {
+    {&with_runs, "settled, runs kept"},
     {&settled, "settled"},
     {&unbuilt, "no map"},
     {&all_moved, "no map, all forgotten"},
@@ -164,7 +165,7 @@ struct outcome {
     uint64_t sum;
     uint64_t faults;
     double time;
-    uint64_t fills, decisions;
+    uint64_t fills, runs, decisions;
 };
 
 static double nanoseconds(void) {
@@ -178,7 +179,7 @@ static struct outcome run(const struct guest *guest, const struct peer *peer) {
     set_hart(&hart, guest, peer);
     double before = nanoseconds();
     run_hart(&hart);
-    struct outcome outcome = {0, hart.x[FAULTS], nanoseconds() - before, hart.fills, hart.decisions};
+    struct outcome outcome = {0, hart.x[FAULTS], nanoseconds() - before, hart.fills, hart.runs, hart.decisions};
     for (unsigned i = 1; i < 32; i++)
         outcome.sum = outcome.sum * UINT64_C(0x100000001b3) + hart.x[i];
     return outcome;
@@ -190,8 +191,9 @@ static void compare(const struct guest *guest, uint64_t faults) {
     for (unsigned i = 0; i < UNITS; i++) {
         struct outcome told = run(guest, units[i].peer);
         wanted = i == 0 ? told : wanted;
-        fprintf(stderr, "%s, %s: %.2f fills and %.2f decisions\n", guest->name, units[i].head,
-                (double)told.fills / guest->switches, (double)told.decisions / guest->switches);
+        fprintf(stderr, "%s, %s: %.2f pages, %.2f runs and %.2f accesses are asked for\n", guest->name, units[i].head,
+                (double)told.fills / guest->switches, (double)told.runs / guest->switches,
+                (double)told.decisions / guest->switches);
         if (told.sum == wanted.sum && told.faults == faults)
             continue;
         fprintf(stderr, "%s: %s ends with %llx and %llu faults, where %llx and %llu are wanted\n", guest->name,

@@ -16,6 +16,11 @@ static uint64_t page_of(uint64_t address) {
     return address & ~(uint64_t)(PAGE - 1);
 }
 
+/* Whether they have a byte in common. */
+static bool is_common(struct span one, struct span other) {
+    return one.first <= other.last && other.first <= one.last;
+}
+
 static void include(struct span *span, uint64_t first, uint64_t last) {
     span->first = first < span->first ? first : span->first;
     span->last = last > span->last ? last : span->last;
@@ -26,6 +31,8 @@ static void forget_all(struct hart *hart) {
     for (unsigned mode = 0; mode < MODES; mode++) {
         struct tlb *tlb = &hart->tlbs[mode];
         tlb->bounds = tlb->moved = NOTHING;
+        for (unsigned i = 0; i < PARTS; i++)
+            tlb->parts[i].span = NOTHING;
         if (hart->generation == PAGE - 1)
             memset(tlb->pages, 0, sizeof tlb->pages);
     }
@@ -34,9 +41,11 @@ static void forget_all(struct hart *hart) {
 
 static void forget_moved(struct tlb *tlb, uint64_t generation) {
     struct span moved = {page_of(tlb->moved.first), tlb->moved.last};
-    bool has_some = moved.first <= tlb->bounds.last && moved.last >= tlb->bounds.first;
     tlb->moved = NOTHING;
-    if (!has_some)
+    for (unsigned i = 0; i < PARTS; i++)
+        if (is_common(moved, tlb->parts[i].span))
+            tlb->parts[i].span = NOTHING;
+    if (!is_common(moved, tlb->bounds))
         return;
     tlb->bounds = NOTHING;
     for (unsigned i = 0; i < TLB_SIZE; i++) {
@@ -65,7 +74,7 @@ static void go_to(struct hart *hart, unsigned mode) {
         forget_moved(&hart->tlbs[mode], hart->generation);
 }
 
-static bool is_allowed(struct hart *hart, unsigned kind, uint64_t address, uint64_t length) {
+static bool is_decided(struct hart *hart, unsigned kind, uint64_t address, uint64_t length) {
     struct request request = {address, length, hart->mode, kind};
     uint16_t answer;
     hart->decisions++;
@@ -73,7 +82,29 @@ static bool is_allowed(struct hart *hart, unsigned kind, uint64_t address, uint6
     return (hart->peer->number_of ? hart->peer->number_of(answer) : answer) >= ALLOWED;
 }
 
-/* Rights that are mixed are kept too, and then each access is decided. */
+static bool has(const struct part *part, uint64_t address, uint64_t length) {
+    return address >= part->span.first && address + length - 1 <= part->span.last;
+}
+
+/* The part that the access is in, or NULL where it is in none. */
+static const struct part *part_of(struct hart *hart, uint64_t address, uint64_t length) {
+    struct tlb *tlb = &hart->tlbs[hart->mode];
+    for (unsigned i = 0; i < PARTS; i++)
+        if (has(&tlb->parts[i], address, length))
+            return &tlb->parts[i];
+    struct part *part = &tlb->parts[tlb->next_part++ % PARTS];
+    hart->runs++;
+    part->rights = hart->peer->run(hart->mode, address, &part->span.first, &part->span.last);
+    return has(part, address, length) ? part : NULL;
+}
+
+/* An access that the rights of a page don't decide. */
+static bool is_allowed(struct hart *hart, unsigned kind, uint64_t address, uint64_t length) {
+    const struct part *part = hart->peer->run ? part_of(hart, address, length) : NULL;
+    return part ? (part->rights & needed[kind]) != 0 : is_decided(hart, kind, address, length);
+}
+
+/* Rights that are mixed are kept too. */
 static __attribute__((noinline)) bool asks(struct hart *hart, struct translation *kept, unsigned kind, uint64_t address,
                                            uint64_t length) {
     uint64_t page = page_of(address);

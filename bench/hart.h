@@ -4,7 +4,7 @@
 #include "peer.h"
 
 #define RAM_START UINT64_C(0x80000000)
-enum { RAM_SIZE = 16 << 20, PAGE = 4096, TLB_SIZE = 64, MODES = 4 };
+enum { RAM_SIZE = 16 << 20, PAGE = 4096, TLB_SIZE = 64, PARTS = 4, MODES = 4 };
 
 /* The rights of a page, which are those of peer.h. The tag is the page's address and the TLB's generation. */
 struct translation {
@@ -18,11 +18,20 @@ struct span {
     uint64_t last;
 };
 
-/* What the hart holds of a mode: pages between these bounds, of which it forgets some before it goes to the mode. */
+/* Memory with the same rights, which may be less than a page, or more. */
+struct part {
+    struct span span;
+    uint64_t rights;
+};
+
+/* What the hart holds of a mode: pages between these bounds, and parts. Of what moved it forgets them before it goes to
+   the mode. */
 struct tlb {
     struct translation pages[TLB_SIZE];
     struct span bounds;
     struct span moved;
+    struct part parts[PARTS];
+    unsigned next_part;
 };
 
 struct hart {
@@ -34,8 +43,8 @@ struct hart {
     bool is_stopped;
     uint64_t generation;
     struct tlb tlbs[MODES];
-    /* How often the unit was asked. */
-    uint64_t fills, decisions;
+    /* How often the unit was asked: for a page, for a part, for an access. */
+    uint64_t fills, runs, decisions;
     uint8_t *ram;
 };
 

@@ -53,6 +53,8 @@ struct peer {
     void (*decide)(const struct request *requests, size_t count, uint16_t *answers, enum pace pace);
     /* The rights of the page of each request, which a TLB asks for where it takes the page in. */
     void (*fill)(const struct request *requests, size_t count, uint16_t *answers, enum pace pace);
+    /* The rights at an address, which all bytes round it have from first to last. */
+    unsigned (*run)(unsigned mode, uint64_t address, uint64_t *first, uint64_t *last);
     /* Builds the map as often. */
     void (*build)(size_t count);
 };

@@ -1,4 +1,4 @@
-/* The library as an emulator with a TLB calls it, in four ways. */
+/* The library as an emulator with a TLB calls it, in five ways. */
 #include "../peer.h"
 #include "tilvenka_pmp.h"
 
@@ -59,6 +59,11 @@ static inline unsigned build_and_fill(struct request it) {
     return rights_of(it);
 }
 
+static unsigned settle_and_run(unsigned mode, uint64_t address, uint64_t *first, uint64_t *last) {
+    tilvenka_pmp_settle(&unit, ++questions);
+    return tilvenka_pmp_run_rights(tilvenka_pmp_run(&unit, mode, address, first, last));
+}
+
 ASK_BY(decide, answer_to)
 ASK_BY(fill, rights_of)
 ASK_BY(decide_settled, settle_and_answer)
@@ -70,11 +75,12 @@ static unsigned number_of(unsigned answer) {
     return tilvenka_pmp_is_allowed(answer) ? ALLOWED : 0;
 }
 
-#define WAY(NAME, MOVES, DECIDE, FILL)                                                                              \
-    const struct peer NAME = {.name = #NAME, .number_of = number_of, .prepare = prepare, .moves = MOVES, .read = read, \
-                              .decide = DECIDE, .fill = FILL}
+#define WAY(NAME, MOVES, DECIDE, FILL, RUN)                                                                 \
+    const struct peer NAME = {.name = #NAME, .number_of = number_of, .prepare = prepare, .moves = MOVES,    \
+                              .read = read, .decide = DECIDE, .fill = FILL, .run = RUN}
 
-WAY(settled, moves_some, decide_settled, fill_settled);
-WAY(unbuilt, moves_some, decide, fill);
-WAY(all_moved, moves_all, decide, fill);
-WAY(built, moves_all, decide_built, fill_built);
+WAY(with_runs, moves_some, decide_settled, fill_settled, settle_and_run);
+WAY(settled, moves_some, decide_settled, fill_settled, NULL);
+WAY(unbuilt, moves_some, decide, fill, NULL);
+WAY(all_moved, moves_all, decide, fill, NULL);
+WAY(built, moves_all, decide_built, fill_built, NULL);
