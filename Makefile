@@ -29,7 +29,7 @@ export PREFIX DESTDIR
 LANES = $(shell awk -v most="$$(nproc)" '/^MemAvailable/ { n = int($$2 / 3500000); print n < 1 ? 1 : n < most ? n : most }' /proc/meminfo)
 
 .PHONY: build library page page-test docs test conformance qemu install install-program install-library uninstall dist \
-    dist-test soak stress bench bench-decide bench-threads bench-limits bench-audit bench-page
+    dist-test soak stress bench bench-decide bench-emulator bench-threads bench-limits bench-audit bench-page bench-qemu
 
 build:
 	@release/build program
@@ -106,12 +106,17 @@ dist-test: build library
 	checks/release --all
 
 # Proves and builds the library and the program, and compares their times with plain C.
-bench: bench-decide bench-threads bench-limits bench-audit bench-page
+bench: bench-decide bench-emulator bench-threads bench-limits bench-audit bench-page
 
-bench-decide: library
+bench-decide: library bench-qemu
+	@bench/decide
+
+bench-emulator: library bench-qemu
+	@bench/emulate
+
+bench-qemu:
 	@mkdir -p bench/out
 	@bench/qemu/fetch bench/out/qemu-10 trixie || echo "QEMU 10's source can't be fetched, so it isn't timed"
-	@bench/decide
 
 bench-threads: stress
 	gcc -O2 -std=c11 -Wall -Wextra -pthread bench/threads.c bench/spike_like.c -o bench/out/threads

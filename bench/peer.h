@@ -28,6 +28,9 @@ enum { SPLIT = 256, NO_MATCH = 512, NO_ACCESS = 513, ALLOWED = 1024 };
 /* The rights of a page are a set of the first three, or MIXED where not all its bytes have the same entry. */
 enum { READABLE = 1, WRITABLE = 2, EXECUTABLE = 4, MIXED = 8 };
 
+/* Of all memory. */
+#define LAST_BYTE ((UINT64_C(1) << 56) - 1)
+
 /* How requests come: one after the other as fast as they are answered, or each only once the one before is. */
 enum pace { FREE, IN_TURN };
 
@@ -41,6 +44,8 @@ struct peer {
     void (*prepare)(const struct write *writes, size_t count);
     /* Makes these writes as the unit stands, and what has to be made of them before the next question. */
     void (*change)(const struct write *writes, size_t count);
+    /* Makes this write, and answers whether a TLB has to forget pages then: those from the first byte to the last. */
+    bool (*moves)(struct write write, uint64_t *first, uint64_t *last);
     /* Makes these writes alone. */
     void (*write)(const struct write *writes, size_t count);
     /* Reads the registers of these numbers. */
@@ -48,6 +53,8 @@ struct peer {
     void (*decide)(const struct request *requests, size_t count, uint16_t *answers, enum pace pace);
     /* The rights of the page of each request, which a TLB asks for where it takes the page in. */
     void (*fill)(const struct request *requests, size_t count, uint16_t *answers, enum pace pace);
+    /* The rights at an address, which all bytes round it have from first to last. */
+    unsigned (*run)(unsigned mode, uint64_t address, uint64_t *first, uint64_t *last);
     /* Builds the map as often. */
     void (*build)(size_t count);
 };

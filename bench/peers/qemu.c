@@ -21,6 +21,14 @@ static void prepare(const struct write *writes, size_t count) {
     write(writes, count);
 }
 
+static bool moves(struct write one, uint64_t *first, uint64_t *last) {
+    *first = 0;
+    *last = LAST_BYTE;
+    env.is_flushed = false;
+    write(&one, 1);
+    return env.is_flushed;
+}
+
 static uint64_t read_register(uint16_t number) {
     if (number == MSECCFG)
         return mseccfg_csr_read(&env);
@@ -54,6 +62,7 @@ const struct peer qemu = {
     .name = "qemu",
     .prepare = prepare,
     .change = write,
+    .moves = moves,
     .write = write,
     .read = read,
     .decide = decide,

@@ -13,6 +13,15 @@ static void prepare(const struct write *writes, size_t count) {
     write(writes, count);
 }
 
+/* As Spike's, but that a write which changes nothing flushes nothing. */
+static bool moves(struct write write, uint64_t *first, uint64_t *last) {
+    uint64_t before = spike_like_read(&unit, write.number);
+    *first = 0;
+    *last = LAST_BYTE;
+    spike_like_write(&unit, write.number, write.value);
+    return spike_like_read(&unit, write.number) != before;
+}
+
 static void read(const struct write *writes, size_t count, uint64_t *values) {
     for (size_t i = 0; i < count; i++)
         values[i] = spike_like_read(&unit, writes[i].number);
@@ -38,6 +47,7 @@ const struct peer spike_like = {
     .number_of = number_of,
     .prepare = prepare,
     .change = write,
+    .moves = moves,
     .write = write,
     .read = read,
     .decide = decide,

@@ -1,5 +1,5 @@
-/* A memory bus of an RV64 hart with a software TLB, which asks the library where a page comes into the TLB and where a
- * CSR is written. Reads a trace from standard input:
+/* A memory bus of an RV64 hart with a software TLB, which asks the library where a page comes into the TLB, and keeps
+ * the pages that a write of a CSR didn't move. Reads a trace from standard input:
  *
  *     write CSR VALUE                  writes a CSR
  *     fetch|load U|S|M ADDRESS LENGTH  reads up to 8 bytes, as instruction or as data
@@ -27,6 +27,7 @@ struct translation {
 
 struct hart {
     tilvenka_pmp_unit pmp;
+    uint64_t questions; /* to the unit since its registers changed */
     struct translation tlb[MODES][TLB_SIZE];
     unsigned hits, fills;
     uint8_t ram[RAM_SIZE];
@@ -37,16 +38,24 @@ struct access {
     uint64_t address, length;
 };
 
-/* What may have changed the rights of pages: the map is built anew, and the TLB forgets. */
-static void flush(struct hart *hart) {
-    tilvenka_pmp_build(&hart->pmp);
-    memset(hart->tlb, 0, sizeof hart->tlb);
+/* Forgets each page that has a byte from first to last. */
+static void forget(struct hart *hart, uint64_t first, uint64_t last) {
+    for (unsigned mode = 0; mode < MODES; mode++) {
+        for (unsigned place = 0; place < TLB_SIZE; place++) {
+            struct translation *kept = &hart->tlb[mode][place];
+            if (kept->page <= last && kept->page + (PAGE - 1) >= first)
+                kept->is_valid = false;
+        }
+    }
 }
 
 static uint32_t write_csr(struct hart *hart, uint32_t csr, uint64_t value) {
-    uint32_t status = tilvenka_pmp_write(&hart->pmp, csr, value);
+    uint64_t first, last;
+    uint32_t status = tilvenka_pmp_write_moved(&hart->pmp, csr, value, &first, &last);
     if (status & TILVENKA_PMP_CHANGED)
-        flush(hart);
+        hart->questions = 0;
+    if (status & TILVENKA_PMP_MOVED)
+        forget(hart, first, last);
     return status;
 }
 
@@ -55,7 +64,14 @@ static void migrate(struct hart *hart) {
     tilvenka_pmp_save(&hart->pmp, &snapshot);
     memset(&hart->pmp, 0xaa, sizeof hart->pmp);
     tilvenka_pmp_restore(&hart->pmp, &snapshot);
-    flush(hart);
+    hart->questions = 0;
+    forget(hart, 0, UINT64_MAX);
+}
+
+/* The unit, before each question to it: its map is built once that pays. */
+static const tilvenka_pmp_unit *unit_to_ask(struct hart *hart) {
+    tilvenka_pmp_settle(&hart->pmp, ++hart->questions);
+    return &hart->pmp;
 }
 
 static uint32_t right_of(uint32_t kind) {
@@ -70,7 +86,7 @@ static uint32_t page_rights(struct hart *hart, uint32_t mode, uint64_t page) {
         hart->hits++;
         return kept->rights;
     }
-    uint32_t rights = tilvenka_pmp_rights(&hart->pmp, mode, page, PAGE);
+    uint32_t rights = tilvenka_pmp_rights(unit_to_ask(hart), mode, page, PAGE);
     hart->fills++;
     if (rights < TILVENKA_PMP_MIXED)
         *kept = (struct translation){true, page, rights};
@@ -85,7 +101,7 @@ static uint32_t ask(struct hart *hart, const struct access *access) {
         if (rights < TILVENKA_PMP_MIXED && rights & right_of(access->kind))
             return 0;
     }
-    return tilvenka_pmp_decide(&hart->pmp, access->mode, access->kind, access->address, access->length);
+    return tilvenka_pmp_decide(unit_to_ask(hart), access->mode, access->kind, access->address, access->length);
 }
 
 /* The memory of the access, or NULL where the bus has none. */
@@ -193,7 +209,6 @@ static bool run_line(struct hart *hart, const char *line) {
 int main(void) {
     static struct hart hart; /* zeroed, so its unit is as after reset */
     char line[128];
-    flush(&hart);
     for (unsigned number = 1; fgets(line, sizeof line, stdin) != NULL; number++) {
         if (line[0] == '#' || line[0] == '\n')
             continue;

@@ -13,9 +13,6 @@
 
 _Static_assert(MAX_RISCV_PMPS == 16 || MAX_RISCV_PMPS == 64, "the library has units of 16 and of 64 entries");
 
-/* After so many questions since the last change it pays to build the map, by which each costs a tenth. */
-enum { QUESTIONS_BEFORE_MAP = 8 };
-
 static const struct {
     uint32_t bit;
     const char *words;
@@ -37,10 +34,12 @@ static uint64_t read_register(CPURISCVState *env, uint32_t csr)
     return value;
 }
 
-/* Whether anything changed. Why the register doesn't read the value is a line in the log of guest errors. */
+/* Whether some access may be decided otherwise than before. Of which addresses isn't asked, since the TLB is one of
+ * virtual addresses. Why the register doesn't read the value is a line in the log of guest errors. */
 static bool write_register(CPURISCVState *env, uint32_t csr, uint64_t value)
 {
-    uint32_t status = tilvenka_pmp_write(&env->pmp_state.unit, csr, value);
+    uint64_t first, last;
+    uint32_t status = tilvenka_pmp_write_moved(&env->pmp_state.unit, csr, value, &first, &last);
     for (size_t i = 0; status >= TILVENKA_PMP_ABSENT && i < ARRAY_SIZE(reasons); i++) {
         if (status & reasons[i].bit) {
             qemu_log_mask(LOG_GUEST_ERROR, "hart %" PRIu64 ": CSR 0x%" PRIx32 " doesn't take 0x%" PRIx64 ": %s\n",
@@ -50,7 +49,7 @@ static bool write_register(CPURISCVState *env, uint32_t csr, uint64_t value)
     if (status & TILVENKA_PMP_CHANGED) {
         env->pmp_state.questions = 0;
     }
-    return status & TILVENKA_PMP_CHANGED;
+    return status & TILVENKA_PMP_MOVED;
 }
 
 void pmpcfg_csr_write(CPURISCVState *env, uint32_t reg_index, target_ulong val)
@@ -111,9 +110,8 @@ target_ulong mseccfg_csr_read(CPURISCVState *env)
 static uint32_t rights_of(CPURISCVState *env, target_ulong mode, uint64_t start, uint64_t length)
 {
     pmp_table_t *state = &env->pmp_state;
-    if (state->questions < QUESTIONS_BEFORE_MAP && qemu_cpu_is_self(env_cpu(env))
-        && ++state->questions == QUESTIONS_BEFORE_MAP) {
-        tilvenka_pmp_build(&state->unit);
+    if (qemu_cpu_is_self(env_cpu(env))) {
+        tilvenka_pmp_settle(&state->unit, ++state->questions);
     }
     return tilvenka_pmp_rights(&state->unit, mode, start, length);
 }

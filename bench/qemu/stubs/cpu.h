@@ -33,6 +33,7 @@ struct CPUArchState {
     target_ulong mhartid;
     uint32_t misa_mxl;
     struct configuration cfg;
+    bool is_flushed;
 };
 
 static inline const struct configuration *riscv_cpu_cfg(CPURISCVState *env) {
@@ -43,7 +44,7 @@ static inline const struct configuration *riscv_cpu_cfg(CPURISCVState *env) {
 #define riscv_cpu_mxl(env) ((env)->misa_mxl)
 #define env_cpu(env) (env)
 #define env_archcpu(env) (env)
-#define tlb_flush(cpu) ((void)(cpu))
+#define tlb_flush(cpu) ((cpu)->is_flushed = true)
 #define qemu_log_mask(...) ((void)0)
 #define g_assert_not_reached() __builtin_unreachable()
 #define trace_pmpcfg_csr_write(...) ((void)0)
