@@ -32,3 +32,4 @@ pub mod AddressReasons
 pub mod MseccfgReasons
 pub mod ReasonsLaw
 pub mod Reachable
+pub mod MovedWrites

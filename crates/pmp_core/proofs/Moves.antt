@@ -21,16 +21,16 @@ use Rattle.pmp_core.specs.Decision.{IsByteOf}
 use Rattle.pmp_core.specs.Entry.{Entry}
 use Rattle.pmp_core.specs.Hart.{Profile, profile_by}
 use Rattle.pmp_core.specs.Matching.{Matches, low_address}
-use Rattle.pmp_core.specs.Moved.{AreAlikeBeside, IsMoved, IsMovedWithin, IsSameEntry, is_same_entry, joined}
+use Rattle.pmp_core.specs.Moved.{AreAlikeBeside, IsMoved, IsMovedWithin, IsSameEntry, is_same_configuration, is_same_range, joined}
 use Rattle.pmp_core.specs.Moved.{moved_among, moved_at, moved_by}
 use Rattle.pmp_core.specs.Mseccfg.{mseccfg_fields}
 use Rattle.pmp_core.specs.OthersLaw.{MovedLaw, may_move}
 use Rattle.pmp_core.specs.Ranges.{range_of, range_on}
-use Rattle.pmp_core.specs.RegisterFile.{IsLegal, RegisterFile, entry_at, reset_entry}
+use Rattle.pmp_core.specs.RegisterFile.{HasAddresses, IsLegal, RegisterFile, entry_at, reset_entry}
 use Rattle.pmp_core.specs.RegisterValue.{register_value}
 use Rattle.pmp_core.specs.RegisterWrite.{is_tor, written}
 use Rattle.pmp_core.specs.Rights.{has_entries}
-use Rattle.pmp_core.specs.Span.{IsSpan, span_of}
+use Rattle.pmp_core.specs.Span.{IsSpan, span_in, span_of}
 use Rattle.pmp_core.proofs.Legal.{legal_addresses, length-written, step_legal}
 use Rattle.pmp_core.proofs.Matches.{matches_range, range_past}
 use Rattle.pmp_core.proofs.Others.{IsSame, bytes_kept, decided_by, entry_kept, holds_none, mseccfg_kept}
@@ -179,6 +179,10 @@ module _ (one other : RegisterFile) (legal : IsLegal one) (too : IsLegal other) 
 
 -- ---- a write
 
+span_seen : (file : RegisterFile) (i : ℕ) → HasAddresses file → IsSpan file i (span_in (range_of file i))
+unfolding span_of
+span_seen file i addresses = is_span file i addresses
+
 joined_none : (one : Option Span) → joined one None ≡ one
 joined_none None = refl
 joined_none (Some one) = refl
@@ -202,14 +206,18 @@ module _ (one other : RegisterFile) where
       ) refl
 
   module _ (legal : IsLegal one) (too : IsLegal other) where
+    ranged : (i : ℕ) → IsMovedWithin one other (joined (span_in (range_of other i)) (span_in (range_of one i))) i
+    ranged i = moved_within one other i (span_in (range_of one i)) (span_in (range_of other i))
+        (span_seen one i (legal_addresses one legal)) (span_seen other i (legal_addresses other too))
+
     pub within_at : (i : ℕ) → IsMovedWithin one other (moved_at one other i) i
     unfolding moved_at
-    within_at i = elim (cases_Bool (is_same_entry one other i)) [
-      | inl same ↦
-          let both = and_parts _ _ same in
-          inl (same_entry one other i legal too (same_configuration _ _ both.0) (same_range _ _ both.1))
-      | inr apart ↦ rw apart (moved_within one other i (span_of one i) (span_of other i)
-          (is_span one i (legal_addresses one legal)) (is_span other i (legal_addresses other too)))
+    within_at i = elim (cases_Bool (is_same_configuration one other i)) [
+      | inl same ↦ elim (cases_Bool (is_same_range (range_of other i) (range_of one i))) [
+        | inl range ↦ inl (same_entry one other i legal too (same_configuration _ _ same) (same_range _ _ range))
+        | inr apart ↦ rw (same, apart) (ranged i)
+      ]
+      | inr apart ↦ rw apart (ranged i)
     ]
 
     pub within_among : (first count place : ℕ) → place < count

@@ -15,7 +15,7 @@ use Rattle.pmp_core.specs.Matching.{Matches}
 use Rattle.pmp_core.specs.Ranges.{range_of}
 use Rattle.pmp_core.specs.RegisterFile.{RegisterFile, entry_at}
 use Rattle.pmp_core.specs.RegisterValue.{register_value}
-use Rattle.pmp_core.specs.Span.{IsInSpan, span_of}
+use Rattle.pmp_core.specs.Span.{IsInSpan, span_in}
 
 -- the byte is one of those that moved, if there are any
 abbrev pub IsMoved : (moved : Option Span) → (byte : ℕ) → Type 0
@@ -51,15 +51,20 @@ joined (Some one) (Some other) = Some (record { first = min one.first other.firs
 abbrev pub is_same_range : (one other : ByteRange) → Bool
 is_same_range one other = one.start == other.start && one.end == other.end
 
--- entry i has one configuration in both files, and one range
-abbrev pub is_same_entry : (one other : RegisterFile) → ℕ → Bool
-is_same_entry one other i =
-    byte_of (entry_at other.entries i).configuration == byte_of (entry_at one.entries i).configuration
-    && is_same_range (range_of other i) (range_of one i)
+-- both ranges, if they aren't one
+abbrev pub moved_between : (one other : ByteRange) → Option Span
+moved_between one other = if is_same_range other one then None else joined (span_in other) (span_in one)
 
--- what entry i matches in either file, if it isn't the same
+abbrev pub is_same_configuration : (one other : RegisterFile) → ℕ → Bool
+is_same_configuration one other i =
+    byte_of (entry_at other.entries i).configuration == byte_of (entry_at one.entries i).configuration
+
+-- what entry i matches in either file, unless it has one configuration and one range
 unfoldable pub moved_at : (one other : RegisterFile) → ℕ → Option Span
-moved_at one other i = if is_same_entry one other i then None else joined (span_of other i) (span_of one i)
+moved_at one other i =
+    let was = range_of one i in
+    let is = range_of other i in
+    if is_same_configuration one other i then moved_between was is else joined (span_in is) (span_in was)
 
 -- what so many entries match, from the first on, of those that aren't the same
 unfoldable pub moved_among : (one other : RegisterFile) → (first count : ℕ) → Option Span

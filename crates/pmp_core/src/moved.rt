@@ -2,17 +2,20 @@
 
 ghost use Rattle.std.specs.Prelude.{◌≡◌, ◌<◌, ◌+◌, ◌^◌, ℕ, IsTrue, None, false, length};
 ghost use Rattle.pmp_core.specs.declared.csr.Csr.{Csr};
-ghost use Rattle.pmp_core.specs.Moved.{AreAlikeBeside, is_same_entry, joined, moved_among, moved_at, moved_by};
+ghost use Rattle.pmp_core.specs.Moved.{AreAlikeBeside, joined, moved_among, moved_at, moved_between, moved_by};
 ghost use Rattle.pmp_core.specs.RegisterWrite.{written};
-ghost use Rattle.pmp_core.specs.SavedRegisters.{restored_file};
+ghost use Rattle.pmp_core.specs.Ranges.{range_of};
+ghost use Rattle.pmp_core.specs.SavedRegisters.{hart_in, restored_file};
 ghost use Rattle.pmp_core.specs.Writing.{IsWritten};
 
 use crate::access::ADDRESS_LIMIT;
 use crate::csr::Csr;
+use crate::hart::Hart;
+use crate::range::ByteRange;
 use crate::register_write::{ENTRIES_PER_CFG, Written};
 use crate::registers::Registers;
 use crate::saved_registers::SavedRegisters;
-use crate::span::Span;
+use crate::span::{Span, span_in};
 
 /// Every byte.
 const ALL: Span = Span {
@@ -33,6 +36,17 @@ fn joined(one: Option<Span>, other: Option<Span>) -> Option<Span>
     }
 }
 
+/// Both ranges, if they aren't one.
+#[inline(always)]
+fn moved_between(now: &ByteRange, before: &ByteRange) -> Option<Span>
+    ensures { result ≡ moved_between before.now now.now }
+{
+    if now == before {
+        return None;
+    }
+    joined(span_in(now), span_in(before))
+}
+
 impl<'a> Registers<'a> {
     /// Whether nothing was written of the entry, nor to the address register before it.
     #[inline(always)]
@@ -50,21 +64,8 @@ impl<'a> Registers<'a> {
             }
     }
 
-    /// Whether the entry has the configuration and the range that it had.
-    #[inline(always)]
-    fn is_same(&self, before: &Registers<'_>, index: usize) -> bool
-        requires now { index < length self.now.entries }
-        requires before { index < length before.now.entries }
-        ensures { result ≡ is_same_entry before.now self.now index }
-    {
-        let _counts = (self.count(), before.count());
-        self.configuration(index) == before.configuration(index)
-            && self.range(index) == before.range(index)
-    }
-
     /// What the entry matches now or matched before, if it isn't the same.
     #[inline(always)]
-    #[tactic(auto, unfolding(crate::specs::Moved::moved_at))]
     fn moved_at(&self, before: &Registers<'_>, index: usize) -> Option<Span>
         requires now { index < length self.now.entries }
         requires before { index < length before.now.entries }
@@ -75,10 +76,13 @@ impl<'a> Registers<'a> {
         if self.keeps(before, index) {
             return None;
         }
-        if self.is_same(before, index) {
-            return None;
+        let _counts = (self.count(), before.count());
+        let (range, was) = (self.range(index), before.range(index));
+        if self.configuration(index) == before.configuration(index) {
+            moved_between(&range, &was)
+        } else {
+            joined(span_in(&range), span_in(&was))
         }
-        joined(self.span(index), before.span(index))
     }
 
     /// What so many entries match now or matched before, from the first on, of those that aren't the same.
@@ -161,16 +165,79 @@ impl<'a> Registers<'a> {
     }
 }
 
+impl<'a> Registers<'a> {
+    /// Where the entry matches, if there is such an entry.
+    #[inline(always)]
+    #[tactic(auto, using(crate::proofs::Matches::range_past))]
+    fn range_if_any(&self, index: usize) -> ByteRange
+        ensures { result ≡ range_of self.now index }
+    {
+        if index < self.count() {
+            self.range(index)
+        } else {
+            ByteRange::EMPTY
+        }
+    }
+}
+
 impl SavedRegisters {
-    /// Writes a register, and says too which bytes may be decided otherwise than before, as `Registers::moved_since`
-    /// does: of the entries that the register may move. None where nothing changed, or where those that changed match
-    /// no byte before and after.
-    #[tactic(auto, using(crate::proofs::Moves::none_by))]
-    pub fn write_moved(&mut self, csr: Csr, value: u64) -> (Written, Option<Span>)
+    /// Writes an address register, which moves two ranges at most.
+    #[inline(always)]
+    fn write_address_moved(
+        &mut self,
+        hart: Hart,
+        register: u8,
+        value: u64,
+    ) -> (Written, Option<Span>)
+        requires { hart ≡ hart_in self.old }
+        ensures written { IsWritten self.old self.new (Csr.Addr register) value result.0 }
+        ensures moved { let csr = Csr.Addr register in
+            result.1 ≡ moved_by (restored_file self.old) (restored_file self.new) csr }
+    {
+        let index = usize::from(register);
+        let before = Registers::with(self, hart);
+        let (own, next) = (before.range_if_any(index), before.range_if_any(index + 1));
+        let written = self.write_address(hart, register, value);
+        if !written.is_changed {
+            return (written, None);
+        }
+        let now = Registers::with(self, hart);
+        let moved = joined(
+            moved_between(&now.range_if_any(index), &own),
+            moved_between(&now.range_if_any(index + 1), &next),
+        );
+        (written, moved)
+    }
+
+    /// Writes a configuration register, and compares its entries with those before.
+    #[inline(always)]
+    fn write_configurations_moved(
+        &mut self,
+        hart: Hart,
+        register: u8,
+        value: u64,
+    ) -> (Written, Option<Span>)
+        requires { hart ≡ hart_in self.old }
+        ensures written { IsWritten self.old self.new (Csr.Cfg register) value result.0 }
+        ensures moved { let csr = Csr.Cfg register in
+            result.1 ≡ moved_by (restored_file self.old) (restored_file self.new) csr }
+    {
+        let before = *self;
+        let written = self.write_configurations(hart, register, value);
+        if !written.is_changed {
+            return (written, None);
+        }
+        let now = Registers::with(self, hart);
+        let moved = now.moved_by_write(&Registers::with(&before, hart), Csr::Cfg(register));
+        (written, moved)
+    }
+
+    /// Writes any register of any hart.
+    #[cold]
+    #[inline(never)]
+    fn write_moved_apart(&mut self, csr: Csr, value: u64) -> (Written, Option<Span>)
         ensures written { IsWritten self.old self.new csr value result.0 }
         ensures moved { result.1 ≡ moved_by (restored_file self.old) (restored_file self.new) csr }
-        ensures beside { AreAlikeBeside (restored_file self.old) (restored_file self.new) result.1 }
-        ensures none { result.0.is_changed ≡ false → result.1 ≡ None }
     {
         let before = *self;
         let written = self.write(csr, value);
@@ -179,5 +246,23 @@ impl SavedRegisters {
         }
         let moved = Registers::of(self).moved_by_write(&Registers::of(&before), csr);
         (written, moved)
+    }
+
+    /// Writes a register, and says too which bytes may be decided otherwise than before, as `Registers::moved_since`
+    /// does: of the entries that the register may move. None where nothing changed, or where those that changed match
+    /// no byte before and after. What a standard hart's entries have is written in place.
+    pub fn write_moved(&mut self, csr: Csr, value: u64) -> (Written, Option<Span>)
+        ensures written { IsWritten self.old self.new csr value result.0 }
+        ensures moved { result.1 ≡ moved_by (restored_file self.old) (restored_file self.new) csr }
+        ensures beside { AreAlikeBeside (restored_file self.old) (restored_file self.new) result.1 }
+        ensures none { result.0.is_changed ≡ false → result.1 ≡ None }
+    {
+        match (csr, Hart::standard(self.entries)) {
+            (Csr::Addr(register), Some(hart)) => self.write_address_moved(hart, register, value),
+            (Csr::Cfg(register), Some(hart)) => {
+                self.write_configurations_moved(hart, register, value)
+            }
+            _ => self.write_moved_apart(csr, value),
+        }
     }
 }

@@ -120,7 +120,7 @@ impl<'a> Registers<'a> {
 impl SavedRegisters {
     /// Writes a configuration register.
     #[inline(always)]
-    fn write_configurations(&mut self, hart: Hart, register: u8, value: u64) -> Written
+    pub(crate) fn write_configurations(&mut self, hart: Hart, register: u8, value: u64) -> Written
         requires { hart ≡ hart_in self.old }
         ensures { IsWritten self.old self.new (Csr.Cfg register) value result }
     {
@@ -147,7 +147,7 @@ impl SavedRegisters {
 
     /// Writes an address register.
     #[inline(always)]
-    fn write_address(&mut self, hart: Hart, register: u8, value: u64) -> Written
+    pub(crate) fn write_address(&mut self, hart: Hart, register: u8, value: u64) -> Written
         requires { hart ≡ hart_in self.old }
         ensures { IsWritten self.old self.new (Csr.Addr register) value result }
     {
