@@ -10,7 +10,7 @@ import zipfile
 from pathlib import Path
 
 HERE = Path(__file__).resolve().parent
-LIBRARY = HERE / "../../../lib/libtilvenka_pmp.so.1"
+LIBRARY = HERE / "../../../lib/libtilvenka_pmp.so.2"
 METADATA = "Metadata-Version: 2.1\nName: tilvenka_pmp\nVersion: {version}\nSummary: {description}\nLicense: {license}\n"
 WHEEL = "Wheel-Version: 1.0\nGenerator: tilvenka\nRoot-Is-Purelib: {pure}\nTag: {tag}\n"
 
@@ -25,7 +25,8 @@ def said(name: str) -> str:
 def files_of(version: str, pure: bool, tag: str) -> dict[str, bytes]:
     info = f"tilvenka_pmp-{version}.dist-info"
     metadata = METADATA.format(version=version, description=said("description"), license="MIT OR Apache-2.0")
-    files = {f"tilvenka_pmp/{it}": (HERE / "tilvenka_pmp" / it).read_bytes() for it in ("__init__.py", "py.typed")}
+    package = sorted(it for it in (HERE / "tilvenka_pmp").iterdir() if it.suffix in (".py", ".typed"))
+    files = {f"tilvenka_pmp/{it.name}": it.read_bytes() for it in package}
     if not pure:
         files[f"tilvenka_pmp/{LIBRARY.name}"] = LIBRARY.read_bytes()
     files[f"{info}/METADATA"] = metadata.encode()

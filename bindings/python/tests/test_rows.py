@@ -3,8 +3,9 @@ from __future__ import annotations
 
 import sys
 from pathlib import Path
+from types import SimpleNamespace
 
-from tilvenka_pmp import Kind, Mode, Registers, Rights, Unit
+from tilvenka_pmp import Kind, Mode, Reason, Registers, Rights, Unit, Written, __version__, _c, version
 
 ROWS = Path(__file__).resolve().parents[2] / "rows.txt"
 MODES = {"M": Mode.MACHINE, "S": Mode.SUPERVISOR, "U": Mode.USER}
@@ -26,13 +27,57 @@ def check(unit: Unit, question: str) -> str:
     return f"{verdict},{answer.cause.value},{'' if answer.entry is None else answer.entry}"
 
 
-def write(unit: Unit, question: str) -> str:
-    name, value = question.split()
+def read(unit: Unit, question: str) -> str:
     try:
-        unit.copy().write(register(name), int(value, 0))
-        return "done"
+        return hex(unit.read(register(question)))
     except KeyError:
         return "odd or none"
+
+
+def write(unit: Unit, question: str) -> str:
+    """A write is changed where the registers are others, and stored where the register reads the value."""
+    name, value = question.split()
+    after = unit.copy()
+    try:
+        written = after.write(register(name), int(value, 0))
+    except KeyError:
+        return "odd or none" if after == unit else "odd or none, and changed"
+    assert written.is_changed == (after != unit)
+    assert written.is_stored == (after.read(register(name)) == int(value, 0))
+    assert after.is_built == (unit.is_built and not written.is_changed)
+    moved = ",".join(map(hex, written.moved)) if written.moved else ","
+    return f"{'changed' if written.is_changed else 'same'},{moved},{written.reasons.words}"
+
+
+def settle(unit: Unit, question: str) -> str:
+    after = unit.copy()
+    is_built = after.settle(int(question, 0))
+    assert is_built == after.is_built and after == unit
+    return "yes" if is_built else "no"
+
+
+def told(unit: Unit, after: Unit, call, *words: object) -> str:
+    """What is refused leaves the unit as it is, and what is done leaves no map."""
+    try:
+        call(*words)
+    except ValueError:
+        assert after == unit and after.is_built == unit.is_built
+        return "no hart"
+    assert not after.is_built
+    return "done"
+
+
+def reset(unit: Unit, question: str) -> str:
+    after, words = unit.copy(), hart(question)
+    answer = told(unit, after, after.reset, *words)
+    assert answer != "done" or after == Unit(*words)
+    return answer
+
+
+def restore(unit: Unit, question: str) -> str:
+    after, saved = unit.copy(), unit.save()
+    saved.entries = int(question, 0)
+    return told(unit, after, after.restore, saved)
 
 
 def lines(unit: Unit) -> str:
@@ -43,24 +88,32 @@ def lines(unit: Unit) -> str:
     )
 
 
-def answer(unit: Unit, kind: str, question: str) -> str:
-    if kind == "read":
-        return hex(unit.read(register(question)))
-    return {"check": check, "write": write}[kind](unit, question) if kind != "map" else lines(unit)
+KINDS = {
+    "check": check,
+    "read": read,
+    "write": write,
+    "map": lambda unit, question: lines(unit),
+    "settle": settle,
+    "reset": reset,
+    "restore": restore,
+}
 
 
 def wanted(kind: str, text: str) -> str:
-    if kind == "write" and text != "done":
+    if text in ("odd", "none"):
         return "odd or none"
     return hex(int(text, 0)) if kind == "read" else text
 
 
+def hart(words: str) -> tuple:
+    """ENTRIES/GRAIN/BITS/SMEPMP, by the words of Unit."""
+    entries, grain, bits, smepmp = words.split("/")
+    return (int(entries), int(grain), int(bits), smepmp == "yes")
+
+
 def harts(word: str) -> list[tuple]:
-    """The harts that the first word of a row names, by the words of Unit."""
-    if "/" not in word:
-        return [(size,) for size in (16, 64) if word in (str(size), "both")]
-    entries, grain, bits, smepmp = word.split("/")
-    return [(int(entries), int(grain), int(bits), smepmp == "yes")]
+    """The harts that the first word of a row names."""
+    return [hart(word)] if "/" in word else [(size,) for size in (16, 64) if word in (str(size), "both")]
 
 
 def unit_after(hart: tuple, writes: str) -> Unit:
@@ -78,15 +131,16 @@ def answers_of(hart: tuple, row: str) -> list[tuple[str, str]]:
     """What is answered, and what is wanted: before the map is built, with it, and from a snapshot."""
     head, writes, question, text = (it.strip() for it in row.split("|"))
     kind = head.split()[1]
+    ask = KINDS[kind]
     unit = unit_after(hart, writes)
-    told = [answer(unit, kind, question)]
+    got = [ask(unit, question)]
     unit.build()
-    told += [answer(unit, kind, question), str(unit.is_built)]
+    got += [ask(unit, question), str(unit.is_built)]
     copy = Unit()
     copy.restore(unit.save())
-    told += [answer(copy, kind, question), str(copy == unit and not copy.is_built)]
+    got += [ask(copy, question), str(copy == unit and not copy.is_built)]
     text = wanted(kind, text)
-    return list(zip(told, [text, text, "True", text, "True"]))
+    return list(zip(got, [text, "yes" if kind == "settle" else text, "True", text, "True"]))
 
 
 def refuses(fault: type[Exception], call, *words) -> tuple[str, str]:
@@ -97,6 +151,33 @@ def refuses(fault: type[Exception], call, *words) -> tuple[str, str]:
         return (fault.__name__, fault.__name__)
 
 
+class Answer:
+    """A call that answers this."""
+
+    def __init__(self, answer: int) -> None:
+        self.answer = answer
+
+    def __call__(self) -> int:
+        return self.answer
+
+
+def library(version: int, size: int) -> SimpleNamespace:
+    """A library that says that it is of this version, and that its units have this size."""
+    return SimpleNamespace(tilvenka_pmp_version=Answer(version), tilvenka_pmp_unit_size=Answer(size))
+
+
+def versions() -> list[tuple[object, object]]:
+    """Which libraries the module takes, and which version it has."""
+    takes = _c.expect_compatible
+    taken = [(200, 9280), (201, 9280)]
+    refused = [library(*it) for it in ((100, 9280), (300, 9280), (10200, 9280), (200, 9272))] + [SimpleNamespace()]
+    return [
+        (".".join(map(str, version())), __version__),
+        *((takes(library(*it), "a library"), None) for it in taken),
+        *(refuses(ImportError, takes, it, "a library") for it in refused),
+    ]
+
+
 def others() -> list[tuple[object, object]]:
     """What no row says."""
     unit = unit_after((16,), "pmpaddr0 0x200001ff; pmpcfg0 0x19")
@@ -104,6 +185,11 @@ def others() -> list[tuple[object, object]]:
         (unit.rights(Mode.USER, 0x80000000, 4096), Rights.READ),
         (unit.rights(Mode.USER, 0x80000800, 4096), None),
         (Unit() == Unit(64), False),
+        (Unit().write("pmpaddr0", (1 << 60) + 1), Written(True, None, Reason.BITS)),
+        refuses(AttributeError, setattr, Unit().write("pmpaddr0", 1), "moved", None),
+        refuses(ValueError, unit.settle, -1),
+        refuses(ValueError, unit.reset, 256),
+        refuses(ValueError, unit.restore, Registers(entries=8)),
         refuses(ValueError, unit.rights, Mode.USER, 0, 0),
         refuses(ValueError, unit.rights, Mode.USER, 1, 1 << 56),
         refuses(ValueError, unit.rights, 2, 0, 4096),
@@ -123,7 +209,7 @@ def main() -> int:
     rows = ROWS.read_text(encoding="utf-8").replace("\n    ", " ").split("\n")
     rows = [it for it in rows if "|" in it and not it.startswith("#")]
     tried = [(row, pair) for row in rows for hart in harts(row.split()[0]) for pair in answers_of(hart, row)]
-    tried += [("other calls", pair) for pair in others()]
+    tried += [("other calls", pair) for pair in others() + versions()]
     failed = [f"FAILED: {name}: {told}, not {want}" for name, (told, want) in tried if told != want]
     print(*failed, f"{len(tried) - len(failed)} passed, {len(failed)} failed", sep="\n")
     return 1 if failed or not rows else 0

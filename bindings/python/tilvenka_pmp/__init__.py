@@ -1,10 +1,14 @@
 """The PMP unit of an RV64 hart with Smepmp 1.0, by the proved C library tilvenka_pmp.
 
     >>> unit = Unit()                                   # sixteen entries after reset
-    >>> unit.write("pmpaddr0", 0x200001ff)              # each CSR write, as firmware makes it
-    >>> unit.write("pmpcfg0", 0x19)
+    >>> unit.write("pmpaddr0", 0x200001ff).is_changed   # each CSR write, as firmware makes it
+    True
+    >>> [hex(it) for it in unit.write("pmpcfg0", 0x19).moved]
+    ['0x80000000', '0x80000fff']
     >>> unit.decide(Mode.USER, Kind.LOAD, 0x80000ff8, 8)
     Answer(fault=None, cause=<Cause.RULE: 'rule'>, entry=0)
+
+Addresses are byte addresses of physical memory, and lengths are in bytes.
 
 The shared library is the one beside this file, where there is one; else the one that TILVENKA_PMP_LIBRARY names, or
 that the loader finds."""
@@ -12,28 +16,14 @@ from __future__ import annotations
 
 import ctypes
 import enum
-import os
 import re
 from dataclasses import dataclass, field
-from pathlib import Path
-from typing import List, Optional, Union
+from typing import List, Optional, Tuple, Union
 
-__version__ = "0.1.0"
+from tilvenka_pmp import _c
+from tilvenka_pmp._c import library as _library
 
-
-class _C:
-    """What is taken of tilvenka_pmp.h, by its names without their prefix, which checks/release compares."""
-
-    MAX_ENTRIES = 64
-    PLACES = 217
-    ODD_CONFIGURATION = 1
-    NO_REGISTER = 2
-    SPLIT = 256
-    NO_MATCH = 512
-    FAULT = 1024
-    NO_ACCESS = 1023
-    MIXED = 8
-    NO_RANGE = 16
+__version__ = "0.2.0"
 
 
 class Mode(enum.IntEnum):
@@ -63,6 +53,61 @@ class Rights(enum.IntFlag):
     def letters(self) -> str:
         """The letters rwx, or - for each."""
         return "".join(letter if self & right else "-" for letter, right in zip("rwx", (1, 2, 4)))
+
+
+class Reason(enum.IntFlag):
+    """Why a register doesn't read what was written to it.
+
+    >>> Unit().write("pmpaddr0", (1 << 64) - 1).reasons.words   # it has no bits 63 to 54
+    'bits'
+    """
+
+    # The value isn't zero for an entry that the hart doesn't have.
+    ABSENT = 256
+    # It has bits that the register doesn't have.
+    BITS = 512
+    # It has another byte or address for an entry that is frozen: locked, with RLB 0.
+    FROZEN = 1024
+    # It is another address for an entry that isn't frozen, but the next one is, and is TOR.
+    LOW_END = 2048
+    # It has W without R for an entry that isn't frozen, and MML is 0.
+    RESERVED = 4096
+    # It would add a locked rule that executes, MML is 1 and RLB is 0.
+    LOCKDOWN = 8192
+    # It would clear MML or MMWP.
+    STICKY = 16384
+    # It would set RLB, and some entry is locked.
+    BYPASS = 32768
+    # The grain is above 4 bytes, and it has NA4, or address bits that read otherwise.
+    GRAIN = 65536
+
+    @property
+    def words(self) -> str:
+        """The words that `pmp writes` has for them, parted by one space."""
+        words = "absent bits frozen tor reserved lockdown sticky bypass grain".split()
+        return " ".join(word for bit, word in enumerate(words, 8) if self & 1 << bit)
+
+
+@dataclass(frozen=True)
+class Written:
+    """What a write did.
+
+    >>> Unit().write("mseccfg", 4).moved == (0, (1 << 56) - 1)  # RLB may open any byte
+    True
+    """
+
+    # Whether what the unit keeps is another than before, also where the grain hides it. Then the map isn't built.
+    is_changed: bool
+    # The addresses of the first and the last byte whose decisions may be others than before: in every mode and kind an
+    # access with no byte from the one to the other is decided as before. None where every access is.
+    moved: Optional[Tuple[int, int]]
+    # Why the register doesn't read the value: none exactly where it does.
+    reasons: Reason
+
+    @property
+    def is_stored(self) -> bool:
+        """Whether the register reads the value."""
+        return not self.reasons
 
 
 class Cause(enum.Enum):
@@ -99,65 +144,22 @@ class Run:
 
 @dataclass
 class Registers:
-    """All registers of a unit, with zeros for those of entries that the hart lacks. `entries` is 16, 64, or the number
-    of another hart, as TILVENKA_PMP_HART has it."""
+    """All registers of a unit, with zeros for those of entries that the hart lacks."""
 
-    addresses: List[int] = field(default_factory=lambda: [0] * _C.MAX_ENTRIES)
-    configurations: List[int] = field(default_factory=lambda: [0] * _C.MAX_ENTRIES)
+    # pmpaddr0 and so on: bits 55 to 2 of a byte address, with those below the grain.
+    addresses: List[int] = field(default_factory=lambda: [0] * _c.MAX_ENTRIES)
+    # The byte of each entry in its pmpcfg register.
+    configurations: List[int] = field(default_factory=lambda: [0] * _c.MAX_ENTRIES)
+    # MML in bit 0, MMWP in bit 1, RLB in bit 2.
     mseccfg: int = 0
+    # The number of the hart: 16, 64, or that of TILVENKA_PMP_HART.
     entries: int = 16
 
 
-class _Registers(ctypes.Structure):
-    _fields_ = [
-        ("addresses", ctypes.c_uint64 * _C.MAX_ENTRIES),
-        ("configurations", ctypes.c_uint8 * _C.MAX_ENTRIES),
-        ("mseccfg", ctypes.c_uint64),
-        ("entries", ctypes.c_uint64),
-    ]
-
-
-class _Map(ctypes.Structure):
-    _fields_ = [
-        ("starts", ctypes.c_uint64 * _C.PLACES),
-        ("runs", ctypes.c_uint64),
-        ("rows", ctypes.c_uint16 * 16 * _C.PLACES),
-    ]
-
-
-class _Unit(ctypes.Structure):
-    _fields_ = [("registers", _Registers), ("map", _Map)]
-
-
-def _load() -> ctypes.CDLL:
-    """The library, whose calls get their types here."""
-    name = "libtilvenka_pmp.so.1"
-    beside = Path(__file__).with_name(name)
-    path = str(beside) if beside.exists() else os.environ.get("TILVENKA_PMP_LIBRARY", name)
-    try:
-        library = ctypes.CDLL(path)
-    except OSError as fault:
-        raise ImportError(f"{fault}: set TILVENKA_PMP_LIBRARY to the path of {name}") from fault
-    unit, number, word = ctypes.POINTER(_Unit), ctypes.c_uint64, ctypes.c_uint32
-    registers = ctypes.POINTER(_Registers)
-    for call, result, arguments in (
-        ("reset", None, [unit, number]),
-        ("write", word, [unit, word, number]),
-        ("read", word, [unit, word, ctypes.POINTER(number)]),
-        ("build", None, [unit]),
-        ("is_built", ctypes.c_bool, [unit]),
-        ("decide", word, [unit, word, word, number, number]),
-        ("decide_by_registers", word, [unit, word, word, number, number]),
-        ("rights", word, [unit, word, number, number]),
-        ("save", None, [unit, registers]),
-        ("restore", None, [unit, registers]),
-    ):
-        function = getattr(library, f"tilvenka_pmp_{call}")
-        function.restype, function.argtypes = result, arguments
-    return library
-
-
-_library = _load()
+def version() -> Tuple[int, int, int]:
+    """The version of the library that is loaded: its major, its minor and its patch number. The import of a module with
+    another major or minor number fails with ImportError."""
+    return _c.parts(_library.tilvenka_pmp_version())
 
 
 def _number(value: int, bits: int, what: str) -> int:
@@ -181,8 +183,8 @@ def _csr(register: Union[int, str]) -> int:
 
 def _hart(entries: int, grain: int, address_bits: int, has_smepmp: bool) -> int:
     """The number that TILVENKA_PMP_HART has for the hart."""
-    if not 0 <= entries <= _C.MAX_ENTRIES:
-        raise ValueError(f"a hart has 0 to {_C.MAX_ENTRIES} entries, not {entries}")
+    if not 0 <= entries <= _c.MAX_ENTRIES:
+        raise ValueError(f"a hart has 0 to {_c.MAX_ENTRIES} entries, not {entries}")
     if grain not in (1 << bit for bit in range(2, 13)):
         raise ValueError(f"a grain has 4, 8, 16 and so on to 4096 bytes, not {grain}")
     if not 34 <= address_bits <= 56:
@@ -191,29 +193,53 @@ def _hart(entries: int, grain: int, address_bits: int, has_smepmp: bool) -> int:
 
 
 class Unit:
-    """The PMP unit of one hart.
+    """The PMP unit of one hart: of so many entries, 0 to 64, a grain of so many bytes, 4, 8, 16 and so on to 4096,
+    physical addresses of so many bits, 34 to 56, and with Smepmp or not. ValueError says that there is no such hart.
 
-    Decisions and rights go by a map where build() was called after the last write, which is faster. They are the same
-    without it. Units are equal where their registers are."""
+    >>> Unit(8, 4096, 38, has_smepmp=False).read("pmpaddr8")   # of an entry that the hart lacks
+    0
+
+    Decisions and rights go by a map where build() or settle() built it after the last change, which is faster. They are
+    the same without it. Units are equal where their registers are."""
 
     def __init__(self, entries: int = 16, grain: int = 4, address_bits: int = 56, has_smepmp: bool = True) -> None:
-        self._unit = _Unit()
+        self._unit = _c.Unit()
         self.reset(entries, grain, address_bits, has_smepmp)
 
     def reset(self, entries: int, grain: int = 4, address_bits: int = 56, has_smepmp: bool = True) -> None:
-        """Resets the unit, whose hart from now on has so many entries, a grain of so many bytes, and physical addresses
-        of so many bits. It raises ValueError where there is no such hart."""
-        _library.tilvenka_pmp_reset(self._unit, _hart(entries, grain, address_bits, has_smepmp))
+        """Resets the unit, whose hart from now on is this one. It raises ValueError where there is no such hart, and
+        then the unit stays as it is.
 
-    def write(self, register: Union[int, str], value: int) -> None:
+        >>> Unit().reset(64, grain=4096)
+        """
+        hart = _hart(entries, grain, address_bits, has_smepmp)
+        self._expect_hart(_library.tilvenka_pmp_reset(self._unit, hart), hart)
+
+    @staticmethod
+    def _expect_hart(status: int, hart: int) -> None:
+        if status == _c.NO_HART:
+            raise ValueError(f"{hart} is the number of no hart")
+
+    def write(self, register: Union[int, str], value: int) -> Written:
         """Writes a register, as firmware does in machine mode. What the unit doesn't store it ignores, as the manual
-        says: read() tells what the register holds then. Where there is no such register, as an odd pmpcfg, it raises
-        KeyError."""
-        status = _library.tilvenka_pmp_write(self._unit, _csr(register), _number(value, 64, "value"))
+        says. Where the hart has no such register, as an odd pmpcfg, or mseccfg without Smepmp, nothing changes, and it
+        raises KeyError.
+
+        >>> unit = Unit()
+        >>> unit.write("pmpcfg0", 0x1a).reasons.words   # W without R
+        'reserved'
+        >>> hex(unit.read("pmpcfg0"))
+        '0x18'
+        """
+        first, last = ctypes.c_uint64(), ctypes.c_uint64()
+        csr, value = _csr(register), _number(value, 64, "value")
+        status = _library.tilvenka_pmp_write_moved(self._unit, csr, value, first, last)
         self._expect_done(status, register)
+        moved = (first.value, last.value) if status & _c.MOVED else None
+        return Written(bool(status & _c.CHANGED), moved, Reason(status >> 8 << 8))
 
     def read(self, register: Union[int, str]) -> int:
-        """What the register reads. Where there is no such register, it raises KeyError."""
+        """What the register reads. Where the hart has no such register, it raises KeyError."""
         value = ctypes.c_uint64()
         self._expect_done(_library.tilvenka_pmp_read(self._unit, _csr(register), value), register)
         return value.value
@@ -221,16 +247,29 @@ class Unit:
     @staticmethod
     def _expect_done(status: int, register: Union[int, str]) -> None:
         """What a write did is told in other bits."""
-        if status in (_C.ODD_CONFIGURATION, _C.NO_REGISTER):
+        if status in (_c.ODD_CONFIGURATION, _c.NO_REGISTER):
             raise KeyError(register)
 
     def build(self) -> None:
         """Builds the map: once after the last of several writes."""
         _library.tilvenka_pmp_build(self._unit)
 
+    def settle(self, questions: int) -> bool:
+        """Builds the map where it isn't built and so many questions (decisions and rights) since the last change pay
+        for it. Answers whether it is built then. Count from 0 after a reset, a restore and each write that is_changed,
+        and one more at each question, before which this is called.
+
+        >>> unit = Unit()
+        >>> unit.write("pmpcfg0", 0x19).is_changed
+        True
+        >>> unit.settle(1), unit.settle(1000000)        # one question costs less than a map
+        (False, True)
+        """
+        return bool(_library.tilvenka_pmp_settle(self._unit, _number(questions, 64, "number of questions")))
+
     @property
     def is_built(self) -> bool:
-        """Whether the map is built. A write that changes a register leaves none."""
+        """Whether the map is built. A write that changes something leaves none."""
         return bool(_library.tilvenka_pmp_is_built(self._unit))
 
     def decide(self, mode: Mode, kind: Kind, start: int, length: int) -> Answer:
@@ -245,12 +284,12 @@ class Unit:
     def _answer(self, call: ctypes._NamedFuncPointer, mode: Mode, kind: Kind, start: int, length: int) -> Answer:
         start, length = _number(start, 64, "start"), _number(length, 64, "length")
         number = call(self._unit, Mode(mode), Kind(kind), start, length)
-        fault, cause = divmod(number, _C.FAULT)
-        if cause == _C.NO_ACCESS:
+        fault, cause = divmod(number, _c.FAULT)
+        if cause == _c.NO_ACCESS:
             raise ValueError("an access has 1 to 4096 bytes below 2^56")
-        if cause == _C.NO_MATCH:
+        if cause == _c.NO_MATCH:
             return Answer(fault or None, Cause.NO_MATCH, None)
-        is_split, entry = divmod(cause, _C.SPLIT)
+        is_split, entry = divmod(cause, _c.SPLIT)
         return Answer(fault or None, Cause.SPLIT if is_split else Cause.RULE, entry)
 
     def rights(self, mode: Mode, start: int, length: int) -> Optional[Rights]:
@@ -258,23 +297,30 @@ class Unit:
         each access has to be decided. It raises ValueError where the range has no bytes or ends above 2^56."""
         start, length = _number(start, 64, "start"), _number(length, 64, "length")
         number = _library.tilvenka_pmp_rights(self._unit, Mode(mode), start, length)
-        if number == _C.NO_RANGE:
+        if number == _c.NO_RANGE:
             raise ValueError("a range has 1 byte or more, below 2^56")
-        return None if number == _C.MIXED else Rights(number)
+        return None if number == _c.MIXED else Rights(number)
 
     def save(self) -> Registers:
         """All registers."""
-        saved = _Registers()
-        _library.tilvenka_pmp_save(self._unit, saved)
+        saved = _c.Registers()
+        _library.tilvenka_pmp_save_to(self._unit, saved)
         return Registers(list(saved.addresses), list(saved.configurations), saved.mseccfg, saved.entries)
 
     def restore(self, registers: Registers) -> None:
-        """Takes registers back, whatever is locked."""
+        """Takes registers back, whatever they hold and whatever is locked. It raises ValueError where their number
+        names no hart, and then the unit stays as it is.
+
+        >>> unit = Unit()
+        >>> unit.restore(Unit(64).save())
+        >>> unit == Unit(64)
+        True
+        """
         addresses = [_number(it, 64, "address") for it in registers.addresses]
         configurations = [_number(it, 8, "configuration") for it in registers.configurations]
-        mseccfg, entries = _number(registers.mseccfg, 64, "mseccfg"), _number(registers.entries, 64, "size")
-        saved = _Registers(tuple(addresses), tuple(configurations), mseccfg, entries)
-        _library.tilvenka_pmp_restore(self._unit, saved)
+        mseccfg, hart = _number(registers.mseccfg, 64, "mseccfg"), _number(registers.entries, 64, "hart")
+        saved = _c.Registers(tuple(addresses), tuple(configurations), mseccfg, hart)
+        self._expect_hart(_library.tilvenka_pmp_restore_from(self._unit, saved), hart)
 
     def map(self) -> List[Run]:
         """The owners of all bytes, in order: as `pmp map` writes them."""
@@ -292,7 +338,7 @@ class Unit:
     def copy(self) -> Unit:
         """A unit of its own with these registers and this map."""
         other = Unit.__new__(Unit)
-        other._unit = _Unit.from_buffer_copy(self._unit)
+        other._unit = _c.Unit.from_buffer_copy(self._unit)
         return other
 
     def __eq__(self, other: object) -> bool:

@@ -8,31 +8,40 @@ use std::fmt;
 /// is walked.
 #[derive(Clone, Copy, Debug, PartialEq, Eq, Hash)]
 pub enum Mode {
+    /// U-mode.
     User = ffi::USER as isize,
+    /// S-mode.
     Supervisor = ffi::SUPERVISOR as isize,
+    /// M-mode.
     Machine = ffi::MACHINE as isize,
 }
 
 /// What the bytes are accessed for. An AMO or a store-conditional is a store.
 #[derive(Clone, Copy, Debug, PartialEq, Eq, Hash)]
 pub enum Kind {
+    /// To execute them: right X.
     Fetch = ffi::FETCH as isize,
+    /// To read them: right R.
     Load = ffi::LOAD as isize,
+    /// To write them: right W.
     Store = ffi::STORE as isize,
 }
 
 /// An access of some bytes of physical memory.
 #[derive(Clone, Copy, Debug, PartialEq, Eq, Hash)]
 pub struct Access {
+    /// The effective mode.
     pub mode: Mode,
+    /// What the bytes are accessed for.
     pub kind: Kind,
     /// The address of its first byte.
     pub start: u64,
-    /// How many bytes it has.
+    /// How many bytes it has, 1 to 4096.
     pub length: u64,
 }
 
 impl Access {
+    /// The access of so many bytes from this address on. Numbers that name none are refused where it is decided.
     pub const fn new(mode: Mode, kind: Kind, start: u64, length: u64) -> Access {
         Access {
             mode,
@@ -46,8 +55,11 @@ impl Access {
 /// The exception of an access that fails, with its code.
 #[derive(Clone, Copy, Debug, PartialEq, Eq, Hash)]
 pub enum Fault {
+    /// Of a fetch.
     Instruction = 1,
+    /// Of a load.
     Load = 5,
+    /// Of a store.
     Store = 7,
 }
 
@@ -74,10 +86,12 @@ pub enum Cause {
 pub struct Answer {
     /// `None` where the access is allowed.
     pub fault: Option<Fault>,
+    /// What decided.
     pub cause: Cause,
 }
 
 impl Answer {
+    /// Whether the access may be made.
     pub const fn is_allowed(&self) -> bool {
         self.fault.is_none()
     }
@@ -114,8 +128,11 @@ impl Error for NoAccess {}
 /// What every access inside a range may do.
 #[derive(Clone, Copy, Debug, PartialEq, Eq, Hash)]
 pub struct Rights {
+    /// Load.
     pub read: bool,
+    /// Store.
     pub write: bool,
+    /// Fetch.
     pub execute: bool,
 }
 

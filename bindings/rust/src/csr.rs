@@ -9,6 +9,7 @@ use std::fmt;
 pub struct Csr(pub u32);
 
 impl Csr {
+    /// `mseccfg`, which a hart with Smepmp has.
     pub const MSECCFG: Csr = Csr(0x747);
 
     /// `pmpaddr` of an entry.
@@ -22,12 +23,12 @@ impl Csr {
     }
 }
 
-/// The unit has no such register.
+/// The hart has no such register.
 #[derive(Clone, Copy, Debug, PartialEq, Eq, Hash)]
 pub enum NoRegister {
     /// It is an odd `pmpcfg` register, which RV64 doesn't have.
     OddConfiguration,
-    /// It is none of the PMP registers.
+    /// It is none of the PMP registers, or `mseccfg` on a hart without Smepmp.
     Unknown,
 }
 
@@ -46,7 +47,7 @@ impl fmt::Display for NoRegister {
     fn fmt(&self, to: &mut fmt::Formatter) -> fmt::Result {
         to.write_str(match self {
             NoRegister::OddConfiguration => "RV64 has no odd pmpcfg register",
-            NoRegister::Unknown => "the number is that of no PMP register",
+            NoRegister::Unknown => "the hart has no PMP register of this number",
         })
     }
 }

@@ -2,6 +2,8 @@
 
 use std::mem::size_of;
 
+pub const VERSION: u32 = 200;
+
 pub const MAX_ENTRIES: usize = 64;
 pub const PLACES: usize = 217;
 
@@ -15,6 +17,19 @@ pub const STORE: u32 = 2;
 
 pub const ODD_CONFIGURATION: u32 = 1;
 pub const NO_REGISTER: u32 = 2;
+pub const NO_HART: u32 = 3;
+pub const CHANGED: u32 = 4;
+pub const MOVED: u32 = 8;
+
+pub const ABSENT: u32 = 256;
+pub const BITS: u32 = 512;
+pub const FROZEN: u32 = 1024;
+pub const LOW_END: u32 = 2048;
+pub const RESERVED: u32 = 4096;
+pub const LOCKDOWN: u32 = 8192;
+pub const STICKY: u32 = 16384;
+pub const BYPASS: u32 = 32768;
+pub const GRAIN: u32 = 65536;
 
 pub const SPLIT: u32 = 256;
 pub const NO_MATCH: u32 = 512;
@@ -27,22 +42,34 @@ pub const EXECUTE: u32 = 4;
 pub const MIXED: u32 = 8;
 pub const NO_RANGE: u32 = 16;
 
-/// `TILVENKA_PMP_HART`, whose grain is the manual's G.
-pub fn hart(entries: u8, grain: u8, address_bits: u8, has_smepmp: bool) -> u64 {
+/// `TILVENKA_PMP_HART`, of arguments in their ranges: the number has the manual's G, where the grain is 2^(G+2) bytes.
+pub fn hart(entries: u8, grain: u16, address_bits: u8, has_smepmp: bool) -> u64 {
     u64::from(entries)
         | u64::from(address_bits) << 8
         | u64::from(has_smepmp) << 16
-        | u64::from(grain) << 24
+        | u64::from(grain.trailing_zeros() - 2) << 24
         | 1 << 32
 }
 
+/// All registers of a unit, as a snapshot has them.
+///
+/// ```
+/// # use tilvenka_pmp::{Csr, Size, Unit};
+/// let mut unit = Unit::new(Size::Sixteen);
+/// unit.write(Csr::address(0), 0x200001ff)?;
+/// assert_eq!(unit.save().addresses[0], 0x200001ff);
+/// # Ok::<(), tilvenka_pmp::NoRegister>(())
+/// ```
 #[repr(C)]
 #[derive(Clone, Copy, Debug, PartialEq, Eq)]
 pub struct Registers {
+    /// `pmpaddr0` and so on: bits 55 to 2 of a byte address, with those below the grain.
     pub addresses: [u64; MAX_ENTRIES],
+    /// The byte of each entry in its `pmpcfg` register.
     pub configurations: [u8; MAX_ENTRIES],
+    /// MML in bit 0, MMWP in bit 1, RLB in bit 2.
     pub mseccfg: u64,
-    /// The hart: 16 or 64 entries, or the number of a [`Hart`](crate::Hart).
+    /// The number of the hart, which [`Hart::try_from`](crate::Hart) reads.
     pub entries: u64,
 }
 
@@ -65,10 +92,19 @@ const _: () =
     assert!(size_of::<Registers>() == 592 && size_of::<Unit>() == 592 + 8 * 217 + 8 + 32 * 217);
 
 extern "C" {
-    pub fn tilvenka_pmp_reset(unit: *mut Unit, entries: u64);
-    pub fn tilvenka_pmp_write(unit: *mut Unit, csr: u32, value: u64) -> u32;
+    pub fn tilvenka_pmp_version() -> u32;
+    pub fn tilvenka_pmp_unit_size() -> u64;
+    pub fn tilvenka_pmp_reset(unit: *mut Unit, hart: u64) -> u32;
+    pub fn tilvenka_pmp_write_moved(
+        unit: *mut Unit,
+        csr: u32,
+        value: u64,
+        first: *mut u64,
+        last: *mut u64,
+    ) -> u32;
     pub fn tilvenka_pmp_read(unit: *const Unit, csr: u32, value: *mut u64) -> u32;
     pub fn tilvenka_pmp_build(unit: *mut Unit);
+    pub fn tilvenka_pmp_settle(unit: *mut Unit, questions: u64) -> bool;
     pub fn tilvenka_pmp_is_built(unit: *const Unit) -> bool;
     pub fn tilvenka_pmp_decide(
         unit: *const Unit,
@@ -85,6 +121,6 @@ extern "C" {
         length: u64,
     ) -> u32;
     pub fn tilvenka_pmp_rights(unit: *const Unit, mode: u32, start: u64, length: u64) -> u32;
-    pub fn tilvenka_pmp_save(unit: *const Unit, registers: *mut Registers);
-    pub fn tilvenka_pmp_restore(unit: *mut Unit, registers: *const Registers);
+    pub fn tilvenka_pmp_save_to(unit: *const Unit, registers: *mut Registers);
+    pub fn tilvenka_pmp_restore_from(unit: *mut Unit, registers: *const Registers) -> u32;
 }

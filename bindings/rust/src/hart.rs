@@ -1,15 +1,26 @@
 //! The hart of a unit.
 
 use crate::ffi;
+use std::convert::Infallible;
+use std::error::Error;
+use std::fmt;
 
 /// How many entries a hart has that has a grain of 4 bytes, addresses of 56 bits, and Smepmp.
 #[derive(Clone, Copy, Debug, PartialEq, Eq, Hash)]
 pub enum Size {
+    /// 16 entries.
     Sixteen = 16,
+    /// 64 entries.
     SixtyFour = 64,
 }
 
 /// How many entries a hart has, how fine they are, how wide its physical addresses are, and whether it has Smepmp.
+///
+/// ```
+/// # use tilvenka_pmp::{Hart, Unit};
+/// let hart = Hart::new(8, 4096, 38, false).expect("a hart");
+/// assert_eq!(Hart::try_from(Unit::new(hart).save().entries), Ok(hart)); // the hart of saved registers
+/// ```
 #[derive(Clone, Copy, Debug, PartialEq, Eq, Hash)]
 pub struct Hart(u64);
 
@@ -21,17 +32,14 @@ impl Hart {
             && grain.is_power_of_two()
             && (4..=4096).contains(&grain)
             && (34..=56).contains(&address_bits);
-        is_one.then(|| {
-            Hart(ffi::hart(
-                entries,
-                grain.trailing_zeros() as u8 - 2,
-                address_bits,
-                has_smepmp,
-            ))
+        let is_usual = grain == 4 && address_bits == 56 && has_smepmp;
+        is_one.then(|| match entries {
+            16 | 64 if is_usual => Hart(u64::from(entries)),
+            _ => Hart(ffi::hart(entries, grain, address_bits, has_smepmp)),
         })
     }
 
-    /// The number that `TILVENKA_PMP_HART` has for it.
+    /// The number that saved registers have for it.
     pub(crate) fn number(self) -> u64 {
         self.0
     }
@@ -40,5 +48,58 @@ impl Hart {
 impl From<Size> for Hart {
     fn from(size: Size) -> Hart {
         Hart(size as u64)
+    }
+}
+
+/// The hart of saved registers, by their number.
+impl TryFrom<u64> for Hart {
+    type Error = NoHart;
+
+    fn try_from(number: u64) -> Result<Hart, NoHart> {
+        let [entries, bits, smepmp, shift, ..] = number.to_le_bytes();
+        let grain = 4u16.checked_shl(u32::from(shift)).unwrap_or(0);
+        match number {
+            16 | 64 => Some(Hart(number)),
+            _ => Hart::new(entries, grain, bits, smepmp == 1)
+                .filter(|_| ffi::hart(entries, grain, bits, smepmp == 1) == number),
+        }
+        .ok_or(NoHart)
+    }
+}
+
+/// The number names no hart.
+///
+/// ```
+/// # use tilvenka_pmp::{NoHart, Size, Unit};
+/// let mut unit = Unit::new(Size::Sixteen);
+/// let mut saved = unit.save();
+/// saved.entries = 8; // `Hart::new(8, 4, 56, true)` has another number
+/// assert_eq!(unit.restore(&saved), Err(NoHart));
+/// ```
+#[derive(Clone, Copy, Debug, PartialEq, Eq, Hash)]
+pub struct NoHart;
+
+impl NoHart {
+    /// Reads the status of a reset or a restore.
+    pub(crate) fn of_status(number: u32) -> Result<(), NoHart> {
+        match number {
+            ffi::NO_HART => Err(NoHart),
+            _ => Ok(()),
+        }
+    }
+}
+
+impl fmt::Display for NoHart {
+    fn fmt(&self, to: &mut fmt::Formatter) -> fmt::Result {
+        to.write_str("the number is that of no hart")
+    }
+}
+
+impl Error for NoHart {}
+
+/// What names a hart always is no fault.
+impl From<Infallible> for NoHart {
+    fn from(none: Infallible) -> NoHart {
+        match none {}
     }
 }

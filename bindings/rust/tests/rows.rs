@@ -1,6 +1,11 @@
 //! The rows of `rows.txt`, on each of their harts, before and after the map is built.
 
-use tilvenka_pmp::{Access, Cause, Csr, Hart, Kind, Mode, NoAccess, NoRegister, Size, Unit};
+use std::error::Error;
+use std::ops::RangeInclusive;
+use tilvenka_pmp::{
+    is_compatible, version, Access, Cause, Csr, Hart, Kind, Mode, NoAccess, NoHart,
+};
+use tilvenka_pmp::{NoRegister, Reason, Reasons, Size, Unit};
 
 const ROWS: &str = include_str!(concat!(env!("CARGO_MANIFEST_DIR"), "/../rows.txt"));
 
@@ -61,17 +66,101 @@ fn check(unit: &Unit, question: &str) -> String {
     }
 }
 
+fn absence(fault: NoRegister) -> String {
+    match fault {
+        NoRegister::OddConfiguration => "odd".to_string(),
+        NoRegister::Unknown => "none".to_string(),
+    }
+}
+
+fn read(unit: &Unit, question: &str) -> String {
+    unit.read(csr(question))
+        .map_or_else(absence, |value| format!("{value:#x}"))
+}
+
+/// An access of a byte that didn't move is decided as before. Bytes at both ends of each run stand for all.
+fn stays_beside(moved: &Option<RangeInclusive<u64>>, before: &Unit, after: &Unit) {
+    let runs = before.runs().into_iter().chain(after.runs());
+    let is_moved = |byte: &u64| moved.as_ref().map_or(false, |it| it.contains(byte));
+    for byte in runs
+        .flat_map(|it| [it.first, it.last])
+        .filter(|it| !is_moved(it))
+    {
+        for mode in [Mode::User, Mode::Supervisor, Mode::Machine] {
+            for kind in [Kind::Fetch, Kind::Load, Kind::Store] {
+                let access = Access::new(mode, kind, byte, 1);
+                assert_eq!(before.decide(&access), after.decide(&access), "{access:x?}");
+            }
+        }
+    }
+}
+
+/// A write is changed where the registers are others, and stored where the register reads the value.
 fn write(unit: &Unit, question: &str) -> String {
     let (name, value) = question.split_once(' ').unwrap();
-    let status = match unit.clone().write(csr(name), number(value)) {
-        Ok(()) => "done",
-        Err(NoRegister::OddConfiguration) => "odd",
-        Err(NoRegister::Unknown) => "none",
-    };
-    if let Err(fault) = unit.clone().write(csr(name), number(value)) {
-        assert_eq!(unit.read(csr(name)), Err(fault));
+    let (csr, value) = (csr(name), number(value));
+    let mut after = unit.clone();
+    match after.write(csr, value) {
+        Err(fault) => {
+            assert_eq!((unit.read(csr), &after), (Err(fault), unit));
+            absence(fault)
+        }
+        Ok(written) => {
+            assert_eq!(written.is_changed, after != *unit);
+            assert_eq!(written.is_stored(), after.read(csr) == Ok(value));
+            assert_eq!(after.is_built(), unit.is_built() && !written.is_changed);
+            stays_beside(&written.moved, unit, &after);
+            let moved = written.moved.map_or(",".to_string(), |it| {
+                format!("{:#x},{:#x}", it.start(), it.end())
+            });
+            let change = if written.is_changed {
+                "changed"
+            } else {
+                "same"
+            };
+            format!("{change},{moved},{}", written.reasons)
+        }
     }
-    status.to_string()
+}
+
+fn settle(unit: &Unit, question: &str) -> String {
+    let mut after = unit.clone();
+    let is_built = after.settle(number(question));
+    assert_eq!((is_built, &after), (after.is_built(), unit));
+    (if is_built { "yes" } else { "no" }).to_string()
+}
+
+/// What is refused leaves the unit as it is, and what is done leaves no map.
+fn tell(unit: &Unit, after: &Unit, done: Result<(), NoHart>) -> String {
+    match done {
+        Ok(()) => {
+            assert!(!after.is_built());
+            "done".to_string()
+        }
+        Err(NoHart) => {
+            assert_eq!((after, after.is_built()), (unit, unit.is_built()));
+            "no hart".to_string()
+        }
+    }
+}
+
+fn reset(unit: &Unit, question: &str) -> String {
+    let mut after = unit.clone();
+    let done = hart(question).ok_or(NoHart).and_then(|hart| {
+        after.reset(hart)?;
+        assert_eq!(after, Unit::new(hart));
+        Ok(())
+    });
+    tell(unit, &after, done)
+}
+
+fn restore(unit: &Unit, question: &str) -> String {
+    let (mut after, mut saved) = (unit.clone(), unit.save());
+    saved.entries = number(question);
+    let done = after.restore(&saved);
+    assert_eq!(Hart::try_from(saved.entries).map(|_| ()), done);
+    assert_eq!(unit.clone().reset(saved.entries), done);
+    tell(unit, &after, done)
 }
 
 fn map(unit: &Unit) -> String {
@@ -92,11 +181,21 @@ fn map(unit: &Unit) -> String {
 fn answer(unit: &Unit, kind: &str, question: &str) -> String {
     match kind {
         "check" => check(unit, question),
-        "read" => format!("{:#x}", unit.read(csr(question)).unwrap()),
+        "read" => read(unit, question),
         "write" => write(unit, question),
         "map" => map(unit),
+        "settle" => settle(unit, question),
+        "reset" => reset(unit, question),
+        "restore" => restore(unit, question),
         other => panic!("{other}"),
     }
+}
+
+/// The hart ENTRIES/GRAIN/BITS/SMEPMP, if there is one.
+fn hart(words: &str) -> Option<Hart> {
+    let parts: Vec<&str> = words.split('/').collect();
+    let [entries, grain, bits] = [0, 1, 2].map(|it| number(parts[it]) as u16);
+    Hart::new(entries as u8, grain, bits as u8, parts[3] == "yes")
 }
 
 /// The harts that the first word of a row names.
@@ -105,11 +204,7 @@ fn harts(word: &str) -> Vec<Hart> {
         "16" => vec![Size::Sixteen.into()],
         "64" => vec![Size::SixtyFour.into()],
         "both" => vec![Size::Sixteen.into(), Size::SixtyFour.into()],
-        hart => {
-            let parts: Vec<&str> = hart.split('/').collect();
-            let [entries, grain, bits] = [0, 1, 2].map(|it| number(parts[it]) as u16);
-            vec![Hart::new(entries as u8, grain, bits as u8, parts[3] == "yes").unwrap()]
-        }
+        other => vec![hart(other).unwrap()],
     }
 }
 
@@ -117,11 +212,33 @@ fn unit_after(hart: Hart, writes: &str) -> Unit {
     let mut unit = Unit::new(hart);
     for write in writes.split(';').map(str::trim).filter(|it| !it.is_empty()) {
         match write.split_once(' ') {
-            None => unit.reset(hart),
-            Some((name, value)) => unit.write(csr(name), number(value)).unwrap(),
+            None => unit.reset(hart).unwrap(),
+            Some((name, value)) => drop(unit.write(csr(name), number(value)).unwrap()),
         }
     }
     unit
+}
+
+/// Asks before the map is built, with it, and from a snapshot.
+fn try_row(hart: Hart, row: &str) {
+    let parts: Vec<&str> = row.split('|').map(str::trim).collect();
+    let kind = parts[0].split_once(' ').unwrap().1;
+    let is_value = kind == "read" && parts[3].starts_with(|it: char| it.is_ascii_digit());
+    let wanted = if is_value {
+        format!("{:#x}", number(parts[3]))
+    } else {
+        parts[3].to_string()
+    };
+    let mut unit = unit_after(hart, parts[1]);
+    assert_eq!(answer(&unit, kind, parts[2]), wanted, "{row}");
+    unit.build();
+    assert!(unit.is_built());
+    let built = if kind == "settle" { "yes" } else { &wanted };
+    assert_eq!(answer(&unit, kind, parts[2]), built, "built: {row}");
+    let mut copy = Unit::default();
+    assert_eq!(copy.restore(&unit.save()), Ok(()));
+    assert_eq!((&copy, copy.is_built()), (&unit, false));
+    assert_eq!(answer(&copy, kind, parts[2]), wanted, "restored: {row}");
 }
 
 #[test]
@@ -132,27 +249,12 @@ fn rows_are_answered() {
         .lines()
         .filter(|it| it.contains('|') && !it.starts_with('#'))
     {
-        let parts: Vec<&str> = row.split('|').map(str::trim).collect();
-        let (word, kind) = parts[0].split_once(' ').unwrap();
-        let wanted = if kind == "read" {
-            format!("{:#x}", number(parts[3]))
-        } else {
-            parts[3].to_string()
-        };
-        for hart in harts(word) {
-            let mut unit = unit_after(hart, parts[1]);
-            assert_eq!(answer(&unit, kind, parts[2]), wanted, "{row}");
-            unit.build();
-            assert!(unit.is_built());
-            assert_eq!(answer(&unit, kind, parts[2]), wanted, "built: {row}");
-            let mut copy = Unit::default();
-            copy.restore(&unit.save());
-            assert_eq!((&copy, copy.is_built()), (&unit, false));
-            assert_eq!(answer(&copy, kind, parts[2]), wanted, "restored: {row}");
+        for hart in harts(row.split_once(' ').unwrap().0) {
+            try_row(hart, row);
             count += 1;
         }
     }
-    assert!(count > 100, "{count} rows");
+    assert!(count > 200, "{count} rows");
 }
 
 #[test]
@@ -171,12 +273,48 @@ fn ranges_of_several_entries_are_mixed() {
 }
 
 #[test]
-fn no_other_harts_are_made() {
-    assert_ne!(Hart::new(16, 8, 56, true), Some(Size::Sixteen.into()));
-    for grain in [0, 2, 12, 8192] {
-        assert_eq!(Hart::new(16, grain, 56, true), None);
+fn reasons_are_a_set() {
+    let mut unit = unit_after(Size::Sixteen.into(), "mseccfg 3");
+    let reasons = unit.write(Csr::MSECCFG, 8).unwrap().reasons;
+    assert_eq!(
+        reasons.iter().collect::<Vec<_>>(),
+        [Reason::Bits, Reason::Sticky]
+    );
+    for reason in Reason::ALL {
+        assert_eq!(
+            reasons.contains(reason),
+            reasons.iter().any(|it| it == reason)
+        );
     }
-    assert_eq!(Hart::new(65, 4, 56, true), None);
-    assert_eq!(Hart::new(16, 4, 33, true), None);
-    assert_eq!(Hart::new(16, 4, 57, true), None);
+    assert_eq!(format!("{reasons:?}"), "{Bits, Sticky}");
+    assert!(!reasons.is_empty() && Reasons::default().is_empty());
+}
+
+#[test]
+fn harts_are_equal_where_they_are_one() {
+    let sixteen = Hart::from(Size::Sixteen);
+    assert_eq!(Hart::new(16, 4, 56, true), Some(sixteen));
+    assert_eq!(Hart::try_from(0x100013810), Ok(sixteen));
+    assert_ne!(Hart::new(16, 8, 56, true), Some(sixteen));
+    assert_ne!(Hart::new(16, 4, 56, false), Some(sixteen));
+}
+
+#[test]
+fn the_library_is_of_this_version() {
+    let (major, minor, patch) = version();
+    assert!(is_compatible());
+    assert_eq!(
+        format!("{major}.{minor}.{patch}"),
+        env!("CARGO_PKG_VERSION")
+    );
+}
+
+#[test]
+fn faults_say_what_is_wrong() {
+    let faults: [Box<dyn Error>; 2] = [Box::new(NoHart), Box::new(NoRegister::Unknown)];
+    assert_eq!(faults[0].to_string(), "the number is that of no hart");
+    assert_eq!(
+        faults[1].to_string(),
+        "the hart has no PMP register of this number"
+    );
 }
