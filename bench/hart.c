@@ -42,12 +42,15 @@ static void forget_all(struct hart *hart) {
 static void forget_moved(struct tlb *tlb, uint64_t generation) {
     struct span moved = {page_of(tlb->moved.first), tlb->moved.last};
     tlb->moved = NOTHING;
-    for (unsigned i = 0; i < PARTS; i++)
-        if (is_common(moved, tlb->parts[i].span))
-            tlb->parts[i].span = NOTHING;
     if (!is_common(moved, tlb->bounds))
         return;
     tlb->bounds = NOTHING;
+    for (unsigned i = 0; i < PARTS; i++) {
+        struct span *span = &tlb->parts[i].span;
+        if (is_common(moved, *span))
+            *span = NOTHING;
+        include(&tlb->bounds, span->first, span->last);
+    }
     for (unsigned i = 0; i < TLB_SIZE; i++) {
         uint64_t page = tlb->pages[i].tag - generation;
         if (page - moved.first <= moved.last - moved.first)
@@ -95,6 +98,7 @@ static const struct part *part_of(struct hart *hart, uint64_t address, uint64_t 
     struct part *part = &tlb->parts[tlb->next_part++ % PARTS];
     hart->runs++;
     part->rights = hart->peer->run(hart->mode, address, &part->span.first, &part->span.last);
+    include(&tlb->bounds, part->span.first, part->span.last);
     return has(part, address, length) ? part : NULL;
 }
 
