@@ -251,7 +251,8 @@ class Unit:
             raise KeyError(register)
 
     def build(self) -> None:
-        """Builds the map: once after the last of several writes."""
+        """Builds the map: for many questions that come after the last of several writes. settle() is for as many as
+        come."""
         _library.tilvenka_pmp_build(self._unit)
 
     def settle(self, questions: int) -> bool:

@@ -112,7 +112,8 @@ impl Unit {
         Ok(value)
     }
 
-    /// Builds the map: once after the last of several writes.
+    /// Builds the map: for many questions that come after the last of several writes. [`Unit::settle`] is for as many as
+    /// come.
     pub fn build(&mut self) {
         unsafe { ffi::tilvenka_pmp_build(&mut self.unit) }
     }

@@ -79,14 +79,26 @@ module _ (saved : SavedRegisters) (file : RegisterFile) (is : restored_file save
       omega (arith, ap (λ (f : RegisterFile). length f.entries) is) in
       sym (entry_in saved i within) ∙ ap (λ (f : RegisterFile). entry_at f.entries i) is
 
--- entry i is the same where it is kept as the same numbers, on one hart with one mseccfg
+-- entry i has the same address where that is kept as the same number, on one hart
 module _ (one other : SavedRegisters) (file after : RegisterFile) (is : restored_file one ≡ file)
     (too : restored_file other ≡ after) (i : ℕ) (inside : i < length file.entries) (within : i < length after.entries)
-    (hart : file.profile ≡ after.profile) (mseccfg : file.mseccfg ≡ after.mseccfg) where
+    (hart : file.profile ≡ after.profile) where
   same_hart : hart_in one ≡ hart_in other
   same_hart = sym (profile_in one) ∙ ap (λ (f : RegisterFile). f.profile) is ∙ hart
       ∙ sym (ap (λ (f : RegisterFile). f.profile) too) ∙ profile_in other
 
+  pub same_address_by_number : slice_index one.addresses i ≡ slice_index other.addresses i
+      → (entry_at file.entries i).address ≡ (entry_at after.entries i).address
+  same_address_by_number address =
+      let restored : (restored_entry one i).address ≡ (restored_entry other i).address =
+      (λ j. address j % word_addresses (same_hart j)) in
+      ap (λ (e : Entry). e.address) (sym (entry_seen one file is i inside)) ∙ restored
+      ∙ ap (λ (e : Entry). e.address) (entry_seen other after too i within)
+
+-- entry i is the same where it is kept as the same numbers, on one hart with one mseccfg
+module _ (one other : SavedRegisters) (file after : RegisterFile) (is : restored_file one ≡ file)
+    (too : restored_file other ≡ after) (i : ℕ) (inside : i < length file.entries) (within : i < length after.entries)
+    (hart : file.profile ≡ after.profile) (mseccfg : file.mseccfg ≡ after.mseccfg) where
   same_fields : fields_in one ≡ fields_in other
   same_fields = sym (mseccfg_in one) ∙ ap (λ (f : RegisterFile). f.mseccfg) is ∙ mseccfg
       ∙ sym (ap (λ (f : RegisterFile). f.mseccfg) too) ∙ mseccfg_in other
@@ -96,7 +108,7 @@ module _ (one other : SavedRegisters) (file after : RegisterFile) (is : restored
       → entry_at file.entries i ≡ entry_at after.entries i
   same_by_numbers address byte =
       let restored : restored_entry one i ≡ restored_entry other i = (λ j. record {
-        configuration = stored_over (same_hart j).grain (same_fields j).mml true reset_entry.configuration (byte j);
-        address = address j % word_addresses (same_hart j);
+        configuration = stored_over (same_hart one other file after is too i inside within hart j).grain (same_fields j).mml true reset_entry.configuration (byte j);
+        address = address j % word_addresses (same_hart one other file after is too i inside within hart j);
       }) in
       sym (entry_seen one file is i inside) ∙ restored ∙ entry_seen other after too i within

@@ -59,7 +59,7 @@ impl<'a> Registers<'a> {
     {
         self.has_same_numbers(before, index)
             && match index.checked_sub(1) {
-                Some(low) => self.has_same_numbers(before, low),
+                Some(low) => self.has_same_address(before, low),
                 None => true,
             }
     }

@@ -174,6 +174,18 @@ impl<'a> Registers<'a> {
             && self.numbers.configurations[index] == other.numbers.configurations[index]
     }
 
+    /// Whether the entry's address register keeps the same number in both. On one hart it is the same address then.
+    #[inline(always)]
+    pub(crate) fn has_same_address(&self, other: &Registers<'_>, index: usize) -> bool
+        requires here { index < length self.now.entries }
+        requires there { index < length other.now.entries }
+        ensures { IsTrue result → self.now.profile ≡ other.now.profile
+            → (entry_at self.now.entries index).address ≡ (entry_at other.now.entries index).address }
+    {
+        let _counts = (self.count(), other.count());
+        self.numbers.addresses[index] == other.numbers.addresses[index]
+    }
+
     /// The entry's configuration byte, and zero where there is no entry.
     #[inline(always)]
     fn byte(&self, index: usize) -> u8
