@@ -216,11 +216,13 @@ static bool is_taken(unsigned function, uint64_t a, uint64_t b) {
 }
 
 static uint64_t branch_offset(uint32_t code) {
-    return signed_bits((code >> 31 & 1) << 12 | (code >> 7 & 1) << 11 | (code >> 25 & 63) << 5 | (code >> 8 & 15) << 1, 13);
+    uint32_t high = (code >> 31 & 1) << 12 | (code >> 7 & 1) << 11;
+    return signed_bits(high | (code >> 25 & 63) << 5 | (code >> 8 & 15) << 1, 13);
 }
 
 static uint64_t jump_offset(uint32_t code) {
-    return signed_bits((code >> 31 & 1) << 20 | (code & 0xff000) | (code >> 20 & 1) << 11 | (code >> 21 & 1023) << 1, 21);
+    uint32_t high = (code >> 31 & 1) << 20 | (code & 0xff000);
+    return signed_bits(high | (code >> 20 & 1) << 11 | (code >> 21 & 1023) << 1, 21);
 }
 
 /* All memory that the guests have rights to is there. */
@@ -269,9 +271,10 @@ static bool run_system(struct hart *hart, uint32_t code, uint64_t *value) {
                || ((function % 4 != 1 || code >> 7 & 31) && !read_csr(hart, code >> 20, &old))) {
         trap(hart, ILLEGAL_INSTRUCTION, code);
     } else {
+        uint64_t next = function % 4 == 1 ? operand : function % 4 == 2 ? old | operand : old & ~operand;
         *value = old;
         if (function % 4 == 1 || source != 0)
-            write_csr(hart, code >> 20, function % 4 == 1 ? operand : function % 4 == 2 ? old | operand : old & ~operand);
+            write_csr(hart, code >> 20, next);
         return true;
     }
     return false;
