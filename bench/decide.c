@@ -59,6 +59,13 @@ static void run_writes(const struct peer *peer, uint16_t *told) {
     peer->write(writes + write_count - WRITES, WRITES);
 }
 
+static void run_moves(const struct peer *peer, uint16_t *told) {
+    const struct write *next = writes + write_count - WRITES;
+    uint64_t first, last;
+    for (size_t i = 0; i < WRITES; i++)
+        told[i] = peer->moves(next[i], &first, &last);
+}
+
 static void run_reads(const struct peer *peer, uint16_t *told) {
     (void)told;
     peer->read(writes + write_count - WRITES, WRITES, values);
@@ -73,6 +80,7 @@ static const struct work decisions = {"asking", all, run_decisions, 0, COUNT};
 static const struct work fills = {"asking", all, run_fills, 0, COUNT};
 static const struct work switches = {"asking", all, run_switches, SWITCHES * SWITCH_WRITES, SWITCHES};
 static const struct work changes = {"registers", writers, run_writes, WRITES, WRITES};
+static const struct work moves = {"registers", writers, run_moves, WRITES, WRITES};
 static const struct work reads = {"registers", writers, run_reads, WRITES, WRITES};
 static const struct work builds = {"maps", builders, run_builds, 0, BUILDS};
 
@@ -233,9 +241,11 @@ static void measure_fills(void) {
 static void measure_registers(void) {
     set_address_writes();
     measure("write of `pmpaddr`", &changes);
+    measure("write of `pmpaddr`, and what it moved", &moves);
     measure("read of `pmpaddr`", &reads);
     set_configuration_writes(0x1d);
     measure("write of `pmpcfg`", &changes);
+    measure("write of `pmpcfg`, and what it moved", &moves);
     measure("read of `pmpcfg`", &reads);
     set_configuration_writes(0x1f);
     measure("write of `pmpcfg`, mostly not stored as written", &changes);

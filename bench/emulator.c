@@ -56,8 +56,8 @@ static const struct guest guests[] = {
     {"a switch, 1 page", SWITCH(1)},
     {"8 pages, values loaded first", SWITCH(8), .is_loaded_first = true},
     {"1 page, values loaded first", SWITCH(1), .is_loaded_first = true},
-    {"8 pages, and the firmware's entry is early", SWITCH(8), .is_loaded_first = true, .is_firmware_listed = true},
-    {"1 page, and the firmware's entry is early", SWITCH(1), .is_loaded_first = true, .is_firmware_listed = true},
+    {"8 pages, firmware's entry is early", SWITCH(8), .is_loaded_first = true, .is_firmware_listed = true},
+    {"1 page, firmware's entry is early", SWITCH(1), .is_loaded_first = true, .is_firmware_listed = true},
     {"a switch, 8 loads from a cut page", 10000, LOADS(1, OF_CUT_PAGE)},
     {"a switch, 16 loads from it", 10000, LOADS(2, OF_CUT_PAGE)},
     {"a switch, 24 loads from it", 10000, LOADS(3, OF_CUT_PAGE)},
@@ -68,7 +68,7 @@ static const struct guest guests[] = {
     {"a load across a page's end", 10, LOADS(10000, {-4, -4}), .is_pair = true},
 };
 
-static uint8_t ram[RAM_SIZE];
+static _Alignas(8) uint8_t ram[RAM_SIZE];
 static struct write writes[3 * ENTRIES];
 static size_t write_count;
 static uint64_t handler;
@@ -134,7 +134,8 @@ static uint64_t set_rows(uint64_t switches) {
 
 /* The memory at the start. Answers how many faults there will be. */
 static uint64_t set_memory(const struct guest *guest) {
-    struct code firmware = {(uint32_t *)(void *)ram, 0}, user = {(uint32_t *)(void *)(ram + (USER_CODE - RAM_START)), 0};
+    struct code firmware = {(uint32_t *)(void *)ram, 0};
+    struct code user = {(uint32_t *)(void *)(ram + (USER_CODE - RAM_START)), 0};
     for (uint64_t at = FIRST_PAGE; at < RAM_START + RAM_SIZE; at += 8)
         put_word(at, at * UINT64_C(0x9e3779b97f4a7c15));
     handler = emit_firmware(&firmware, guest->is_loaded_first);

@@ -42,12 +42,15 @@ static void forget_all(struct hart *hart) {
 static void forget_moved(struct tlb *tlb, uint64_t generation) {
     struct span moved = {page_of(tlb->moved.first), tlb->moved.last};
     tlb->moved = NOTHING;
-    for (unsigned i = 0; i < PARTS; i++)
-        if (is_common(moved, tlb->parts[i].span))
-            tlb->parts[i].span = NOTHING;
     if (!is_common(moved, tlb->bounds))
         return;
     tlb->bounds = NOTHING;
+    for (unsigned i = 0; i < PARTS; i++) {
+        struct span *span = &tlb->parts[i].span;
+        if (is_common(moved, *span))
+            *span = NOTHING;
+        include(&tlb->bounds, span->first, span->last);
+    }
     for (unsigned i = 0; i < TLB_SIZE; i++) {
         uint64_t page = tlb->pages[i].tag - generation;
         if (page - moved.first <= moved.last - moved.first)
@@ -95,6 +98,7 @@ static const struct part *part_of(struct hart *hart, uint64_t address, uint64_t 
     struct part *part = &tlb->parts[tlb->next_part++ % PARTS];
     hart->runs++;
     part->rights = hart->peer->run(hart->mode, address, &part->span.first, &part->span.last);
+    include(&tlb->bounds, part->span.first, part->span.last);
     return has(part, address, length) ? part : NULL;
 }
 
@@ -212,11 +216,13 @@ static bool is_taken(unsigned function, uint64_t a, uint64_t b) {
 }
 
 static uint64_t branch_offset(uint32_t code) {
-    return signed_bits((code >> 31 & 1) << 12 | (code >> 7 & 1) << 11 | (code >> 25 & 63) << 5 | (code >> 8 & 15) << 1, 13);
+    uint32_t high = (code >> 31 & 1) << 12 | (code >> 7 & 1) << 11;
+    return signed_bits(high | (code >> 25 & 63) << 5 | (code >> 8 & 15) << 1, 13);
 }
 
 static uint64_t jump_offset(uint32_t code) {
-    return signed_bits((code >> 31 & 1) << 20 | (code & 0xff000) | (code >> 20 & 1) << 11 | (code >> 21 & 1023) << 1, 21);
+    uint32_t high = (code >> 31 & 1) << 20 | (code & 0xff000);
+    return signed_bits(high | (code >> 20 & 1) << 11 | (code >> 21 & 1023) << 1, 21);
 }
 
 /* All memory that the guests have rights to is there. */
@@ -265,9 +271,10 @@ static bool run_system(struct hart *hart, uint32_t code, uint64_t *value) {
                || ((function % 4 != 1 || code >> 7 & 31) && !read_csr(hart, code >> 20, &old))) {
         trap(hart, ILLEGAL_INSTRUCTION, code);
     } else {
+        uint64_t next = function % 4 == 1 ? operand : function % 4 == 2 ? old | operand : old & ~operand;
         *value = old;
         if (function % 4 == 1 || source != 0)
-            write_csr(hart, code >> 20, function % 4 == 1 ? operand : function % 4 == 2 ? old | operand : old & ~operand);
+            write_csr(hart, code >> 20, next);
         return true;
     }
     return false;

@@ -24,8 +24,8 @@ struct part {
     uint64_t rights;
 };
 
-/* What the hart holds of a mode: pages between these bounds, and parts. Of what moved it forgets them before it goes to
-   the mode. */
+/* What the hart holds of a mode, pages and parts, all between these bounds. It forgets what moved before it goes to the
+   mode. */
 struct tlb {
     struct translation pages[TLB_SIZE];
     struct span bounds;

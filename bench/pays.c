@@ -105,8 +105,8 @@ int main(int count, char **words) {
         fprintf(stderr, "usage: pays ROUNDS\n");
         return 2;
     }
-    printf("| Entries on | a build | a decision | by the map | rights | by the map | rights without a match | by the map "
-           "| pays from | without a match |\n|---|---|---|---|---|---|---|---|---|---|\n");
+    printf("| Entries on | a build | a decision | by the map | rights | by the map | rights without a match "
+           "| by the map | pays from | without a match |\n|---|---|---|---|---|---|---|---|---|---|\n");
     for (unsigned entries = 16; entries <= 64; entries += 48)
         for (unsigned i = 0; i < sizeof ons / sizeof ons[0] && ons[i] <= entries; i++)
             measure(entries, ons[i], rounds);

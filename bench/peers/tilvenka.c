@@ -18,6 +18,10 @@ static void change_unmapped(const struct write *writes, size_t count) {
     write_to(&unmapped, writes, count);
 }
 
+static bool moves(struct write write, uint64_t *first, uint64_t *last) {
+    return tilvenka_pmp_write_moved(&unmapped, write.number, write.value, first, last) & TILVENKA_PMP_MOVED;
+}
+
 static void prepare_mapped(const struct write *writes, size_t count) {
     tilvenka_pmp_reset(&mapped, ENTRIES);
     change_mapped(writes, count);
@@ -83,6 +87,7 @@ const struct peer tilvenka_registers = {
     .number_of = number_of,
     .prepare = prepare_unmapped,
     .change = change_unmapped,
+    .moves = moves,
     .write = change_unmapped,
     .read = read,
     .decide = ask_unmapped,

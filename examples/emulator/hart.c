@@ -7,8 +7,8 @@
  *     migrate                          saves the registers and takes them back into a unit of other memory
  *     # ..                             a comment
  *
- * and prints what each line came to. A page whose rights are mixed stays out of the TLB: each access to it is decided.
- * A page is asked for as physical memory, since this hart translates no address. */
+ * and prints what each line came to. A page whose rights are mixed stays out of the TLB, which has a few runs of bytes
+ * with the same rights in its place. A page is asked for as physical memory, since this hart translates no address. */
 #include "tilvenka_pmp.h"
 
 #include <inttypes.h>
@@ -17,7 +17,7 @@
 #include <string.h>
 
 #define RAM_START UINT64_C(0x80000000)
-enum { RAM_SIZE = 65536, PAGE = 4096, TLB_SIZE = 64, MODES = 4 };
+enum { RAM_SIZE = 65536, PAGE = 4096, TLB_SIZE = 64, RUNS = 4, MODES = 4 };
 
 struct translation {
     bool is_valid;
@@ -25,10 +25,18 @@ struct translation {
     uint32_t rights;
 };
 
+struct run {
+    bool is_valid;
+    uint64_t first, last;
+    uint32_t rights;
+};
+
 struct hart {
     tilvenka_pmp_unit pmp;
     uint64_t questions; /* to the unit since its registers changed */
     struct translation tlb[MODES][TLB_SIZE];
+    struct run runs[MODES][RUNS];
+    unsigned next_run;
     unsigned hits, fills;
     uint8_t ram[RAM_SIZE];
 };
@@ -38,12 +46,17 @@ struct access {
     uint64_t address, length;
 };
 
-/* Forgets each page that has a byte from first to last. */
+/* Forgets each page and each run that has a byte from first to last. */
 static void forget(struct hart *hart, uint64_t first, uint64_t last) {
     for (unsigned mode = 0; mode < MODES; mode++) {
         for (unsigned place = 0; place < TLB_SIZE; place++) {
             struct translation *kept = &hart->tlb[mode][place];
             if (kept->page <= last && kept->page + (PAGE - 1) >= first)
+                kept->is_valid = false;
+        }
+        for (unsigned place = 0; place < RUNS; place++) {
+            struct run *kept = &hart->runs[mode][place];
+            if (kept->first <= last && kept->last >= first)
                 kept->is_valid = false;
         }
     }
@@ -93,14 +106,38 @@ static uint32_t page_rights(struct hart *hart, uint32_t mode, uint64_t page) {
     return rights;
 }
 
-/* The answer to an access. Where the TLB has the right to it, nothing is decided, and 0 says no more than "allowed". */
-static uint32_t ask(struct hart *hart, const struct access *access) {
+static bool has(const struct run *run, const struct access *access) {
+    return run->is_valid && run->first <= access->address && access->address <= run->last
+        && access->length - 1 <= run->last - access->address;
+}
+
+/* The rights of the run that has the whole access, or none. */
+static uint32_t run_rights(struct hart *hart, const struct access *access) {
+    for (unsigned place = 0; place < RUNS; place++)
+        if (has(&hart->runs[access->mode][place], access))
+            return hart->runs[access->mode][place].rights;
+    struct run *kept = &hart->runs[access->mode][hart->next_run++ % RUNS];
+    uint32_t answer = tilvenka_pmp_run(unit_to_ask(hart), access->mode, access->address, &kept->first, &kept->last);
+    kept->rights = tilvenka_pmp_run_rights(answer);
+    kept->is_valid = !tilvenka_pmp_is_no_access(answer);
+    return has(kept, access) ? kept->rights : 0;
+}
+
+/* Rights that hold for the whole access. An access across a page's end is in a run or in none. */
+static uint32_t known_rights(struct hart *hart, const struct access *access) {
     uint64_t page = access->address / PAGE * PAGE;
     if (access->length - 1 < page + PAGE - access->address) {
         uint32_t rights = page_rights(hart, access->mode, page);
-        if (rights < TILVENKA_PMP_MIXED && rights & right_of(access->kind))
-            return 0;
+        if (rights < TILVENKA_PMP_MIXED)
+            return rights;
     }
+    return run_rights(hart, access);
+}
+
+/* The answer to an access. Where the right to it is known, nothing is decided, and 0 says no more than "allowed". */
+static uint32_t ask(struct hart *hart, const struct access *access) {
+    if (known_rights(hart, access) & right_of(access->kind))
+        return 0;
     return tilvenka_pmp_decide(unit_to_ask(hart), access->mode, access->kind, access->address, access->length);
 }
 
