@@ -222,17 +222,13 @@ static void try_random_writes(void) {
     expect(moved > HISTORIES / 20 && moved < HISTORIES, "some of them move", moved);
 }
 
-// A map pays from the 16th question on, once questions times entries that are on are 160.
+// A map pays from the 16th question on.
 
-static bool pays(unsigned on, uint64_t questions) {
-    return questions >= 16 && on > 0 && questions >= (160 + on - 1) / on;
-}
-
-static bool is_settled_right(const tilvenka_pmp_unit *unbuilt, const tilvenka_pmp_unit *built, unsigned on, uint64_t questions) {
+static bool is_settled_right(const tilvenka_pmp_unit *unbuilt, const tilvenka_pmp_unit *built, uint64_t questions) {
     static tilvenka_pmp_unit unit;
     unit = *unbuilt;
-    bool is_right = tilvenka_pmp_settle(&unit, questions) == pays(on, questions);
-    is_right &= memcmp(&unit, pays(on, questions) ? built : unbuilt, sizeof unit) == 0;
+    bool is_right = tilvenka_pmp_settle(&unit, questions) == (questions >= 16);
+    is_right &= memcmp(&unit, questions >= 16 ? built : unbuilt, sizeof unit) == 0;
     unit = *built;
     return is_right && tilvenka_pmp_settle(&unit, questions) && memcmp(&unit, built, sizeof unit) == 0;
 }
@@ -255,10 +251,10 @@ static void try_settling(void) {
             tilvenka_pmp_build(&built);
             bool is_right = true;
             for (uint64_t questions = 0; questions < 200; questions++)
-                is_right &= is_settled_right(&unbuilt, &built, on, questions);
+                is_right &= is_settled_right(&unbuilt, &built, questions);
             for (unsigned bit = 8; bit < 64; bit++)
-                is_right &= is_settled_right(&unbuilt, &built, on, UINT64_C(1) << bit);
-            expect(is_right && is_settled_right(&unbuilt, &built, on, UINT64_MAX), "when a map pays", entries);
+                is_right &= is_settled_right(&unbuilt, &built, UINT64_C(1) << bit);
+            expect(is_right && is_settled_right(&unbuilt, &built, UINT64_MAX), "when a map pays", entries);
         }
     }
 }

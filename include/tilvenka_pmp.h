@@ -223,7 +223,7 @@ void tilvenka_pmp_build(tilvenka_pmp_unit *unit);
 /* Builds the map where it isn't built and pays: where so many questions (decisions, rights, runs) since the last change
  * take longer without it. It answers whether the map is built then. The caller counts: a number that is 0 after each
  * TILVENKA_PMP_CHANGED, reset and restore, and one more at each question, before which it makes this call. The map pays
- * from the 16th question on, once their number times that of the entries that are on is 160 or more. */
+ * from the 16th question on. */
 bool tilvenka_pmp_settle(tilvenka_pmp_unit *unit, uint64_t questions);
 
 bool tilvenka_pmp_is_built(const tilvenka_pmp_unit *unit);

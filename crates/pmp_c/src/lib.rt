@@ -143,13 +143,13 @@ pub extern "C" fn tilvenka_pmp_build(unit: &mut Unit)
     unit.build();
 }
 
-/// Builds the map where it isn't built and so many questions since the last change pay for it, on these registers.
-/// Answers whether it is built then.
+/// Builds the map where it isn't built and so many questions since the last change pay for it. Answers whether it is
+/// built then.
 #[unsafe(no_mangle)]
 pub extern "C" fn tilvenka_pmp_settle(unit: &mut Unit, questions: u64) -> bool
     ensures { IsSettled unit.old unit.new questions result }
 {
-    if unit.map.runs == 0 && unit.pays(questions) {
+    if unit.map.runs == 0 && questions >= 16 {
         unit.build();
     }
     unit.map.runs > 0

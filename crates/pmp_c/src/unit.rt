@@ -3,19 +3,14 @@
 ghost use Rattle.std.specs.Prelude.{◌≡◌, ◌+◌, ◌^◌, ◌<◌, ◌≤◌, false, true};
 ghost use Rattle.pmp_core.specs.declared.access.TheConstants.{ADDRESS_LIMIT};
 ghost use Rattle.pmp_core.specs.Ranges.{decision_of};
-ghost use Rattle.pmp_core.specs.RegisterFile.{entries_on};
-ghost use Rattle.pmp_core.specs.declared.size.TheConstants.{MAX_ENTRIES};
 ghost use Rattle.pmp_map.specs.Answer.{answer_number};
 ghost use Rattle.pmp_map.specs.RangeRights.{AreRangeRights};
 ghost use Rattle.pmp_map.specs.Runs.{IsRunAround};
-ghost use Rattle.pmp_c.specs.Settling.{pays};
 ghost use Rattle.pmp_c.specs.Status.{register_in, write_number};
 ghost use Rattle.pmp_c.specs.Unit.{file_of_unit, IsBuilt, IsUnit};
 
 use crate::numbers::{csr_of, write_status};
-use pmp_core::{
-    Access, Csr, CsrFault, MAX_ENTRIES, Mode, Perms, Registers, SavedRegisters, Written,
-};
+use pmp_core::{Access, Csr, CsrFault, Mode, Perms, Registers, SavedRegisters, Written};
 use pmp_map::{Run, Tables, answer_number, rights_in, run_around};
 
 /// A unit. All zero it is one of sixteen entries after reset, whose map isn't built.
@@ -64,24 +59,6 @@ impl Unit {
         if self.map.runs == 0 {
             self.map.fill(&Registers::of(&self.registers));
         }
-    }
-
-    /// How many entries are on.
-    fn entries_on(&self) -> usize
-        ensures on { result ≡ entries_on (file_of_unit self.now) }
-        ensures most { result ≤ MAX_ENTRIES }
-    {
-        match Registers::on_standard(&self.registers) {
-            Some(registers) => registers.entries_on(),
-            None => Registers::of(&self.registers).entries_on(),
-        }
-    }
-
-    /// Whether so many questions pay for a map of these registers.
-    pub fn pays(&self, questions: u64) -> bool
-        ensures { result ≡ pays self.now questions }
-    {
-        questions >= 16 && questions.min(160) * self.entries_on() as u64 >= 160
     }
 
     /// The answer by the registers, without the map.

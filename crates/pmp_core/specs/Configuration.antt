@@ -21,13 +21,6 @@ field_of Tor = 1
 field_of Na4 = 2
 field_of Napot = 3
 
--- the mode isn't OFF (3.7.1.1)
-abbrev pub is_on : AddressMatching → Bool
-is_on Off = false
-is_on Tor = true
-is_on Na4 = true
-is_on Napot = true
-
 abbrev pub bit_of : Bool → ℕ
 bit_of true = 1
 bit_of false = 0

@@ -1,5 +1,5 @@
 -- The register file (Volume II, 3.7.1 and Smepmp).
-use Rattle.std.specs.Prelude.{◌≡◌, ℕ, zero, suc, ◌+◌, ◌<◌, ◌≤◌, Bool, false, not, ◌&&◌, List, replicate}
+use Rattle.std.specs.Prelude.{◌≡◌, ℕ, ◌+◌, ◌<◌, ◌≤◌, Bool, false, not, ◌&&◌, List, replicate}
 use Rattle.std.specs.Prelude.{length}
 use Rattle.std.specs.List.{list_all, range_with_len, slice_index_or}
 use Rattle.pmp_core.specs.declared.configuration.AddressMatching.TheVariants.{Off}
@@ -7,7 +7,7 @@ use Rattle.pmp_core.specs.Entry.{Entry}
 use Rattle.pmp_core.specs.declared.mseccfg.MseccfgFields.{MseccfgFields}
 use Rattle.pmp_core.specs.declared.hart.TheConstants.{MAX_GRAIN}
 use Rattle.pmp_core.specs.declared.register_write.TheConstants.{WORD_ADDRESSES}
-use Rattle.pmp_core.specs.Configuration.{bit_of, is_on, is_reserved}
+use Rattle.pmp_core.specs.Configuration.{is_reserved}
 use Rattle.pmp_core.specs.Grain.{selectable}
 use Rattle.pmp_core.specs.Hart.{Profile, IsProfile, word_addresses}
 
@@ -37,14 +37,6 @@ reset_file profile = file_of profile reset_mseccfg (replicate profile.entries re
 -- entry i; where there is none, one that matches nothing and isn't locked
 abbrev pub entry_at : List Entry → ℕ → Entry
 entry_at entries i = slice_index_or entries i reset_entry
-
--- how many of the first n entries are on: those whose field A isn't OFF (3.7.1.1)
-unfoldable pub on_among : List Entry → (n : ℕ) → ℕ
-on_among entries zero = 0
-on_among entries (suc n) = on_among entries n + bit_of (is_on (entry_at entries n).configuration.matching)
-
-unfoldable pub entries_on : RegisterFile → ℕ
-entries_on file = on_among file.entries (length file.entries)
 
 -- L is set, and rule-locking bypass is off (3.7.1.2 and Smepmp)
 abbrev pub is_frozen : RegisterFile → ℕ → Bool

@@ -1,7 +1,7 @@
 //! Configuration bytes.
 
 ghost use Rattle.std.specs.Prelude.{◌≡◌};
-ghost use Rattle.pmp_core.specs.Configuration.{byte_of, configuration_of, is_on, is_reserved};
+ghost use Rattle.pmp_core.specs.Configuration.{byte_of, configuration_of, is_reserved};
 ghost use Rattle.pmp_core.specs.Grain.{selectable};
 ghost use Rattle.pmp_core.specs.RegisterWrite.{without_reserved};
 
@@ -19,19 +19,6 @@ pub enum AddressMatching {
     Na4,
     /// A naturally aligned power of two, eight bytes or more.
     Napot,
-}
-
-impl AddressMatching {
-    /// Whether the entry isn't off.
-    #[inline(always)]
-    pub fn is_on(self) -> bool
-        ensures { result ≡ is_on self }
-    {
-        match self {
-            AddressMatching::Off => false,
-            _ => true,
-        }
-    }
 }
 
 /// A configuration byte, whose bits 6 and 5 are zero. A contract sees its fields.

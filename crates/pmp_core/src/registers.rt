@@ -6,7 +6,7 @@ ghost use Rattle.pmp_core.specs.declared.register_write.TheConstants.{WORD_ADDRE
 ghost use Rattle.pmp_core.specs.Configuration.{byte_of};
 ghost use Rattle.pmp_core.specs.Grain.{read_address};
 ghost use Rattle.pmp_core.specs.Lock.{lock_of};
-ghost use Rattle.pmp_core.specs.RegisterFile.{IsLegal, entries_on, entry_at, is_frozen, is_held};
+ghost use Rattle.pmp_core.specs.RegisterFile.{IsLegal, entry_at, is_frozen, is_held};
 ghost use Rattle.pmp_core.specs.RegisterValue.{configuration_word, register_value};
 ghost use Rattle.pmp_core.specs.RegisterWrite.{is_address_frozen, is_any_locked};
 ghost use Rattle.pmp_core.specs.SavedRegisters.{hart_in, restored_file};
@@ -132,21 +132,6 @@ impl<'a> Registers<'a> {
         ensures { result ≡ (entry_at self.now.entries index).configuration.matching }
     {
         self.raw(index).matching()
-    }
-
-    /// How many entries aren't off.
-    #[inline(always)]
-    pub fn entries_on(&self) -> usize
-        ensures on { result ≡ entries_on self.now }
-        ensures most { result ≤ MAX_ENTRIES }
-    {
-        let mut on = 0;
-        for index in 0..self.count() {
-            if self.matching(index).is_on() {
-                on += 1;
-            }
-        }
-        on
     }
 
     /// The word address that the entry's register keeps. What it reads has zeros or ones below the grain, by the
