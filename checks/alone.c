@@ -46,7 +46,8 @@ static void try_own_registers(void) {
 static void try_libraries(void) {
     for (version = 0; version < 30000; version++) {
         for (size = sizeof(tilvenka_pmp_unit) - 8; size <= sizeof(tilvenka_pmp_unit) + 8; size += 8) {
-            bool is_same = version / 10000 == TILVENKA_PMP_VERSION_MAJOR && version / 100 % 100 == TILVENKA_PMP_VERSION_MINOR;
+            unsigned major = version / 10000, minor = version / 100 % 100;
+            bool is_same = major == TILVENKA_PMP_VERSION_MAJOR && minor == TILVENKA_PMP_VERSION_MINOR;
             if (tilvenka_pmp_is_compatible() != (is_same && size == sizeof(tilvenka_pmp_unit)))
                 expect(false, "a library of the version", version);
         }

@@ -1,6 +1,6 @@
-// moved: what a write moves, on rows that were worked out by hand from the manual and over random writes on random
-// harts, where the bytes that moved are those of entries read off before and after, and every other access is decided as
-// before; and when a map pays. The last line is 'N passed, M failed'.
+// moved: what a write moves, on rows that were worked out by hand from the manual and over random writes on random harts,
+// where the bytes that moved are those of entries read off before and after, and other accesses are decided as before;
+// and when a map pays. The last line is 'N passed, M failed'.
 #include "library.h"
 #include <string.h>
 
@@ -20,7 +20,8 @@ static struct span joined(struct span one, struct span other) {
         return other;
     if (other.first > other.last)
         return one;
-    return (struct span){one.first < other.first ? one.first : other.first, one.last > other.last ? one.last : other.last};
+    return (struct span){one.first < other.first ? one.first : other.first,
+                         one.last > other.last ? one.last : other.last};
 }
 
 static const struct {
@@ -51,14 +52,16 @@ static const struct {
     {16, "3be=10 3bf=20 3a2=0900000000000000", 0x3bf, 0x28, TILVENKA_PMP_CHANGED + TILVENKA_PMP_MOVED, {0x40, 0x9f}},
     // The last bytes, and none past them.
     {16, "3b0=3fffffffffffff", 0x3a0, 0x1f, TILVENKA_PMP_CHANGED + TILVENKA_PMP_MOVED, {0, 0xffffffffffffff}},
-    {16, "3b0=3ffffffffffffe", 0x3a0, 0x17, TILVENKA_PMP_CHANGED + TILVENKA_PMP_MOVED, {0xfffffffffffff8, 0xfffffffffffffb}},
+    {16, "3b0=3ffffffffffffe", 0x3a0, 0x17, TILVENKA_PMP_CHANGED + TILVENKA_PMP_MOVED,
+     {0xfffffffffffff8, 0xfffffffffffffb}},
     // mseccfg moves all where a bit of it changed.
     {16, "", MSECCFG, 2, TILVENKA_PMP_CHANGED + TILVENKA_PMP_MOVED, {0, 0xffffffffffffff}},
     {16, "747=2", MSECCFG, 2, TILVENKA_PMP_UNCHANGED, {7, 8}},
     {16, "3a0=80", MSECCFG, 4, TILVENKA_PMP_BYPASS, {7, 8}},
     // What the grain hides is changed, and moves nothing.
     {TILVENKA_PMP_HART(16, 4096, 56, 1), "", 0x3b0, 0x3ff, TILVENKA_PMP_CHANGED + TILVENKA_PMP_GRAIN, {7, 8}},
-    {TILVENKA_PMP_HART(16, 4096, 56, 1), "3b0=400 3a0=f", 0x3b0, 0x7ff, TILVENKA_PMP_CHANGED + TILVENKA_PMP_GRAIN, {7, 8}},
+    {TILVENKA_PMP_HART(16, 4096, 56, 1), "3b0=400 3a0=f", 0x3b0, 0x7ff, TILVENKA_PMP_CHANGED + TILVENKA_PMP_GRAIN,
+     {7, 8}},
     // What is refused, or isn't there.
     {16, "3a0=80", 0x3b0, 5, TILVENKA_PMP_FROZEN, {7, 8}},
     {16, "", 0x3c0, 5, TILVENKA_PMP_ABSENT, {7, 8}},
@@ -145,7 +148,8 @@ static bool decides_alike(const tilvenka_pmp_unit *before, const tilvenka_pmp_un
         uint64_t length = 1 + (next_random() % 4096 >> next_random() % 12), start = next_address(after, moved);
         if (moved.first <= moved.last && start <= moved.last && moved.first < start + length)
             continue;
-        if (tilvenka_pmp_decide(before, mode, kind, start, length) != tilvenka_pmp_decide(after, mode, kind, start, length))
+        uint32_t was = tilvenka_pmp_decide(before, mode, kind, start, length);
+        if (tilvenka_pmp_decide(after, mode, kind, start, length) != was)
             return false;
     }
     return true;
@@ -216,7 +220,8 @@ static void try_random_writes(void) {
                 tilvenka_pmp_build(&unit);
             is_right &= is_moved_right(&unit, csr, value);
         }
-        moved += (tilvenka_pmp_write_moved(&unit, PMPADDR0, next_random() % 512, &first, &last) & TILVENKA_PMP_MOVED) != 0;
+        uint32_t status = tilvenka_pmp_write_moved(&unit, PMPADDR0, next_random() % 512, &first, &last);
+        moved += (status & TILVENKA_PMP_MOVED) != 0;
         expect(is_right, "random writes", i);
     }
     expect(moved > HISTORIES / 20 && moved < HISTORIES, "some of them move", moved);

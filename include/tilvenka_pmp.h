@@ -92,7 +92,7 @@ enum { TILVENKA_PMP_MML = 1, TILVENKA_PMP_MMWP = 2, TILVENKA_PMP_RLB = 4 };
 /* What a call came to that answers a status. tilvenka_pmp_is_done tells whether it was done; where it wasn't, nothing
  * changed. */
 enum {
-    /* A read, a reset or a restore is done; or a write is, the register reads the value, and what is kept is as before. */
+    /* A read, a reset or a restore is done; or a write is, the register reads the value, and all is kept as before. */
     TILVENKA_PMP_UNCHANGED = 0,
     /* An odd pmpcfg register, which RV64 doesn't have (3.7.1). */
     TILVENKA_PMP_ODD_CONFIGURATION = 1,
