@@ -24,7 +24,7 @@ use Rattle.pmp_core.specs.Matching.{Matches, low_address}
 use Rattle.pmp_core.specs.Moved.{AreAlikeBeside, IsMoved, IsMovedWithin, IsSameEntry, is_same_configuration, is_same_range, joined}
 use Rattle.pmp_core.specs.Moved.{moved_among, moved_at, moved_by}
 use Rattle.pmp_core.specs.Mseccfg.{mseccfg_fields}
-use Rattle.pmp_core.specs.OthersLaw.{MovedLaw, may_move}
+use Rattle.pmp_core.specs.OthersLaw.{may_move}
 use Rattle.pmp_core.specs.Ranges.{range_of, range_on}
 use Rattle.pmp_core.specs.RegisterFile.{HasAddresses, IsLegal, RegisterFile, entry_at, reset_entry}
 use Rattle.pmp_core.specs.RegisterValue.{register_value}
@@ -314,7 +314,8 @@ module _ (file : RegisterFile) (value : ℕ) (legal : IsLegal file) where
     | inr apart ↦ rw apart (λ access clear. absurd (clear access.start (omega arith) (omega arith)))
   ]
 
-pub moved_law : MovedLaw
+pub moved_law : (file : RegisterFile) (csr : Csr) (value : ℕ) → IsLegal file
+    → AreAlikeBeside file (written file csr value) (moved_by file (written file csr value) csr)
 moved_law file (Cfg q) value legal = by_configurations file value legal q
 moved_law file (Addr j) value legal = by_address file value legal j
 moved_law file Mseccfg value legal = by_mseccfg file value legal

@@ -4,8 +4,7 @@ use Rattle.pmp_core.specs.declared.access.Access.{Access}
 use Rattle.pmp_core.specs.declared.csr.Csr.{Csr}
 use Rattle.pmp_core.specs.declared.csr.Csr.TheVariants.{Cfg, Addr, Mseccfg}
 use Rattle.pmp_core.specs.declared.decision.Decision.{Decision}
-use Rattle.pmp_core.specs.Moved.{AreAlikeBeside, moved_by}
-use Rattle.pmp_core.specs.RegisterFile.{IsLegal, RegisterFile, entry_at}
+use Rattle.pmp_core.specs.RegisterFile.{RegisterFile, entry_at}
 use Rattle.pmp_core.specs.RegisterWrite.{holds_byte_of, holds, is_tor, written}
 use Rattle.pmp_core.specs.Matching.{Matches}
 use Rattle.pmp_core.specs.Decision.{IsDecision, Touches}
@@ -29,8 +28,3 @@ pub record LeavesOthers (file after : RegisterFile) (csr : Csr) : Type 0 where
 -- every write leaves the others alone
 abbrev pub OthersLaw : Type 0
 OthersLaw = (file : RegisterFile) (csr : Csr) (value : ℕ) → LeavesOthers file (written file csr value) csr
-
--- and in a legal file every access with no byte of those that it moved
-abbrev pub MovedLaw : Type 0
-MovedLaw = (file : RegisterFile) (csr : Csr) (value : ℕ) → IsLegal file
-    → (let after = written file csr value in AreAlikeBeside file after (moved_by file after csr))

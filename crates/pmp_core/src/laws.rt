@@ -2,15 +2,18 @@
 
 ghost use Rattle.std.specs.Prelude.{◌≡◌, ℕ, ◌<◌, List, Option, length};
 ghost use Rattle.pmp_core.specs.declared.access.Access.{Access};
+ghost use Rattle.pmp_core.specs.declared.csr.Csr.{Csr};
 ghost use Rattle.pmp_core.specs.declared.decision.Decision.{Decision};
 ghost use Rattle.pmp_core.specs.declared.saved_registers.SavedRegisters.{SavedRegisters};
 ghost use Rattle.pmp_core.specs.Hart.{profile_with};
 ghost use Rattle.pmp_core.specs.RegisterFile.{RegisterFile, HasAddresses, IsLegal, reset_file};
 ghost use Rattle.pmp_core.specs.Matching.{Matches};
+ghost use Rattle.pmp_core.specs.Moved.{AreAlikeBeside, moved_by};
+ghost use Rattle.pmp_core.specs.RegisterWrite.{written};
 ghost use Rattle.pmp_core.specs.Decision.{IsOwner, IsDecider, IsDecision};
 ghost use Rattle.pmp_core.specs.RightsLaw.{BarredRulesLaw, StoreLaw};
 ghost use Rattle.pmp_core.specs.PartsLaw.{PartsLaw};
-ghost use Rattle.pmp_core.specs.OthersLaw.{MovedLaw, OthersLaw};
+ghost use Rattle.pmp_core.specs.OthersLaw.{OthersLaw};
 ghost use Rattle.pmp_core.specs.ProtectionLaw.{FewerRightsLaw, MachineCodeLaw, ProtectedLaw};
 ghost use Rattle.pmp_core.specs.ReachableLaw.{LegalLaw, ReachableLaw};
 ghost use Rattle.pmp_core.specs.StickyLaw.{FrozenAddressLaw, StickyLaw};
@@ -158,7 +161,8 @@ pub fn law_others()
 /// A write leaves the decisions on accesses with no byte of the entries that it moved, in a legal register file: of the
 /// eight of a configuration register those that aren't as before.
 pub fn law_moved()
-    ensures { MovedLaw }
+    ensures { (file : RegisterFile) (csr : Csr) (value : ℕ) → IsLegal file
+        → AreAlikeBeside file (written file csr value) (moved_by file (written file csr value) csr) }
 {}
 
 /// Every legal register file is one that a reset and events give. So what is restored is never a state that a hart
