@@ -178,7 +178,7 @@ static void write_csr(struct hart *hart, unsigned number, uint64_t value) {
     if (!is_of_unit(number)) {
         if (number == MSTATUS)
             hart->mpp = value >> 11 & 3;
-        else
+        else if (csr_of(hart, number))
             *csr_of(hart, number) = value;
     } else if (hart->peer->moves((struct write){number, value}, &moved.first, &moved.last)) {
         forget(hart, moved);
