@@ -44,6 +44,12 @@ use Rattle.pmp_share.proofs.Crossing.{file_send, version_sync}
 event_send : IsSend event.the_row
 event_send = search (crosses, sendable) depth 14
 
+batch_inside_send : IsSend batch_inside.the_row
+batch_inside_send = search (array_vec.the_send, event_send, core.crosses, crosses, sendable) depth 14
+
+pub batch_send : IsSend batch.the_row
+batch_send = search (batch_inside_send, sendable) depth 6
+
 pub journal_send : IsSend journal.the_row
 journal_send = search (crosses, sendable) depth 14
 
