@@ -4,7 +4,7 @@ use Rattle.std.proofs.Common.{rules, ◌≡◌, ℕ, ◌-◌, ◌/◌, ◌%◌, 
 use Rattle.std.proofs.Common.{length, refl, sym, ap, ◌∙◌, inl, inr, arith, length-set, get_or-set_same}
 use Rattle.std.proofs.Math.ListN.{set}
 use Rattle.std.proofs.Math.Nat.{mod-lt, mod-eq_of_lt, div-eq_of_lt, lt-mul-div-succ}
-use Rattle.pmp_core.proofs.Legal.{zero_fits}
+use Rattle.pmp_core.proofs.Legal.{wide_bits, zero_fits}
 use Rattle.std.proofs.lemmas.Bool.{cases_lt, cases_eq, cases_Bool, not-false, and_left, and_right}
 use Rattle.std.proofs.lemmas.Bool.{eqb-true, eq-eqb, ne_eqb, lt-ltb, le-ltb}
 use Rattle.std.proofs.lemmas.List.{get_or_past}
@@ -40,7 +40,7 @@ module _ (file : RegisterFile) (legal : IsLegal file) (i value : ℕ) where
 
   -- the grain divides the words
   fits : file.profile.grain - 1 ≤ file.profile.address_bits - 2
-  fits = omega (arith, legal.profile.fine, legal.profile.wide)
+  fits = omega (arith, legal.profile.fine, wide_bits file.profile legal.profile)
 
   within : (address : ℕ) → address < words → reads address < words
   within address small =

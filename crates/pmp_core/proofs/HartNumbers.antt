@@ -4,9 +4,10 @@ use Rattle.std.proofs.Common.{rules, ◌≡◌, ℕ, ◌+◌, ◌*◌, ◌/◌, 
 use Rattle.std.specs.Option.{is_none}
 use Rattle.pmp_core.specs.declared.hart.HartFault.{HartFault}
 use Rattle.std.proofs.Common.{refl, sym, ap, ◌∙◌, inl, inr, arith}
-use Rattle.std.proofs.lemmas.Bool.{cases_Bool, and_parts, or_cases, eqb-true, eq-eqb, ne_eqb}
+use Rattle.std.proofs.lemmas.Bool.{cases_Bool, and_parts, or_cases, eqb-true, eq-eqb, ne_eqb, not-true}
 use Rattle.pmp_core.specs.Configuration.{bit_of}
-use Rattle.pmp_core.specs.Hart.{Profile, IsProfile, hart_fault, profile_with, profile_of}
+use Rattle.pmp_core.specs.declared.hart.Profile.{Profile}
+use Rattle.pmp_core.specs.Hart.{IsProfile, hart_fault, profile_with, profile_of}
 use Rattle.pmp_core.specs.declared.size.Size.{Size}
 use Rattle.pmp_core.specs.declared.size.Size.TheVariants.{Sixteen, SixtyFour}
 use Rattle.pmp_core.specs.SavedRegisters.{is_usual, hart_number, spelled_hart, spells_hart, names_hart, saved_hart}
@@ -85,22 +86,25 @@ module _ (number : ℕ) (few : number ≡ 16 → ⊥) (many : number ≡ 64 → 
 
 -- ---- and each hart has one
 
-parts_back : (n g a s : ℕ) → n ≤ 64 → g ≤ 10 → a ≤ 56 → s ≤ 1
-    → (let number = n + 2 ^ 8 * a + 2 ^ 16 * s + 2 ^ 24 * g + 2 ^ 32 in
+parts_back : (n g a s x : ℕ) → n ≤ 64 → g ≤ 10 → a ≤ 56 → s ≤ 1 → x ≤ 1
+    → (let number = n + 2 ^ 8 * a + 2 ^ 16 * s + 2 ^ 17 * x + 2 ^ 24 * g + 2 ^ 32 in
     (number % 2 ^ 8 ≡ n) × (number / 2 ^ 24 % 2 ^ 8 ≡ g) × (number / 2 ^ 8 % 2 ^ 8 ≡ a) × (number / 2 ^ 16 % 2 ≡ s)
-    × (number / 2 ^ 32 ≡ 1) × (number / 2 ^ 17 % 2 ^ 7 ≡ 0))
-parts_back n g a s hn hg ha hs = (omega arith, omega arith, omega arith, omega arith, omega arith, omega arith)
+    × (number / 2 ^ 32 ≡ 1) × (number / 2 ^ 18 % 2 ^ 6 ≡ 0) × (number / 2 ^ 17 % 2 ≡ x))
+parts_back n g a s x hn hg ha hs hx =
+    (omega arith, omega arith, omega arith, omega arith, omega arith, omega arith, omega arith)
 
 module _ (profile : Profile) (is : IsProfile profile) where
   usual_back : is_usual profile ≡ true → saved_hart profile.entries ≡ profile
   usual_back h =
-      let smepmp = and_parts _ _ h in
+      let xlen = and_parts _ _ h in
+      let smepmp = and_parts _ _ xlen.0 in
       let bits = and_parts _ _ smepmp.0 in
       let grain = and_parts _ _ bits.0 in
+      let rv64 : profile.is_rv32 ≡ false = not-true _ xlen.1 in
       let has : profile.has_smepmp ≡ true = smepmp.1 in
       let wide : profile.address_bits ≡ 56 = eqb-true profile.address_bits 56 bits.1 in
       let fine : profile.grain ≡ 0 = eqb-true profile.grain 0 grain.1 in
-      let whole : profile_with profile.entries ≡ profile = rw (has, wide, fine) refl in
+      let whole : profile_with profile.entries ≡ profile = rw (rv64, has, wide, fine) refl in
       elim (or_cases (profile.entries == 16) (profile.entries == 64) grain.0) [
         | inl few ↦ let n : profile.entries ≡ 16 = eqb-true profile.entries 16 few in
             ap saved_hart n ∙ saved_16 ∙ ap profile_with (sym n) ∙ whole
@@ -109,7 +113,7 @@ module _ (profile : Profile) (is : IsProfile profile) where
       ]
 
   spelled_back : saved_hart (profile.entries + 2 ^ 8 * profile.address_bits + 2 ^ 16 * bit_of profile.has_smepmp
-      + 2 ^ 24 * profile.grain + 2 ^ 32) ≡ profile
+      + 2 ^ 17 * bit_of profile.is_rv32 + 2 ^ 24 * profile.grain + 2 ^ 32) ≡ profile
   unfolding saved_hart
   spelled_back = search (rules, tests)
 
@@ -121,12 +125,12 @@ module _ (profile : Profile) (is : IsProfile profile) where
   ]
 
   spelled_name : spells_hart (profile.entries + 2 ^ 8 * profile.address_bits + 2 ^ 16 * bit_of profile.has_smepmp
-      + 2 ^ 24 * profile.grain + 2 ^ 32) ≡ true
+      + 2 ^ 17 * bit_of profile.is_rv32 + 2 ^ 24 * profile.grain + 2 ^ 32) ≡ true
   spelled_name = search (rules, tests)
 
   usual_name : is_usual profile ≡ true → names_hart profile.entries ≡ true
   usual_name h =
-      let either = (and_parts _ _ (and_parts _ _ (and_parts _ _ h).0).0).0 in
+      let either = (and_parts _ _ (and_parts _ _ (and_parts _ _ (and_parts _ _ h).0).0).0).0 in
       elim (or_cases (profile.entries == 16) (profile.entries == 64) either) [
         | inl few ↦ named_16 profile.entries (eqb-true profile.entries 16 few)
         | inr many ↦ named_64 profile.entries (eqb-true profile.entries 64 many)

@@ -10,19 +10,20 @@ use Rattle.std.proofs.lemmas.Bool.{cases_lt, cases_eq, cond_both}
 use Rattle.std.proofs.lemmas.List.{get_or_past, get_or-replicate, length-replicate}
 use Rattle.std.proofs.lemmas.List.FromFn.{length-map-range_with_len, get_or-map-range_with_len}
 use Rattle.pmp_core.specs.declared.csr.Csr.{Csr}
-use Rattle.pmp_core.specs.declared.csr.Csr.TheVariants.{Cfg, Addr, Mseccfg}
+use Rattle.pmp_core.specs.declared.csr.Csr.TheVariants.{Cfg, Addr, Mseccfg, Mseccfgh}
 use Rattle.pmp_core.specs.Entry.{Entry}
 use Rattle.pmp_core.specs.declared.event.Event.{Event}
 use Rattle.pmp_core.specs.declared.event.Event.TheVariants.{Write, Reset}
 use Rattle.std.proofs.Math.Nat.{mod-lt}
 use Rattle.std.proofs.Math.Pow.{pow_pos, pow_mono}
-use Rattle.pmp_core.specs.Hart.{Profile, IsProfile, word_addresses}
+use Rattle.pmp_core.specs.declared.hart.Profile.{Profile}
+use Rattle.pmp_core.specs.Hart.{IsProfile, fewest_bits, holds_byte_of, most_bits, word_addresses}
 use Rattle.pmp_core.specs.Configuration.{Configuration, is_reserved}
 use Rattle.pmp_core.specs.RegisterFile.{RegisterFile, reset_entry, reset_mseccfg, reset_file, entry_at}
 use Rattle.pmp_core.specs.RegisterFile.{HasAddresses, IsLegal}
 use Rattle.pmp_core.specs.ReachableLaw.{LegalLaw}
 use Rattle.pmp_core.specs.Grain.{selectable}
-use Rattle.pmp_core.specs.RegisterWrite.{without_reserved, stored_over, stored, holds_byte_of, configured}
+use Rattle.pmp_core.specs.RegisterWrite.{without_reserved, stored_over, stored, configured}
 use Rattle.pmp_core.specs.RegisterWrite.{is_address_frozen, written, step}
 use Rattle.pmp_core.proofs.Grains.{selectable_other}
 
@@ -48,12 +49,27 @@ reset_legal profile is = record {
   plain = λ none. refl;
 }
 
+-- no hart has fewer address bits, or more
+most_bits_most : (is_rv32 : Bool) → most_bits is_rv32 ≤ 56
+most_bits_most true = omega arith
+most_bits_most false = omega arith
+
+fewest_bits_fewest : (is_rv32 : Bool) → 32 ≤ fewest_bits is_rv32
+fewest_bits_fewest true = omega arith
+fewest_bits_fewest false = omega arith
+
+pub wide_bits : (profile : Profile) → IsProfile profile → 32 ≤ profile.address_bits
+wide_bits profile is = omega (arith, is.wide, fewest_bits_fewest profile.is_rv32)
+
+pub narrow_bits : (profile : Profile) → IsProfile profile → profile.address_bits ≤ 56
+narrow_bits profile is = omega (arith, is.narrow, most_bits_most profile.is_rv32)
+
 -- an address of the hart has no more than 54 bits
 pub legal_addresses : (file : RegisterFile) → IsLegal file → HasAddresses file
 legal_addresses file legal = (
   legal.profile.fine,
   λ i. let most : 2 ^ (file.profile.address_bits - 2) ≤ 2 ^ 54 =
-      pow_mono {i = file.profile.address_bits - 2} {j = 54} (omega (arith, legal.profile.narrow)) in
+      pow_mono {i = file.profile.address_bits - 2} {j = 54} (omega (arith, narrow_bits file.profile legal.profile)) in
       omega (arith, legal.words i),
 )
 
@@ -91,12 +107,14 @@ length-written file (Addr i) value = elim (is_address_frozen file i) as
       | false ↦ simp length-set
     ]
 length-written file Mseccfg value = refl
+length-written file Mseccfgh value = refl
 
 -- the hart is kept
 pub profile-written : (file : RegisterFile) (csr : Csr) (value : ℕ) → (written file csr value).profile ≡ file.profile
 profile-written file (Cfg q) value = refl
 profile-written file (Addr i) value = refl
 profile-written file Mseccfg value = refl
+profile-written file Mseccfgh value = refl
 
 -- what a legal file has at each place
 abbrev IsLegalEntry : Profile → Bool → Entry → Type 0
@@ -120,7 +138,7 @@ module _ (file : RegisterFile) (legal : IsLegal file) where
       λ off. rw off (stored_unreserved file.profile.grain file.mseccfg.rlb entry.configuration byte (legal.unreserved off i)) in
       let chosen = stored_chosen file.profile.grain file.mseccfg.mml file.mseccfg.rlb entry.configuration byte
       (legal.chosen i) in
-      cond_both (holds_byte_of q i) (record entry { configuration = stored file i byte }) entry
+      cond_both (holds_byte_of file.profile q i) (record entry { configuration = stored file i byte }) entry
       (IsLegalEntry file.profile file.mseccfg.mml) (λ _. (legal.words i, kept, chosen)) (λ _. legal_place i)
 
   past : (entries : List Entry) (i : ℕ) → length entries ≤ i → IsLegalEntry file.profile file.mseccfg.mml (entry_at entries i)
@@ -157,12 +175,14 @@ module _ (file : RegisterFile) (legal : IsLegal file) where
         | false ↦ addressed_legal j value i
       ]
   written_legal Mseccfg value i = legal_place i
+  written_legal Mseccfgh value i = legal_place i
 
   -- lockdown that is off after a write was off before it
   was_off : (csr : Csr) (value : ℕ) → (written file csr value).mseccfg.mml ≡ false → file.mseccfg.mml ≡ false
   was_off (Cfg q) value off = off
   was_off (Addr j) value off = off
   was_off Mseccfg value off = search (rules, tests)
+  was_off Mseccfgh value off = off
 
   -- a hart without Smepmp has no mseccfg, whatever is written
   still_plain : (csr : Csr) (value : ℕ) → file.profile.has_smepmp ≡ false
@@ -170,6 +190,7 @@ module _ (file : RegisterFile) (legal : IsLegal file) where
   still_plain (Cfg q) value none = legal.plain none
   still_plain (Addr j) value none = legal.plain none
   still_plain Mseccfg value none = rw none (legal.plain none)
+  still_plain Mseccfgh value none = legal.plain none
 
   pub step_legal : (event : Event) → IsLegal (step file event)
   step_legal Reset = reset_legal file.profile legal.profile

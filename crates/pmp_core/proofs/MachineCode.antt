@@ -11,7 +11,7 @@ use Rattle.pmp_core.specs.declared.access.Kind.TheVariants.{Fetch}
 use Rattle.pmp_core.specs.declared.access.Mode.TheVariants.{M}
 use Rattle.pmp_core.specs.declared.configuration.AddressMatching.TheVariants.{Off}
 use Rattle.pmp_core.specs.declared.csr.Csr.{Csr}
-use Rattle.pmp_core.specs.declared.csr.Csr.TheVariants.{Cfg, Addr, Mseccfg}
+use Rattle.pmp_core.specs.declared.csr.Csr.TheVariants.{Cfg, Addr, Mseccfg, Mseccfgh}
 use Rattle.pmp_core.specs.declared.decision.Cause.{Cause}
 use Rattle.pmp_core.specs.declared.decision.Cause.TheVariants.{Rule, Split, NoMatch}
 use Rattle.pmp_core.specs.Entry.{Entry}
@@ -22,7 +22,8 @@ use Rattle.pmp_core.specs.Configuration.{Configuration, configuration_of}
 use Rattle.pmp_core.specs.Decision.{IsDecisionBy}
 use Rattle.pmp_core.specs.RegisterFile.{RegisterFile, reset_entry, entry_at, is_frozen}
 use Rattle.pmp_core.specs.Grain.{is_na4, selectable}
-use Rattle.pmp_core.specs.RegisterWrite.{admitted, configured, holds_byte_of, is_address_frozen, step, stored_over}
+use Rattle.pmp_core.specs.Hart.{holds_byte_of}
+use Rattle.pmp_core.specs.RegisterWrite.{admitted, configured, is_address_frozen, step, stored_over}
 use Rattle.pmp_core.specs.RegisterWrite.{written}
 use Rattle.pmp_core.specs.Rights.{allows, has_entries, default_rights_by, is_barred, lockdown_rights, rule_rights}
 use Rattle.pmp_core.specs.LockLaw.{StaysFrozen}
@@ -94,7 +95,7 @@ stored_barred grain old byte h = by_test (old.locked && true) h
 module _ (file : RegisterFile) (mml : file.mseccfg.mml ≡ true) (rlb : file.mseccfg.rlb ≡ false) (i : ℕ) where
   configured_barred : (q value : ℕ) → is_barred_rule (configured file q value i).configuration ≡ true
       → is_barred_rule (entry_at file.entries i).configuration ≡ true
-  configured_barred q value h = by_test (holds_byte_of q i) h
+  configured_barred q value h = by_test (holds_byte_of file.profile q i) h
     where
       by_test : (holds : Bool) → is_barred_rule (cond holds (record (entry_at file.entries i) {
         configuration = stored_over file.profile.grain file.mseccfg.mml file.mseccfg.rlb (entry_at file.entries i).configuration
@@ -144,6 +145,7 @@ module _ (file : RegisterFile) (mml : file.mseccfg.mml ≡ true) (rlb : file.mse
   ]
   was_barred (Addr j) value h = rw (addressed_configuration j value) at h
   was_barred Mseccfg value h = h
+  was_barred Mseccfgh value h = h
 
 -- ---- nor do several writes
 

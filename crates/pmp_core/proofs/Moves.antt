@@ -11,7 +11,7 @@ use Rattle.std.proofs.lemmas.Bool.Decides.{nat_tests}
 use Rattle.pmp_core.specs.declared.access.Access.{Access}
 use Rattle.pmp_core.specs.declared.access.TheConstants.{ADDRESS_LIMIT}
 use Rattle.pmp_core.specs.declared.csr.Csr.{Csr}
-use Rattle.pmp_core.specs.declared.csr.Csr.TheVariants.{Cfg, Addr, Mseccfg}
+use Rattle.pmp_core.specs.declared.csr.Csr.TheVariants.{Cfg, Addr, Mseccfg, Mseccfgh}
 use Rattle.pmp_core.specs.declared.event.Event.TheVariants.{Write}
 use Rattle.pmp_core.specs.declared.mseccfg.MseccfgFields.{MseccfgFields}
 use Rattle.pmp_core.specs.declared.range.ByteRange.{ByteRange}
@@ -19,8 +19,9 @@ use Rattle.pmp_core.specs.declared.span.Span.{Span}
 use Rattle.pmp_core.specs.Configuration.{Configuration, byte_of, configuration_of}
 use Rattle.pmp_core.specs.Decision.{IsByteOf}
 use Rattle.pmp_core.specs.Entry.{Entry}
-use Rattle.pmp_core.specs.Hart.{Profile, profile_by}
+use Rattle.pmp_core.specs.declared.hart.Profile.{Profile}
 use Rattle.pmp_core.specs.Matching.{Matches, low_address}
+use Rattle.pmp_core.specs.Hart.{bytes_in}
 use Rattle.pmp_core.specs.Moved.{AreAlikeBeside, IsMoved, IsMovedWithin, IsSameEntry, is_same_configuration, is_same_range, joined}
 use Rattle.pmp_core.specs.Moved.{moved_among, moved_at, moved_by}
 use Rattle.pmp_core.specs.Mseccfg.{mseccfg_fields}
@@ -31,6 +32,7 @@ use Rattle.pmp_core.specs.RegisterValue.{register_value}
 use Rattle.pmp_core.specs.RegisterWrite.{is_tor, written}
 use Rattle.pmp_core.specs.Rights.{has_entries}
 use Rattle.pmp_core.specs.Span.{IsSpan, span_in, span_of}
+use Rattle.pmp_core.proofs.Configuring.{high_of, low_of}
 use Rattle.pmp_core.proofs.Legal.{legal_addresses, length-written, step_legal}
 use Rattle.pmp_core.proofs.Matches.{matches_range, range_past}
 use Rattle.pmp_core.proofs.Others.{IsSame, bytes_kept, decided_by, entry_kept, holds_none, mseccfg_kept}
@@ -77,17 +79,25 @@ same_fields one other same =
     ∙ ap (λ (b : Bool). record { mml = other.mml; mmwp = other.mmwp; rlb = b }) ((booleans_Decides _ _).0 rest.1)
 
 pub same_profile : (one other : Profile)
-    → not (eqb one.entries other.entries && (eqb one.grain other.grain
-    && (eqb one.address_bits other.address_bits && beq one.has_smepmp other.has_smepmp))) ≡ false → one ≡ other
+    → not (beq one.is_rv32 other.is_rv32 && (eqb one.entries other.entries && (eqb one.grain other.grain
+    && (eqb one.address_bits other.address_bits && beq one.has_smepmp other.has_smepmp)))) ≡ false → one ≡ other
 same_profile one other same =
     let all = and_parts _ _ (not-false _ same) in
-    let rest = and_parts _ _ all.1 in
+    let counts = and_parts _ _ all.1 in
+    let rest = and_parts _ _ counts.1 in
     let last = and_parts _ _ rest.1 in
-    let entries = eqb-true _ _ all.0 in
+    let rv32 = (booleans_Decides _ _).0 all.0 in
+    let entries = eqb-true _ _ counts.0 in
     let grain = eqb-true _ _ rest.0 in
     let bits = eqb-true _ _ last.0 in
     let smepmp = (booleans_Decides _ _).0 last.1 in
-    (λ i. profile_by (entries i) (grain i) (bits i) (smepmp i))
+    (λ i. record {
+      is_rv32 = rv32 i;
+      entries = entries i;
+      grain = grain i;
+      address_bits = bits i;
+      has_smepmp = smepmp i;
+    })
 
 module _ (one other : RegisterFile) (i : ℕ) where
   pub same_entry : IsLegal one → IsLegal other
@@ -251,13 +261,15 @@ none_among file first (suc count) = rw (none_among file first count, none_at fil
 -- where nothing changed
 pub none_by : (file : RegisterFile) (csr : Csr) → moved_by file file csr ≡ None
 unfolding moved_by
-none_by file (Cfg q) = none_among file (4 * q) 8
+none_by file (Cfg q) = none_among file (4 * q) (bytes_in file.profile q)
 none_by file (Addr i) = none_among file i 2
 none_by file Mseccfg = search (rules, tests)
+none_by file Mseccfgh = refl
 
 -- the entries that the register may move
-moved_place : (file : RegisterFile) (q i : ℕ) → may_move file (Cfg q) i ≡ true → (4 * q ≤ i) × (i < 4 * q + 8)
-moved_place file q i moves = grind (arith, nat_tests)
+moved_place : (file : RegisterFile) (q i : ℕ) → may_move file (Cfg q) i ≡ true
+    → (4 * q ≤ i) × (i < 4 * q + bytes_in file.profile q)
+moved_place file q i moves = (low_of file.profile q i moves, high_of file.profile q i moves)
 
 module _ (file : RegisterFile) (value : ℕ) (legal : IsLegal file) where
   module _ (csr : Csr) where
@@ -283,10 +295,11 @@ module _ (file : RegisterFile) (value : ℕ) (legal : IsLegal file) where
 
   by_configurations : (q : ℕ) → AreAlikeBeside file (after (Cfg q)) (moved_by file (after (Cfg q)) (Cfg q))
   unfolding moved_by
-  by_configurations q = by_places (Cfg q) (moved_among file (after (Cfg q)) (4 * q) 8) (λ same. search rules) (λ i moves.
+  by_configurations q = by_places (Cfg q) (moved_among file (after (Cfg q)) (4 * q) (bytes_in file.profile q))
+      (λ same. search rules) (λ i moves.
       let inside = moved_place file q i moves in
       let place : 4 * q + (i - 4 * q) ≡ i = omega (arith, inside.0) in
-      rw place at (within_among file (after (Cfg q)) legal (legal_after (Cfg q)) (4 * q) 8 (i - 4 * q)
+      rw place at (within_among file (after (Cfg q)) legal (legal_after (Cfg q)) (4 * q) (bytes_in file.profile q) (i - 4 * q)
       (omega (arith, inside.0, inside.1))))
 
   by_address : (j : ℕ) → AreAlikeBeside file (after (Addr j)) (moved_by file (after (Addr j)) (Addr j))
@@ -314,11 +327,16 @@ module _ (file : RegisterFile) (value : ℕ) (legal : IsLegal file) where
     | inr apart ↦ rw apart (λ access clear. absurd (clear access.start (omega arith) (omega arith)))
   ]
 
+  by_mseccfgh : AreAlikeBeside file (after Mseccfgh) (moved_by file (after Mseccfgh) Mseccfgh)
+  unfolding moved_by
+  by_mseccfgh access clear decision = (λ decided. decided, λ decided. decided)
+
 pub moved_law : (file : RegisterFile) (csr : Csr) (value : ℕ) → IsLegal file
     → AreAlikeBeside file (written file csr value) (moved_by file (written file csr value) csr)
 moved_law file (Cfg q) value legal = by_configurations file value legal q
 moved_law file (Addr j) value legal = by_address file value legal j
 moved_law file Mseccfg value legal = by_mseccfg file value legal
+moved_law file Mseccfgh value legal = by_mseccfgh file value legal
 
 -- of two files one of which a write made of the other
 module _ (one other : RegisterFile) (csr : Csr) (by : (value : ℕ) × (other ≡ written one csr value)) where

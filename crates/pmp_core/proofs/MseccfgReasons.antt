@@ -3,7 +3,7 @@ use borrow.Author.Tests.{tests}
 use Rattle.std.proofs.Common.{rules, ◌≡◌, ℕ, zero, suc, ◌+◌, ◌*◌, ◌/◌, ◌%◌, ◌<◌, Bool, true, false, not}
 use Rattle.std.proofs.Common.{◌&&◌, ◌||◌, ◌==◌, refl, sym, ap, ◌∙◌, inl, inr, arith}
 use Rattle.std.proofs.lemmas.Bool.{cases_Bool, and_right, or_from}
-use Rattle.pmp_core.specs.declared.csr.Csr.TheVariants.{Mseccfg}
+use Rattle.pmp_core.specs.declared.csr.Csr.TheVariants.{Mseccfg, Mseccfgh}
 use Rattle.pmp_core.specs.declared.write_reasons.WriteReason.TheVariants.{Frozen, Tor, Reserved, Lockdown, Grain}
 use Rattle.pmp_core.specs.Configuration.{bit_of}
 use Rattle.pmp_core.specs.declared.mseccfg.MseccfgFields.{MseccfgFields}
@@ -100,3 +100,22 @@ module _ (file : RegisterFile) (legal : IsLegal file) (value : ℕ) where
     | inl has ↦ reasonless_there has (ap mseccfg_value (sym (left has)) ∙ same)
     | inr has ↦ reasonless_zero has (sym same ∙ ap mseccfg_value (left_plain has))
   ]
+
+-- ---- mseccfgh
+
+module _ (file : RegisterFile) (value : ℕ) where
+  pub mseccfgh_stored : HasNone file Mseccfgh value → register_value (written file Mseccfgh value) Mseccfgh ≡ value
+  mseccfgh_stored none = search (rules, tests)
+
+  pub mseccfgh_reasonless : value ≡ 0 → HasNone file Mseccfgh value
+  mseccfgh_reasonless zero_value = rw zero_value (record {
+    absent = refl;
+    bits = refl;
+    frozen = none_at_entries Frozen file Mseccfgh 0 (λ k inside. and_right (is_frozen file k) false refl);
+    tor = none_at_entries Tor file Mseccfgh 0 (λ k inside. refl);
+    reserved = none_at_entries Reserved file Mseccfgh 0 (λ k inside. refl);
+    lockdown = none_at_entries Lockdown file Mseccfgh 0 (λ k inside. refl);
+    sticky = refl;
+    bypass = refl;
+    grain = none_at_entries Grain file Mseccfgh 0 (λ k inside. refl);
+  })

@@ -5,12 +5,13 @@ use Rattle.std.proofs.lemmas.Bool.{cases_lt, cases_Bool, cond-false, eqb-false, 
 use Rattle.std.proofs.lemmas.List.{get_or_past}
 use Rattle.pmp_core.specs.declared.access.Access.{Access}
 use Rattle.pmp_core.specs.declared.csr.Csr.{Csr}
-use Rattle.pmp_core.specs.declared.csr.Csr.TheVariants.{Cfg, Addr, Mseccfg}
+use Rattle.pmp_core.specs.declared.csr.Csr.TheVariants.{Cfg, Addr, Mseccfg, Mseccfgh}
 use Rattle.pmp_core.specs.declared.decision.Cause.{Cause}
 use Rattle.pmp_core.specs.declared.decision.Cause.TheVariants.{Rule, Split, NoMatch}
 use Rattle.pmp_core.specs.Entry.{Entry}
+use Rattle.pmp_core.specs.Hart.{holds_byte_of}
 use Rattle.pmp_core.specs.RegisterFile.{RegisterFile, entry_at, reset_entry}
-use Rattle.pmp_core.specs.RegisterWrite.{holds_byte_of, holds, is_tor, written}
+use Rattle.pmp_core.specs.RegisterWrite.{holds, is_tor, written}
 use Rattle.pmp_core.specs.Matching.{Matches, low_address}
 use Rattle.pmp_core.specs.Decision.{IsDecider, IsDecisionBy, IsLeast, Touches}
 use Rattle.pmp_core.specs.Rights.{has_entries}
@@ -32,14 +33,15 @@ module _ (file : RegisterFile) (value : ℕ) where
       get_or_past (written file csr value).entries i reset_entry (omega (arith, length-written file csr value))
       ∙ sym (get_or_past file.entries i reset_entry past)
 
-  pub entry_kept : (csr : Csr) (i : ℕ) → holds csr i ≡ false
+  pub entry_kept : (csr : Csr) (i : ℕ) → holds file.profile csr i ≡ false
       → entry_at (written file csr value).entries i ≡ entry_at file.entries i
   entry_kept (Cfg q) i none = elim (cases_lt i (length file.entries)) [
-    | inl inside ↦ configured_place file q value i inside ∙ cond-false (holds_byte_of q i) _ _ none
+    | inl inside ↦ configured_place file q value i inside ∙ cond-false (holds_byte_of file.profile q i) _ _ none
     | inr past ↦ past_same (Cfg q) i past
   ]
   entry_kept (Addr j) i none = other_address file j value i (eqb-false i j none)
   entry_kept Mseccfg i none = refl
+  entry_kept Mseccfgh i none = refl
 
   -- ---- bytes
 
@@ -62,11 +64,13 @@ module _ (file : RegisterFile) (value : ℕ) where
       ap (λ (entry : Entry). entry.address) (other_address file j value k
       (λ same. eqb-false i (suc j) apart (sym below ∙ ap suc same))))
   low_same Mseccfg i none tor = refl
+  low_same Mseccfgh i none tor = refl
 
-  pub holds_none : (csr : Csr) (i : ℕ) → may_move file csr i ≡ false → holds csr i ≡ false
+  pub holds_none : (csr : Csr) (i : ℕ) → may_move file csr i ≡ false → holds file.profile csr i ≡ false
   holds_none (Cfg q) i none = none
   holds_none (Addr j) i none = (or_parts (i == j) _ none).0
   holds_none Mseccfg i none = refl
+  holds_none Mseccfgh i none = refl
 
   pub bytes_kept : (csr : Csr) (i byte : ℕ) → may_move file csr i ≡ false
       → Matches (written file csr value) i byte ↔ Matches file i byte
@@ -129,6 +133,7 @@ pub mseccfg_kept : (file : RegisterFile) (csr : Csr) (value : ℕ) → csr ≢ M
 mseccfg_kept file (Cfg q) value other = refl
 mseccfg_kept file (Addr j) value other = refl
 mseccfg_kept file Mseccfg value other = absurd (other refl)
+mseccfg_kept file Mseccfgh value other = refl
 
 pub others_law : OthersLaw
 others_law file csr value = record {

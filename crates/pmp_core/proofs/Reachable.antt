@@ -1,12 +1,12 @@
 -- Writes that give a legal register file from reset: bypass on, addresses, configurations, and then its mseccfg.
 use borrow.Author.Tests.{tests}
 use Rattle.std.proofs.Common.{rules, ◌≡◌, ℕ, zero, suc, ◌+◌, ◌-◌, ◌*◌, ◌/◌, ◌%◌, ◌<◌, ◌≤◌, Bool, true, false}
-use Rattle.std.proofs.Common.{cond, replicate}
+use Rattle.std.proofs.Common.{cond, replicate, nat_lt, ◌||◌}
 use Rattle.std.proofs.Math.Nat.{mod-eq_of_lt}
 use Rattle.std.proofs.Common.{List, [], ◌∷◌, ◌++◌, length, map, fold, slice_index, refl, sym, ap, ◌∙◌, inl, inr, arith}
 use Rattle.std.specs.List.{range_with_len}
 use Rattle.std.specs.Int.{w64, to_le_bytes}
-use Rattle.std.proofs.lemmas.Bool.{cases_lt}
+use Rattle.std.proofs.lemmas.Bool.{cases_Bool, cases_lt, false≢true, le-ltb, lt-ltb, ltb-true, or_parts}
 use Rattle.std.proofs.lemmas.Bool.Decides.{nat_tests}
 use Rattle.std.proofs.lemmas.List.{get_or_past, length-replicate}
 use Rattle.std.proofs.lemmas.List.Sums.{fold-append}
@@ -15,16 +15,17 @@ use Rattle.pmp_core.specs.Entry.{Entry}
 use Rattle.pmp_core.specs.declared.event.Event.{Event}
 use Rattle.pmp_core.specs.declared.event.Event.TheVariants.{Write}
 use Rattle.pmp_core.specs.declared.mseccfg.MseccfgFields.{MseccfgFields}
-use Rattle.pmp_core.specs.Hart.{word_addresses}
+use Rattle.pmp_core.specs.declared.hart.Profile.{Profile}
+use Rattle.pmp_core.specs.Hart.{bytes_in, holds_byte_of, word_addresses}
 use Rattle.pmp_core.specs.Configuration.{Configuration, byte_of, is_reserved}
 use Rattle.pmp_core.specs.Mseccfg.{mseccfg_value, mseccfg_written}
 use Rattle.pmp_core.specs.RegisterFile.{RegisterFile, entry_at, reset_entry, reset_mseccfg, reset_file, IsLegal}
-use Rattle.pmp_core.specs.RegisterValue.{configuration_word}
-use Rattle.pmp_core.specs.RegisterWrite.{admitted, configured, holds_byte_of, is_address_frozen, is_any_locked}
+use Rattle.pmp_core.specs.RegisterValue.{byte_in, configuration_word}
+use Rattle.pmp_core.specs.RegisterWrite.{admitted, configured, is_address_frozen, is_any_locked}
 use Rattle.pmp_core.specs.RegisterWrite.{step, written}
 use Rattle.pmp_core.specs.Histories.{replay}
 use Rattle.pmp_core.specs.ReachableLaw.{ReachableLaw}
-use Rattle.pmp_core.proofs.Configuring.{configured_at}
+use Rattle.pmp_core.proofs.Configuring.{byte_within, configured_at, held, high_of, low_of, most_bytes}
 use Rattle.pmp_core.proofs.Legal.{reset_at, configured_place, length-written}
 use Rattle.pmp_core.proofs.Locks.{other_address}
 use Rattle.pmp_core.proofs.Others.{entry_kept}
@@ -55,6 +56,25 @@ opened false false = refl
 opened false true = refl
 opened true false = refl
 opened true true = refl
+
+-- ---- whose bytes the registers 2k and 2k + 1 have
+
+or_false_right : (a b : Bool) → (a || b) ≡ true → b ≡ false → a ≡ true
+or_false_right true b is none = refl
+or_false_right false b is none = absurd (false≢true (sym none ∙ is))
+
+-- on RV32 each has four bytes, and on RV64 the first has eight and the other none
+module _ (profile : Profile) (k i : ℕ) where
+  both_apart : holds_byte_of profile (2 * k + 1) i ≡ true
+      → (nat_lt i (8 * k) || holds_byte_of profile (2 * k) i) ≡ false
+  both_apart holds = elim (cases_Bool profile.is_rv32) [
+    | inl narrow ↦ grind (arith, nat_tests)
+    | inr wide ↦ grind (arith, nat_tests)
+  ]
+
+  all_of_both : ((nat_lt i (8 * k) || holds_byte_of profile (2 * k) i) || holds_byte_of profile (2 * k + 1) i)
+      ≡ nat_lt i (8 * suc k)
+  all_of_both = grind (arith, nat_tests)
 
 module _ (file : RegisterFile) (legal : IsLegal file) where
   abbrev n : ℕ
@@ -125,88 +145,125 @@ module _ (file : RegisterFile) (legal : IsLegal file) where
   -- ---- configurations
 
   abbrev word : ℕ → ℕ
-  word k = configuration_word file.entries (4 * (2 * k))
+  word q = configuration_word file q
 
+  -- two registers for each eight entries: on RV32 each has four bytes, on RV64 the first has all
   configuration_events : ℕ → List Event
   configuration_events zero = []
-  configuration_events (suc k) = configuration_events k ++ Write (Cfg (2 * k)) (word k) ∷ []
+  configuration_events (suc k) =
+      configuration_events k ++ Write (Cfg (2 * k)) (word (2 * k)) ∷ Write (Cfg (2 * k + 1)) (word (2 * k + 1)) ∷ []
 
-  record IsConfigured (now : RegisterFile) (k : ℕ) : Type 0 where
+  -- entries whose configurations are the file's where the test holds, and as reset left them where not
+  record IsConfigured (now : RegisterFile) (is_done : ℕ → Bool) : Type 0 where
     hart : now.profile ≡ file.profile
     fields : now.mseccfg ≡ open_fields
     many : length now.entries ≡ n
-    done : (i : ℕ) → i < 8 * k → entry_at now.entries i ≡ entry_at file.entries i
-    rest : (i : ℕ) → 8 * k ≤ i → entry_at now.entries i ≡ addressed_entry i
+    done : (i : ℕ) → is_done i ≡ true → entry_at now.entries i ≡ entry_at file.entries i
+    rest : (i : ℕ) → is_done i ≡ false → entry_at now.entries i ≡ addressed_entry i
 
-  byte_in_word : (k place : ℕ) → place < 8 → slice_index (to_le_bytes w64 (word k)) place
-      ≡ byte_of (entry_at file.entries (4 * (2 * k) + place)).configuration
+  byte_in_word : (q place : ℕ) → place < bytes_in file.profile q → slice_index (to_le_bytes w64 (word q)) place
+      ≡ byte_of (entry_at file.entries (4 * q + place)).configuration
   unfolding configuration_word
-  byte_in_word k place near =
-      word_gives (λ j. byte_of (entry_at file.entries (4 * (2 * k) + j)).configuration) (word k)
-      (λ j _. (byte_plain (entry_at file.entries (4 * (2 * k) + j)).configuration).1) refl place near
+  byte_in_word q place near =
+      word_gives (λ j. byte_in file q (4 * q + j)) (word q) (λ j _. byte_within file q (4 * q + j)) refl place
+      (omega (arith, near, most_bytes file.profile q))
+      ∙ rw (held file.profile q (4 * q + place) (omega arith) (omega arith)) refl
 
-  stored_so : (now : RegisterFile) (k place : ℕ) → place < 8 → IsConfigured now k
-      → configured now (2 * k) (word k) (4 * (2 * k) + place) ≡ entry_at file.entries (4 * (2 * k) + place)
-  stored_so now k place near before =
-      let i = 4 * (2 * k) + place in
-      let target = entry_at file.entries i in
-      let even : 2 * k % 2 ≡ 0 = omega arith in
-      configured_at now (2 * k) (word k) place even near
-      ∙ rw (
-        before.rest i (omega arith),
-        byte_in_word k place near,
-        configuration_back target.configuration,
-        before.fields,
-        stored_open target.configuration (λ off. legal.unreserved off i),
-        before.hart,
-        legal.chosen i,
-      ) refl
+  module _ (now : RegisterFile) (is_done : ℕ → Bool) (q : ℕ) (before : IsConfigured now is_done)
+      (fresh : (i : ℕ) → holds_byte_of file.profile q i ≡ true → is_done i ≡ false) where
+    abbrev after : RegisterFile
+    after = written now (Cfg q) (word q)
 
-  -- an entry of the register, or none where the hart has no more
-  done_here : (now : RegisterFile) (k i : ℕ) → 8 * k ≤ i → i < 8 * suc k → IsConfigured now k
-      → entry_at (written now (Cfg (2 * k)) (word k)).entries i ≡ entry_at file.entries i
-  done_here now k i low high before = elim (cases_lt i n) [
-    | inl inside ↦
-        let same : 4 * (2 * k) + (i - 8 * k) ≡ i = omega arith in
-        let here = configured_place now (2 * k) (word k) i (omega (arith, before.many)) in
-        here ∙ rw same at (stored_so now k (i - 8 * k) (omega arith) before)
-    | inr past ↦
-        get_or_past (written now (Cfg (2 * k)) (word k)).entries i reset_entry
-        (omega (arith, length-written now (Cfg (2 * k)) (word k), before.many)) ∙ sym (past_file i past)
-  ]
+    stored_so : (place : ℕ) → place < bytes_in file.profile q
+        → configured now q (word q) (4 * q + place) ≡ entry_at file.entries (4 * q + place)
+    stored_so place near =
+        let i = 4 * q + place in
+        let target = entry_at file.entries i in
+        let holds = held file.profile q i (omega arith) (omega arith) in
+        configured_at now q (word q) place (rw before.hart near)
+        ∙ rw (
+          before.rest i (fresh i holds),
+          byte_in_word q place near,
+          configuration_back target.configuration,
+          before.fields,
+          stored_open target.configuration (λ off. legal.unreserved off i),
+          before.hart,
+          legal.chosen i,
+        ) refl
 
-  configuration_next : (now : RegisterFile) (k : ℕ) → IsConfigured now k
-      → IsConfigured (written now (Cfg (2 * k)) (word k)) (suc k)
-  configuration_next now k before = record {
-    hart = before.hart;
-    fields = before.fields;
-    many = length-written now (Cfg (2 * k)) (word k) ∙ before.many;
-    done = λ i below. elim (cases_lt i (8 * k)) [
-      | inl less ↦
-          let none : holds_byte_of (2 * k) i ≡ false = grind (arith, nat_tests) in
-          entry_kept now (word k) (Cfg (2 * k)) i none ∙ before.done i less
-      | inr more ↦ done_here now k i more below before
-    ];
-    rest = λ i from.
-        let none : holds_byte_of (2 * k) i ≡ false = grind (arith, nat_tests) in
-        entry_kept now (word k) (Cfg (2 * k)) i none ∙ before.rest i (omega arith);
-  }
+    -- an entry of the register, or none where the hart has no more
+    done_here : (i : ℕ) → holds_byte_of file.profile q i ≡ true → entry_at after.entries i ≡ entry_at file.entries i
+    done_here i holds = elim (cases_lt i n) [
+      | inl inside ↦
+          let low = low_of file.profile q i holds in
+          let high = high_of file.profile q i holds in
+          let same : 4 * q + (i - 4 * q) ≡ i = omega arith in
+          let here = configured_place now q (word q) i (omega (arith, before.many)) in
+          here ∙ rw same at (stored_so (i - 4 * q) (omega arith))
+      | inr past ↦
+          get_or_past after.entries i reset_entry (omega (arith, length-written now (Cfg q) (word q), before.many))
+          ∙ sym (past_file i past)
+    ]
 
-  configured_to : (start : RegisterFile) → IsConfigured start 0 → (k : ℕ)
-      → IsConfigured (fold step start (configuration_events k)) k
+    stays : (i : ℕ) → holds_byte_of file.profile q i ≡ false → entry_at after.entries i ≡ entry_at now.entries i
+    stays i none = entry_kept now (word q) (Cfg q) i (rw before.hart none)
+
+    configuration_next : IsConfigured after (λ i. is_done i || holds_byte_of file.profile q i)
+    configuration_next = record {
+      hart = before.hart;
+      fields = before.fields;
+      many = length-written now (Cfg q) (word q) ∙ before.many;
+      done = λ i is. elim (cases_Bool (holds_byte_of file.profile q i)) [
+        | inl holds ↦ done_here i holds
+        | inr none ↦ stays i none ∙ before.done i (or_false_right (is_done i) _ is none)
+      ];
+      rest = λ i is.
+          let neither = or_parts (is_done i) _ is in
+          stays i neither.1 ∙ before.rest i neither.0;
+    }
+
+  -- the first of two registers, and both
+  module _ (k : ℕ) where
+    abbrev is_first : ℕ → Bool
+    is_first i = nat_lt i (8 * k) || holds_byte_of file.profile (2 * k) i
+
+    abbrev is_second : ℕ → Bool
+    is_second i = is_first i || holds_byte_of file.profile (2 * k + 1) i
+
+    fresh_first : (i : ℕ) → holds_byte_of file.profile (2 * k) i ≡ true → nat_lt i (8 * k) ≡ false
+    fresh_first i holds = le-ltb i (8 * k) (omega (arith, low_of file.profile (2 * k) i holds))
+
+    fresh_second : (i : ℕ) → holds_byte_of file.profile (2 * k + 1) i ≡ true → is_first i ≡ false
+    fresh_second i holds = both_apart file.profile k i holds
+
+    both : (i : ℕ) → is_second i ≡ nat_lt i (8 * suc k)
+    both i = all_of_both file.profile k i
+
+  configured_to : (start : RegisterFile) → IsConfigured start (λ i. nat_lt i 0) → (k : ℕ)
+      → IsConfigured (fold step start (configuration_events k)) (λ i. nat_lt i (8 * k))
   unfolding configuration_events
   configured_to start first zero = first
   configured_to start first (suc k) =
-      rw (fold-append step start (configuration_events k) (Write (Cfg (2 * k)) (word k) ∷ []))
-      (configuration_next (fold step start (configuration_events k)) k (configured_to start first k))
+      let now = fold step start (configuration_events k) in
+      let one = configuration_next now (λ i. nat_lt i (8 * k)) (2 * k) (configured_to start first k) (fresh_first k) in
+      let two = configuration_next (written now (Cfg (2 * k)) (word (2 * k))) (is_first k) (2 * k + 1) one
+      (fresh_second k) in
+      rw (fold-append step start (configuration_events k)
+      (Write (Cfg (2 * k)) (word (2 * k)) ∷ Write (Cfg (2 * k + 1)) (word (2 * k + 1)) ∷ [])) (record {
+        hart = two.hart;
+        fields = two.fields;
+        many = two.many;
+        done = λ i is. two.done i (both k i ∙ is);
+        rest = λ i is. two.rest i (both k i ∙ is);
+      })
 
-  from_addressed : (now : RegisterFile) → IsAddressed now n → IsConfigured now 0
+  from_addressed : (now : RegisterFile) → IsAddressed now n → IsConfigured now (λ i. nat_lt i 0)
   from_addressed now before = record {
     hart = before.hart;
     fields = before.fields;
     many = before.many;
-    done = λ i below. absurd (omega arith);
-    rest = λ i from. elim (cases_lt i n) [
+    done = λ i is. absurd (omega (arith, ltb-true i 0 is));
+    rest = λ i is. elim (cases_lt i n) [
       | inl inside ↦ before.done i inside
       | inr past ↦ before.rest i past ∙ sym (ap (λ (entry : Entry). record reset_entry { address = entry.address })
           (past_file i past))
@@ -239,24 +296,25 @@ module _ (file : RegisterFile) (legal : IsLegal file) where
     rest = λ i from. reset_at n i;
   }
 
-  -- so many configuration registers have bytes of entries
-  abbrev registers : ℕ
-  registers = (n + 7) / 8
+  -- so many pairs of configuration registers have bytes of entries
+  abbrev pairs : ℕ
+  pairs = (n + 7) / 8
 
-  entries_restored : (now : RegisterFile) → IsConfigured now registers → now.entries ≡ file.entries
+  entries_restored : (now : RegisterFile) → IsConfigured now (λ i. nat_lt i (8 * pairs)) → now.entries ≡ file.entries
   entries_restored now whole =
-      entries_by now.entries (entry_at file.entries) (λ k inside. whole.done k (omega (arith, whole.many)))
+      entries_by now.entries (entry_at file.entries)
+      (λ k inside. whole.done k (lt-ltb k (8 * pairs) (omega (arith, whole.many))))
       ∙ ap (λ (m : ℕ). map (entry_at file.entries) (range_with_len 0 m)) (whole.many ∙ sym legal.count)
       ∙ sym (entries_by file.entries (entry_at file.entries) (λ k inside. refl))
 
   reached : (events : List Event) × (replay file.profile events ≡ file)
   reached =
       let addresses = address_events n in
-      let configurations = configuration_events registers in
+      let configurations = configuration_events pairs in
       let last : Event = Write Mseccfg (mseccfg_value file.mseccfg) in
       let first = fold step after_opening addresses in
       let whole = configured_to first
-      (from_addressed first (addressed_to after_opening started n (omega arith))) registers in (
+      (from_addressed first (addressed_to after_opening started n (omega arith))) pairs in (
         Write Mseccfg (mseccfg_value wanted) ∷ (addresses ++ (configurations ++ last ∷ [])),
         rw (
           fold-append step after_opening addresses (configurations ++ last ∷ []),

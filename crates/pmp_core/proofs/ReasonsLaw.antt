@@ -1,8 +1,8 @@
 -- A write has no reason exactly where it is stored as written.
-use Rattle.std.proofs.Common.{◌≡◌, ℕ, ◌+◌, ◌*◌, ◌^◌, ◌<◌, Bool, true, false, cond, List, [], ◌∷◌, map, refl, ap, arith}
+use Rattle.std.proofs.Common.{◌≡◌, ℕ, ◌+◌, ◌*◌, ◌^◌, ◌<◌, Bool, true, false, cond, List, [], ◌∷◌, map, refl, sym, ap, arith}
 use Rattle.std.specs.List.{filter}
 use Rattle.pmp_core.specs.declared.csr.Csr.{Csr}
-use Rattle.pmp_core.specs.declared.csr.Csr.TheVariants.{Cfg, Addr, Mseccfg}
+use Rattle.pmp_core.specs.declared.csr.Csr.TheVariants.{Cfg, Addr, Mseccfg, Mseccfgh}
 use Rattle.pmp_core.specs.declared.write_reasons.Reasons.{Reasons}
 use Rattle.pmp_core.specs.declared.write_reasons.WriteReason.{WriteReason}
 use Rattle.pmp_core.specs.Configuration.{bit_of}
@@ -13,7 +13,7 @@ use Rattle.pmp_core.specs.WriteReasons.{all_reasons, bits_of, is_reason, reasons
 use Rattle.pmp_core.specs.WriteReasonsLaw.{WriteReasonsLaw}
 use Rattle.pmp_core.proofs.EachReason.{HasNone, has_none, no_reasons}
 use Rattle.pmp_core.proofs.AddressReasons.{address_stored, address_reasonless}
-use Rattle.pmp_core.proofs.MseccfgReasons.{mseccfg_stored, mseccfg_reasonless}
+use Rattle.pmp_core.proofs.MseccfgReasons.{mseccfg_stored, mseccfg_reasonless, mseccfgh_stored, mseccfgh_reasonless}
 use Rattle.pmp_core.proofs.WordReasons.{word_stored, word_reasonless}
 
 stored : (file : RegisterFile) → IsLegal file → (csr : Csr) (value : ℕ) → value < 2 ^ 64
@@ -21,12 +21,14 @@ stored : (file : RegisterFile) → IsLegal file → (csr : Csr) (value : ℕ) �
 stored file legal (Cfg q) value small none = word_stored file q value none small
 stored file legal (Addr i) value small none = address_stored file legal i value none
 stored file legal Mseccfg value small none = mseccfg_stored file legal value none
+stored file legal Mseccfgh value small none = mseccfgh_stored file value none
 
 reasonless : (file : RegisterFile) → IsLegal file → (csr : Csr) (value : ℕ) → value < 2 ^ 64
     → register_value (written file csr value) csr ≡ value → HasNone file csr value
 reasonless file legal (Cfg q) value small same = word_reasonless file q value same
 reasonless file legal (Addr i) value small same = address_reasonless file legal i value same
 reasonless file legal Mseccfg value small same = mseccfg_reasonless file legal value same
+reasonless file legal Mseccfgh value small same = mseccfgh_reasonless file value (sym same)
 
 pub write_reasons_law : WriteReasonsLaw
 write_reasons_law file legal csr value small = (

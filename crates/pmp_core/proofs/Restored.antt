@@ -8,12 +8,13 @@ use Rattle.pmp_core.specs.Entry.{Entry}
 use Rattle.pmp_core.specs.declared.mseccfg.MseccfgFields.{MseccfgFields}
 use Rattle.pmp_core.specs.declared.register_write.TheConstants.{WORD_ADDRESSES}
 use Rattle.pmp_core.specs.declared.saved_registers.SavedRegisters.{SavedRegisters}
-use Rattle.pmp_core.specs.Hart.{Profile, word_addresses}
+use Rattle.pmp_core.specs.declared.hart.Profile.{Profile}
+use Rattle.pmp_core.specs.Hart.{word_addresses}
 use Rattle.pmp_core.specs.RegisterFile.{RegisterFile, file_of, reset_entry, entry_at}
 use Rattle.pmp_core.specs.RegisterWrite.{stored_over}
 use Rattle.pmp_core.specs.SavedRegisters.{hart_in, fields_in, restored_entry, restored_entries, restored_file}
 use Rattle.pmp_core.proofs.HartNumbers.{is_hart}
-use Rattle.pmp_core.proofs.Legal.{zero_fits}
+use Rattle.pmp_core.proofs.Legal.{narrow_bits, zero_fits}
 use Rattle.pmp_core.proofs.Places.{entries_by}
 use Rattle.pmp_core.proofs.Saved.{restored_at, length-restored}
 
@@ -48,7 +49,7 @@ module _ (saved : SavedRegisters) where
   pub few_bits : (i : ℕ) → (restored_entry saved i).address < WORD_ADDRESSES
   few_bits i =
       let most : 2 ^ ((hart_in saved).address_bits - 2) ≤ 2 ^ 54 =
-      pow_mono {i = (hart_in saved).address_bits - 2} {j = 54} (omega (arith, (is_hart saved.entries).narrow)) in
+      pow_mono {i = (hart_in saved).address_bits - 2} {j = 54} (omega (arith, narrow_bits (hart_in saved) (is_hart saved.entries))) in
       omega (arith, mod-lt (slice_index saved.addresses i) (zero_fits (hart_in saved)))
 
 -- entry i of a file; where there is none, one that matches nothing

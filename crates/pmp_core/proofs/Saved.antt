@@ -15,7 +15,8 @@ use Rattle.pmp_core.specs.RegisterFile.{RegisterFile, reset_entry, reset_mseccfg
 use Rattle.pmp_core.specs.RegisterFile.{IsLegal}
 use Rattle.pmp_core.specs.Grain.{selectable}
 use Rattle.pmp_core.specs.RegisterWrite.{admitted}
-use Rattle.pmp_core.specs.Hart.{Profile, profile_with, word_addresses}
+use Rattle.pmp_core.specs.declared.hart.Profile.{Profile}
+use Rattle.pmp_core.specs.Hart.{profile_with, word_addresses}
 use Rattle.pmp_core.specs.SavedRegisters.{hart_number, saved_registers, saved_hart, hart_in, fields_in, restored_entry, restored_entries}
 use Rattle.pmp_core.specs.SavedRegisters.{restored_file, zero_registers}
 use Rattle.pmp_core.specs.SavedLaw.{SavedLaw}

@@ -8,22 +8,24 @@ use Rattle.std.proofs.lemmas.Bool.{and_parts, cases_Bool, cases_lt, cases_eq, lt
 use Rattle.std.proofs.lemmas.List.{get_or_past, length-replicate}
 use Rattle.pmp_core.specs.declared.access.Access.{Access}
 use Rattle.pmp_core.specs.declared.csr.Csr.{Csr}
-use Rattle.pmp_core.specs.declared.csr.Csr.TheVariants.{Cfg, Addr, Mseccfg}
+use Rattle.pmp_core.specs.declared.csr.Csr.TheVariants.{Cfg, Addr, Mseccfg, Mseccfgh}
 use Rattle.pmp_core.specs.declared.decision.Decision.{Decision}
 use Rattle.pmp_core.specs.Entry.{Entry}
 use Rattle.pmp_core.specs.declared.event.Event.{Event}
 use Rattle.pmp_core.specs.declared.event.Event.TheVariants.{Write, Reset}
-use Rattle.pmp_core.specs.Hart.{Profile, IsProfile, word_addresses}
+use Rattle.pmp_core.specs.declared.hart.Profile.{Profile}
+use Rattle.pmp_core.specs.Hart.{IsProfile, holds_byte_of, word_addresses}
 use Rattle.pmp_core.specs.Rights.{has_entries}
 use Rattle.pmp_core.specs.RegisterFile.{RegisterFile, reset_entry, reset_file, entry_at}
 use Rattle.pmp_core.specs.Matching.{low_address, Matches}
 use Rattle.pmp_core.specs.Decision.{IsDecision}
-use Rattle.pmp_core.specs.RegisterWrite.{stored_over, holds_byte_of, configured, is_address_frozen, address_written}
+use Rattle.pmp_core.specs.RegisterWrite.{stored_over, configured, is_address_frozen, address_written}
 use Rattle.pmp_core.specs.RegisterWrite.{is_any_locked, written, step}
 use Rattle.pmp_core.specs.WriteReasons.{byte_for}
 use Rattle.pmp_core.specs.Histories.{replay}
 use Rattle.pmp_core.specs.SizeLaw.{writes_first, SizeLaw}
 use Rattle.pmp_core.specs.Ranges.{decision_of}
+use Rattle.pmp_core.proofs.Configuring.{high_of, low_of, most_bytes}
 use Rattle.pmp_core.proofs.Decisions.{decided_by_ranges, one_decision}
 use Rattle.pmp_core.proofs.Grains.{selectable_other}
 use Rattle.pmp_core.proofs.Legal.{reset_at, configured_place, length-written, length-step, profile-step, legal_law}
@@ -36,6 +38,7 @@ record SameHart (one other : Profile) : Type 0 where
   pub grain : one.grain ≡ other.grain
   pub bits : one.address_bits ≡ other.address_bits
   pub smepmp : one.has_smepmp ≡ other.has_smepmp
+  pub xlen : one.is_rv32 ≡ other.is_rv32
 
 -- the same mseccfg, and the same entry at every place, which is a reset one from n on
 record Alike (n : ℕ) (one other : RegisterFile) : Type 0 where
@@ -49,7 +52,12 @@ turned n one other alike = record {
   mseccfg = sym alike.mseccfg;
   entries = λ i. sym (alike.entries i);
   rest = λ i past. sym (alike.entries i) ∙ alike.rest i past;
-  hart = record { grain = sym alike.hart.grain; bits = sym alike.hart.bits; smepmp = sym alike.hart.smepmp };
+  hart = record {
+    grain = sym alike.hart.grain;
+    bits = sym alike.hart.bits;
+    smepmp = sym alike.hart.smepmp;
+    xlen = sym alike.hart.xlen;
+  };
 }
 
 -- n entries or more, as many as the hart has
@@ -84,17 +92,21 @@ zero_over_reset grain true false = selectable_other grain reset_entry.configurat
 zero_over_reset grain true true = selectable_other grain reset_entry.configuration refl
 
 module _ (n q value : ℕ) (named : writes_first n (Write (Cfg q) value) ≡ true) where
-  zero_byte : (i : ℕ) → n ≤ i → holds_byte_of q i ≡ true → byte_for q value i ≡ 0
-  zero_byte i past holds = search (rules, tests)
+  zero_byte : (profile : Profile) (i : ℕ) → n ≤ i → holds_byte_of profile q i ≡ true → byte_for q value i ≡ 0
+  zero_byte profile i past holds =
+      let low = low_of profile q i holds in
+      let high = high_of profile q i holds in
+      let most = most_bytes profile q in
+      search (rules, tests)
 
   rest_configured : (file : RegisterFile) (i : ℕ) → n ≤ i → entry_at file.entries i ≡ reset_entry
       → configured file q value i ≡ reset_entry
-  rest_configured file i past reset = elim (cases_Bool (holds_byte_of q i)) [
+  rest_configured file i past reset = elim (cases_Bool (holds_byte_of file.profile q i)) [
     | inr other ↦ rw (other, reset) refl
     | inl holds ↦ rw (
       holds,
       reset,
-      zero_byte i past holds,
+      zero_byte file.profile i past holds,
       zero_over_reset file.profile.grain file.mseccfg.mml file.mseccfg.rlb,
     ) refl
   ]
@@ -144,7 +156,7 @@ module _ (n : ℕ) (one other : RegisterFile) (alike : Alike n one other) where
       any_alike (λ (entry : Entry). entry.configuration.locked) reset_entry refl one.entries other.entries alike.entries
 
   configured_alike : (q value i : ℕ) → configured one q value i ≡ configured other q value i
-  configured_alike q value i = rw (alike.mseccfg, alike.entries i, alike.hart.grain) refl
+  configured_alike q value i = rw (alike.mseccfg, alike.entries i, alike.hart.grain, alike.hart.xlen) refl
 
   frozen_alike : (j : ℕ) → is_address_frozen one j ≡ is_address_frozen other j
   frozen_alike j = rw (alike.mseccfg, alike.entries j, alike.entries (suc j)) refl
@@ -183,6 +195,7 @@ module _ (n : ℕ) (one other : RegisterFile) (first : HasRoom n one) (second : 
     rest = alike.rest;
     hart = alike.hart;
   }
+  write_alike Mseccfgh value named = alike
 
 reset_alike : (n : ℕ) (one other : Profile) → SameHart one other → Alike n (reset_file one) (reset_file other)
 reset_alike n one other hart = record {
@@ -236,7 +249,7 @@ size_law hart n m events access some more is named =
     let second = reset_room n large more in
     let alike : Alike n one other =
     replays_alike n events (reset_file small) (reset_file large) first second
-    (reset_alike n small large (record { grain = refl; bits = refl; smepmp = refl })) named in
+    (reset_alike n small large (record { grain = refl; bits = refl; smepmp = refl; xlen = refl })) named in
     let few = replays_room n events (reset_file small) first in
     let many = replays_room n events (reset_file large) second in
     let of_small : IsProfile small = record {

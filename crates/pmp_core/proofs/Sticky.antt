@@ -8,7 +8,7 @@ use Rattle.pmp_core.specs.declared.access.Kind.{Kind}
 use Rattle.pmp_core.specs.declared.access.Kind.TheVariants.{Fetch, Load, Store}
 use Rattle.pmp_core.specs.declared.access.Mode.{Mode}
 use Rattle.pmp_core.specs.declared.access.Mode.TheVariants.{M, S, U}
-use Rattle.pmp_core.specs.declared.csr.Csr.TheVariants.{Cfg, Addr, Mseccfg}
+use Rattle.pmp_core.specs.declared.csr.Csr.TheVariants.{Cfg, Addr, Mseccfg, Mseccfgh}
 use Rattle.pmp_core.specs.Entry.{Entry}
 use Rattle.pmp_core.specs.declared.event.Event.{Event}
 use Rattle.pmp_core.specs.declared.event.Event.TheVariants.{Write, Reset}
@@ -42,6 +42,7 @@ bit_stays bit kept file (Write Mseccfg value ∷ events) writes h =
       | true ↦ kept file.mseccfg (is_any_locked file.entries) value h
       | false ↦ h
     ])
+bit_stays bit kept file (Write Mseccfgh value ∷ events) writes h = bit_stays bit kept file events writes h
 
 pub mml_stays : (file : RegisterFile) (events : List Event) → list_all is_write events ≡ true
     → file.mseccfg.mml ≡ true → (fold step file events).mseccfg.mml ≡ true

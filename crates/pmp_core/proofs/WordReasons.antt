@@ -1,20 +1,20 @@
 -- A configuration register is stored as written exactly where there is no reason.
-use Rattle.std.proofs.Common.{◌≡◌, ℕ, ◌+◌, ◌-◌, ◌*◌, ◌%◌, ◌^◌, ◌<◌, ◌≤◌, true, false, not}
-use Rattle.std.proofs.Common.{◌&&◌, ◌==◌, nat_le, nat_lt, length, refl, sym, ap, ◌∙◌, inl, inr, arith}
+use Rattle.std.proofs.Common.{◌≡◌, ℕ, ◌+◌, ◌-◌, ◌*◌, ◌^◌, ◌<◌, ◌≤◌, true, false, not, cond}
+use Rattle.std.proofs.Common.{◌&&◌, nat_lt, length, refl, sym, ap, ◌∙◌, inl, inr, arith}
 use Rattle.std.specs.Int.{w64, to_le_bytes}
-use Rattle.std.proofs.lemmas.Bool.{cases_lt, cases_eq, cases_Bool, false≢true, not-false, and_left, and_right}
-use Rattle.std.proofs.lemmas.Bool.{and_parts, eqb-true, eq-eqb, ne_eqb, leb-true, ltb-true, le-ltb}
-use Rattle.std.proofs.lemmas.Bool.Decides.{nat_tests}
+use Rattle.std.proofs.lemmas.Bool.{cases_lt, cases_Bool, not-false, and_left, and_right, eq-eqb, le-ltb}
 use Rattle.std.proofs.lemmas.List.{get_or_past}
 use Rattle.pmp_core.specs.declared.csr.Csr.TheVariants.{Cfg}
 use Rattle.pmp_core.specs.Entry.{Entry}
 use Rattle.pmp_core.specs.declared.write_reasons.WriteReason.TheVariants.{Frozen, Tor, Reserved, Lockdown, Grain}
 use Rattle.pmp_core.specs.Configuration.{Configuration, byte_of}
+use Rattle.pmp_core.specs.Hart.{holds_byte_of}
 use Rattle.pmp_core.specs.RegisterFile.{RegisterFile, reset_entry, entry_at, is_frozen}
-use Rattle.pmp_core.specs.RegisterValue.{configuration_word, register_value}
-use Rattle.pmp_core.specs.RegisterWrite.{holds_byte_of, written}
+use Rattle.pmp_core.specs.RegisterValue.{byte_in, configuration_word, register_value}
+use Rattle.pmp_core.specs.RegisterWrite.{written}
 use Rattle.pmp_core.specs.WriteReasons.{byte_for, changes_frozen, adds_reserved, adds_barred, is_too_fine}
 use Rattle.pmp_core.proofs.AbsentBytes.{is_absent_byte, zero_byte, entry_byte, beside_zero}
+use Rattle.pmp_core.proofs.Configuring.{byte_within, high_of, low_of, most_bytes}
 use Rattle.pmp_core.proofs.Legal.{configured_place, length-written}
 use Rattle.pmp_core.proofs.EachReason.{none_between, none_at, none_in, none_of, none_at_entry, none_at_entries, HasNone}
 use Rattle.pmp_core.proofs.StoredBytes.{is_plain, byte_plain, IsTaken, left_of, taken, stored_as_taken}
@@ -26,23 +26,6 @@ module _ (file : RegisterFile) (q value : ℕ) where
 
   abbrev after : ℕ → Entry
   after i = entry_at (written file (Cfg q) value).entries i
-
-  -- ---- the entries whose bytes the register holds: eight from 4q on, where q is even
-
-  held : (i : ℕ) → q % 2 ≡ 0 → 4 * q ≤ i → i < 4 * q + 8 → holds_byte_of q i ≡ true
-  held i even low high = grind (arith, nat_tests)
-
-  even_of : (i : ℕ) → holds_byte_of q i ≡ true → q % 2 ≡ 0
-  even_of i h = eqb-true (q % 2) 0 (and_parts _ _ (and_parts _ _ h).0).0
-
-  low_of : (i : ℕ) → holds_byte_of q i ≡ true → 4 * q ≤ i
-  low_of i h = leb-true (4 * q) i (and_parts (q % 2 == 0) _ (and_parts _ _ h).0).1
-
-  high_of : (i : ℕ) → holds_byte_of q i ≡ true → i < 4 * q + 8
-  high_of i h = ltb-true i (4 * q + 8) (and_parts (q % 2 == 0 && nat_le (4 * q) i) _ h).1
-
-  odd_holds_none : (i : ℕ) → (q % 2 ≡ 0 → ⊥) → holds_byte_of q i ≡ false
-  odd_holds_none i odd = rw (ne_eqb (q % 2) 0 odd) refl
 
   byte_at_place : (j : ℕ) → byte_for q value (4 * q + j) ≡ byte value j
   byte_at_place j = let place : 4 * q + j - 4 * q ≡ j = omega arith in rw place refl
@@ -58,7 +41,7 @@ module _ (file : RegisterFile) (q value : ℕ) where
   left i = left_of file.profile.grain (is_frozen file i) file.mseccfg.mml file.mseccfg.rlb
       (entry_at file.entries i).configuration (byte_for q value i)
 
-  left_there : (i : ℕ) → holds_byte_of q i ≡ true → i < n → (after i).configuration ≡ left i
+  left_there : (i : ℕ) → holds_byte_of file.profile q i ≡ true → i < n → (after i).configuration ≡ left i
   left_there i holds inside =
       ap (λ (e : Entry). e.configuration) (configured_place file q value i inside) ∙ rw holds refl
 
@@ -70,13 +53,14 @@ module _ (file : RegisterFile) (q value : ℕ) where
   -- ---- no reason, so stored
 
   module _ (none : HasNone file (Cfg q) value) where
-    plain_there : (i : ℕ) → holds_byte_of q i ≡ true → is_plain (byte_for q value i) ≡ true
+    plain_there : (i : ℕ) → holds_byte_of file.profile q i ≡ true → is_plain (byte_for q value i) ≡ true
     plain_there i holds =
-        let low = low_of i holds in
-        let high = high_of i holds in
+        let low = low_of file.profile q i holds in
+        let high = high_of file.profile q i holds in
+        let most = most_bytes file.profile q in
         not-false _ (none_of (λ b. not (is_plain b)) (to_le_bytes w64 value) (i - 4 * q) none.bits (omega arith))
 
-    takes : (i : ℕ) → holds_byte_of q i ≡ true → i < n → Takes i
+    takes : (i : ℕ) → holds_byte_of file.profile q i ≡ true → i < n → Takes i
     takes i holds inside = record {
       plain = plain_there i holds;
       unfrozen = rw holds at (none_at_entry Frozen file (Cfg q) value none.frozen i inside);
@@ -86,88 +70,83 @@ module _ (file : RegisterFile) (q value : ℕ) where
     }
 
     -- an entry of the unit reads its byte
-    reads_there : (i : ℕ) → holds_byte_of q i ≡ true → i < n → byte_of (after i).configuration ≡ byte_for q value i
+    reads_there : (i : ℕ) → holds_byte_of file.profile q i ≡ true → i < n → byte_of (after i).configuration ≡ byte_for q value i
     reads_there i holds inside = ap byte_of (left_there i holds inside)
         ∙ taken _ _ _ _ _ _ (byte_small value (i - 4 * q)) (takes i holds inside)
 
     -- a byte for no entry is zero
-    zero_there : (i : ℕ) → 4 * q ≤ i → i < 4 * q + 8 → (holds_byte_of q i && nat_lt i n) ≡ false
+    zero_there : (i : ℕ) → 4 * q ≤ i → i < 4 * q + 8 → (holds_byte_of file.profile q i && nat_lt i n) ≡ false
         → byte_for q value i ≡ 0
     zero_there i low high no_entry =
-        let here = none_at (is_absent_byte n q value) (4 * q) 8 i none.absent low high in
-        beside_zero n q value i here no_entry
+        let here = none_at (is_absent_byte file.profile n q value) (4 * q) 8 i none.absent low high in
+        beside_zero file.profile n q value i here no_entry
 
     -- and is read where the entry would be
-    reads_past : (i : ℕ) → holds_byte_of q i ≡ true → n ≤ i → byte_of (after i).configuration ≡ byte_for q value i
+    reads_past : (i : ℕ) → holds_byte_of file.profile q i ≡ true → n ≤ i → byte_of (after i).configuration ≡ byte_for q value i
     reads_past i holds past = reads_zero_past i past
-        ∙ sym (zero_there i (low_of i holds) (high_of i holds) (and_right _ _ (le-ltb i n past)))
+        ∙ sym (zero_there i (low_of file.profile q i holds)
+        (omega (arith, high_of file.profile q i holds, most_bytes file.profile q)) (and_right _ _ (le-ltb i n past)))
 
-    even_byte : (j : ℕ) → q % 2 ≡ 0 → j < 8 → byte value j ≡ byte_of (after (4 * q + j)).configuration
-    even_byte j even near =
-        let i = 4 * q + j in
-        let holds : holds_byte_of q i ≡ true = held i even (omega arith) (omega arith) in
-        let reads : byte_of (after i).configuration ≡ byte_for q value i = elim (cases_lt i n) [
-          | inl inside ↦ reads_there i holds inside
-          | inr past ↦ reads_past i holds past
-        ] in
-        sym (reads ∙ byte_at_place j)
-
-    odd_byte : (j : ℕ) → (q % 2 ≡ 0 → ⊥) → j < 8 → byte value j ≡ 0
-    odd_byte j odd near = sym (byte_at_place j)
-        ∙ zero_there (4 * q + j) (omega arith) (omega arith) (and_left _ _ (odd_holds_none (4 * q + j) odd))
+    byte_read : (j : ℕ) → j < 8 → byte value j ≡ byte_in (written file (Cfg q) value) q (4 * q + j)
+    byte_read j near = elim (cases_Bool (holds_byte_of file.profile q (4 * q + j))) [
+      | inl holds ↦
+          let i = 4 * q + j in
+          let reads : byte_of (after i).configuration ≡ byte_for q value i = elim (cases_lt i n) [
+            | inl inside ↦ reads_there i holds inside
+            | inr past ↦ reads_past i holds past
+          ] in
+          rw holds (sym (reads ∙ byte_at_place j))
+      | inr other ↦ rw other (sym (byte_at_place j)
+          ∙ zero_there (4 * q + j) (omega arith) (omega arith) (and_left _ _ other))
+    ]
 
     pub word_stored : value < 2 ^ 64 → register_value (written file (Cfg q) value) (Cfg q) ≡ value
     unfolding configuration_word
-    word_stored small = elim (cases_eq (q % 2) 0) [
-      | inl even ↦ rw (eq-eqb (q % 2) 0 even)
-          (word_from (λ j. byte_of (after (4 * q + j)).configuration) value small (λ j near. even_byte j even near))
-      | inr odd ↦ rw (ne_eqb (q % 2) 0 odd) (word_from (λ j. 0) value small (λ j near. odd_byte j odd near))
-    ]
+    word_stored small = word_from (λ j. byte_in (written file (Cfg q) value) q (4 * q + j)) value small byte_read
 
   -- ---- stored, so no reason
 
   module _ (same : register_value (written file (Cfg q) value) (Cfg q) ≡ value) where
-    reads_even : (j : ℕ) → q % 2 ≡ 0 → j < 8 → byte value j ≡ byte_of (after (4 * q + j)).configuration
+    reads_byte : (j : ℕ) → j < 8 → byte value j ≡ byte_in (written file (Cfg q) value) q (4 * q + j)
     unfolding configuration_word
-    reads_even j even near = word_gives (λ j. byte_of (after (4 * q + j)).configuration) value
-        (λ j near. (byte_plain (after (4 * q + j)).configuration).1) (rw (eq-eqb (q % 2) 0 even) at same) j near
+    reads_byte j near = word_gives (λ j. byte_in (written file (Cfg q) value) q (4 * q + j)) value
+        (λ j _. byte_within (written file (Cfg q) value) q (4 * q + j)) same j near
 
-    reads_odd : (j : ℕ) → (q % 2 ≡ 0 → ⊥) → j < 8 → byte value j ≡ 0
-    reads_odd j odd near =
-        word_gives (λ j. 0) value (λ j near. omega arith) (rw (ne_eqb (q % 2) 0 odd) at same) j near
-
-    reads_entry : (i : ℕ) → holds_byte_of q i ≡ true → byte_for q value i ≡ byte_of (after i).configuration
-    reads_entry i holds =
-        let low = low_of i holds in
-        let high = high_of i holds in
+    reads_in : (i : ℕ) → 4 * q ≤ i → i < 4 * q + 8 → byte_for q value i ≡ byte_in (written file (Cfg q) value) q i
+    reads_in i low high =
         let place : 4 * q + (i - 4 * q) ≡ i = omega arith in
-        rw place at (reads_even (i - 4 * q) (even_of i holds) (omega arith))
+        rw place at (reads_byte (i - 4 * q) (omega arith))
 
-    was_taken : (i : ℕ) → holds_byte_of q i ≡ true → i < n → Takes i
+    reads_entry : (i : ℕ) → holds_byte_of file.profile q i ≡ true → byte_for q value i ≡ byte_of (after i).configuration
+    reads_entry i holds = reads_in i (low_of file.profile q i holds)
+        (omega (arith, high_of file.profile q i holds, most_bytes file.profile q)) ∙ rw holds refl
+
+    was_taken : (i : ℕ) → holds_byte_of file.profile q i ≡ true → i < n → Takes i
     was_taken i holds inside = stored_as_taken _ _ _ _ _ _ (byte_small value (i - 4 * q)) refl
         (sym (ap byte_of (left_there i holds inside)) ∙ sym (reads_entry i holds))
 
     reads_plain : (j : ℕ) → j < 8 → is_plain (byte value j) ≡ true
-    reads_plain j near = elim (cases_eq (q % 2) 0) [
-      | inl even ↦ rw (reads_even j even near) (eq-eqb _ 0 (byte_plain (after (4 * q + j)).configuration).0)
-      | inr odd ↦ rw (reads_odd j odd near) refl
-    ]
+    reads_plain j near = rw (reads_byte j near)
+        (elim (holds_byte_of file.profile q (4 * q + j)) as
+        (λ holds. is_plain (cond holds (byte_of (after (4 * q + j)).configuration) 0) ≡ true) [
+          | true ↦ eq-eqb _ 0 (byte_plain (after (4 * q + j)).configuration).0
+          | false ↦ refl
+        ])
 
-    -- the bytes for no entry: past the last of the unit, and all of an odd register
-    zero_past : (i : ℕ) → holds_byte_of q i ≡ true → n ≤ i → byte_for q value i ≡ 0
+    -- the bytes for no entry: past the last of the unit, and those of which the register holds none
+    zero_past : (i : ℕ) → holds_byte_of file.profile q i ≡ true → n ≤ i → byte_for q value i ≡ 0
     zero_past i holds past = reads_entry i holds ∙ reads_zero_past i past
 
-    zero_odd : (i : ℕ) → 4 * q ≤ i → i < 4 * q + 8 → holds_byte_of q i ≡ false → byte_for q value i ≡ 0
-    zero_odd i low high other =
-        reads_odd (i - 4 * q) (λ even. absurd (false≢true (sym other ∙ held i even low high))) (omega arith)
+    zero_other : (i : ℕ) → 4 * q ≤ i → i < 4 * q + 8 → holds_byte_of file.profile q i ≡ false → byte_for q value i ≡ 0
+    zero_other i low high other = reads_in i low high ∙ rw other refl
 
-    none_absent : (i : ℕ) → 4 * q ≤ i → i < 4 * q + 8 → is_absent_byte n q value i ≡ false
-    none_absent i low high = elim (cases_Bool (holds_byte_of q i)) [
+    none_absent : (i : ℕ) → 4 * q ≤ i → i < 4 * q + 8 → is_absent_byte file.profile n q value i ≡ false
+    none_absent i low high = elim (cases_Bool (holds_byte_of file.profile q i)) [
       | inl holds ↦ elim (cases_lt i n) [
-        | inl inside ↦ entry_byte n q value i holds inside
-        | inr past ↦ zero_byte n q value i (zero_past i holds past)
+        | inl inside ↦ entry_byte file.profile n q value i holds inside
+        | inr past ↦ zero_byte file.profile n q value i (zero_past i holds past)
       ]
-      | inr other ↦ zero_byte n q value i (zero_odd i low high other)
+      | inr other ↦ zero_byte file.profile n q value i (zero_other i low high other)
     ]
 
     -- none of the reasons that entry i can have
@@ -176,7 +155,7 @@ module _ (file : RegisterFile) (q value : ℕ) where
         × (adds_barred file (Cfg q) value i ≡ false) × (is_too_fine file (Cfg q) value i ≡ false)
 
     fine : (i : ℕ) → i < n → IsFine i
-    fine i inside = elim (cases_Bool (holds_byte_of q i)) [
+    fine i inside = elim (cases_Bool (holds_byte_of file.profile q i)) [
       | inl holds ↦
           let taken = was_taken i holds inside in
           rw holds (taken.unfrozen, taken.unreserved, taken.unbarred, taken.coarse)
@@ -185,7 +164,7 @@ module _ (file : RegisterFile) (q value : ℕ) where
 
     pub word_reasonless : HasNone file (Cfg q) value
     word_reasonless = record {
-      absent = none_between (is_absent_byte n q value) (4 * q) 8 none_absent;
+      absent = none_between (is_absent_byte file.profile n q value) (4 * q) 8 none_absent;
       bits = none_in (λ b. not (is_plain b)) (to_le_bytes w64 value)
           (λ j near. rw (reads_plain j near) refl);
       frozen = none_at_entries Frozen file (Cfg q) value (λ i inside. (fine i inside).0);

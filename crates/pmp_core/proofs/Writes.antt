@@ -13,15 +13,17 @@ use Rattle.pmp_core.specs.declared.event.Event.TheVariants.{Write}
 use Rattle.pmp_core.specs.declared.mseccfg.MseccfgFields.{MseccfgFields}
 use Rattle.pmp_core.specs.declared.saved_registers.SavedRegisters.{SavedRegisters}
 use Rattle.pmp_core.specs.Configuration.{Configuration, byte_of, configuration_of}
-use Rattle.pmp_core.specs.Hart.{Profile, word_addresses}
+use Rattle.pmp_core.specs.declared.hart.Profile.{Profile}
+use Rattle.pmp_core.specs.Hart.{bytes_in, word_addresses}
 use Rattle.pmp_core.specs.Mseccfg.{mseccfg_fields, mseccfg_value}
 use Rattle.pmp_core.specs.RegisterFile.{RegisterFile, IsLegal, entry_at, reset_entry}
-use Rattle.pmp_core.specs.RegisterValue.{configuration_word, register_value}
+use Rattle.pmp_core.specs.RegisterValue.{byte_in, configuration_word, register_value}
 use Rattle.pmp_core.specs.RegisterWrite.{configured, configurations_written, is_address_frozen, stored}
 use Rattle.pmp_core.specs.RegisterWrite.{admitted, written}
 use Rattle.pmp_core.specs.SavedRegisters.{fields_in, hart_in, hart_number, restored_entry, restored_file, saved_hart}
 use Rattle.pmp_core.specs.SavedRegisters.{saved_registers}
-use Rattle.pmp_core.proofs.Configuring.{configured_at, kept_above, kept_below, kept_odd}
+use Rattle.pmp_core.proofs.Configuring.{byte_within, configured_at, held, kept_above, kept_below}
+use Rattle.pmp_core.proofs.Configuring.{most_bytes, none_above}
 use Rattle.pmp_core.proofs.Legal.{configured_place, length-written, step_legal, zero_fits}
 use Rattle.pmp_core.proofs.Locks.{configured_address, other_address}
 use Rattle.pmp_core.proofs.Places.{entries_by}
@@ -105,92 +107,81 @@ pub byte_once : (one other : Configuration) → byte_of one ≡ byte_of other �
 byte_once one other same =
     sym (configuration_back one) ∙ ap configuration_of same ∙ configuration_back other
 
-pub word_bytes : (entries : List Entry) (first word : ℕ) → configuration_word entries first ≡ word → (j : ℕ) → j < 8
-    → byte word j ≡ byte_of (entry_at entries (first + j)).configuration
+pub word_bytes : (file : RegisterFile) (q word : ℕ) → configuration_word file q ≡ word → (j : ℕ) → j < 8
+    → byte word j ≡ byte_in file q (4 * q + j)
 unfolding configuration_word
-word_bytes entries first word same j near =
-    word_gives (λ i. byte_of (entry_at entries (first + i)).configuration) word
-    (λ i _. (byte_plain (entry_at entries (first + i)).configuration).1) same j near
+word_bytes file q word same j near =
+    word_gives (λ i. byte_in file q (4 * q + i)) word (λ i _. byte_within file q (4 * q + i)) same j near
 
-module _ (file : RegisterFile) (q value : ℕ) (even : q % 2 ≡ 0) where
-  -- the byte of entry 4q + place after the write, and zero where there is no entry
-  pub byte_written : (place : ℕ) → place < 8 → (result : ℕ)
-      → (4 * q + place < length file.entries
+module _ (file : RegisterFile) (q value : ℕ) where
+  -- the byte at this place after the write
+  pub byte_written : (place result : ℕ)
+      → (place < bytes_in file.profile q → 4 * q + place < length file.entries
       → result ≡ byte_of (stored file (4 * q + place) (slice_index (to_le_bytes w64 value) place)))
       → (length file.entries ≤ 4 * q + place → result ≡ 0)
-      → result ≡ byte_of (entry_at (configurations_written file q value) (4 * q + place)).configuration
-  byte_written place near result there absent = elim (cases_lt (4 * q + place) (length file.entries)) [
-    | inl inside ↦ there inside ∙ ap (λ (e : Entry). byte_of e.configuration)
-        (sym (configured_place file q value (4 * q + place) inside ∙ configured_at file q value place even near))
-    | inr past ↦ absent past ∙ ap (λ (e : Entry). byte_of e.configuration)
-        (sym (entry_past (written file (Cfg q) value) (4 * q + place)
-        (omega (arith, length-written file (Cfg q) value))))
+      → (bytes_in file.profile q ≤ place → result ≡ 0)
+      → result ≡ byte_in (written file (Cfg q) value) q (4 * q + place)
+  byte_written place result there absent others = elim (cases_lt place (bytes_in file.profile q)) [
+    | inr far ↦ others far ∙ rw (none_above file.profile q (4 * q + place) (omega arith)) refl
+    | inl near ↦ rw (held file.profile q (4 * q + place) (omega arith) (omega arith))
+        (elim (cases_lt (4 * q + place) (length file.entries)) [
+          | inl inside ↦ there near inside ∙ ap (λ (e : Entry). byte_of e.configuration)
+              (sym (configured_place file q value (4 * q + place) inside ∙ configured_at file q value place near))
+          | inr past ↦ absent past ∙ ap (λ (e : Entry). byte_of e.configuration)
+              (sym (entry_past (written file (Cfg q) value) (4 * q + place)
+              (omega (arith, length-written file (Cfg q) value))))
+        ])
   ]
 
-  same_at : (j : ℕ) → j < 8 → 4 * q + j < length file.entries
-      → byte_of (entry_at (configurations_written file q value) (4 * q + j)).configuration
-      ≡ byte_of (entry_at file.entries (4 * q + j)).configuration
+  same_at : (j : ℕ) → j < bytes_in file.profile q → 4 * q + j < length file.entries
+      → byte_in (written file (Cfg q) value) q (4 * q + j) ≡ byte_in file q (4 * q + j)
       → entry_at file.entries (4 * q + j) ≡ configured file q value (4 * q + j)
   same_at j near inside same =
       let entry = entry_at file.entries (4 * q + j) in
-      let is = configured_at file q value j even near in
+      let is = configured_at file q value j near in
       let written_at = configured_place file q value (4 * q + j) inside in
-      let stays = byte_once _ _ (sym same ∙ ap (λ (e : Entry). byte_of e.configuration) (written_at ∙ is)) in
+      let bytes = rw (held file.profile q (4 * q + j) (omega arith) (omega arith)) at same in
+      let stays = byte_once _ _ (sym bytes ∙ ap (λ (e : Entry). byte_of e.configuration) (written_at ∙ is)) in
       ap (λ (c : Configuration). let e : Entry = record entry { configuration = c } in e) stays ∙ sym is
 
   -- a write after which the register reads what it read before changes no entry
-  pub unchanged : configuration_word (configurations_written file q value) (4 * q)
-      ≡ configuration_word file.entries (4 * q) → file.entries ≡ configurations_written file q value
+  unchanged : configuration_word (written file (Cfg q) value) q ≡ configuration_word file q
+      → file.entries ≡ configurations_written file q value
   unchanged same = entries_by file.entries (configured file q value) (λ k inside. elim (cases_lt k (4 * q)) [
     | inl below ↦ sym (kept_below file q value k below)
-    | inr low ↦ elim (cases_lt k (4 * q + 8)) [
+    | inr low ↦ elim (cases_lt k (4 * q + bytes_in file.profile q)) [
       | inl high ↦
           let place : 4 * q + (k - 4 * q) ≡ k = omega arith in
-          let near : k - 4 * q < 8 = omega arith in
-          let bytes = sym (word_bytes (configurations_written file q value) (4 * q) _ same (k - 4 * q) near)
-          ∙ word_bytes file.entries (4 * q) _ refl (k - 4 * q) near in
+          let near : k - 4 * q < bytes_in file.profile q = omega arith in
+          let within : k - 4 * q < 8 = omega (arith, near, most_bytes file.profile q) in
+          let bytes = sym (word_bytes (written file (Cfg q) value) q _ same (k - 4 * q) within)
+          ∙ word_bytes file q _ refl (k - 4 * q) within in
           subst (λ (i : ℕ). entry_at file.entries i ≡ configured file q value i) place
           (same_at (k - 4 * q) near (omega arith) bytes)
       | inr past ↦ sym (kept_above file q value k past)
     ]
   ])
 
-pub even_value : (file : RegisterFile) (q : ℕ) → q % 2 ≡ 0
-    → register_value file (Cfg q) ≡ configuration_word file.entries (4 * q)
-even_value file q even = rw even refl
-
-module _ (file : RegisterFile) (q value : ℕ) where
-  -- an odd register holds nothing
-  pub even_where : register_value (written file (Cfg q) value) (Cfg q) ≢ register_value file (Cfg q) → q % 2 ≡ 0
-  even_where differs = search (rules, tests)
-
   pub reads_same : register_value (written file (Cfg q) value) (Cfg q) ≡ register_value file (Cfg q)
       → file ≡ written file (Cfg q) value
-  reads_same same = elim (cases_eq (q % 2) 0) [
-    | inl even ↦ ap (λ (entries : List Entry). record file { entries = entries })
-        (unchanged file q value even
-        (sym (even_value (written file (Cfg q) value) q even) ∙ same ∙ even_value file q even))
-    | inr odd ↦ ap (λ (entries : List Entry). record file { entries = entries })
-        (entries_by file.entries (configured file q value)
-        (λ k inside. sym (kept_odd file q value k (omega arith))))
-  ]
+  reads_same same = ap (λ (entries : List Entry). record file { entries = entries }) (unchanged same)
 
--- the bytes are written as configurations from the first on, up to this one, and all else stands
-pub record AreWrittenTo (old new : SavedRegisters) (bytes : List ℕ) (first index : ℕ) : Type 0 where
+-- of the bytes that are held those up to this one are written as configurations from the first on, and all else stands
+pub record AreWrittenTo (old new : SavedRegisters) (bytes : List ℕ) (first held index : ℕ) : Type 0 where
   pub addresses : new.addresses ≡ old.addresses
   pub mseccfg : new.mseccfg ≡ old.mseccfg
   pub number : new.entries ≡ old.entries
-  pub most : index ≤ first + 8
+  pub most : index ≤ first + held
   pub len : length new.configurations ≡ 64
   pub done : (k : ℕ) → first ≤ k → k < index → slice_index new.configurations k ≡ slice_index bytes (k - first)
   pub rest : (k : ℕ) → (first ≤ k → index ≤ k) → slice_index new.configurations k ≡ slice_index old.configurations k
 
-pub written_more : (old new : SavedRegisters) (bytes : List ℕ) (first index : ℕ) → first ≤ index → index < first + 8
-    → index < 64 → AreWrittenTo old new bytes first index
+pub written_more : (old new : SavedRegisters) (bytes : List ℕ) (first held index : ℕ) → held ≤ 8 → first ≤ index
+    → index < first + held → index < 64 → AreWrittenTo old new bytes first held index
     → AreWrittenTo old (record new {
       configurations = set new.configurations index (slice_index bytes (index - first));
-    }) bytes first (index + 1)
-written_more old new bytes first index from near inside so_far =
+    }) bytes first held (index + 1)
+written_more old new bytes first held index few from near inside so_far =
     let there : index < length new.configurations = rw so_far.len inside in
     record {
       addresses = so_far.addresses;
@@ -207,10 +198,10 @@ written_more old new bytes first index from near inside so_far =
           rw get_or-set_other (so_far.rest k (λ low. omega (arith, outside low)));
     }
 
-module _ (old new : SavedRegisters) (q value word end : ℕ) (even : q % 2 ≡ 0)
-    (is : configuration_word (configurations_written (restored_file old) q value) (4 * q) ≡ word)
-    (all : min (length (restored_file old).entries) (4 * q + 8) ≤ end)
-    (done : AreWrittenTo old new (to_le_bytes w64 word) (4 * q) end) where
+module _ (old new : SavedRegisters) (q value word end : ℕ)
+    (is : configuration_word (written (restored_file old) (Cfg q) value) q ≡ word)
+    (all : min (length (restored_file old).entries) (4 * q + bytes_in (restored_file old).profile q) ≤ end)
+    (done : AreWrittenTo old new (to_le_bytes w64 word) (4 * q) (bytes_in (restored_file old).profile q) end) where
   abbrev before : RegisterFile
   before = restored_file old
 
@@ -241,8 +232,8 @@ module _ (old new : SavedRegisters) (q value word end : ℕ) (even : q % 2 ≡ 0
       → slice_index new.configurations k ≡ byte_of (entry_at after.entries k).configuration
   own_byte k low high =
       let place : 4 * q + (k - 4 * q) ≡ k = omega arith in
-      done.done k low high ∙ word_bytes after.entries (4 * q) word is (k - 4 * q) (omega (arith, done.most))
-      ∙ ap (λ (i : ℕ). byte_of (entry_at after.entries i).configuration) place
+      done.done k low high ∙ word_bytes after q word is (k - 4 * q) (omega (arith, done.most, most_bytes before.profile q))
+      ∙ ap (byte_in after q) place ∙ rw (held before.profile q k low (omega (arith, done.most))) refl
 
   address : (k : ℕ) → (entry_at after.entries k).address ≡ (entry_at before.entries k).address
   address k = elim (cases_lt k (length before.entries)) [

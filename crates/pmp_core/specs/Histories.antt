@@ -3,7 +3,7 @@ use Rattle.std.specs.Prelude.{Bool, true, false, List, fold}
 use Rattle.std.specs.List.{flat_map}
 use Rattle.pmp_core.specs.declared.event.Event.{Event}
 use Rattle.pmp_core.specs.declared.event.Event.TheVariants.{Write, Reset}
-use Rattle.pmp_core.specs.Hart.{Profile}
+use Rattle.pmp_core.specs.declared.hart.Profile.{Profile}
 use Rattle.pmp_core.specs.RegisterFile.{RegisterFile, reset_file}
 use Rattle.pmp_core.specs.RegisterWrite.{step}
 

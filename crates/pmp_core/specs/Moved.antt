@@ -4,13 +4,13 @@ use Rattle.std.specs.Prelude.{if◌then◌else◌, Option, Some, None}
 use Rattle.pmp_core.specs.declared.access.Access.{Access}
 use Rattle.pmp_core.specs.declared.access.TheConstants.{ADDRESS_LIMIT}
 use Rattle.pmp_core.specs.declared.csr.Csr.{Csr}
-use Rattle.pmp_core.specs.declared.csr.Csr.TheVariants.{Cfg, Addr, Mseccfg}
+use Rattle.pmp_core.specs.declared.csr.Csr.TheVariants.{Cfg, Addr, Mseccfg, Mseccfgh}
 use Rattle.pmp_core.specs.declared.decision.Decision.{Decision}
 use Rattle.pmp_core.specs.declared.range.ByteRange.{ByteRange}
-use Rattle.pmp_core.specs.declared.register_write.TheConstants.{ENTRIES_PER_CFG}
 use Rattle.pmp_core.specs.declared.span.Span.{Span}
 use Rattle.pmp_core.specs.Configuration.{byte_of}
 use Rattle.pmp_core.specs.Decision.{IsByteOf, IsDecision}
+use Rattle.pmp_core.specs.Hart.{bytes_in}
 use Rattle.pmp_core.specs.Matching.{Matches}
 use Rattle.pmp_core.specs.Ranges.{range_of}
 use Rattle.pmp_core.specs.RegisterFile.{RegisterFile, entry_at}
@@ -72,10 +72,11 @@ moved_among one other first zero = None
 moved_among one other first (suc count) =
     joined (moved_among one other first count) (moved_at one other (first + count))
 
--- by a write to the register: of eight entries, of an entry and the one that it is the low end of (3.7.1.1), or all
+-- by a write to the register: of the entries whose bytes it has, of an entry and the one that it is the low end of (3.7.1.1), or all
 unfoldable pub moved_by : (one other : RegisterFile) → Csr → Option Span
-moved_by one other (Cfg q) = moved_among one other (4 * q) ENTRIES_PER_CFG
+moved_by one other (Cfg q) = moved_among one other (4 * q) (bytes_in one.profile q)
 moved_by one other (Addr i) = moved_among one other i 2
 moved_by one other Mseccfg =
     if register_value other Mseccfg == register_value one Mseccfg then None
     else Some (record { first = 0; last = ADDRESS_LIMIT - 1 })
+moved_by one other Mseccfgh = None

@@ -2,22 +2,24 @@
 use Rattle.std.specs.Prelude.{◌≡◌, ◌≢◌, ◌↔◌, ℕ, suc, ◌==◌, Bool, true, false, ◌&&◌, ◌||◌}
 use Rattle.pmp_core.specs.declared.access.Access.{Access}
 use Rattle.pmp_core.specs.declared.csr.Csr.{Csr}
-use Rattle.pmp_core.specs.declared.csr.Csr.TheVariants.{Cfg, Addr, Mseccfg}
+use Rattle.pmp_core.specs.declared.csr.Csr.TheVariants.{Cfg, Addr, Mseccfg, Mseccfgh}
 use Rattle.pmp_core.specs.declared.decision.Decision.{Decision}
 use Rattle.pmp_core.specs.RegisterFile.{RegisterFile, entry_at}
-use Rattle.pmp_core.specs.RegisterWrite.{holds_byte_of, holds, is_tor, written}
+use Rattle.pmp_core.specs.RegisterWrite.{holds, is_tor, written}
+use Rattle.pmp_core.specs.Hart.{holds_byte_of}
 use Rattle.pmp_core.specs.Matching.{Matches}
 use Rattle.pmp_core.specs.Decision.{IsDecision, Touches}
 
 -- a write to the register may move entry i, at the top of a range also by the address before it (3.7.1.1)
 abbrev pub may_move : RegisterFile → Csr → ℕ → Bool
-may_move file (Cfg q) i = holds_byte_of q i
+may_move file (Cfg q) i = holds_byte_of file.profile q i
 may_move file (Addr j) i = i == j || (i == suc j && is_tor (entry_at file.entries i).configuration.matching)
 may_move file Mseccfg i = false
+may_move file Mseccfgh i = false
 
 pub record LeavesOthers (file after : RegisterFile) (csr : Csr) : Type 0 where
   -- the entries of which the register holds nothing
-  pub entries : (i : ℕ) → holds csr i ≡ false → entry_at after.entries i ≡ entry_at file.entries i
+  pub entries : (i : ℕ) → holds file.profile csr i ≡ false → entry_at after.entries i ≡ entry_at file.entries i
   -- the bytes of the entries that it can't move
   pub bytes : (i byte : ℕ) → may_move file csr i ≡ false → Matches after i byte ↔ Matches file i byte
   -- and, but for mseccfg, decisions on accesses with no byte of the entries that it may move, before and after

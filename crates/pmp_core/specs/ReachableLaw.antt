@@ -1,7 +1,8 @@
 -- Which register files a hart can have (Volume II, 3.7.1 and Smepmp).
 use Rattle.std.specs.Prelude.{◌≡◌, List}
 use Rattle.pmp_core.specs.declared.event.Event.{Event}
-use Rattle.pmp_core.specs.Hart.{Profile, IsProfile}
+use Rattle.pmp_core.specs.declared.hart.Profile.{Profile}
+use Rattle.pmp_core.specs.Hart.{IsProfile}
 use Rattle.pmp_core.specs.RegisterFile.{RegisterFile, IsLegal}
 use Rattle.pmp_core.specs.Histories.{replay}
 

@@ -9,7 +9,8 @@ use Rattle.pmp_core.specs.declared.hart.TheConstants.{MAX_GRAIN}
 use Rattle.pmp_core.specs.declared.register_write.TheConstants.{WORD_ADDRESSES}
 use Rattle.pmp_core.specs.Configuration.{is_reserved}
 use Rattle.pmp_core.specs.Grain.{selectable}
-use Rattle.pmp_core.specs.Hart.{Profile, IsProfile, word_addresses}
+use Rattle.pmp_core.specs.declared.hart.Profile.{Profile}
+use Rattle.pmp_core.specs.Hart.{IsProfile, word_addresses}
 
 -- the hart that has it, the entries (3.7.1), and the bits MML, MMWP and RLB of mseccfg (Smepmp)
 pub record RegisterFile : Type 0 where

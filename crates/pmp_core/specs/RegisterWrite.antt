@@ -1,20 +1,20 @@
 -- What a write to a register leaves (Volume II, 3.7.1, 3.7.1.2 and Smepmp).
-use Rattle.std.specs.Prelude.{ℕ, suc, ◌+◌, ◌-◌, ◌*◌, ◌%◌, ◌==◌, nat_le, nat_lt, Bool, true, false, not, ◌&&◌, ◌||◌}
+use Rattle.std.specs.Prelude.{ℕ, suc, ◌-◌, ◌*◌, ◌%◌, ◌==◌, Bool, true, false, not, ◌&&◌, ◌||◌}
 use Rattle.std.specs.Prelude.{if◌then◌else◌, List, length, map, slice_index, slice_set}
 use Rattle.std.specs.List.{range_with_len, list_any}
 use Rattle.std.specs.Int.{w64, to_le_bytes}
 use Rattle.pmp_core.specs.declared.configuration.AddressMatching.{AddressMatching}
 use Rattle.pmp_core.specs.declared.configuration.AddressMatching.TheVariants.{Off, Tor, Na4, Napot}
 use Rattle.pmp_core.specs.declared.csr.Csr.{Csr}
-use Rattle.pmp_core.specs.declared.csr.Csr.TheVariants.{Cfg, Addr, Mseccfg}
+use Rattle.pmp_core.specs.declared.csr.Csr.TheVariants.{Cfg, Addr, Mseccfg, Mseccfgh}
 use Rattle.pmp_core.specs.Entry.{Entry}
 use Rattle.pmp_core.specs.declared.event.Event.{Event}
+use Rattle.pmp_core.specs.declared.hart.Profile.{Profile}
 use Rattle.pmp_core.specs.declared.mseccfg.MseccfgFields.{MseccfgFields}
 use Rattle.pmp_core.specs.declared.event.Event.TheVariants.{Write, Reset}
-use Rattle.pmp_core.specs.declared.register_write.TheConstants.{ENTRIES_PER_CFG}
 use Rattle.pmp_core.specs.Configuration.{Configuration, configuration_of, is_reserved}
 use Rattle.pmp_core.specs.Grain.{selectable}
-use Rattle.pmp_core.specs.Hart.{word_addresses}
+use Rattle.pmp_core.specs.Hart.{holds_byte_of, word_addresses}
 use Rattle.pmp_core.specs.Mseccfg.{mseccfg_written}
 use Rattle.pmp_core.specs.RegisterFile.{RegisterFile, reset_file, entry_at, is_frozen}
 use Rattle.pmp_core.specs.Rights.{is_barred}
@@ -39,21 +39,18 @@ abbrev pub stored : RegisterFile → ℕ → ℕ → Configuration
 stored file i =
     stored_over file.profile.grain file.mseccfg.mml file.mseccfg.rlb (entry_at file.entries i).configuration
 
--- pmpcfg q holds the bytes of the eight entries from 4q on, where q is even (3.7.1)
-abbrev pub holds_byte_of : (q i : ℕ) → Bool
-holds_byte_of q i = q % 2 == 0 && nat_le (4 * q) i && nat_lt i (4 * q + ENTRIES_PER_CFG)
-
 -- the register holds the configuration or the address of entry i (3.7.1)
-abbrev pub holds : Csr → (i : ℕ) → Bool
-holds (Cfg q) i = holds_byte_of q i
-holds (Addr k) i = i == k
-holds Mseccfg i = false
+abbrev pub holds : Profile → Csr → (i : ℕ) → Bool
+holds profile (Cfg q) i = holds_byte_of profile q i
+holds profile (Addr k) i = i == k
+holds profile Mseccfg i = false
+holds profile Mseccfgh i = false
 
 -- entry i after pmpcfg q is written, the lowest byte for the lowest entry
 abbrev pub configured : RegisterFile → (q value i : ℕ) → Entry
 configured file q value i =
     let entry = entry_at file.entries i in
-    if holds_byte_of q i then record entry {
+    if holds_byte_of file.profile q i then record entry {
       configuration = stored file i (slice_index (to_le_bytes w64 value) (i - 4 * q));
     }
     else entry
@@ -94,6 +91,7 @@ abbrev pub written : RegisterFile → Csr → ℕ → RegisterFile
 written file (Cfg q) value = record file { entries = configurations_written file q value }
 written file (Addr i) value = record file { entries = address_written file i value }
 written file Mseccfg value = record file { mseccfg = security_written file value }
+written file Mseccfgh value = file
 
 -- one step; a reset keeps the hart
 abbrev pub step : RegisterFile → Event → RegisterFile

@@ -1,5 +1,6 @@
 -- The registers of a unit as plain numbers, and the file that numbers stand for (Volume II, 3.7.1 and Smepmp).
-use Rattle.std.specs.Prelude.{◌≡◌, ℕ, ◌+◌, ◌*◌, ◌/◌, ◌%◌, ◌^◌, ◌==◌, Bool, true, ◌&&◌, ◌||◌, if◌then◌else◌}
+use Rattle.std.specs.Prelude.{◌≡◌, ℕ, ◌+◌, ◌*◌, ◌/◌, ◌%◌, ◌^◌, ◌==◌, Bool, true, not, ◌&&◌, ◌||◌}
+use Rattle.std.specs.Prelude.{if◌then◌else◌}
 use Rattle.std.specs.Prelude.{List, map, replicate, slice_index}
 use Rattle.std.specs.Option.{is_none}
 use Rattle.std.specs.List.{range_with_len}
@@ -10,7 +11,8 @@ use Rattle.pmp_core.specs.declared.size.TheConstants.{MAX_ENTRIES}
 use Rattle.pmp_core.specs.declared.register_file.TheConstants.{ENTRIES}
 use Rattle.pmp_core.specs.declared.hart.TheConstants.{MAX_ADDRESS_BITS}
 use Rattle.pmp_core.specs.Configuration.{bit_of, byte_of}
-use Rattle.pmp_core.specs.Hart.{Profile, hart_fault, profile_by, profile_with, word_addresses}
+use Rattle.pmp_core.specs.declared.hart.Profile.{Profile}
+use Rattle.pmp_core.specs.Hart.{hart_fault, profile_with, word_addresses}
 use Rattle.pmp_core.specs.Mseccfg.{mseccfg_fields}
 use Rattle.pmp_core.specs.declared.mseccfg.MseccfgFields.{MseccfgFields}
 use Rattle.pmp_core.specs.RegisterFile.{RegisterFile, file_of, reset_entry, reset_mseccfg, entry_at}
@@ -19,28 +21,33 @@ use Rattle.pmp_core.specs.RegisterWrite.{stored_over}
 
 -- ---- a hart as a number
 
--- 16 entries, or 64, the finest grain, the widest addresses and Smepmp
+-- RV64 with 16 entries, or 64, the finest grain, the widest addresses and Smepmp
 abbrev pub is_usual : Profile → Bool
 is_usual profile =
     (profile.entries == ENTRIES || profile.entries == MAX_ENTRIES)
-    && profile.grain == 0 && profile.address_bits == MAX_ADDRESS_BITS && profile.has_smepmp
+    && profile.grain == 0 && profile.address_bits == MAX_ADDRESS_BITS && profile.has_smepmp && not profile.is_rv32
 
 -- of a usual hart how many entries there are; of another that in bits 7 to 0, how many bits an address has in 15 to 8,
--- whether there is Smepmp in 16, G in 31 to 24, and bit 32 set
+-- whether there is Smepmp in 16, whether it is RV32 in 17, G in 31 to 24, and bit 32 set
 unfoldable pub hart_number : Profile → ℕ
 hart_number profile =
     if is_usual profile then profile.entries
     else profile.entries + 2 ^ 8 * profile.address_bits + 2 ^ 16 * bit_of profile.has_smepmp
-    + 2 ^ 24 * profile.grain + 2 ^ 32
+    + 2 ^ 17 * bit_of profile.is_rv32 + 2 ^ 24 * profile.grain + 2 ^ 32
 
 abbrev pub spelled_hart : (number : ℕ) → Profile
-spelled_hart number =
-    profile_by (number % 2 ^ 8) (number / 2 ^ 24 % 2 ^ 8) (number / 2 ^ 8 % 2 ^ 8) (number / 2 ^ 16 % 2 == 1)
+spelled_hart number = record {
+  is_rv32 = number / 2 ^ 17 % 2 == 1;
+  entries = number % 2 ^ 8;
+  grain = number / 2 ^ 24 % 2 ^ 8;
+  address_bits = number / 2 ^ 8 % 2 ^ 8;
+  has_smepmp = number / 2 ^ 16 % 2 == 1;
+}
 
--- bits 63 to 32 are 1 and bits 23 to 17 are 0, and there is such a hart
+-- bits 63 to 32 are 1 and bits 23 to 18 are 0, and there is such a hart
 abbrev pub spells_hart : (number : ℕ) → Bool
 spells_hart number =
-    number / 2 ^ 32 == 1 && number / 2 ^ 17 % 2 ^ 7 == 0 && is_none (hart_fault (spelled_hart number))
+    number / 2 ^ 32 == 1 && number / 2 ^ 18 % 2 ^ 6 == 0 && is_none (hart_fault (spelled_hart number))
 
 -- 16 and 64 name the usual harts, and any other number the one that it spells, if it spells one
 unfoldable pub names_hart : (number : ℕ) → Bool

@@ -2,25 +2,27 @@
 use Rattle.std.specs.Prelude.{◌≡◌, ◌↔◌, ℕ, ◌*◌, ◌<◌, ◌≤◌, nat_lt, ◌==◌, ◌||◌, Bool, true, List}
 use Rattle.std.specs.List.{list_all, range_with_len}
 use Rattle.pmp_core.specs.declared.access.Access.{Access}
-use Rattle.pmp_core.specs.declared.csr.Csr.TheVariants.{Cfg, Addr, Mseccfg}
+use Rattle.pmp_core.specs.declared.csr.Csr.TheVariants.{Cfg, Addr, Mseccfg, Mseccfgh}
 use Rattle.pmp_core.specs.declared.decision.Decision.{Decision}
 use Rattle.pmp_core.specs.declared.event.Event.{Event}
 use Rattle.pmp_core.specs.declared.event.Event.TheVariants.{Write, Reset}
 use Rattle.pmp_core.specs.declared.register_write.TheConstants.{ENTRIES_PER_CFG}
-use Rattle.pmp_core.specs.Hart.{Profile, IsProfile}
+use Rattle.pmp_core.specs.declared.hart.Profile.{Profile}
+use Rattle.pmp_core.specs.Hart.{IsProfile}
 use Rattle.pmp_core.specs.RegisterFile.{RegisterFile}
 use Rattle.pmp_core.specs.Decision.{IsDecision}
 use Rattle.pmp_core.specs.Histories.{replay}
 use Rattle.pmp_core.specs.Ranges.{decision_of}
 use Rattle.pmp_core.specs.WriteReasons.{byte_for}
 
--- a write for the first n entries: pmpcfg q with zeros for the others, pmpaddr i with i below n, mseccfg; or a reset.
+-- a write for the first n entries: pmpcfg q with zeros for the others, pmpaddr i with i below n, mseccfg, mseccfgh; or a reset.
 -- With n = 16 every write to pmpcfg0, pmpcfg2 and pmpaddr0 to pmpaddr15 is one
 abbrev pub writes_first : (n : ℕ) → Event → Bool
 writes_first n (Write (Cfg q) value) =
     list_all (λ i. nat_lt i n || byte_for q value i == 0) (range_with_len (4 * q) ENTRIES_PER_CFG)
 writes_first n (Write (Addr i) value) = nat_lt i n
 writes_first n (Write Mseccfg value) = true
+writes_first n (Write Mseccfgh value) = true
 writes_first n Reset = true
 
 -- both files decide the access in the same way

@@ -4,7 +4,7 @@ use Rattle.std.specs.Prelude.{List, [], ◌∷◌, length, map, slice_index}
 use Rattle.std.specs.List.{range_with_len, list_any, filter}
 use Rattle.std.specs.Int.{w64, to_le_bytes}
 use Rattle.pmp_core.specs.declared.csr.Csr.{Csr}
-use Rattle.pmp_core.specs.declared.csr.Csr.TheVariants.{Cfg, Addr, Mseccfg}
+use Rattle.pmp_core.specs.declared.csr.Csr.TheVariants.{Cfg, Addr, Mseccfg, Mseccfgh}
 use Rattle.pmp_core.specs.declared.mseccfg.MseccfgFields.{MseccfgFields}
 use Rattle.pmp_core.specs.declared.write_reasons.Reasons.{Reasons}
 use Rattle.pmp_core.specs.declared.write_reasons.WriteReason.{WriteReason}
@@ -13,10 +13,11 @@ use Rattle.pmp_core.specs.declared.write_reasons.WriteReason.TheVariants.{Sticky
 use Rattle.pmp_core.specs.declared.register_write.TheConstants.{ENTRIES_PER_CFG}
 use Rattle.pmp_core.specs.Configuration.{bit_of, configuration_of, byte_of, is_reserved}
 use Rattle.pmp_core.specs.Grain.{is_na4, read_address}
-use Rattle.pmp_core.specs.Hart.{Profile, word_addresses}
+use Rattle.pmp_core.specs.declared.hart.Profile.{Profile}
+use Rattle.pmp_core.specs.Hart.{holds_byte_of, word_addresses}
 use Rattle.pmp_core.specs.Mseccfg.{mseccfg_fields}
 use Rattle.pmp_core.specs.RegisterFile.{RegisterFile, entry_at, is_frozen}
-use Rattle.pmp_core.specs.RegisterWrite.{holds_byte_of, is_address_frozen, is_any_locked}
+use Rattle.pmp_core.specs.RegisterWrite.{is_address_frozen, is_any_locked}
 use Rattle.pmp_core.specs.Rights.{is_barred}
 
 abbrev pub all_reasons : List WriteReason
@@ -31,11 +32,12 @@ byte_for q value i = slice_index (to_le_bytes w64 value) (i - 4 * q)
 -- the register has entry i's byte or address, and reads another than the value has
 abbrev pub is_changed : RegisterFile → Csr → (value i : ℕ) → Bool
 is_changed file (Cfg q) value i =
-    holds_byte_of q i && not (byte_for q value i == byte_of (entry_at file.entries i).configuration)
+    holds_byte_of file.profile q i && not (byte_for q value i == byte_of (entry_at file.entries i).configuration)
 is_changed file (Addr k) value i =
     let entry = entry_at file.entries i in
     k == i && not (value == read_address file.profile.grain entry.configuration.matching entry.address)
 is_changed file Mseccfg value i = false
+is_changed file Mseccfgh value i = false
 
 -- a frozen entry is to change (3.7.1.2)
 abbrev pub changes_frozen : RegisterFile → Csr → (value i : ℕ) → Bool
@@ -47,33 +49,37 @@ is_low_end file (Cfg q) value i = false
 is_low_end file (Addr k) value i =
     not (is_frozen file i) && is_address_frozen file i && is_changed file (Addr k) value i
 is_low_end file Mseccfg value i = false
+is_low_end file Mseccfgh value i = false
 
 -- W without R is to be stored over an entry that isn't frozen, and MML is 0 (3.7.1)
 abbrev pub adds_reserved : RegisterFile → Csr → (value i : ℕ) → Bool
 adds_reserved file (Cfg q) value i =
-    holds_byte_of q i && not (is_frozen file i) && not file.mseccfg.mml
+    holds_byte_of file.profile q i && not (is_frozen file i) && not file.mseccfg.mml
     && is_reserved (configuration_of (byte_for q value i))
 adds_reserved file (Addr k) value i = false
 adds_reserved file Mseccfg value i = false
+adds_reserved file Mseccfgh value i = false
 
 -- a barred rule is to be added over an entry that isn't frozen, MML is 1 and RLB is 0 (Smepmp)
 abbrev pub adds_barred : RegisterFile → Csr → (value i : ℕ) → Bool
 adds_barred file (Cfg q) value i =
     let new = configuration_of (byte_for q value i) in
-    holds_byte_of q i && not (is_frozen file i) && file.mseccfg.mml && not file.mseccfg.rlb
+    holds_byte_of file.profile q i && not (is_frozen file i) && file.mseccfg.mml && not file.mseccfg.rlb
     && is_barred new.locked new.read new.write new.execute
 adds_barred file (Addr k) value i = false
 adds_barred file Mseccfg value i = false
+adds_barred file Mseccfgh value i = false
 
 -- NA4 is to be stored over an entry that isn't frozen, or an address that the entry doesn't read so, and the grain is
 -- above four bytes (3.7.1.1)
 abbrev pub is_too_fine : RegisterFile → Csr → (value i : ℕ) → Bool
 is_too_fine file (Cfg q) value i =
-    holds_byte_of q i && not (is_frozen file i) && nat_lt 0 file.profile.grain
+    holds_byte_of file.profile q i && not (is_frozen file i) && nat_lt 0 file.profile.grain
     && is_na4 (configuration_of (byte_for q value i)).matching
 is_too_fine file (Addr k) value i =
     k == i && not (read_address file.profile.grain (entry_at file.entries i).configuration.matching value == value)
 is_too_fine file Mseccfg value i = false
+is_too_fine file Mseccfgh value i = false
 
 -- whether this is a reason for entry i, which only five of the reasons can be
 abbrev pub is_entry_reason : WriteReason → RegisterFile → Csr → (value i : ℕ) → Bool
@@ -98,27 +104,30 @@ entries_with_reasons file csr value =
 
 -- ---- the whole register
 
--- the value has a byte other than zero for an entry past the first n (3.7.1)
-abbrev pub has_absent_byte : (n q value : ℕ) → Bool
-has_absent_byte n q value =
-    list_any (λ i. not (byte_for q value i == 0) && not (holds_byte_of q i && nat_lt i n))
+-- the value has a byte other than zero that isn't for one of the first n entries (3.7.1)
+abbrev pub has_absent_byte : Profile → (n q value : ℕ) → Bool
+has_absent_byte profile n q value =
+    list_any (λ i. not (byte_for q value i == 0) && not (holds_byte_of profile q i && nat_lt i n))
     (range_with_len (4 * q) ENTRIES_PER_CFG)
 
 -- the value isn't zero for an entry, or a register, that the hart doesn't have (3.7.1)
 abbrev pub is_absent : RegisterFile → Csr → (value : ℕ) → Bool
-is_absent file (Cfg q) value = has_absent_byte (length file.entries) q value
+is_absent file (Cfg q) value = has_absent_byte file.profile (length file.entries) q value
 is_absent file (Addr i) value = not (value == 0) && not (nat_lt i (length file.entries))
 is_absent file Mseccfg value = not (value == 0) && not file.profile.has_smepmp
+is_absent file Mseccfgh value = not (value == 0) && not (file.profile.has_smepmp && file.profile.is_rv32)
 
 -- bit 6 or 5 (3.7.1)
 abbrev pub has_bit_6_or_5 : (byte : ℕ) → Bool
 has_bit_6_or_5 byte = not (byte / 32 % 4 == 0)
 
--- bits 6 and 5 of a byte, those of an address above its hart's, 63 to 3 of mseccfg, if it is there (3.7.1 and Smepmp)
+-- bits 6 and 5 of a byte, those of an address above its hart's, 63 to 3 of mseccfg, and all of mseccfgh, if they are
+-- there (3.7.1 and Smepmp)
 abbrev pub has_other_bits : Profile → Csr → (value : ℕ) → Bool
 has_other_bits profile (Cfg q) value = list_any has_bit_6_or_5 (to_le_bytes w64 value)
 has_other_bits profile (Addr i) value = not (value / word_addresses profile == 0)
 has_other_bits profile Mseccfg value = profile.has_smepmp && not (value / 8 == 0)
+has_other_bits profile Mseccfgh value = not (value == 0) && (profile.has_smepmp && profile.is_rv32)
 
 -- MML or MMWP is to be cleared (Smepmp)
 abbrev pub clears_sticky : MseccfgFields → Csr → (value : ℕ) → Bool
@@ -127,6 +136,7 @@ clears_sticky mseccfg (Addr i) value = false
 clears_sticky mseccfg Mseccfg value =
     let new = mseccfg_fields value in
     (mseccfg.mml && not new.mml) || (mseccfg.mmwp && not new.mmwp)
+clears_sticky mseccfg Mseccfgh value = false
 
 -- RLB is to be set, and some entry is locked, if mseccfg is there (Smepmp)
 abbrev pub sets_bypass : RegisterFile → Csr → (value : ℕ) → Bool
@@ -134,6 +144,7 @@ sets_bypass file (Cfg q) value = false
 sets_bypass file (Addr i) value = false
 sets_bypass file Mseccfg value =
     file.profile.has_smepmp && (mseccfg_fields value).rlb && not file.mseccfg.rlb && is_any_locked file.entries
+sets_bypass file Mseccfgh value = false
 
 -- a reason for some entry of the unit
 abbrev pub is_some_entry_reason : WriteReason → RegisterFile → Csr → (value : ℕ) → Bool

@@ -1,32 +1,47 @@
-//! The hart of a unit: the number of its entries, its grain, its address bits, and whether it has Smepmp.
+//! The hart of a unit: its XLEN, the number of its entries, its grain, its address bits, and whether it has Smepmp.
 
 ghost use Rattle.std.specs.Prelude.{◌≡◌, ◌<◌, ◌≤◌, IfOk, IfErr, MatchOption, None, Some, false, true};
 ghost use Rattle.pmp_core.specs.declared.hart.TheConstants.{MAX_GRAIN};
-ghost use Rattle.pmp_core.specs.declared.register_write.TheConstants.{WORD_ADDRESSES};
+ghost use Rattle.pmp_core.specs.declared.register_write.TheConstants.{ENTRIES_PER_CFG, WORD_ADDRESSES};
 ghost use Rattle.pmp_core.specs.declared.size.TheConstants.{MAX_ENTRIES};
 
 use crate::configuration::AddressMatching;
+use crate::csr::{Csr, CsrFault};
+use crate::register_write::ENTRIES_PER_CFG;
 use crate::size::{MAX_ENTRIES, Size};
 use std::marker::Model;
 
 /// The greatest G, of a grain of 4096 bytes.
 pub const MAX_GRAIN: u8 = 10;
 
-/// The fewest bits that a physical address has: those of RV32.
-pub const MIN_ADDRESS_BITS: u8 = 34;
+/// The fewest bits that a physical address has, on RV32.
+pub const MIN_ADDRESS_BITS: u8 = 32;
 
-/// The most bits that a physical address has: those of RV64.
+/// The most bits that a physical address of RV32 has, and the fewest of RV64.
+pub const MID_ADDRESS_BITS: u8 = 34;
+
+/// The most bits that a physical address has, on RV64.
 pub const MAX_ADDRESS_BITS: u8 = 56;
 
-/// What a hart has of physical memory protection, from the time that it is made on (Volume II, 3.7.1). A contract sees
-/// it as a `Profile` of `specs/`.
+/// What a hart has of physical memory protection (Volume II, 3.7.1), if there is such a hart: `Hart::new` says so.
+#[derive(Clone, Copy, Debug, PartialEq, Eq)]
+pub struct Profile {
+    /// Whether XLEN is 32, and not 64.
+    pub is_rv32: bool,
+    /// How many entries there are, 0 to 64.
+    pub entries: u8,
+    /// The manual's G, 0 to 10: the grain is `2^(G+2)` bytes.
+    pub grain: u8,
+    /// How many bits a physical address has, 34 to 56, or on RV32 32 to 34.
+    pub address_bits: u8,
+    /// Whether there is `mseccfg`, with Smepmp.
+    pub has_smepmp: bool,
+}
+
+/// A hart as it is from the time that it is made on. A contract sees it as its profile.
 #[derive(Clone, Copy, Debug, PartialEq, Eq)]
 pub struct Hart {
-    entries: u8,
-    /// G: the grain is `2^(G+2)` bytes.
-    grain: u8,
-    address_bits: u8,
-    has_smepmp: bool,
+    profile: Profile,
 }
 
 /// Why there is no such hart.
@@ -36,73 +51,95 @@ pub enum HartFault {
     Entries,
     /// The grain has more than 4096 bytes.
     Grain,
-    /// An address has fewer than 34 bits, or more than 56.
+    /// An address has fewer than 34 bits, or more than 56; on RV32 fewer than 32, or more than 34.
     AddressBits,
 }
 
 impl Model for Hart {
-    ghost use Rattle.pmp_core.specs.Hart.{Profile, IsProfile, profile_by};
+    ghost use Rattle.pmp_core.specs.declared.hart.Profile.{Profile};
+    ghost use Rattle.pmp_core.specs.Hart.{IsProfile};
 
     ghost Value = { Profile };
 
-    ghost view = { λ h. profile_by h.entries h.grain h.address_bits h.has_smepmp };
+    ghost view = { λ h. h.profile };
 
-    ghost invariant = { λ h. IsProfile (profile_by h.entries h.grain h.address_bits h.has_smepmp) };
+    ghost invariant = { λ h. IsProfile h.profile };
 
-    ghost inverse = { λ p. record {
-      entries = p.entries;
-      grain = p.grain;
-      address_bits = p.address_bits;
-      has_smepmp = p.has_smepmp;
-    } };
+    ghost inverse = { λ p. record { profile = p } };
 }
 
 impl Hart {
     ghost use Rattle.std.specs.Prelude.{◌/◌, ◌^◌};
     ghost use Rattle.pmp_core.specs.SavedRegisters.{is_usual, hart_number, names_hart, saved_hart, spelled_hart, spells_hart};
     ghost use Rattle.pmp_core.specs.Grain.{napot_address, read_address, tor_address};
-    ghost use Rattle.pmp_core.specs.Hart.{hart_fault, profile_by, profile_of, word_addresses};
+    ghost use Rattle.pmp_core.specs.Csr.{numbered_on};
+    ghost use Rattle.pmp_core.specs.Hart.{bytes_in, fewest_bits, hart_fault, most_bits, profile_of, word_addresses};
 
-    /// The hart with so many entries, 0 to 64, a grain of `2^(G+2)` bytes by the manual's G, 0 to 10, physical
-    /// addresses of so many bits, 34 to 56, and Smepmp or not. They are tested in this order.
-    pub fn new(
-        entries: u8,
-        grain: u8,
-        address_bits: u8,
-        has_smepmp: bool,
-    ) -> Result<Hart, HartFault>
-        ensures made { let profile = profile_by entries grain address_bits has_smepmp in
-            IfOk result (λ hart. (hart_fault profile ≡ None) × (hart ≡ profile)) }
-        ensures refused { let profile = profile_by entries grain address_bits has_smepmp in
-            IfErr result (λ fault. hart_fault profile ≡ Some fault) }
+    /// The hart of this profile. Entries, grain and address bits are tested in this order.
+    pub fn new(profile: Profile) -> Result<Hart, HartFault>
+        ensures made { IfOk result (λ hart. (hart_fault profile ≡ None) × (hart ≡ profile)) }
+        ensures refused { IfErr result (λ fault. hart_fault profile ≡ Some fault) }
     {
-        if usize::from(entries) > MAX_ENTRIES {
+        if usize::from(profile.entries) > MAX_ENTRIES {
             return Err(HartFault::Entries);
         }
-        if grain > MAX_GRAIN {
+        if profile.grain > MAX_GRAIN {
             return Err(HartFault::Grain);
         }
-        if address_bits < MIN_ADDRESS_BITS || address_bits > MAX_ADDRESS_BITS {
+        let (fewest, most) = if profile.is_rv32 {
+            (MIN_ADDRESS_BITS, MID_ADDRESS_BITS)
+        } else {
+            (MID_ADDRESS_BITS, MAX_ADDRESS_BITS)
+        };
+        if profile.address_bits < fewest || profile.address_bits > most {
             return Err(HartFault::AddressBits);
         }
-        Ok(Hart {
-            entries,
-            grain,
-            address_bits,
-            has_smepmp,
-        })
+        Ok(Hart { profile })
     }
 
-    /// The hart of a unit of this size, with the finest grain, the widest addresses and Smepmp.
+    /// The hart of a unit of this size, of RV64 with the finest grain, the widest addresses and Smepmp.
     #[inline(always)]
     pub fn of(size: Size) -> Hart
         ensures { result ≡ profile_of size }
     {
-        Hart {
+        let profile = Profile {
+            is_rv32: false,
             entries: size.entries(),
             grain: 0,
             address_bits: MAX_ADDRESS_BITS,
             has_smepmp: true,
+        };
+        Hart { profile }
+    }
+
+    /// What it has.
+    #[inline(always)]
+    pub fn profile(&self) -> Profile
+        ensures { result ≡ self.now }
+    {
+        self.profile
+    }
+
+    /// Its register with this CSR number. A hart without Smepmp has no `mseccfg` and no `mseccfgh`, but their numbers
+    /// name them all the same.
+    pub fn csr(&self, number: u16) -> Result<Csr, CsrFault>
+        ensures { result ≡ numbered_on self.now.is_rv32 number }
+    {
+        Csr::on(self.profile.is_rv32, number)
+    }
+
+    /// How many bytes of entries the configuration register has: the first is that of entry `4 * register`.
+    #[inline(always)]
+    pub(crate) fn bytes_in(&self, register: u8) -> usize
+        ensures bytes { result ≡ bytes_in self.now register }
+        ensures most { result ≤ ENTRIES_PER_CFG }
+    {
+        if self.profile.is_rv32 {
+            4
+        } else if register % 2 == 0 {
+            ENTRIES_PER_CFG
+        } else {
+            0
         }
     }
 
@@ -110,25 +147,30 @@ impl Hart {
     fn is_usual(&self) -> bool
         ensures { result ≡ is_usual self.now }
     {
-        let is_one_of_two = self.entries == 16 || self.entries == 64;
-        is_one_of_two && self.grain == 0 && self.address_bits == MAX_ADDRESS_BITS && self.has_smepmp
+        let profile = self.profile;
+        let is_one_of_two = profile.entries == 16 || profile.entries == 64;
+        let is_widest = profile.address_bits == MAX_ADDRESS_BITS && !profile.is_rv32;
+        is_one_of_two && profile.grain == 0 && is_widest && profile.has_smepmp
     }
 
     /// The hart as a number: of one that `of` gives how many entries there are; of another that in bits 7 to 0, how
-    /// many bits an address has in bits 15 to 8, whether there is Smepmp in bit 16, and G in bits 31 to 24, with bit 32
-    /// set.
+    /// many bits an address has in bits 15 to 8, whether there is Smepmp in bit 16, whether it is RV32 in bit 17, and G
+    /// in bits 31 to 24, with bit 32 set.
     pub fn number(&self) -> u64
         ensures { result ≡ hart_number self.now }
     {
-        let entries = u64::from(self.entries);
+        let profile = self.profile;
+        let entries = u64::from(profile.entries);
         if self.is_usual() {
             entries
         } else {
-            let smepmp = u64::from(self.has_smepmp);
-            let grain = u64::from(self.grain);
+            let smepmp = u64::from(profile.has_smepmp);
+            let rv32 = u64::from(profile.is_rv32);
+            let grain = u64::from(profile.grain);
             entries
-                + 256 * u64::from(self.address_bits)
+                + 256 * u64::from(profile.address_bits)
                 + 65536 * smepmp
+                + 131072 * rv32
                 + 16777216 * grain
                 + (1 << 32)
         }
@@ -185,13 +227,17 @@ impl Hart {
         ensures { MatchOption result (spells_hart number ≡ false)
             (λ hart. (spells_hart number ≡ true) × (hart ≡ spelled_hart number)) }
     {
-        let entries = (number % 256) as u8;
-        let address_bits = (number / 256 % 256) as u8;
-        let grain = (number / 16777216 % 256) as u8;
-        if number / 131072 % 128 != 0 {
+        if number / 262144 % 64 != 0 {
             return None;
         }
-        match Hart::new(entries, grain, address_bits, number / 65536 % 2 == 1) {
+        let profile = Profile {
+            is_rv32: number / 131072 % 2 == 1,
+            entries: (number % 256) as u8,
+            grain: (number / 16777216 % 256) as u8,
+            address_bits: (number / 256 % 256) as u8,
+            has_smepmp: number / 65536 % 2 == 1,
+        };
+        match Hart::new(profile) {
             Ok(hart) => Some(hart),
             Err(_) => None,
         }
@@ -203,7 +249,7 @@ impl Hart {
         ensures count { result ≡ self.now.entries }
         ensures most { result ≤ MAX_ENTRIES }
     {
-        self.entries
+        self.profile.entries
     }
 
     /// The manual's G: the grain is `2^(G+2)` bytes.
@@ -212,7 +258,7 @@ impl Hart {
         ensures grain { result ≡ self.now.grain }
         ensures most { result ≤ MAX_GRAIN }
     {
-        self.grain
+        self.profile.grain
     }
 
     /// The address as a top of range sees it, without the bits below the grain.
@@ -220,7 +266,7 @@ impl Hart {
     pub fn tor_address(&self, address: u64) -> u64
         ensures { result ≡ tor_address self.now.grain address }
     {
-        address >> self.grain << self.grain
+        address >> self.profile.grain << self.profile.grain
     }
 
     /// The address as a naturally aligned power of two sees it: with all ones below the grain.
@@ -229,7 +275,7 @@ impl Hart {
         ensures seen { result ≡ napot_address self.now.grain address }
         ensures within { address < WORD_ADDRESSES → result < WORD_ADDRESSES }
     {
-        let ones = self.grain.saturating_sub(1);
+        let ones = self.profile.grain.saturating_sub(1);
         (address >> ones << ones) + ((1 << ones) - 1)
     }
 
@@ -250,7 +296,7 @@ impl Hart {
     pub fn address_bits(&self) -> u8
         ensures { result ≡ self.now.address_bits }
     {
-        self.address_bits
+        self.profile.address_bits
     }
 
     /// Whether there is `mseccfg`, with Smepmp.
@@ -258,7 +304,7 @@ impl Hart {
     pub fn has_smepmp(&self) -> bool
         ensures { result ≡ self.now.has_smepmp }
     {
-        self.has_smepmp
+        self.profile.has_smepmp
     }
 
     /// How many word addresses there are: an address register keeps the numbers below.
@@ -266,6 +312,6 @@ impl Hart {
     pub fn word_addresses(&self) -> u64
         ensures { result ≡ word_addresses self.now }
     {
-        1 << (self.address_bits - 2)
+        1 << (self.profile.address_bits - 2)
     }
 }

@@ -1,4 +1,4 @@
-//! The physical memory protection (PMP) unit of one RV64 hart.
+//! The physical memory protection (PMP) unit of one RISC-V hart.
 //!
 //! `RegFile` is the unit's registers: it takes CSR writes, and decides accesses as the RISC-V Privileged
 //! Architecture, Volume II, section 3.7 says. The definitions that its contracts cite are in `specs/`.
@@ -30,7 +30,7 @@ pub use configuration::AddressMatching;
 pub use csr::{Csr, CsrFault};
 pub use decision::{Cause, Decision, fault_code};
 pub use event::{BATCH_EVENTS, Event};
-pub use hart::{Hart, HartFault, MAX_ADDRESS_BITS, MIN_ADDRESS_BITS};
+pub use hart::{Hart, HartFault, MAX_ADDRESS_BITS, MID_ADDRESS_BITS, MIN_ADDRESS_BITS, Profile};
 pub use lock::Lock;
 pub use mseccfg::Mseccfg;
 pub use perms::Perms;

@@ -115,10 +115,12 @@ impl<'a> Registers<'a> {
     {
         match csr {
             Csr::Cfg(register) => {
-                self.moved_among(before, 4 * usize::from(register), ENTRIES_PER_CFG)
+                let bytes = before.hart().bytes_in(register);
+                self.moved_among(before, 4 * usize::from(register), bytes)
             }
             Csr::Addr(register) => self.moved_among(before, usize::from(register), 2),
             Csr::Mseccfg => self.moved_by_fields(before),
+            Csr::Mseccfgh => None,
         }
     }
 

@@ -1,8 +1,10 @@
 //! What a write to a register leaves.
 
-ghost use Rattle.std.specs.Prelude.{◌≡◌, ◌≢◌, ◌<◌, ◌≤◌, true, false, length};
+ghost use Rattle.std.specs.Prelude.{◌≡◌, ◌≢◌, ◌+◌, ◌*◌, ◌<◌, ◌≤◌, true, false, length};
 ghost use Rattle.pmp_core.specs.declared.csr.Csr.{Csr};
+ghost use Rattle.pmp_core.specs.declared.register_write.TheConstants.{ENTRIES_PER_CFG};
 ghost use Rattle.pmp_core.specs.Configuration.{byte_of};
+ghost use Rattle.pmp_core.specs.Hart.{bytes_in};
 ghost use Rattle.pmp_core.specs.RegisterValue.{register_value};
 ghost use Rattle.pmp_core.specs.RegisterWrite.{admitted, stored, stored_over, security_written, written};
 ghost use Rattle.pmp_core.specs.SavedRegisters.{IsCanonical, hart_in, restored_file};
@@ -20,7 +22,7 @@ use crate::write_reasons::Reasons;
 /// How many word addresses there are at most: an address register has no more than 54 bits.
 pub const WORD_ADDRESSES: u64 = 1 << 54;
 
-/// How many entries a configuration register has bytes of.
+/// How many entries a configuration register has bytes of at most.
 pub const ENTRIES_PER_CFG: usize = 8;
 
 /// What a write came to.
@@ -55,13 +57,18 @@ fn stored_over(hart: Hart, old: Configuration, byte: u8, mseccfg: &MseccfgFields
 }
 
 impl<'a> Registers<'a> {
-    /// The entry's configuration byte once this byte is written over it, and zero where there is no entry.
+    /// The byte at a place of the configuration register once this byte is written there, and zero where it holds none
+    /// of an entry.
     #[inline(always)]
-    fn byte_after(&self, index: usize, byte: u8) -> u8
-        ensures there { index < length self.now.entries → result ≡ byte_of (stored self.now index byte) }
-        ensures absent { length self.now.entries ≤ index → result ≡ 0 }
+    fn byte_after(&self, register: u8, place: usize, byte: u8) -> u8
+        requires { place < ENTRIES_PER_CFG }
+        ensures there { let index = 4 * register + place in place < bytes_in self.now.profile register
+            → index < length self.now.entries → result ≡ byte_of (stored self.now index byte) }
+        ensures absent { length self.now.entries ≤ 4 * register + place → result ≡ 0 }
+        ensures others { bytes_in self.now.profile register ≤ place → result ≡ 0 }
     {
-        if index < self.count() {
+        let index = 4 * usize::from(register) + place;
+        if place < self.hart().bytes_in(register) && index < self.count() {
             stored_over(self.hart(), self.configuration(index), byte, &self.fields()).byte()
         } else {
             0
@@ -73,13 +80,9 @@ impl<'a> Registers<'a> {
     fn configurations_after(&self, register: u8, value: u64) -> u64
         ensures { let csr = Csr.Cfg register in result ≡ register_value (written self.now csr value) csr }
     {
-        if register % 2 == 1 {
-            return 0;
-        }
-        let first = 4 * usize::from(register);
         let mut bytes = value.to_le_bytes();
         for place in 0..ENTRIES_PER_CFG {
-            bytes[place] = self.byte_after(first + place, bytes[place]);
+            bytes[place] = self.byte_after(register, place, bytes[place]);
         }
         u64::from_le_bytes(bytes)
     }
@@ -134,7 +137,8 @@ impl SavedRegisters {
             };
         }
         let first = 4 * usize::from(register);
-        let end = registers.count().min(first + ENTRIES_PER_CFG);
+        let held = hart.bytes_in(register);
+        let end = registers.count().min(first + held);
         let bytes = word.to_le_bytes();
         for index in first..end {
             self.configurations[index] = bytes[index - first];
@@ -202,6 +206,18 @@ impl SavedRegisters {
         }
     }
 
+    /// Writes `mseccfgh`, which changes nothing.
+    fn write_mseccfgh(&mut self, hart: Hart, value: u64) -> Written
+        requires { hart ≡ hart_in self.old }
+        ensures { IsWritten self.old self.new Csr.Mseccfgh value result }
+    {
+        let reasons = Registers::with(self, hart).reasons_where(Csr::Mseccfgh, value, 0);
+        Written {
+            is_changed: false,
+            reasons,
+        }
+    }
+
     /// Writes a register of this hart, which is known where this is inlined.
     #[inline(always)]
     fn write_on(&mut self, hart: Hart, csr: Csr, value: u64) -> Written
@@ -212,6 +228,7 @@ impl SavedRegisters {
             Csr::Cfg(register) => self.write_configurations(hart, register, value),
             Csr::Addr(register) => self.write_address(hart, register, value),
             Csr::Mseccfg => self.write_mseccfg(hart, value),
+            Csr::Mseccfgh => self.write_mseccfgh(hart, value),
         }
     }
 

@@ -1,13 +1,13 @@
 //! A unit's registers as they are read: a view of the plain numbers that keep them.
 
-ghost use Rattle.std.specs.Prelude.{◌≡◌, ◌*◌, ◌/◌, ◌^◌, ◌<◌, ◌≤◌, IsTrue, MatchOption, length};
+ghost use Rattle.std.specs.Prelude.{◌≡◌, ◌+◌, ◌*◌, ◌/◌, ◌^◌, ◌<◌, ◌≤◌, IsTrue, MatchOption, length};
 ghost use Rattle.pmp_core.specs.declared.csr.Csr.{Csr};
-ghost use Rattle.pmp_core.specs.declared.register_write.TheConstants.{WORD_ADDRESSES};
-ghost use Rattle.pmp_core.specs.Configuration.{byte_of};
+ghost use Rattle.pmp_core.specs.declared.register_write.TheConstants.{ENTRIES_PER_CFG, WORD_ADDRESSES};
 ghost use Rattle.pmp_core.specs.Grain.{read_address};
 ghost use Rattle.pmp_core.specs.Lock.{lock_of};
 ghost use Rattle.pmp_core.specs.RegisterFile.{IsLegal, entry_at, is_frozen, is_held};
-ghost use Rattle.pmp_core.specs.RegisterValue.{configuration_word, register_value};
+ghost use Rattle.pmp_core.specs.Hart.{bytes_in};
+ghost use Rattle.pmp_core.specs.RegisterValue.{byte_in, configuration_word, register_value};
 ghost use Rattle.pmp_core.specs.RegisterWrite.{is_address_frozen, is_any_locked};
 ghost use Rattle.pmp_core.specs.SavedRegisters.{hart_in, restored_file};
 
@@ -16,6 +16,7 @@ use crate::csr::Csr;
 use crate::hart::Hart;
 use crate::lock::Lock;
 use crate::mseccfg::MseccfgFields;
+use crate::register_write::ENTRIES_PER_CFG;
 use crate::saved_registers::SavedRegisters;
 use crate::size::MAX_ENTRIES;
 use std::marker::Model;
@@ -171,27 +172,28 @@ impl<'a> Registers<'a> {
         self.numbers.addresses[index] == other.numbers.addresses[index]
     }
 
-    /// The entry's configuration byte, and zero where there is no entry.
+    /// The byte at a place of the configuration register, the lowest at 0, and zero where it holds none of an entry.
     #[inline(always)]
-    fn byte(&self, index: usize) -> u8
-        ensures { result ≡ byte_of (entry_at self.now.entries index).configuration }
+    fn byte_at(&self, register: u8, place: usize) -> u8
+        requires { place < ENTRIES_PER_CFG }
+        ensures { result ≡ byte_in self.now register (4 * register + place) }
     {
-        if index < self.count() {
+        let index = 4 * usize::from(register) + place;
+        if place < self.hart().bytes_in(register) && index < self.count() {
             self.configuration(index).byte()
         } else {
             0
         }
     }
 
-    /// The bytes of the eight entries that the configuration register holds, if there are any.
+    /// The bytes of the entries that the configuration register holds, if there are any.
     #[inline(always)]
     fn configuration_word(&self, register: u8) -> u64
-        ensures { result ≡ configuration_word self.now.entries (4 * register) }
+        ensures { result ≡ configuration_word self.now register }
     {
-        let first = 4 * usize::from(register);
-        let mut bytes = [0; 8];
+        let mut bytes = [0; ENTRIES_PER_CFG];
         for place in 0..bytes.len() {
-            bytes[place] = self.byte(first + place);
+            bytes[place] = self.byte_at(register, place);
         }
         u64::from_le_bytes(bytes)
     }
@@ -216,7 +218,7 @@ impl<'a> Registers<'a> {
         ensures { result ≡ register_value self.now csr }
     {
         match csr {
-            Csr::Cfg(register) if register % 2 == 0 => self.configuration_word(register),
+            Csr::Cfg(register) => self.configuration_word(register),
             Csr::Addr(register) if usize::from(register) < self.count() => {
                 let index = usize::from(register);
                 self.reads(index, self.address(index))

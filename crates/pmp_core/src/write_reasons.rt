@@ -6,8 +6,9 @@ ghost use Rattle.std.specs.List.{list_any};
 ghost use Rattle.pmp_core.specs.declared.register_write.TheConstants.{ENTRIES_PER_CFG};
 ghost use Rattle.pmp_core.specs.Configuration.{configuration_of, is_reserved};
 ghost use Rattle.pmp_core.specs.Grain.{is_na4};
+ghost use Rattle.pmp_core.specs.Hart.{holds_byte_of};
 ghost use Rattle.pmp_core.specs.RegisterValue.{register_value};
-ghost use Rattle.pmp_core.specs.RegisterWrite.{holds_byte_of, holds, written};
+ghost use Rattle.pmp_core.specs.RegisterWrite.{holds, written};
 ghost use Rattle.pmp_core.specs.Rights.{is_barred};
 ghost use Rattle.pmp_core.specs.WriteReasons.{byte_for, is_changed, reasons_of};
 ghost use Rattle.pmp_core.specs.WriteReasons.{is_entry_reason, has_reason, is_some_entry_reason, is_reason};
@@ -16,6 +17,7 @@ ghost use Rattle.pmp_core.specs.WriteReasons.{clears_sticky, sets_bypass};
 
 use crate::configuration::{AddressMatching, Configuration};
 use crate::csr::Csr;
+use crate::hart::Hart;
 use crate::mseccfg::MseccfgFields;
 use crate::register_write::ENTRIES_PER_CFG;
 use crate::registers::Registers;
@@ -74,49 +76,47 @@ impl Reasons {
     }
 }
 
-/// The byte for an entry in a value of a configuration register, where the register has one.
-fn byte_for(register: u8, value: u64, index: usize) -> Option<u8>
-    ensures { result ≡ (if holds_byte_of register index then Some (byte_for register value index) else None) }
+/// The byte for an entry in a value of a configuration register of the hart, where the register has one.
+fn byte_for(hart: Hart, register: u8, value: u64, index: usize) -> Option<u8>
+    ensures { result ≡ (if holds_byte_of hart register index then Some (byte_for register value index) else None) }
 {
-    if index / ENTRIES_PER_CFG * 2 == usize::from(register) {
-        Some(value.to_le_bytes()[index % ENTRIES_PER_CFG])
+    let place = index.checked_sub(4 * usize::from(register))?;
+    if place < hart.bytes_in(register) {
+        Some(value.to_le_bytes()[place])
     } else {
         None
     }
 }
 
-/// The entries of which the register holds the configuration or the address, among as many as there are.
-fn entries_of(csr: Csr, count: usize) -> Range<usize>
-    ensures within { result.end ≤ count }
-    ensures others { (i : ℕ) → i < count → (result.start ≤ i → result.end ≤ i) → holds csr i ≡ false }
+/// The entries of the hart of which the register holds the configuration or the address.
+fn entries_of(hart: Hart, csr: Csr) -> Range<usize>
+    ensures within { result.end ≤ hart.entries }
+    ensures others { (i : ℕ) → i < hart.entries → (result.start ≤ i → result.end ≤ i) → holds hart csr i ≡ false }
 {
+    let count = usize::from(hart.entries());
     match csr {
-        Csr::Cfg(register) if register % 2 == 1 => 0..0,
         Csr::Cfg(register) => {
             let first = 4 * usize::from(register);
-            first..count.min(first + ENTRIES_PER_CFG)
+            first..count.min(first + hart.bytes_in(register))
         }
         Csr::Addr(register) => {
             let index = usize::from(register);
             index..count.min(index + 1)
         }
-        Csr::Mseccfg => 0..0,
+        Csr::Mseccfg | Csr::Mseccfgh => 0..0,
     }
 }
 
-/// How many bytes of the configuration register are those of entries, of which there are so many. They are its lowest
-/// ones.
-fn bytes_there(count: usize, register: u8) -> usize
-    ensures there { (j : ℕ) → j < ENTRIES_PER_CFG
-        → (holds_byte_of register (4 * register + j) && nat_lt (4 * register + j) count) ≡ nat_lt j result }
+/// How many bytes of the configuration register are those of entries of the hart. They are its lowest ones.
+fn bytes_there(hart: Hart, register: u8) -> usize
+    ensures there { (j : ℕ) → j < ENTRIES_PER_CFG → (holds_byte_of hart register (4 * register + j)
+        && nat_lt (4 * register + j) hart.entries) ≡ nat_lt j result }
     ensures most { result ≤ ENTRIES_PER_CFG }
 {
     let first = 4 * usize::from(register);
-    if register % 2 == 1 || first >= count {
-        0
-    } else {
-        ENTRIES_PER_CFG.min(count - first)
-    }
+    usize::from(hart.entries())
+        .saturating_sub(first)
+        .min(hart.bytes_in(register))
 }
 
 /// Whether one of the bytes isn't zero.
@@ -126,12 +126,12 @@ fn has_some(bytes: &[u8]) -> bool
     bytes.iter().any(|byte| *byte != 0)
 }
 
-/// Whether the value has a byte other than zero for an entry past the first ones, so many as there are.
-fn has_absent_byte(count: usize, register: u8, value: u64) -> bool
-    ensures { result ≡ has_absent_byte count register value }
+/// Whether the value has a byte other than zero that isn't for an entry of the hart.
+fn has_absent_byte(hart: Hart, register: u8, value: u64) -> bool
+    ensures { result ≡ has_absent_byte hart hart.entries register value }
 {
     let bytes = value.to_le_bytes();
-    has_some(&bytes[bytes_there(count, register)..])
+    has_some(&bytes[bytes_there(hart, register)..])
 }
 
 /// Whether one of the bytes has bit 6 or 5, which no configuration has.
@@ -148,7 +148,7 @@ impl<'a> Registers<'a> {
         ensures { result ≡ is_changed self.now csr value index }
     {
         match csr {
-            Csr::Cfg(register) => match byte_for(register, value, index) {
+            Csr::Cfg(register) => match byte_for(self.hart(), register, value, index) {
                 Some(byte) => byte != self.configuration(index).byte(),
                 None => false,
             },
@@ -156,7 +156,7 @@ impl<'a> Registers<'a> {
                 let reads = self.reads(index, self.address(index));
                 usize::from(register) == index && value != reads
             }
-            Csr::Mseccfg => false,
+            Csr::Mseccfg | Csr::Mseccfgh => false,
         }
     }
 
@@ -195,18 +195,18 @@ impl<'a> Registers<'a> {
                 !frozen && self.is_address_frozen(index) && self.is_changed(csr, value, index)
             }
             (WriteReason::Reserved, Csr::Cfg(register)) => {
-                match byte_for(register, value, index) {
+                match byte_for(self.hart(), register, value, index) {
                     Some(byte) => !frozen && self.adds_reserved(byte),
                     None => false,
                 }
             }
             (WriteReason::Lockdown, Csr::Cfg(register)) => {
-                match byte_for(register, value, index) {
+                match byte_for(self.hart(), register, value, index) {
                     Some(byte) => !frozen && self.adds_barred(byte),
                     None => false,
                 }
             }
-            (WriteReason::Grain, Csr::Cfg(register)) => match byte_for(register, value, index) {
+            (WriteReason::Grain, Csr::Cfg(register)) => match byte_for(self.hart(), register, value, index) {
                 Some(byte) => !frozen && self.adds_na4(byte),
                 None => false,
             },
@@ -221,7 +221,8 @@ impl<'a> Registers<'a> {
     fn is_some_entry_reason(&self, reason: WriteReason, csr: Csr, value: u64) -> bool
         ensures { result ≡ is_some_entry_reason reason self.now csr value }
     {
-        entries_of(csr, self.count()).any(|index| self.is_entry_reason(reason, csr, value, index))
+        let _count = self.count();
+        entries_of(self.hart(), csr).any(|index| self.is_entry_reason(reason, csr, value, index))
     }
 
     /// Whether some reason holds for the entry.
@@ -234,14 +235,23 @@ impl<'a> Registers<'a> {
             .any(|reason| self.is_entry_reason(*reason, csr, value, index))
     }
 
+    fn has_mseccfgh(&self) -> bool
+        ensures { result ≡ (self.now.profile.has_smepmp && self.now.profile.is_rv32) }
+    {
+        let profile = self.hart().profile();
+        profile.has_smepmp && profile.is_rv32
+    }
+
     /// Whether the value isn't zero for a register, or an entry, that the hart doesn't have.
     fn is_absent(&self, csr: Csr, value: u64) -> bool
         ensures { result ≡ is_absent self.now csr value }
     {
+        let _count = self.count();
         match csr {
-            Csr::Cfg(register) => has_absent_byte(self.count(), register, value),
+            Csr::Cfg(register) => has_absent_byte(self.hart(), register, value),
             Csr::Addr(register) => value != 0 && usize::from(register) >= self.count(),
             Csr::Mseccfg => value != 0 && !self.hart().has_smepmp(),
+            Csr::Mseccfgh => value != 0 && !self.has_mseccfgh(),
         }
     }
 
@@ -253,6 +263,7 @@ impl<'a> Registers<'a> {
             Csr::Cfg(_) => has_bit_6_or_5(&value.to_le_bytes()),
             Csr::Addr(_) => value / self.hart().word_addresses() != 0,
             Csr::Mseccfg => self.hart().has_smepmp() && value / 8 != 0,
+            Csr::Mseccfgh => value != 0 && self.has_mseccfgh(),
         }
     }
 

@@ -12,4 +12,4 @@ returns c =
     (rw c.to_le_bytes-bytes.ensures at c.has_some.ensures)
     ∙ ap (λ (bytes : List ℕ). list_any (λ b. not (b == 0)) bytes)
     (take_all (8 - first) rest (simp length-drop (omega arith)))
-    ∙ absent_bytes c.args.count c.args.register c.args.value first c.bytes_there.ensures.there
+    ∙ absent_bytes c.args.hart c.args.hart.entries c.args.register c.args.value first c.bytes_there.ensures.there

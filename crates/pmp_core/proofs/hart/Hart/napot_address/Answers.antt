@@ -5,7 +5,7 @@ use Rattle.pmp_core.proofs.hart.Hart.napot_address.Goals as goal
 
 pub overflow_add-result : goal.overflow_add-result
 overflow_add-result c =
-    let grain = c.self.inside.grain in
+    let grain = c.self.inside.profile.grain in
     let fine = c.self.invariant.fine in
     rw c.saturating_sub-ones.ensures (omega (
       arith,
@@ -15,7 +15,7 @@ overflow_add-result c =
 
 pub returns-clause-within : goal.returns-clause-within
 returns-clause-within c = λ small.
-    let grain = c.self.inside.grain in
+    let grain = c.self.inside.profile.grain in
     rw c.saturating_sub-ones.ensures (omega (
       arith,
       napot_below grain c.args.address c.self.invariant.fine small,

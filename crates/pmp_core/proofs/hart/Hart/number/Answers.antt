@@ -1,5 +1,5 @@
 use Rattle.std.proofs.Common.{sym, refl, ◌∙◌, ap}
-use Rattle.pmp_core.specs.Hart.{Profile}
+use Rattle.pmp_core.specs.declared.hart.Profile.{Profile}
 use Rattle.pmp_core.specs.SavedRegisters.{hart_number}
 use Rattle.pmp_core.proofs.hart.Hart.number.Goals as goal
 
@@ -15,6 +15,7 @@ returns-else-is_usual c = rw (
   c.from-entries.ensures,
   c.from.ensures,
   c.from-smepmp.ensures,
+  c.from-rv32.ensures,
   c.from-grain.ensures,
   ← c.self.view_is,
 ) refl

@@ -8,8 +8,13 @@ moved_among-requires-clause-count c = same_count c.args.before.now c.args.self.n
 
 pub returns-in-Cfg : goal.returns-in-Cfg
 unfolding moved_by
-returns-in-Cfg c = rw c.in-Cfg.is (c.moved_among.ensures ∙ rw c.from.ensures refl)
+returns-in-Cfg c = rw c.in-Cfg.is (c.moved_among.ensures
+    ∙ rw (c.from.ensures, c.bytes_in-bytes.ensures.bytes, c.hart.ensures) refl)
 
 pub returns-in-Addr : goal.returns-in-Addr
 unfolding moved_by
 returns-in-Addr c = rw c.in-Addr.is (c.moved_among-in-Addr.ensures ∙ rw c.from-in-Addr.ensures refl)
+
+pub returns-in-Mseccfgh : goal.returns-in-Mseccfgh
+unfolding moved_by
+returns-in-Mseccfgh c = rw c.in-Mseccfgh.is refl

@@ -1,6 +1,6 @@
 use Rattle.std.proofs.Common.{◌≡◌, ◌∙◌, ap, sym, arith, inl, inr, length}
 use Rattle.std.proofs.lemmas.Bool.{cases_lt}
-use Rattle.pmp_core.specs.Hart.{Profile}
+use Rattle.pmp_core.specs.declared.hart.Profile.{Profile}
 use Rattle.pmp_core.proofs.Moves.{alike_beside, moved_before, moved_now, none_at, same_fields, same_profile, within_at}
 use Rattle.pmp_core.proofs.registers.Registers.moved_since.Goals as goal
 use Rattle.pmp_core.proofs.registers.Registers.moved_since.Goals.{After-count-index-end}

@@ -3,7 +3,7 @@ use Rattle.std.proofs.Common.{rules, ◌≡◌, ℕ, Bool, true, slice_index, sy
 use Rattle.pmp_core.specs.Configuration.{Configuration, configuration_of}
 use Rattle.pmp_core.specs.Entry.{Entry}
 use Rattle.pmp_core.specs.Grain.{selectable}
-use Rattle.pmp_core.specs.Hart.{Profile}
+use Rattle.pmp_core.specs.declared.hart.Profile.{Profile}
 use Rattle.pmp_core.specs.RegisterFile.{reset_entry}
 use Rattle.pmp_core.specs.RegisterWrite.{admitted}
 use Rattle.pmp_core.specs.SavedRegisters.{fields_in, hart_in}
