@@ -1,13 +1,13 @@
 -- The number by which a call says whether it took a register's number, and what a write did.
 use Rattle.std.specs.Prelude.{◌≡◌, ◌↔◌, ℕ, ◌+◌, ◌*◌, ◌/◌, ◌%◌, ◌<◌, if◌then◌else◌, Option, MatchOption, Result, Ok, Err}
 use Rattle.pmp_core.specs.declared.csr.Csr.{Csr}
-use Rattle.pmp_core.specs.declared.csr.Csr.TheVariants.{Cfg, Addr, Mseccfg}
+use Rattle.pmp_core.specs.declared.csr.Csr.TheVariants.{Cfg, Addr, Mseccfg, Mseccfgh}
 use Rattle.pmp_core.specs.declared.csr.CsrFault.{CsrFault}
 use Rattle.pmp_core.specs.declared.csr.CsrFault.TheVariants.{OddCfg, NotPmp}
+use Rattle.pmp_core.specs.declared.hart.Profile.{Profile}
 use Rattle.pmp_core.specs.declared.register_write.Written.{Written}
 use Rattle.pmp_core.specs.declared.span.Span.{Span}
-use Rattle.pmp_core.specs.Csr.{numbered}
-use Rattle.pmp_core.specs.Hart.{Profile}
+use Rattle.pmp_core.specs.Csr.{numbered_on}
 use Rattle.pmp_core.specs.Moved.{AreAlikeBeside, moved_by}
 use Rattle.pmp_core.specs.RegisterFile.{RegisterFile}
 use Rattle.pmp_core.specs.RegisterValue.{register_value}
@@ -17,11 +17,12 @@ use Rattle.pmp_core.specs.WriteReasons.{reasons_of}
 use Rattle.pmp_c.specs.declared.unit.Unit.{Unit}
 use Rattle.pmp_c.specs.Unit.{file_of_unit, IsUnit, IsChanged}
 
--- a hart without Smepmp has no mseccfg
+-- a hart without Smepmp has no mseccfg and no mseccfgh
 abbrev pub register_on : Profile → Csr → Result Csr CsrFault
 register_on profile (Cfg q) = Ok (Cfg q)
 register_on profile (Addr i) = Ok (Addr i)
 register_on profile Mseccfg = if profile.has_smepmp then Ok Mseccfg else Err NotPmp
+register_on profile Mseccfgh = if profile.has_smepmp then Ok Mseccfgh else Err NotPmp
 
 abbrev pub found_on : Profile → Result Csr CsrFault → Result Csr CsrFault
 found_on profile (Ok csr) = register_on profile csr
@@ -29,7 +30,7 @@ found_on profile (Err fault) = Err fault
 
 -- the register of the file's hart with this CSR number (3.7.1 and Smepmp)
 abbrev pub register_in : RegisterFile → (number : ℕ) → Result Csr CsrFault
-register_in file number = found_on file.profile (numbered number)
+register_in file number = found_on file.profile (numbered_on file.profile.is_rv32 number)
 
 -- 0 where the call took it
 abbrev pub status_number : Result Csr CsrFault → ℕ

@@ -1,11 +1,11 @@
 //! The numbers that calls take and answer.
 
 ghost use Rattle.std.specs.Prelude.{◌≡◌, ◌^◌, ◌<◌, Err};
-ghost use Rattle.pmp_core.specs.Csr.{numbered};
+ghost use Rattle.pmp_core.specs.Csr.{numbered, numbered_on};
 ghost use Rattle.pmp_c.specs.RangeRights.{rights_number};
 ghost use Rattle.pmp_c.specs.Status.{status_number, write_number};
 
-use pmp_core::{Csr, CsrFault, Perms, Written};
+use pmp_core::{Csr, CsrFault, Hart, Perms, Written};
 
 /// The status of a call that is done, and by which no register is another than before.
 pub const UNCHANGED: u32 = 0;
@@ -46,12 +46,22 @@ pub fn refusal_status(fault: CsrFault) -> u32
     }
 }
 
-/// The register with this CSR number.
+/// The register of RV64 with this CSR number.
 pub fn csr_of(number: u32) -> Result<Csr, CsrFault>
     ensures { result ≡ numbered number }
 {
     match u16::try_from(number) {
         Ok(short) => Csr::from_number(short),
+        Err(_) => Err(CsrFault::NotPmp),
+    }
+}
+
+/// The register of this hart with this CSR number.
+pub fn csr_on(hart: Hart, number: u32) -> Result<Csr, CsrFault>
+    ensures { result ≡ numbered_on hart.is_rv32 number }
+{
+    match u16::try_from(number) {
+        Ok(short) => hart.csr(short),
         Err(_) => Err(CsrFault::NotPmp),
     }
 }

@@ -9,7 +9,7 @@ ghost use Rattle.pmp_map.specs.Runs.{IsRunAround};
 ghost use Rattle.pmp_c.specs.Status.{register_in, write_number};
 ghost use Rattle.pmp_c.specs.Unit.{file_of_unit, IsBuilt, IsUnit};
 
-use crate::numbers::{csr_of, write_status};
+use crate::numbers::{csr_of, csr_on, write_status};
 use pmp_core::{Access, Csr, CsrFault, Mode, Perms, Registers, SavedRegisters, Written};
 use pmp_map::{Run, Tables, answer_number, rights_in, run_around};
 
@@ -23,15 +23,25 @@ pub struct Unit {
 }
 
 impl Unit {
-    /// The register of its hart with this CSR number.
+    /// The register of its hart with this CSR number. What RV64 has but for `mseccfg` is on each hart.
     #[inline(always)]
     pub fn register(&self, number: u32) -> Result<Csr, CsrFault>
         ensures { result ≡ register_in (file_of_unit self.now) number }
     {
         match csr_of(number) {
-            Ok(Csr::Mseccfg) if !Registers::of(&self.registers).hart().has_smepmp() => {
-                Err(CsrFault::NotPmp)
-            }
+            Ok(Csr::Cfg(register)) => Ok(Csr::Cfg(register)),
+            Ok(Csr::Addr(register)) => Ok(Csr::Addr(register)),
+            _ => self.register_on_hart(number),
+        }
+    }
+
+    /// The same where it takes the hart to say.
+    fn register_on_hart(&self, number: u32) -> Result<Csr, CsrFault>
+        ensures { result ≡ register_in (file_of_unit self.now) number }
+    {
+        let hart = Registers::of(&self.registers).hart();
+        match csr_on(hart, number) {
+            Ok(Csr::Mseccfg | Csr::Mseccfgh) if !hart.has_smepmp() => Err(CsrFault::NotPmp),
             found => found,
         }
     }
