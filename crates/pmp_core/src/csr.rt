@@ -35,7 +35,7 @@ impl Csr {
     }
 
     /// The register with this CSR number where XLEN is 32, or 64.
-    pub(crate) fn on(is_rv32: bool, number: u16) -> Result<Csr, CsrFault>
+    pub fn on(is_rv32: bool, number: u16) -> Result<Csr, CsrFault>
         ensures { result ≡ numbered_on is_rv32 number }
     {
         match number {

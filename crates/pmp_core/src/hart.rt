@@ -69,7 +69,7 @@ impl Model for Hart {
 }
 
 impl Hart {
-    ghost use Rattle.std.specs.Prelude.{◌/◌, ◌^◌};
+    ghost use Rattle.std.specs.Prelude.{◌+◌, ◌*◌, ◌/◌, ◌^◌};
     ghost use Rattle.pmp_core.specs.SavedRegisters.{is_usual, hart_number, names_hart, saved_hart, spelled_hart, spells_hart};
     ghost use Rattle.pmp_core.specs.Grain.{napot_address, read_address, tor_address};
     ghost use Rattle.pmp_core.specs.Csr.{numbered_on};
@@ -130,9 +130,10 @@ impl Hart {
 
     /// How many bytes of entries the configuration register has: the first is that of entry `4 * register`.
     #[inline(always)]
-    pub(crate) fn bytes_in(&self, register: u8) -> usize
+    pub fn bytes_in(&self, register: u8) -> usize
         ensures bytes { result ≡ bytes_in self.now register }
         ensures most { result ≤ ENTRIES_PER_CFG }
+        ensures within { register < 16 → 4 * register + result ≤ MAX_ENTRIES }
     {
         if self.profile.is_rv32 {
             4

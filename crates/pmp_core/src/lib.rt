@@ -30,7 +30,9 @@ pub use configuration::AddressMatching;
 pub use csr::{Csr, CsrFault};
 pub use decision::{Cause, Decision, fault_code};
 pub use event::{BATCH_EVENTS, Event};
-pub use hart::{Hart, HartFault, MAX_ADDRESS_BITS, MID_ADDRESS_BITS, MIN_ADDRESS_BITS, Profile};
+pub use hart::{
+    Hart, HartFault, MAX_ADDRESS_BITS, MAX_GRAIN, MID_ADDRESS_BITS, MIN_ADDRESS_BITS, Profile,
+};
 pub use lock::Lock;
 pub use mseccfg::Mseccfg;
 pub use perms::Perms;

@@ -13,13 +13,14 @@ use Rattle.pmp_text.specs.declared.refusal.Refusal.TheVariants.{BatchFull}
 use Rattle.pmp_text.specs.declared.script.ScriptFault.{ScriptFault}
 use Rattle.pmp_text.specs.declared.script.statement.Statement.{Statement}
 use Rattle.pmp_text.specs.declared.script.statement.Statement.TheVariants as statement
+use Rattle.pmp_text.specs.Heads.{event_flaw, profile_said}
 use Rattle.pmp_text.specs.Lines.{is_line_feed, has_bytes, without_empty_end, lines}
 use Rattle.pmp_text.specs.Statements.{statement_of}
 use Rattle.pmp_text.specs.Scripts.{Line, numbered_from, counts, significant_from, significant_lines}
 use Rattle.pmp_text.specs.Scripts.{head_fault, script_meaning}
 use Rattle.pmp_text.specs.Steps.Progress.{Progress, longer, published, HeadSoFar, says_in, longer_head, unless, Reading}
 use Rattle.pmp_text.specs.Steps.Progress.{Read, nothing_begun, with_publish, with_progress, with_head, with_expected}
-use Rattle.pmp_text.specs.Steps.Progress.{after_statement, all_published, read_in, resumed}
+use Rattle.pmp_text.specs.Steps.Progress.{after_event, after_statement, all_published, read_in, resumed}
 use Rattle.pmp_text.specs.declared.script.version.Version.{Version}
 use Rattle.pmp_text.specs.Sizes.{script_size}
 use Rattle.pmp_text.specs.Contents.{Publications, ScriptContents}
@@ -67,18 +68,24 @@ module _ (version : Version) (more : List Line) (bounded : IsBounded version mor
       let m = read_event so_far.progress number event in omega arith
   with_room false event e = absurd cc
 
+  with_flaw : (flaw : Option Flaw) (event : Event) → on version more (after_event flaw so_far number event) ≡ Ok all
+      → script_size all.published.batches ≤ suc (read so_far.progress) + length more
+  with_flaw None event e = with_room (ltb (length so_far.progress.batch) BATCH_EVENTS) event e
+  with_flaw (Some flaw) event e = absurd cc
+
   with_fault : (fault : Option Flaw) (head : HeadSoFar)
       → on version more (with_head so_far (unless number fault head)) ≡ Ok all
       → script_size all.published.batches ≤ suc (read so_far.progress) + length more
   with_fault None head e = let n = bounded _ all e in omega arith
   with_fault (Some fault) head e = absurd cc
 
-  one_line : (says : Result Statement Flaw) → on version more (after_statement so_far number says) ≡ Ok all
+  one_line : (says : Result Statement Flaw) → on version more (after_statement version so_far number says) ≡ Ok all
       → script_size all.published.batches ≤ suc (read so_far.progress) + length more
   one_line (Err kind) e = absurd cc
   one_line (Ok statement.Publish) e = let n = bounded (with_publish so_far) all e in
       let m = read_published so_far.progress in omega arith
-  one_line (Ok (statement.Event event)) e = with_room (ltb (length so_far.progress.batch) BATCH_EVENTS) event e
+  one_line (Ok (statement.Event event)) e =
+      with_flaw (event_flaw version (profile_said so_far.head.lines).is_rv32 event) event e
   one_line (Ok (statement.Head says)) e =
       with_fault (head_fault so_far.head.is_over (says_in so_far.head.lines says) says)
       (longer_head so_far.head number says) e

@@ -16,7 +16,7 @@ use Rattle.pmp_text.specs.declared.script.version.Version.{Version}
 use Rattle.pmp_text.specs.declared.script.version.Version.TheVariants.{Sized, Headed}
 use Rattle.pmp_text.specs.Contents.{Publications}
 use Rattle.pmp_text.specs.Statements.{statement_of}
-use Rattle.pmp_text.specs.Scripts.{Line, counted, ends_head, says_same, version_flaw}
+use Rattle.pmp_text.specs.Scripts.{Line, counted, ends_head, rv32_behind, says_same, version_flaw}
 use Rattle.pmp_text.specs.Scripts.{first_fault}
 use Rattle.pmp_text.specs.Scripts.{head_lines, expected_from}
 use Rattle.pmp_text.specs.Scripts.{fault_or_publications}
@@ -110,6 +110,7 @@ module _ (text : List ℕ) where
         begins =
             let no = no_statement first.words version named version in
             record {
+              xlen = sym (ap (λ (r : Result Statement Flaw). rv32_behind r false) no);
               count = sym (ap (λ (r : Result Statement Flaw). counted r 0) no);
               over = sym (ap (λ (r : Result Statement Flaw). ends_head r || false) no);
               said = λ here. sym (ap (λ (r : Result Statement Flaw). says_same here r || false) no);

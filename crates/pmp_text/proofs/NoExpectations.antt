@@ -42,8 +42,8 @@ by_operands says (word ∷ more) none = tt
 expects_none : (size : Size) (words : List (List ℕ)) → ExpectsNone (statement_of (Sized size) words)
 unfolding statement_of
 expects_none size [] = tt
-expects_none size (word ∷ operands) = by_word (bytes_eq word (codes "write")) (write_statement operands) _
-    (by_assignment (assignment operands)) (by_word (bytes_eq word (codes "reset"))
+expects_none size (word ∷ operands) = by_word (bytes_eq word (codes "write")) (write_statement (Sized size) operands) _
+    (by_assignment (assignment (Sized size) operands)) (by_word (bytes_eq word (codes "reset"))
     (without_operands (statement.Event Reset) operands) _ (by_operands (statement.Event Reset) operands tt)
     (by_word (bytes_eq word (codes "publish")) (without_operands statement.Publish operands) (Err (part 0 BadLine))
     (by_operands statement.Publish operands tt) tt))

@@ -15,21 +15,25 @@ use Rattle.pmp_text.specs.declared.script.statement.Statement.{Statement}
 use Rattle.pmp_text.specs.declared.script.statement.Statement.TheVariants as statement
 use Rattle.pmp_text.specs.declared.expectation.Expectation.{Expectation}
 use Rattle.pmp_text.specs.declared.script.statement.HeadStatement.{HeadStatement}
+use Rattle.pmp_text.specs.declared.script.statement.HeadStatement.TheVariants.{Hart, Set}
+use Rattle.pmp_text.specs.declared.script.hart_field.HartField.TheVariants.{Xlen, Entries, Grain, Bits, Smepmp}
+use Rattle.pmp_core.specs.declared.hart.Profile.{Profile}
+use Rattle.std.proofs.lemmas.List.Sums.{fold-append}
 use Rattle.pmp_text.specs.declared.script.head.HeadLine.{HeadLine}
 use Rattle.pmp_text.specs.declared.script.version.Version.{Version}
 use Rattle.pmp_text.specs.Contents.{Publications}
 use Rattle.pmp_core.specs.declared.csr.Csr.{Csr}
-use Rattle.pmp_text.specs.Heads.{is_same}
+use Rattle.pmp_text.specs.Heads.{event_flaw, is_same, profile_said, rv32_with, unsaid_hart, with_statement}
 use Rattle.pmp_text.specs.Statements.{statement_of}
 use Rattle.pmp_text.specs.Scripts.{Line, counted, ends_head, says_same, open_events, is_over, is_said}
-use Rattle.pmp_text.specs.Scripts.{head_fault, statement_fault, fault_behind, line_fault, first_fault, event_of}
+use Rattle.pmp_text.specs.Scripts.{event_fault, head_fault, is_rv32, rv32_behind, statement_fault, fault_behind, line_fault, first_fault, event_of}
 use Rattle.pmp_text.specs.Scripts.{event_in, head_line_in, head_lines, expected_by, expected_from}
 use Rattle.pmp_text.specs.Scripts.{publishes, fault_or_publications}
 use Rattle.pmp_text.specs.Scripts.{version_above}
 use Rattle.pmp_text.specs.Scripts.{publications, first_unpublished}
 use Rattle.pmp_text.specs.Steps.Progress.{Progress, longer, published, over, says_in}
 use Rattle.pmp_text.specs.Steps.Progress.{longer_head, unless, Reading, Read, nothing_begun, with_publish}
-use Rattle.pmp_text.specs.Steps.Progress.{with_progress}
+use Rattle.pmp_text.specs.Steps.Progress.{after_event, with_event, with_progress}
 use Rattle.pmp_text.specs.Steps.Progress.{with_head, with_expected, after_statement, all_published, read_in, resumed}
 use Rattle.pmp_text.proofs.Published.{all_from, all_from-event, all_from-nothing, all_from-passed, all_from-published}
 use Rattle.pmp_text.proofs.Published.{pieces_of, same_publications, since_from, since_from-event, since_from-nothing}
@@ -78,6 +82,7 @@ module _ (version : Version) where
 
   -- the machine knows of the lines before, which stand the nearest first
   pub record Knows (so_far : Reading) (before : List Line) : Type 0 where
+    pub xlen : (profile_said so_far.head.lines).is_rv32 ≡ is_rv32 version before
     pub count : length so_far.progress.batch ≡ open_events version before
     pub over : so_far.head.is_over ≡ is_over version before
     pub said : (says : HeadStatement) → says_in so_far.head.lines says ≡ is_said version before says
@@ -99,7 +104,8 @@ module _ (version : Version) where
     cut publish = cond publish ([] ∷ pieces_of version more) (onto_first line (pieces_of version more))
 
     abbrev faulty : Result Statement Flaw → Option Flaw
-    faulty says = statement_fault (open_events version (last ∷ front)) (is_over version (last ∷ front))
+    faulty says = statement_fault (event_flaw version (is_rv32 version (last ∷ front)))
+        (open_events version (last ∷ front)) (is_over version (last ∷ front))
         (is_said version (last ∷ front)) says
 
     abbrev means : Result Statement Flaw → Result Read ScriptFault
@@ -111,9 +117,9 @@ module _ (version : Version) where
     own = ap (λ (v : Version). fault_behind v (last ∷ front) line) above
 
     agree : (says : Result Statement Flaw) → statement_of version line.words ≡ says
-        → reads (after_statement so_far line.number says) ≡ means says
+        → reads (after_statement version so_far line.number says) ≡ means says
         → resumed version so_far (line ∷ more) ≡ meant_from so_far (last ∷ front) (line ∷ more)
-    agree says e same = ap (λ (r : Result Statement Flaw). reads (after_statement so_far line.number r)) e ∙ same
+    agree says e same = ap (λ (r : Result Statement Flaw). reads (after_statement version so_far line.number r)) e ∙ same
         ∙ sym (ap means e)
         ∙ sym (ap (λ (f : Option Flaw). meant_by so_far (option_or (option_map (at_line line.number) f) later)
         (line ∷ more) (cut (publishes (statement_of version line.words)))) own)
@@ -182,7 +188,7 @@ module _ (version : Version) where
 
       head_agrees : statement_of version line.words ≡ Ok (statement.Head says)
           → resumed version next_head more ≡ meant_from next_head (line ∷ last ∷ front) more
-          → reads (after_statement so_far line.number (Ok (statement.Head says))) ≡ means (Ok (statement.Head says))
+          → reads (after_statement version so_far line.number (Ok (statement.Head says))) ≡ means (Ok (statement.Head says))
       head_agrees is same =
           by_fault (head_fault so_far.head.is_over (says_in so_far.head.lines says) says)
           (λ _. passes next_head refl (ap event_in is)
@@ -213,13 +219,24 @@ module _ (version : Version) where
       by_room true same = same refl
       by_room false same = refl
 
+      by_flaw : (flaw : Option Flaw)
+          → reads (with_progress so_far (with_event so_far.progress line.number event))
+          ≡ meant_by so_far (option_or (option_map (at_line line.number)
+          (event_fault None (open_events version (last ∷ front)))) later) (line ∷ more) (cut false)
+          → reads (after_event flaw so_far line.number event)
+          ≡ meant_by so_far (option_or (option_map (at_line line.number)
+          (event_fault flaw (open_events version (last ∷ front)))) later) (line ∷ more) (cut false)
+      by_flaw None same = same
+      by_flaw (Some flaw) same = refl
+
       event_agrees : statement_of version line.words ≡ Ok (statement.Event event)
           → (ltb (length so_far.progress.batch) BATCH_EVENTS ≡ true
           → resumed version next_one more ≡ meant_from next_one (line ∷ last ∷ front) more)
-          → reads (after_statement so_far line.number (Ok (statement.Event event)))
+          → reads (after_statement version so_far line.number (Ok (statement.Event event)))
           ≡ means (Ok (statement.Event event))
       event_agrees says same =
-          by_room (ltb (length so_far.progress.batch) BATCH_EVENTS)
+          by_flaw (event_flaw version (profile_said so_far.head.lines).is_rv32 event)
+          (by_room (ltb (length so_far.progress.batch) BATCH_EVENTS)
           (λ room. same room ∙ same_meant later _ _ _ _
           (sym (since_from-event version line event says so_far.progress.since
           (pieces_of version more) (some_piece version more)))
@@ -227,7 +244,10 @@ module _ (version : Version) where
           (ap (λ (h : List HeadLine). so_far.head.lines ++ h) (sym (head_here _ says)))
           (ap (λ (e : List Expectation). so_far.expectations ++ e) (sym (expected_here _ says)))))
           ∙ ap (λ (n : ℕ). meant_by so_far (option_or (own_fault (ltb n BATCH_EVENTS)) later) (line ∷ more) (cut false))
-          knows.count
+          knows.count)
+          ∙ ap (λ (narrow : Bool). meant_by so_far (option_or (option_map (at_line line.number)
+          (event_fault (event_flaw version narrow event) (open_events version (last ∷ front)))) later)
+          (line ∷ more) (cut false)) knows.xlen
 
   -- ---- what is known behind one line more
 
@@ -245,8 +265,13 @@ module _ (version : Version) where
     said_as here says e = sym (ap (λ (r : Result Statement Flaw).
         says_same here r || is_said version front here) e)
 
+    xlen_as : (says : Result Statement Flaw) → statement_of version line.words ≡ says
+        → rv32_behind says (is_rv32 version front) ≡ is_rv32 version (line ∷ front)
+    xlen_as says e = sym (ap (λ (r : Result Statement Flaw). rv32_behind r (is_rv32 version front)) e)
+
     knows_publish : statement_of version line.words ≡ Ok statement.Publish → Knows (with_publish so_far) (line ∷ front)
     knows_publish e = record {
+      xlen = knows.xlen ∙ xlen_as _ e;
       count = counted_as _ e;
       over = over_as _ e;
       said = λ here. knows.said here ∙ said_as here _ e;
@@ -260,6 +285,7 @@ module _ (version : Version) where
           events = so_far.events + 1;
         }) (line ∷ front)
     knows_event event e = record {
+      xlen = knows.xlen ∙ xlen_as _ e;
       count = length-append so_far.progress.batch (event ∷ []) ∙ ap (λ (n : ℕ). n + 1) knows.count ∙ counted_as _ e;
       over = over_as _ e;
       said = λ here. knows.said here ∙ said_as here _ e;
@@ -269,10 +295,20 @@ module _ (version : Version) where
         → statement_of version line.words ≡ Ok (statement.Expect register value)
         → Knows (with_expected so_far line.number register value) (line ∷ front)
     knows_expected register value e = record {
+      xlen = knows.xlen ∙ xlen_as _ e;
       count = knows.count ∙ counted_as _ e;
       over = knows.over ∙ over_as _ e;
       said = λ here. knows.said here ∙ said_as here _ e;
     }
+
+    rv32_said : (said : Profile) (says : HeadStatement)
+        → (with_statement said says).is_rv32 ≡ rv32_with says said.is_rv32
+    rv32_said said (Hart (Xlen is)) = refl
+    rv32_said said (Hart (Entries n)) = refl
+    rv32_said said (Hart (Grain n)) = refl
+    rv32_said said (Hart (Bits n)) = refl
+    rv32_said said (Hart (Smepmp has)) = refl
+    rv32_said said (Set register value) = refl
 
     said_too : (a b : Bool) → (a || (b || false)) ≡ (b || a)
     said_too true true = refl
@@ -283,6 +319,10 @@ module _ (version : Version) where
     knows_head : (says : HeadStatement) → statement_of version line.words ≡ Ok (statement.Head says)
         → Knows (record so_far { head = longer_head so_far.head line.number says }) (line ∷ front)
     knows_head says e = record {
+      xlen = ap (λ (said : Profile). said.is_rv32)
+          (fold-append (λ said it. with_statement said it.statement) unsaid_hart so_far.head.lines _)
+          ∙ rv32_said (profile_said so_far.head.lines) says
+          ∙ ap (rv32_with says) knows.xlen ∙ xlen_as _ e;
       count = knows.count ∙ counted_as _ e;
       over = knows.over ∙ over_as _ e;
       said = λ here. list_any-append (λ it. is_same here it.statement) so_far.head.lines _

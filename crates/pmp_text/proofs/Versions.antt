@@ -26,6 +26,7 @@ use Rattle.pmp_text.specs.Statements.{statement_of}
 use Rattle.pmp_text.specs.Steps.Progress.{Reading, Read, nothing_begun, after_statement, resumed, concluded}
 use Rattle.pmp_text.specs.declared.flaw.Flaw.{Flaw}
 use Rattle.pmp_text.specs.declared.script.statement.Statement.{Statement}
+use Rattle.pmp_text.specs.declared.script.statement.Statement.TheVariants as statement
 use Rattle.pmp_text.specs.declared.script.version.Version.TheVariants.{Sized}
 use Rattle.pmp_core.specs.Decision.{IsDecision}
 use Rattle.pmp_core.specs.Hart.{profile_of, profile_with}
@@ -174,13 +175,22 @@ unfolding statement_of
 says_alike [] = refl
 says_alike (word ∷ operands) = refl
 
+takes_alike : (so_far : Reading) (number : ℕ) (says : Result Statement Flaw)
+    → after_statement (Sized Sixteen) so_far number says ≡ after_statement (Sized SixtyFour) so_far number says
+takes_alike so_far number (Err flaw) = refl
+takes_alike so_far number (Ok statement.Publish) = refl
+takes_alike so_far number (Ok (statement.Event event)) = refl
+takes_alike so_far number (Ok (statement.Head says)) = refl
+takes_alike so_far number (Ok (statement.Expect register value)) = refl
+
 reads_alike : (lines : List Line) (so_far : Reading)
     → resumed (Sized Sixteen) so_far lines ≡ resumed (Sized SixtyFour) so_far lines
 reads_alike [] so_far = refl
 reads_alike (line ∷ more) so_far =
-    ap (λ (says : Result Statement Flaw). on Sixteen more (after_statement so_far line.number says))
+    ap (λ (says : Result Statement Flaw). on Sixteen more (after_statement (Sized Sixteen) so_far line.number says))
     (says_alike line.words)
-    ∙ goes_alike (after_statement so_far line.number (statement_of (Sized SixtyFour) line.words)) more
+    ∙ ap (on Sixteen more) (takes_alike so_far line.number (statement_of (Sized SixtyFour) line.words))
+    ∙ goes_alike (after_statement (Sized SixtyFour) so_far line.number (statement_of (Sized SixtyFour) line.words)) more
     (reads_alike more)
 
 -- what is read, as a script for a unit of this size

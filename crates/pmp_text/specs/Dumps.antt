@@ -4,7 +4,8 @@ use Rattle.std.specs.Int.{div_ceil}
 use Rattle.std.specs.List.{flat_map, range_with_len}
 use Rattle.pmp_core.specs.declared.csr.Csr.{Csr}
 use Rattle.pmp_core.specs.declared.csr.Csr.TheVariants.{Cfg, Addr, Mseccfg}
-use Rattle.pmp_core.specs.declared.register_write.TheConstants.{ENTRIES_PER_CFG}
+use Rattle.pmp_core.specs.declared.hart.Profile.{Profile}
+use Rattle.pmp_core.specs.Hart.{bytes_in}
 use Rattle.pmp_text.specs.declared.lines.registers.Form.{Form}
 use Rattle.pmp_text.specs.declared.lines.registers.Form.TheVariants.{Dump, Script}
 use Rattle.pmp_core.specs.RegisterFile.{RegisterFile}
@@ -13,21 +14,21 @@ use Rattle.pmp_text.specs.Effects.{value_text}
 use Rattle.pmp_text.specs.Heads.{kept_value}
 use Rattle.pmp_text.specs.Names.{register_name}
 
--- the configuration register in this place: the odd numbers are left out
-abbrev pub cfg_at : (place : ℕ) → Csr
-cfg_at place = Cfg (2 * place)
+-- the configuration register in this place: on RV64 the odd numbers are left out
+abbrev pub cfg_at : Profile → (place : ℕ) → Csr
+cfg_at hart place = Cfg (if hart.is_rv32 then place else 2 * place)
 
--- the configuration registers that hold the bytes of n entries, eight each
-abbrev pub cfg_registers : (n : ℕ) → List Csr
-cfg_registers n = map cfg_at (range_with_len 0 (div_ceil n ENTRIES_PER_CFG))
+-- the configuration registers that hold the bytes of n entries, as many each as the first
+abbrev pub cfg_registers : Profile → (n : ℕ) → List Csr
+cfg_registers hart n = map (cfg_at hart) (range_with_len 0 (div_ceil n (bytes_in hart 0)))
 
 -- an address register for each entry
 abbrev pub addr_registers : (n : ℕ) → List Csr
 addr_registers n = map Addr (range_with_len 0 n)
 
--- the registers of a unit of n entries
-abbrev pub registers_of : (n : ℕ) → List Csr
-registers_of n = cfg_registers n ++ (addr_registers n ++ Mseccfg ∷ [])
+-- the registers of a unit of n entries, but for mseccfgh, which is zero
+abbrev pub registers_of : Profile → (n : ℕ) → List Csr
+registers_of hart n = cfg_registers hart n ++ (addr_registers n ++ Mseccfg ∷ [])
 
 -- what a dump shows of a register is what it reads, and what a script sets it to is all that it keeps
 abbrev pub form_value : Form → RegisterFile → Csr → ℕ
@@ -48,7 +49,7 @@ line_of form file csr = form_line form csr (form_value form file csr)
 
 -- a line for each register
 unfoldable pub lines_of : Form → RegisterFile → List ℕ
-lines_of form file = flat_map (line_of form file) (registers_of (length file.entries))
+lines_of form file = flat_map (line_of form file) (registers_of file.profile (length file.entries))
 
 unfoldable pub dump_text : RegisterFile → List ℕ
 dump_text file = lines_of Dump file

@@ -13,7 +13,7 @@ use Rattle.pmp_core.specs.RegisterFile.{reset_file}
 use Rattle.pmp_text.specs.declared.expectation.Expectation.{Expectation}
 use Rattle.pmp_text.specs.declared.flaw.Flaw.{Flaw}
 use Rattle.pmp_text.specs.declared.refusal.Refusal.TheVariants.{BadVersion, BatchFull, Unpublished, TooLong}
-use Rattle.pmp_text.specs.declared.refusal.Refusal.TheVariants.{LateHead, Twice, NotHeld}
+use Rattle.pmp_text.specs.declared.refusal.Refusal.TheVariants.{LateHead, Twice}
 use Rattle.pmp_text.specs.declared.script.ScriptFault.{ScriptFault}
 use Rattle.pmp_text.specs.declared.script.statement.Statement.{Statement}
 use Rattle.pmp_text.specs.declared.script.statement.Statement.TheVariants as statement
@@ -21,7 +21,7 @@ use Rattle.pmp_text.specs.declared.script.statement.HeadStatement.{HeadStatement
 use Rattle.pmp_text.specs.declared.script.head.HeadLine.{HeadLine}
 use Rattle.pmp_text.specs.declared.script.version.Version.{Version}
 use Rattle.pmp_text.specs.declared.script.version.Version.TheVariants.{Sized, Headed}
-use Rattle.pmp_text.specs.Heads.{first_not_held, is_same, own_fault, size_for, start_said}
+use Rattle.pmp_text.specs.Heads.{event_flaw, is_same, own_fault, rv32_with, size_for, started}
 use Rattle.pmp_text.specs.Lines.{words, lines}
 use Rattle.pmp_text.specs.Statements.{statement_of}
 use Rattle.pmp_text.specs.Contents.{Publications, ScriptContents}
@@ -114,22 +114,40 @@ says_same says (Err flaw) = false
 abbrev pub is_said : Version → List Line → HeadStatement → Bool
 is_said version before says = list_any (λ line. says_same says (statement_of version line.words)) before
 
+-- whether XLEN is 32, as the lines before say, from the nearest back
+abbrev pub rv32_behind : Result Statement Flaw → Bool → Bool
+rv32_behind (Ok (statement.Event event)) before = before
+rv32_behind (Ok statement.Publish) before = before
+rv32_behind (Ok (statement.Head says)) before = rv32_with says before
+rv32_behind (Ok (statement.Expect register value)) before = before
+rv32_behind (Err flaw) before = before
+
+abbrev pub is_rv32 : Version → List Line → Bool
+is_rv32 version [] = false
+is_rv32 version (line ∷ before) = rv32_behind (statement_of version line.words) (is_rv32 version before)
+
 -- a line of the head is at fault where the head is over, or the same was said, or there is no such hart
 abbrev pub head_fault : (over said : Bool) → HeadStatement → Option Flaw
 head_fault over said says = if over then Some (as_whole LateHead) else (if said then Some (part 1 Twice) else own_fault says)
 
--- a line that is no statement is at fault by itself, an event where as many are open before it as a batch holds
-abbrev pub statement_fault : (count : ℕ) → (over : Bool) → (said : HeadStatement → Bool) → Result Statement Flaw
-    → Option Flaw
-statement_fault count over said (Err flaw) = Some flaw
-statement_fault count over said (Ok statement.Publish) = None
-statement_fault count over said (Ok (statement.Event event)) = if nat_lt count BATCH_EVENTS then None else Some (as_whole BatchFull)
-statement_fault count over said (Ok (statement.Head says)) = head_fault over (said says) says
-statement_fault count over said (Ok (statement.Expect register value)) = None
+-- an event is at fault where the hart doesn't have what it writes, or as many are open before it as a batch holds
+abbrev pub event_fault : Option Flaw → (count : ℕ) → Option Flaw
+event_fault (Some flaw) count = Some flaw
+event_fault None count = if nat_lt count BATCH_EVENTS then None else Some (as_whole BatchFull)
+
+-- a line that is no statement is at fault by itself
+abbrev pub statement_fault : (of_event : Event → Option Flaw) → (count : ℕ) → (over : Bool)
+    → (said : HeadStatement → Bool) → Result Statement Flaw → Option Flaw
+statement_fault of_event count over said (Err flaw) = Some flaw
+statement_fault of_event count over said (Ok statement.Publish) = None
+statement_fault of_event count over said (Ok (statement.Event event)) = event_fault (of_event event) count
+statement_fault of_event count over said (Ok (statement.Head says)) = head_fault over (said says) says
+statement_fault of_event count over said (Ok (statement.Expect register value)) = None
 
 abbrev pub fault_behind : Version → (before : List Line) → Line → Option Flaw
 fault_behind version before line =
-    statement_fault (open_events version before) (is_over version before) (is_said version before)
+    statement_fault (event_flaw version (is_rv32 version before)) (open_events version before) (is_over version before)
+    (is_said version before)
     (statement_of version line.words)
 
 -- the fault of a significant line, by its words and the significant lines before it, the nearest first
@@ -242,23 +260,19 @@ for_unit size (Ok published) = Ok (record {
 })
 for_unit size (Err fault) = Err fault
 
--- the first line of the head with a value that its register doesn't keep is at fault
-abbrev pub if_held : Option ℕ → ScriptContents → Result ScriptContents ScriptFault
-if_held (Some number) script = Err (at_line number (part 2 NotHeld))
-if_held None script = Ok script
-
 -- these publications are for the hart of a head, from the registers on that it sets
 abbrev pub for_head : List HeadLine → List Expectation → Result Publications ScriptFault
     → Result ScriptContents ScriptFault
-for_head head expectations (Ok published) =
-    let start = start_said head in
-    if_held (first_not_held start head) (record {
-      size = size_for start;
-      start = start;
-      batches = published.batches;
-      lines = published.lines;
-      expectations = expectations;
-    })
+for_head head expectations (Ok published) = elim (started head expectations) [
+  | Ok start ↦ Ok (record {
+    size = size_for start;
+    start = start;
+    batches = published.batches;
+    lines = published.lines;
+    expectations = expectations;
+  })
+  | Err fault ↦ Err fault
+]
 for_head head expectations (Err fault) = Err fault
 
 -- what lines publish behind the one that names their version

@@ -1,5 +1,5 @@
 -- What one line of a script says.
-use Rattle.std.specs.Prelude.{ℕ, List, [], ◌∷◌, true, false, ◌==◌, Option, Some, None, Result, Ok, Err, codes}
+use Rattle.std.specs.Prelude.{ℕ, List, [], ◌∷◌, Bool, true, false, ◌==◌, Option, Some, None, Result, Ok, Err, codes}
 use Rattle.std.specs.Prelude.{bytes_eq, nat_lt, position, if◌then◌else◌}
 use Rattle.pmp_core.specs.declared.csr.Csr.{Csr}
 use Rattle.pmp_core.specs.declared.event.Event.TheVariants.{Write, Reset}
@@ -7,7 +7,7 @@ use Rattle.pmp_text.specs.declared.flaw.Flaw.{Flaw}
 use Rattle.pmp_text.specs.declared.refusal.Refusal.{Refusal}
 use Rattle.pmp_text.specs.declared.refusal.Refusal.TheVariants.{BadLine, BadNumber, BadEntries, BadBits, BadGrain}
 use Rattle.pmp_text.specs.declared.script.hart_field.HartField.{HartField}
-use Rattle.pmp_text.specs.declared.script.hart_field.HartField.TheVariants.{Entries, Grain, Bits, Smepmp}
+use Rattle.pmp_text.specs.declared.script.hart_field.HartField.TheVariants.{Xlen, Entries, Grain, Bits, Smepmp}
 use Rattle.pmp_text.specs.declared.script.hart_field.TheConstants.{GRAINS}
 use Rattle.pmp_text.specs.declared.script.statement.HeadStatement.TheVariants.{Hart, Set}
 use Rattle.pmp_text.specs.declared.script.statement.Statement.{Statement}
@@ -32,27 +32,32 @@ assigned (Err kind) value = Err (part 1 kind)
 assigned (Ok csr) None = Err (part 2 BadNumber)
 assigned (Ok csr) (Some value) = Ok (csr, value)
 
+-- versions 1 and 2 are of RV64; which of the registers of RV32 a hart of version 3 has, its head says
+abbrev pub has_rv32 : Version → Bool
+has_rv32 (Sized size) = false
+has_rv32 Headed = true
+
 -- a name and a value, and nothing else
-abbrev pub assignment : List (List ℕ) → Result (Csr × ℕ) Flaw
-assignment operands = elim (two_of operands) [
-  | Ok (name, value) ↦ assigned (register_named name) (word_number value)
+abbrev pub assignment : Version → List (List ℕ) → Result (Csr × ℕ) Flaw
+assignment version operands = elim (two_of operands) [
+  | Ok (name, value) ↦ assigned (register_named (has_rv32 version) name) (word_number value)
   | Err flaw ↦ Err flaw
 ]
 
-abbrev pub write_statement : List (List ℕ) → Result Statement Flaw
-write_statement operands = elim (assignment operands) [
+abbrev pub write_statement : Version → List (List ℕ) → Result Statement Flaw
+write_statement version operands = elim (assignment version operands) [
   | Ok (csr, value) ↦ Ok (statement.Event (Write csr value))
   | Err flaw ↦ Err flaw
 ]
 
 abbrev pub set_statement : List (List ℕ) → Result Statement Flaw
-set_statement operands = elim (assignment operands) [
+set_statement operands = elim (assignment Headed operands) [
   | Ok (csr, value) ↦ Ok (statement.Head (Set csr value))
   | Err flaw ↦ Err flaw
 ]
 
 abbrev pub expect_statement : List (List ℕ) → Result Statement Flaw
-expect_statement operands = elim (assignment operands) [
+expect_statement operands = elim (assignment Headed operands) [
   | Ok (csr, value) ↦ Ok (statement.Expect csr value)
   | Err flaw ↦ Err flaw
 ]
@@ -79,17 +84,24 @@ smepmp_field word =
     if bytes_eq word (codes "yes") then Ok (Smepmp true)
     else (if bytes_eq word (codes "no") then Ok (Smepmp false) else Err BadLine)
 
+-- `32` or `64`
+abbrev pub xlen_field : List ℕ → Result HartField Refusal
+xlen_field word =
+    if bytes_eq word (codes "32") then Ok (Xlen true)
+    else (if bytes_eq word (codes "64") then Ok (Xlen false) else Err BadLine)
+
 abbrev pub numbered : (ℕ → HartField) → Result ℕ Refusal → Result HartField Refusal
 numbered field (Ok number) = Ok (field number)
 numbered field (Err kind) = Err kind
 
--- `entries`, `grain`, `bits` or `smepmp`, and its value
+-- `xlen`, `entries`, `grain`, `bits` or `smepmp`, and its value
 abbrev pub field_named : (name value : List ℕ) → Option (Result HartField Refusal)
 field_named name value =
     if bytes_eq name (codes "entries") then Some (numbered (λ n. Entries n) (byte_number BadEntries value))
     else (if bytes_eq name (codes "grain") then Some (numbered (λ n. Grain n) (grain_number value))
     else (if bytes_eq name (codes "bits") then Some (numbered (λ n. Bits n) (byte_number BadBits value))
-    else (if bytes_eq name (codes "smepmp") then Some (smepmp_field value) else None)))
+    else (if bytes_eq name (codes "smepmp") then Some (smepmp_field value)
+    else (if bytes_eq name (codes "xlen") then Some (xlen_field value) else None))))
 
 -- what is at fault is the value, or else the name
 abbrev pub field_of : (name value : List ℕ) → Result HartField Flaw
@@ -129,7 +141,7 @@ further_statement Headed word operands = head_statement word operands
 unfoldable pub statement_of : Version → List (List ℕ) → Result Statement Flaw
 statement_of version [] = Err (as_whole BadLine)
 statement_of version (word ∷ operands) =
-    if bytes_eq word (codes "write") then write_statement operands
+    if bytes_eq word (codes "write") then write_statement version operands
     else (if bytes_eq word (codes "reset") then without_operands (statement.Event Reset) operands
     else (if bytes_eq word (codes "publish") then without_operands statement.Publish operands
     else further_statement version word operands))

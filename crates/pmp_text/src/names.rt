@@ -14,6 +14,8 @@ const FIRST_ADDR: u64 = 0x3B0;
 
 const MSECCFG: u64 = 0x747;
 
+const MSECCFGH: u64 = 0x757;
+
 /// The number that the digits write in decimal without leading zeros, where it is at most `most`.
 #[tactic(auto, unfolding(crate::specs::Names::plain_number))]
 fn read_plain_number(digits: &[u8], most: u64) -> Option<u64>
@@ -34,6 +36,9 @@ fn read_register_number(word: &[u8]) -> Option<u64>
     if word == b"mseccfg".as_slice() {
         return Some(MSECCFG);
     }
+    if word == b"mseccfgh".as_slice() {
+        return Some(MSECCFGH);
+    }
     if let Some(digits) = word.strip_prefix(b"pmpcfg") {
         return Some(FIRST_CFG + read_plain_number(digits, 15)?);
     }
@@ -43,13 +48,13 @@ fn read_register_number(word: &[u8]) -> Option<u64>
     read_numeral(word.strip_prefix(b"0x")?, 16, 16)
 }
 
-/// The register that a word names.
-pub fn read_register(word: &[u8]) -> Result<Csr, Refusal>
-    ensures { result ≡ register_named word.now }
+/// The register that a word names, where XLEN is 32, or 64.
+pub fn read_register(is_rv32: bool, word: &[u8]) -> Result<Csr, Refusal>
+    ensures { result ≡ register_named is_rv32 word.now }
 {
     let number = read_register_number(word).ok_or(Refusal::BadName)?;
     let number = u16::try_from(number).or(Err(Refusal::BadName))?;
-    Csr::from_number(number).map_err(|fault| match fault {
+    Csr::on(is_rv32, number).map_err(|fault| match fault {
         CsrFault::OddCfg => Refusal::OddCfg,
         CsrFault::NotPmp => Refusal::BadName,
     })
@@ -67,6 +72,7 @@ impl fmt::Display for RegisterName {
             Csr::Cfg(number) => write!(f, "pmpcfg{number}"),
             Csr::Addr(number) => write!(f, "pmpaddr{number}"),
             Csr::Mseccfg => write!(f, "mseccfg"),
+            Csr::Mseccfgh => write!(f, "mseccfgh"),
         }
     }
 }

@@ -10,6 +10,7 @@ ghost use Rattle.pmp_text.specs.Steps.Cuts.{AreCut, AreEnds, cut_from, last_end}
 ghost use Rattle.pmp_text.specs.Outcomes.{out_of_memory};
 
 mod hart_field;
+mod hart_registers;
 mod head;
 mod lines;
 mod progress;

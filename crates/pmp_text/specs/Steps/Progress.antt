@@ -4,11 +4,11 @@ use Rattle.std.specs.Prelude.{◌+◌, Bool, true, false, if◌then◌else◌}
 use Rattle.std.specs.List.{list_any}
 use Rattle.pmp_core.specs.declared.csr.Csr.{Csr}
 use Rattle.pmp_core.specs.Hart.{profile_of}
-use Rattle.pmp_core.specs.RegisterFile.{RegisterFile, reset_file}
+use Rattle.pmp_core.specs.RegisterFile.{reset_file}
 use Rattle.pmp_core.specs.declared.event.Event.{Event}
 use Rattle.pmp_core.specs.declared.event.TheConstants.{BATCH_EVENTS}
 use Rattle.pmp_text.specs.declared.flaw.Flaw.{Flaw}
-use Rattle.pmp_text.specs.declared.refusal.Refusal.TheVariants.{BatchFull, NotHeld, Unpublished}
+use Rattle.pmp_text.specs.declared.refusal.Refusal.TheVariants.{BatchFull, Unpublished}
 use Rattle.pmp_text.specs.declared.script.ScriptFault.{ScriptFault}
 use Rattle.pmp_text.specs.declared.script.statement.Statement.{Statement}
 use Rattle.pmp_text.specs.declared.script.statement.Statement.TheVariants as statement
@@ -18,10 +18,10 @@ use Rattle.pmp_text.specs.declared.script.version.Version.{Version}
 use Rattle.pmp_text.specs.declared.script.version.Version.TheVariants.{Sized, Headed}
 use Rattle.pmp_text.specs.declared.expectation.Expectation.{Expectation}
 use Rattle.pmp_text.specs.Contents.{Publications, ScriptContents}
-use Rattle.pmp_text.specs.Heads.{first_not_held, is_same, start_said}
+use Rattle.pmp_text.specs.Heads.{event_flaw, is_same, profile_said}
 use Rattle.pmp_text.specs.Statements.{statement_of}
 use Rattle.pmp_text.specs.Scripts.{Line, for_head, head_fault}
-use Rattle.pmp_text.specs.Flaws.{at_line, part, as_whole}
+use Rattle.pmp_text.specs.Flaws.{at_line, as_whole}
 
 -- the publications so far, the events of the open batch and their lines, and the line of the first of them
 pub record Progress : Type 0 where
@@ -141,18 +141,24 @@ with_expected so_far number register value = record {
   events = so_far.events;
 }
 
+-- an event joins the open batch if it has no such flaw
+abbrev pub after_event : Option Flaw → Reading → ℕ → Event → Result Reading ScriptFault
+after_event (Some flaw) so_far number event = Err (at_line number flaw)
+after_event None so_far number event = with_progress so_far (with_event so_far.progress number event)
+
 -- what reading a line with this number makes of it, by what the line says
-abbrev pub after_statement : Reading → ℕ → Result Statement Flaw → Result Reading ScriptFault
-after_statement so_far number (Err flaw) = Err (at_line number flaw)
-after_statement so_far number (Ok statement.Publish) = Ok (with_publish so_far)
-after_statement so_far number (Ok (statement.Event event)) =
-    with_progress so_far (with_event so_far.progress number event)
-after_statement so_far number (Ok (statement.Head says)) = with_head so_far (after_head so_far.head number says)
-after_statement so_far number (Ok (statement.Expect register value)) =
+abbrev pub after_statement : Version → Reading → ℕ → Result Statement Flaw → Result Reading ScriptFault
+after_statement version so_far number (Err flaw) = Err (at_line number flaw)
+after_statement version so_far number (Ok statement.Publish) = Ok (with_publish so_far)
+after_statement version so_far number (Ok (statement.Event event)) =
+    after_event (event_flaw version (profile_said so_far.head.lines).is_rv32 event) so_far number event
+after_statement version so_far number (Ok (statement.Head says)) =
+    with_head so_far (after_head so_far.head number says)
+after_statement version so_far number (Ok (statement.Expect register value)) =
     Ok (with_expected so_far number register value)
 
 abbrev pub after_line : Version → Reading → Line → Result Reading ScriptFault
-after_line version so_far line = after_statement so_far line.number (statement_of version line.words)
+after_line version so_far line = after_statement version so_far line.number (statement_of version line.words)
 
 -- what was read, where the text ends; an event line that no `publish` follows is at fault, the first of them
 abbrev pub all_published : Option ℕ → Read → Result Read ScriptFault
@@ -174,14 +180,6 @@ abbrev pub resumed : Version → Reading → List Line → Result Read ScriptFau
 resumed version so_far [] = finished so_far
 resumed version so_far (line ∷ more) =
     elim (after_line version so_far line) [ Ok next ↦ resumed version next more | Err fault ↦ Err fault ]
-
--- the file that the lines of a head say, where registers keep the values that they are set to
-abbrev pub if_kept : Option ℕ → RegisterFile → Result RegisterFile ScriptFault
-if_kept (Some number) file = Err (at_line number (part 2 NotHeld))
-if_kept None file = Ok file
-
-abbrev pub started : List HeadLine → Result RegisterFile ScriptFault
-started lines = let file = start_said lines in if_kept (first_not_held file lines) file
 
 -- what a script means of which this was read
 abbrev pub concluded : Version → Result Read ScriptFault → Result ScriptContents ScriptFault

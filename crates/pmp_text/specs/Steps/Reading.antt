@@ -2,7 +2,7 @@
 use Rattle.std.specs.Prelude.{◌≡◌, drop, length}
 use Rattle.pmp_text.specs.declared.script.head.Head.{Head}
 use Rattle.pmp_text.specs.declared.script.reading.ScriptReading.{ScriptReading}
-use Rattle.pmp_text.specs.Heads.{hart_said}
+use Rattle.pmp_text.specs.Heads.{profile_said}
 use Rattle.pmp_text.specs.declared.script.progress.OpenBatch.{OpenBatch}
 use Rattle.pmp_text.specs.EventLogs.{Kept}
 use Rattle.pmp_text.specs.Steps.Cuts.{AreOpen, cut_from}
@@ -29,9 +29,9 @@ IsOpen kept open_batch =
 abbrev pub head_of : Head → HeadSoFar
 head_of head = record { lines = head.lines.items; is_over = head.is_over }
 
--- its hart is the one that its lines say
+-- it has what its lines say of the hart
 abbrev pub IsHead : Head → Type 0
-IsHead head = head.hart ≡ hart_said head.lines.items
+IsHead head = head.said ≡ profile_said head.lines.items
 
 -- what the log, the open batch in it and the head say
 abbrev pub reading_of : Kept → ScriptReading → Reading

@@ -1,16 +1,19 @@
 //! The registers of a register file as text.
 
-ghost use Rattle.std.specs.Prelude.{◌≡◌, ◌++◌, OnOk, OnErr, Some};
-ghost use Rattle.pmp_text.specs.Dumps.{dump_text, form_line, form_value, lines_of};
+ghost use Rattle.std.specs.Prelude.{◌≡◌, ◌<◌, ◌≤◌, ◌++◌, OnOk, OnErr, Some};
+ghost use Rattle.std.specs.Int.{div_ceil};
+ghost use Rattle.pmp_core.specs.declared.size.TheConstants.{MAX_ENTRIES};
+ghost use Rattle.pmp_core.specs.Hart.{bytes_in};
+ghost use Rattle.pmp_text.specs.Dumps.{cfg_at, dump_text, form_line, form_value, lines_of};
 
 use crate::lines::hexadecimal::Value;
 use crate::lines::{NoMemory, append_text};
 use crate::names::RegisterName;
 use crate::sink::Sink;
-use pmp_core::{Csr, RegFile};
+use pmp_core::{Csr, Hart, RegFile};
 use std::fmt;
 
-/// The most bytes of the lines of all registers, of which there are seventy-three.
+/// The most bytes of the lines of all registers, of which RV32 has eighty-one.
 const MOST: usize = 4096;
 
 /// What lines say of registers.
@@ -71,13 +74,38 @@ impl<'a> Lines<'a> {
     }
 }
 
+/// How many configuration registers hold the bytes of so many entries.
+fn registers_for(hart: &Hart, entries: u8) -> u8
+    requires { entries ≤ MAX_ENTRIES }
+    ensures count { result ≡ div_ceil entries (bytes_in hart.now 0) }
+    ensures most { result ≤ 16 }
+{
+    if hart.profile().is_rv32 {
+        entries.div_ceil(4)
+    } else {
+        entries.div_ceil(8)
+    }
+}
+
+/// The configuration register in this place among those that the hart has.
+fn cfg_at(hart: &Hart, place: u8) -> Csr
+    requires { place < 16 }
+    ensures { result ≡ cfg_at hart.now place }
+{
+    if hart.profile().is_rv32 {
+        Csr::Cfg(place)
+    } else {
+        Csr::Cfg(2 * place)
+    }
+}
+
 impl<'a> fmt::Display for Lines<'a> {
     ghost output = { λ lines. Some (lines_of lines.form lines.file.now) };
 
-    /// A configuration register holds eight entries.
     fn fmt<W: fmt::Write>(&self, f: &mut fmt::Formatter<W>) -> fmt::Result {
-        for place in 0..self.file.entries().div_ceil(8) {
-            write!(f, "{}", self.line(Csr::Cfg(2 * place)))?;
+        let hart = self.file.hart();
+        for place in 0..registers_for(&hart, self.file.entries()) {
+            write!(f, "{}", self.line(cfg_at(&hart, place)))?;
         }
         for entry in 0..self.file.entries() {
             write!(f, "{}", self.line(Csr::Addr(entry)))?;

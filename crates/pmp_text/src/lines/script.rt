@@ -1,7 +1,7 @@
 //! A script that begins with a register file.
 
 ghost use Rattle.std.specs.Prelude.{◌≡◌, ◌+◌, ◌^◌, ◌++◌, IfOk, IsTrue, List, ℕ, OnErr, OnOk, codes, if◌then◌else◌};
-ghost use Rattle.pmp_text.specs.GivenBack.{GivesBack, script_text};
+ghost use Rattle.pmp_text.specs.GivenBack.{GivesBack, script_text, xlen_line};
 
 use crate::event_log::FixedLog;
 use crate::lines::registers::{Form, Lines};
@@ -27,6 +27,18 @@ fn smepmp_word(has_smepmp: bool) -> &'static str
     if has_smepmp { "yes" } else { "no" }
 }
 
+/// The line that says XLEN, of RV32 alone.
+#[tactic(auto, unfolding(crate::specs::GivenBack::xlen_line))]
+fn xlen_line(hart: &Hart) -> &'static str
+    ensures { result.now ≡ xlen_line hart.now }
+{
+    if hart.profile().is_rv32 {
+        "hart xlen 32\n"
+    } else {
+        ""
+    }
+}
+
 /// The script by itself.
 #[tactic(auto, unfolding(crate::specs::GivenBack::script_text))]
 fn script_of(file: &RegFile) -> Result<ArrayString<SCRIPT>, NoMemory>
@@ -39,8 +51,9 @@ fn script_of(file: &RegFile) -> Result<ArrayString<SCRIPT>, NoMemory>
     let smepmp = smepmp_word(hart.has_smepmp());
     let form = Form::Script;
     let lines = Lines { form, file };
+    let xlen = xlen_line(&hart);
     text_of(format_args!(
-        "pmp 3\nhart entries {entries}\nhart grain {grain}\nhart bits {bits}\nhart smepmp {smepmp}\n{lines}"
+        "pmp 3\n{xlen}hart entries {entries}\nhart grain {grain}\nhart bits {bits}\nhart smepmp {smepmp}\n{lines}"
     ))
 }
 

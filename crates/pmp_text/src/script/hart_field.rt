@@ -1,14 +1,14 @@
 //! What a head says of the hart.
 
 ghost use Rattle.std.specs.Prelude.{◌≡◌, ◌<◌, ◌==◌, IfSome, position};
-ghost use Rattle.pmp_text.specs.Heads.{hart_with, hart_kind, same_field};
+ghost use Rattle.pmp_text.specs.Heads.{field_fault, hart_kind, said_with, same_field, with_field};
 ghost use Rattle.pmp_text.specs.declared.script.hart_field.TheConstants.{GRAINS};
-ghost use Rattle.pmp_text.specs.Statements.{byte_number, field_named, field_of, grain_number, smepmp_field};
+ghost use Rattle.pmp_text.specs.Statements.{byte_number, field_named, field_of, grain_number, smepmp_field, xlen_field};
 
 use crate::flaw::Flaw;
 use crate::numbers::read_word_number;
 use crate::refusal::Refusal;
-use pmp_core::{Hart, HartFault};
+use pmp_core::{HartFault, MAX_ADDRESS_BITS, MAX_ENTRIES, MAX_GRAIN, MIN_ADDRESS_BITS, Profile};
 
 /// The grains that there are, in bytes: that of G is at place G.
 pub const GRAINS: [u64; 11] = [4, 8, 16, 32, 64, 128, 256, 512, 1024, 2048, 4096];
@@ -16,6 +16,8 @@ pub const GRAINS: [u64; 11] = [4, 8, 16, 32, 64, 128, 256, 512, 1024, 2048, 4096
 /// One thing that a head says of the hart.
 #[derive(Clone, Copy)]
 pub enum HartField {
+    /// Whether XLEN is 32, and not 64.
+    Xlen(bool),
     Entries(u8),
     /// The manual's G.
     Grain(u8),
@@ -62,6 +64,16 @@ fn read_smepmp(word: &[u8]) -> Result<HartField, Refusal>
     }
 }
 
+fn read_xlen(word: &[u8]) -> Result<HartField, Refusal>
+    ensures { result ≡ xlen_field word.now }
+{
+    match word {
+        b"32" => Ok(HartField::Xlen(true)),
+        b"64" => Ok(HartField::Xlen(false)),
+        _ => Err(Refusal::BadLine),
+    }
+}
+
 /// What a value says as the field with this name.
 fn read_value(name: &[u8], value: &[u8]) -> Option<Result<HartField, Refusal>>
     ensures { result ≡ field_named name.now value.now }
@@ -74,6 +86,8 @@ fn read_value(name: &[u8], value: &[u8]) -> Option<Result<HartField, Refusal>>
         Some(read_byte(value, Refusal::BadBits).map(HartField::Bits))
     } else if name == b"smepmp".as_slice() {
         Some(read_smepmp(value))
+    } else if name == b"xlen".as_slice() {
+        Some(read_xlen(value))
     } else {
         None
     }
@@ -93,6 +107,7 @@ impl HartField {
         ensures { result ≡ same_field self other }
     {
         match (self, other) {
+            (HartField::Xlen(_), HartField::Xlen(_)) => true,
             (HartField::Entries(_), HartField::Entries(_)) => true,
             (HartField::Grain(_), HartField::Grain(_)) => true,
             (HartField::Bits(_), HartField::Bits(_)) => true,
@@ -101,24 +116,51 @@ impl HartField {
         }
     }
 
-    /// The hart with this in place of what it had, or why there is none.
-    pub fn put_into(self, hart: Hart) -> Result<Hart, Refusal>
-        ensures { result ≡ hart_with hart self }
+    /// How a script refuses it, if no hart has this.
+    fn fault(self) -> Option<Refusal>
+        ensures { result ≡ field_fault self }
     {
-        let (entries, grain) = (hart.entries(), hart.grain());
-        let (bits, has_smepmp) = (hart.address_bits(), hart.has_smepmp());
-        let made = match self {
-            HartField::Entries(entries) => Hart::new(entries, grain, bits, has_smepmp),
-            HartField::Grain(grain) => Hart::new(entries, grain, bits, has_smepmp),
-            HartField::Bits(bits) => Hart::new(entries, grain, bits, has_smepmp),
-            HartField::Smepmp(has_smepmp) => Hart::new(entries, grain, bits, has_smepmp),
-        };
-        made.map_err(kind_of)
+        match self {
+            HartField::Entries(entries) if usize::from(entries) > MAX_ENTRIES => {
+                Some(Refusal::BadEntries)
+            }
+            HartField::Grain(grain) if grain > MAX_GRAIN => Some(Refusal::BadGrain),
+            HartField::Bits(bits) if bits < MIN_ADDRESS_BITS || bits > MAX_ADDRESS_BITS => {
+                Some(Refusal::BadBits)
+            }
+            _ => None,
+        }
+    }
+
+    /// What is said of the hart with this in place of what was.
+    fn put_into(self, said: Profile) -> Profile
+        ensures { result ≡ with_field said self }
+    {
+        match self {
+            HartField::Xlen(is_rv32) => Profile { is_rv32, ..said },
+            HartField::Entries(entries) => Profile { entries, ..said },
+            HartField::Grain(grain) => Profile { grain, ..said },
+            HartField::Bits(address_bits) => Profile {
+                address_bits,
+                ..said
+            },
+            HartField::Smepmp(has_smepmp) => Profile { has_smepmp, ..said },
+        }
+    }
+
+    /// The same, if some hart has this.
+    pub fn said_over(self, said: Profile) -> Result<Profile, Refusal>
+        ensures { result ≡ said_with said self }
+    {
+        match self.fault() {
+            Some(kind) => Err(kind),
+            None => Ok(self.put_into(said)),
+        }
     }
 }
 
 /// How a script refuses a number that no hart has.
-fn kind_of(fault: HartFault) -> Refusal
+pub fn kind_of(fault: HartFault) -> Refusal
     ensures { result ≡ hart_kind fault }
 {
     match fault {

@@ -1,7 +1,7 @@
 //! The head of a script: its `hart` and `set` lines, before the first event.
 
 ghost use Rattle.std.specs.Prelude.{◌≡◌, OnOk};
-ghost use Rattle.pmp_text.specs.Heads.{checked, hart_said, own_fault, with_statement};
+ghost use Rattle.pmp_text.specs.Heads.{checked, own_fault, profile_said, unsaid_hart, with_statement};
 ghost use Rattle.pmp_text.specs.Outcomes.{Gives};
 ghost use Rattle.pmp_text.specs.Steps.Progress.{after_head, no_head, over, says_in};
 ghost use Rattle.pmp_text.specs.Steps.Reading.{IsHead, head_of};
@@ -11,10 +11,10 @@ use crate::refusal::Refusal;
 use crate::script::ScriptFault;
 use crate::script::statement::HeadStatement;
 use arrayvec::ArrayVec;
-use pmp_core::{Csr, Hart, Size};
+use pmp_core::{Hart, Profile, Size};
 
-/// How many lines a head has at most: four of the hart, and one for each register.
-pub const HEAD_LINES: usize = 77;
+/// How many lines a head has at most: five of the hart, and one for each register, of which RV32 has most.
+pub const HEAD_LINES: usize = 87;
 
 /// A line of a head, with its number in the text, counted from 1.
 #[derive(Clone, Copy, Default)]
@@ -26,30 +26,41 @@ pub struct HeadLine {
 /// What was read of a head so far.
 #[derive(Drop)]
 pub struct Head {
-    hart: Hart,
+    /// What is said of the hart, with 0 address bits where nothing is said of them.
+    said: Profile,
     lines: ArrayVec<HeadLine, HEAD_LINES>,
     /// Whether an event or a `publish` came.
     is_over: bool,
 }
 
-/// The hart once a line of the head is read.
-fn hart_after(hart: Hart, statement: HeadStatement) -> Result<Hart, Flaw>
-    ensures { result ≡ checked (own_fault statement) (with_statement hart statement) }
+/// What is said of the hart once a line of the head is read.
+fn said_after(said: Profile, statement: HeadStatement) -> Result<Profile, Flaw>
+    ensures { result ≡ checked (own_fault statement) (with_statement said statement) }
 {
     match statement {
-        HeadStatement::Hart(field) => field.put_into(hart).map_err(|kind| kind.part(2)),
-        HeadStatement::Set(_, _) => Ok(hart),
+        HeadStatement::Hart(field) => field.said_over(said).map_err(|kind| kind.part(2)),
+        HeadStatement::Set(_, _) => Ok(said),
+    }
+}
+
+/// What is said where nothing is.
+fn unsaid() -> Profile
+    ensures { result ≡ unsaid_hart }
+{
+    Profile {
+        address_bits: 0,
+        ..Hart::of(Size::Sixteen).profile()
     }
 }
 
 impl Head {
-    /// The usual hart, with nothing set.
+    /// A head with no line.
     pub fn new() -> Self
         ensures hart { IsHead result }
         ensures nothing { head_of result ≡ no_head }
     {
         Head {
-            hart: Hart::of(Size::Sixteen),
+            said: unsaid(),
             lines: ArrayVec::new(),
             is_over: false,
         }
@@ -84,24 +95,24 @@ impl Head {
         if self.says(statement) {
             return Err(Refusal::Twice.part(1).at_line(line));
         }
-        let hart = match hart_after(self.hart, statement) {
-            Ok(hart) => hart,
+        let said = match said_after(self.said, statement) {
+            Ok(said) => said,
             Err(flaw) => return Err(flaw.at_line(line)),
         };
         if self.lines.is_full() {
             return Err(Refusal::Memory.whole().at_line(0));
         }
         self.lines.push(HeadLine { line, statement });
-        self.hart = hart;
+        self.said = said;
         Ok(())
     }
 
-    /// The hart that was said.
-    pub fn hart(&self) -> Hart
+    /// What was said of the hart.
+    pub fn said(&self) -> Profile
         requires { IsHead self.now }
-        ensures { result ≡ hart_said self.now.lines.items }
+        ensures { result ≡ profile_said self.now.lines.items }
     {
-        self.hart
+        self.said
     }
 
     /// The lines of the head.

@@ -10,6 +10,7 @@ ghost use Rattle.pmp_text.specs.Steps.Views.{seen_line};
 use crate::event_log::EventLog;
 use crate::expectation::Expectation;
 use crate::refusal::Refusal;
+use crate::script::hart_registers::event_flaw;
 use crate::script::head::Head;
 use crate::script::progress::OpenBatch;
 use crate::script::significant::NumberedLine;
@@ -52,6 +53,9 @@ impl ScriptReading {
     {
         match read_statement(version, line.bytes) {
             Ok(Statement::Event(event)) => {
+                if let Some(flaw) = event_flaw(version, self.head.said().is_rv32, event) {
+                    return Err(flaw.at_line(line.number));
+                }
                 self.head.end();
                 self.batch.add(log, line.number, event)
             }
@@ -83,7 +87,7 @@ impl ScriptReading {
         }
         match version {
             Version::Sized(size) => Ok(Script::new(size, RegFile::reset_of(size), log)),
-            Version::Headed => match start(&self.head) {
+            Version::Headed => match start(&self.head, log.expectations()) {
                 Ok(file) => Ok(Script::new(shown_size(&file), file, log)),
                 Err(fault) => Err(fault),
             },

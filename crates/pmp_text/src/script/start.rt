@@ -1,32 +1,39 @@
 //! Where the unit of a script with a head begins.
 
-ghost use Rattle.std.specs.Prelude.{◌≡◌, ◌+◌, ◌≤◌, fold};
-ghost use Rattle.pmp_text.specs.Heads.{first_not_held, is_kept, kept_value, with_bytes, with_register, with_set};
-ghost use Rattle.pmp_text.specs.Steps.Progress.{started};
+ghost use Rattle.std.specs.Prelude.{◌≡◌, ◌+◌, ◌≤◌, IfErr, IfOk, None, Some, find, fold, option_map, unwrap_or};
+ghost use Rattle.pmp_text.specs.Heads.{bits_fault, first_not_held, hart_said, is_kept, kept_value, says_bits, started};
+ghost use Rattle.pmp_text.specs.Heads.{fault_on, start_on, with_bits, with_bytes, with_register, with_set};
+ghost use Rattle.pmp_text.specs.Flaws.{at_line, part};
+ghost use Rattle.pmp_text.specs.declared.refusal.Refusal.TheVariants.{NotHeld};
 ghost use Rattle.pmp_text.specs.Steps.Reading.{IsHead};
 
+use crate::expectation::Expectation;
 use crate::refusal::Refusal;
 use crate::script::ScriptFault;
+use crate::script::hart_field::{HartField, kind_of};
+use crate::script::hart_registers::{first_foreign_expectation, first_foreign_line};
 use crate::script::head::{Head, HeadLine};
 use crate::script::statement::HeadStatement;
-use pmp_core::{Csr, MAX_ENTRIES, RegFile, SavedRegisters};
+use pmp_core::{Csr, Hart, MAX_ADDRESS_BITS, MAX_ENTRIES, MID_ADDRESS_BITS, Profile, RegFile, SavedRegisters};
 
-/// Puts the bytes of a value, lowest first, over those of the eight entries from the first on.
-fn set_bytes(saved: &mut SavedRegisters, first: usize, value: u64)
-    requires { first + 8 ≤ MAX_ENTRIES }
-    ensures { saved.new ≡ record saved.old { configurations = with_bytes saved.old.configurations first value } }
+/// Puts so many bytes of a value, lowest first, over those of the entries from the first on.
+fn set_bytes(saved: &mut SavedRegisters, first: usize, count: usize, value: u64)
+    requires value { count ≤ 8 }
+    requires entries { first + count ≤ MAX_ENTRIES }
+    ensures { saved.new
+        ≡ record saved.old { configurations = with_bytes saved.old.configurations first count value } }
 {
-    saved.configurations[first..first + 8].copy_from_slice(&value.to_le_bytes());
+    saved.configurations[first..first + count].copy_from_slice(&value.to_le_bytes()[..count]);
 }
 
-/// Puts a value into a register, if there is one.
-fn set_register(saved: &mut SavedRegisters, register: Csr, value: u64)
-    ensures { saved.new ≡ with_register saved.old register value }
+/// Puts a value into a register of this hart, if there is one.
+fn set_register(hart: &Hart, saved: &mut SavedRegisters, register: Csr, value: u64)
+    ensures { saved.new ≡ with_register hart.now saved.old register value }
 {
     match register {
         Csr::Cfg(number) => {
-            if number % 2 == 0 && number < 16 {
-                set_bytes(saved, 4 * usize::from(number), value);
+            if number < 16 {
+                set_bytes(saved, 4 * usize::from(number), hart.bytes_in(number), value);
             }
         }
         Csr::Addr(number) => {
@@ -35,25 +42,26 @@ fn set_register(saved: &mut SavedRegisters, register: Csr, value: u64)
             }
         }
         Csr::Mseccfg => saved.mseccfg = value,
+        Csr::Mseccfgh => {}
     }
 }
 
 /// Does what a line of the head says of a register.
-fn set_line(saved: &mut SavedRegisters, statement: HeadStatement)
-    ensures { saved.new ≡ with_set saved.old statement }
+fn set_line(hart: &Hart, saved: &mut SavedRegisters, statement: HeadStatement)
+    ensures { saved.new ≡ with_set hart.now saved.old statement }
 {
     match statement {
         HeadStatement::Hart(_) => {}
-        HeadStatement::Set(register, value) => set_register(saved, register, value),
+        HeadStatement::Set(register, value) => set_register(hart, saved, register, value),
     }
 }
 
 /// Does what lines of the head say of registers.
-fn set_lines(saved: &mut SavedRegisters, lines: &[HeadLine])
-    ensures { saved.new ≡ fold (λ saved line. with_set saved line.statement) saved.old lines.now }
+fn set_lines(hart: &Hart, saved: &mut SavedRegisters, lines: &[HeadLine])
+    ensures { saved.new ≡ fold (λ saved line. with_set hart.now saved line.statement) saved.old lines.now }
 {
     for line in lines {
-        set_line(saved, line.statement);
+        set_line(hart, saved, line.statement);
     }
 }
 
@@ -87,16 +95,96 @@ fn first_not_held(file: &RegFile, lines: &[HeadLine]) -> Option<u64>
     Some(line.line)
 }
 
-/// The register file that a head says, if its registers keep the values that they are set to.
-pub fn start(head: &Head) -> Result<RegFile, ScriptFault>
-    requires { IsHead head.now }
-    ensures { result ≡ started head.now.lines.items }
+fn says_bits(statement: HeadStatement) -> bool
+    ensures { result ≡ says_bits statement }
 {
-    let mut saved = RegFile::reset_on(head.hart()).save();
-    set_lines(&mut saved, head.lines());
-    let file = RegFile::restore(&saved);
-    match first_not_held(&file, head.lines()) {
-        Some(line) => Err(Refusal::NotHeld.part(2).at_line(line)),
-        None => Ok(file),
+    matches!(statement, HeadStatement::Hart(HartField::Bits(_)))
+}
+
+/// The line that says how many bits an address has, or 0.
+fn line_of_bits(lines: &[HeadLine]) -> u64
+    ensures { result ≡ unwrap_or (option_map (λ line. line.line) (find (λ line. says_bits line.statement) lines.now)) 0 }
+{
+    match lines.iter().find(|line| says_bits(line.statement)) {
+        Some(line) => line.line,
+        None => 0,
+    }
+}
+
+/// What is said of a hart, with as many address bits as its XLEN allows where nothing is said of them.
+fn with_bits(said: Profile) -> Profile
+    ensures { result ≡ with_bits said }
+{
+    if said.address_bits > 0 {
+        return said;
+    }
+    let address_bits = if said.is_rv32 {
+        MID_ADDRESS_BITS
+    } else {
+        MAX_ADDRESS_BITS
+    };
+    Profile {
+        address_bits,
+        ..said
+    }
+}
+
+/// The hart that a head says, if there is one.
+#[tactic(auto, unfolding(crate::specs::Heads::bits_fault))]
+fn hart_of(head: &Head) -> Result<Hart, ScriptFault>
+    requires { IsHead head.now }
+    ensures ok { let lines = head.now.lines.items in
+        IfOk result (λ hart. (bits_fault lines ≡ None) × (hart ≡ hart_said lines)) }
+    ensures err { IfErr result (λ fault. bits_fault head.now.lines.items ≡ Some fault) }
+{
+    match Hart::new(with_bits(head.said())) {
+        Ok(hart) => Ok(hart),
+        Err(fault) => Err(kind_of(fault).part(2).at_line(line_of_bits(head.lines()))),
+    }
+}
+
+/// The register file of this hart that the lines of a head say.
+fn start_on(hart: Hart, lines: &[HeadLine]) -> RegFile
+    ensures { result ≡ start_on hart lines.now }
+{
+    let mut saved = RegFile::reset_on(hart).save();
+    set_lines(&hart, &mut saved, lines);
+    RegFile::restore(&saved)
+}
+
+/// The fault of a value that its register doesn't keep.
+fn not_held(file: &RegFile, lines: &[HeadLine]) -> Option<ScriptFault>
+    ensures { result ≡ option_map (λ number. at_line number (part 2 NotHeld)) (first_not_held file.now lines.now) }
+{
+    let line = first_not_held(file, lines)?;
+    Some(Refusal::NotHeld.part(2).at_line(line))
+}
+
+/// The fault that the whole head shows of this file.
+#[tactic(auto, unfolding(crate::specs::Heads::fault_on))]
+fn fault_on(file: &RegFile, lines: &[HeadLine], expected: &[Expectation]) -> Option<ScriptFault>
+    ensures { result ≡ fault_on file.now lines.now expected.now }
+{
+    let is_rv32 = file.hart().profile().is_rv32;
+    first_foreign_line(is_rv32, lines)
+        .or(first_foreign_expectation(is_rv32, expected))
+        .or(not_held(file, lines))
+}
+
+/// The register file that a head says, if its hart has what it and the expectations name, and its registers keep the
+/// values that they are set to.
+pub fn start(head: &Head, expected: &[Expectation]) -> Result<RegFile, ScriptFault>
+    requires { IsHead head.now }
+    ensures { result ≡ started head.now.lines.items expected.now }
+{
+    match hart_of(head) {
+        Ok(hart) => {
+            let file = start_on(hart, head.lines());
+            match fault_on(&file, head.lines(), expected) {
+                Some(fault) => Err(fault),
+                None => Ok(file),
+            }
+        }
+        Err(fault) => Err(fault),
     }
 }

@@ -70,11 +70,11 @@ fn read_two<'a>(mut operands: Words<'a>) -> Result<(&'a [u8], &'a [u8]), Flaw>
 }
 
 /// A register and a value.
-fn read_assignment(operands: Words) -> Result<(Csr, u64), Flaw>
-    ensures { result ≡ assignment (words operands.entry.rest.now) }
+fn read_assignment(version: Version, operands: Words) -> Result<(Csr, u64), Flaw>
+    ensures { result ≡ assignment version (words operands.entry.rest.now) }
 {
     let (name, value) = read_two(operands)?;
-    let csr = read_register(name).map_err(|kind| kind.part(1))?;
+    let csr = read_register(version.has_rv32(), name).map_err(|kind| kind.part(1))?;
     let value = read_word_number(value).ok_or(Refusal::BadNumber.part(2))?;
     Ok((csr, value))
 }
@@ -97,10 +97,10 @@ fn read_head_statement(word: &[u8], operands: Words) -> Result<Statement, Flaw>
         let (name, value) = read_two(operands)?;
         Ok(Statement::Head(HeadStatement::Hart(read_field(name, value)?)))
     } else if word == b"set".as_slice() {
-        let (csr, value) = read_assignment(operands)?;
+        let (csr, value) = read_assignment(Version::Headed, operands)?;
         Ok(Statement::Head(HeadStatement::Set(csr, value)))
     } else if word == b"expect".as_slice() {
-        let (csr, value) = read_assignment(operands)?;
+        let (csr, value) = read_assignment(Version::Headed, operands)?;
         Ok(Statement::Expect(csr, value))
     } else {
         Err(Refusal::BadLine.part(0))
@@ -117,7 +117,7 @@ pub fn read_statement(version: Version, line: &[u8]) -> Result<Statement, Flaw>
         return Err(Refusal::BadLine.whole());
     };
     if word == b"write".as_slice() {
-        let (csr, value) = read_assignment(words)?;
+        let (csr, value) = read_assignment(version, words)?;
         Ok(Statement::Event(Event::Write(csr, value)))
     } else if word == b"reset".as_slice() {
         without_operands(Statement::Event(Event::Reset), words)

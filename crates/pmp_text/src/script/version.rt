@@ -3,6 +3,7 @@
 ghost use Rattle.std.specs.Prelude.{◌≡◌, IfErr, IfOk, None, Some};
 ghost use Rattle.pmp_text.specs.Lines.{words};
 ghost use Rattle.pmp_text.specs.Scripts.{version_flaw, version_named, version_numbered};
+ghost use Rattle.pmp_text.specs.Statements.{has_rv32};
 
 use crate::flaw::Flaw;
 use crate::refusal::Refusal;
@@ -16,6 +17,18 @@ pub enum Version {
     Sized(Size),
     /// Version 3: a head says the hart and what its registers have before the first event.
     Headed,
+}
+
+impl Version {
+    /// Whether a line may name a register that RV32 alone has.
+    pub fn has_rv32(self) -> bool
+        ensures { result ≡ has_rv32 self }
+    {
+        match self {
+            Version::Sized(_) => false,
+            Version::Headed => true,
+        }
+    }
 }
 
 /// The version with this number.
