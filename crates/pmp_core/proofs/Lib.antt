@@ -33,3 +33,4 @@ pub mod MseccfgReasons
 pub mod ReasonsLaw
 pub mod Reachable
 pub mod MovedWrites
+mod Xlen

@@ -36,3 +36,4 @@ pub mod GrainLaw
 pub mod SizeLaw
 pub mod SavedLaw
 pub mod ReachableLaw
+pub mod XlenLaw

@@ -24,6 +24,7 @@ ghost use Rattle.pmp_core.specs.SavedRegisters.{restored_file, zero_registers};
 ghost use Rattle.pmp_core.specs.SavedLaw.{SavedLaw};
 ghost use Rattle.pmp_core.specs.SpanLaw.{OneSpanLaw};
 ghost use Rattle.pmp_core.specs.WriteReasonsLaw.{WriteReasonsLaw};
+ghost use Rattle.pmp_core.specs.XlenLaw.{XlenLaw};
 ghost use Rattle.pmp_core.specs.Ranges.{decision_of};
 
 use crate::register_file::ENTRIES;
@@ -93,6 +94,12 @@ pub fn law_grain()
 /// one that has more entries and is else the same. Sixteen entries and sixty-four are one case.
 pub fn law_sizes()
     ensures { SizeLaw }
+{}
+
+/// The law of XLEN: a hart of RV32 has the entries and decides every access as one of RV64 that is else the same, after
+/// events that give both the same bytes.
+pub fn law_xlen()
+    ensures { XlenLaw }
 {}
 
 /// A write to a legal register file has no reason not to be stored as written exactly where the register then reads

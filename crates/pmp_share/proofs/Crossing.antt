@@ -50,7 +50,7 @@ file_sync : IsSync (file.the_field).row
 file_sync = search (file_fields_sync, sendable) depth 14
 
 journal_sync : IsSync (journal.the_field).row
-journal_sync = search (crosses, sendable) depth 14
+journal_sync = search (crosses, sendable) depth 16
 
 run_sync : IsSync run.the_row
 run_sync = search (crosses, sendable) depth 14

@@ -51,10 +51,10 @@ pub batch_send : IsSend batch.the_row
 batch_send = search (batch_inside_send, sendable) depth 6
 
 pub journal_send : IsSend journal.the_row
-journal_send = search (crosses, sendable) depth 14
+journal_send = search (crosses, sendable) depth 16
 
 journal_field_send : IsSend (journal.the_field).row
-journal_field_send = search (crosses, sendable) depth 14
+journal_field_send = search (crosses, sendable) depth 16
 
 run_send : IsSend run.the_row
 run_send = search (crosses, sendable) depth 14
