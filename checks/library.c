@@ -134,7 +134,7 @@ static void try_sizes(void) {
 // value or is refused leaves the unit and its map.
 static bool is_named_right(tilvenka_pmp_unit *unit, uint32_t csr) {
     static tilvenka_pmp_unit before;
-    uint32_t status = status_of(csr);
+    uint32_t status = status_of(64, true, csr);
     uint64_t value = 77;
     bool is_right = tilvenka_pmp_read(unit, csr, &value) == status;
     is_right &= value == (status == TILVENKA_PMP_UNCHANGED ? 0 : 77);
