@@ -2,8 +2,7 @@
 // with each high bit, on the whole truth table of Smepmp, and on units of random bytes that lie beside pages which may
 // not be touched. The last line is 'N passed, M failed'.
 #define _GNU_SOURCE
-#include "library.h"
-#include <string.h>
+#include "model.h"
 #include <sys/mman.h>
 #include <unistd.h>
 
@@ -291,16 +290,6 @@ static void try_version(void) {
     expect(tilvenka_pmp_unit_size() == sizeof(tilvenka_pmp_unit), "size of a unit", tilvenka_pmp_unit_size());
     expect(tilvenka_pmp_is_compatible(), "a library for the header", 0);
 }
-
-// Smepmp's truth table: L, R, W, X, and what machine mode and the other modes then have.
-static const struct {
-    const char *bits, *machine, *others;
-} TRUTH[16] = {
-    {"----", "", ""},     {"---X", "", "x"},    {"--W-", "rw", "r"}, {"--WX", "rw", "rw"},
-    {"-R--", "", "r"},    {"-R-X", "", "rx"},   {"-RW-", "", "rw"},  {"-RWX", "", "rwx"},
-    {"L---", "", ""},     {"L--X", "x", ""},    {"L-W-", "x", "x"},  {"L-WX", "rx", "x"},
-    {"LR--", "r", ""},    {"LR-X", "rx", ""},   {"LRW-", "rw", ""},  {"LRWX", "r", "r"},
-};
 
 static uint32_t set_of(const char *letters) {
     return (strchr(letters, 'r') ? TILVENKA_PMP_READ : 0) + (strchr(letters, 'w') ? TILVENKA_PMP_WRITE : 0)
