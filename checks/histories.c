@@ -114,7 +114,7 @@ static uint64_t next_words(const struct model *model) {
     }
 }
 
-// Some values have bits above the register's.
+// Some values have one bit more, which may lie above the register's.
 static uint64_t next_value(const struct model *model, uint32_t csr) {
     bool is_wide = next_random() % 16 == 0;
     if (is_configuration(csr)) {
@@ -122,7 +122,7 @@ static uint64_t next_value(const struct model *model, uint32_t csr) {
         return model->xlen == 32 && !is_wide ? value & UINT32_MAX : value;
     }
     if (is_address(csr))
-        return next_words(model) | (is_wide ? next_random() << next_random() % 64 : 0);
+        return next_words(model) | (is_wide ? UINT64_C(1) << next_random() % 64 : 0);
     return next_random() >> (is_wide ? next_random() % 61 : 61) & ~(next_random() % 8);
 }
 
@@ -236,7 +236,7 @@ static bool begins_right(tilvenka_pmp_unit *unit, struct model *model) {
     if (next_random() % 2)
         return tilvenka_pmp_reset(unit, number_of(model)) == TILVENKA_PMP_UNCHANGED;
     for (unsigned entry = 0; entry < 64; entry++) {
-        any.addresses[entry] = next_words(model) | (next_random() % 4 ? 0 : next_random() << next_random() % 64);
+        any.addresses[entry] = next_words(model) | (next_random() % 4 ? 0 : UINT64_C(1) << next_random() % 64);
         any.configurations[entry] = next_random() & (next_random() % 4 ? 0x7f : 0xff);
     }
     any.mseccfg = next_random() % 2 ? next_random() : 0;
@@ -298,6 +298,17 @@ static bool is_pair_decided_alike(struct pair *pair) {
         && memcmp(&pair->rv64.map, &pair->rv32.map, sizeof pair->rv32.map) == 0;
 }
 
+// The rights of a range, and the run of its first byte.
+static bool is_pair_asked_alike(const struct pair *pair) {
+    struct span one = EMPTY, other = EMPTY;
+    uint64_t start = next_start(&pair->model), length = 1 + next_random() % 4096;
+    uint32_t mode = MODES[next_random() % 3];
+    uint32_t rights = tilvenka_pmp_rights(&pair->rv64, mode, start, length);
+    uint32_t run = tilvenka_pmp_run(&pair->rv64, mode, start, &one.first, &one.last);
+    return tilvenka_pmp_rights(&pair->rv32, mode, start, length) == rights
+        && tilvenka_pmp_run(&pair->rv32, mode, start, &other.first, &other.last) == run && is_same_span(one, other);
+}
+
 static bool is_pair_saved_alike(const struct pair *pair) {
     tilvenka_pmp_registers one, other;
     tilvenka_pmp_save(&pair->rv64, &one);
@@ -319,7 +330,7 @@ static void try_pairs(void) {
         reset(&pair.rv32, number_of(&other));
         bool is_right = true;
         for (unsigned turn = 0; turn < ROUNDS * WRITES; turn++) {
-            is_right &= is_pair_written_alike(&pair);
+            is_right &= is_pair_written_alike(&pair) && is_pair_asked_alike(&pair);
             is_right &= turn % 8 != 7 || is_pair_decided_alike(&pair);
         }
         is_right &= pair.decisions == ROUNDS && (pair.changes > 0 || pair.model.entries < 2);

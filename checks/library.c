@@ -408,7 +408,7 @@ static void try_full_snapshot(void) {
     expect(read_csr(&unit, MSECCFG) == 7, "mseccfg of a snapshot", 0);
 }
 
-// Units of random bytes.
+// Units of random bytes, half of them of a hart that their number spells.
 
 // A number that is often small, or near a power of two.
 static uint64_t next_number(void) {
@@ -498,6 +498,9 @@ static bool try_random_unit(tilvenka_pmp_unit *unit) {
     static tilvenka_pmp_unit other;
     tilvenka_pmp_registers saved;
     fill((uint8_t *)unit, sizeof *unit);
+    if (next_random() % 2)
+        unit->registers.entries = spelled(32 << next_random() % 2, next_random() % 65, next_random() % 11,
+                                          32 + next_random() % 25, next_random() % 2);
     bool is_right = ask(unit);
     uint32_t csr = next_random() % 16 ? 0x3a0 + next_random() % 80 : MSECCFG;
     uint64_t value = next_number();
