@@ -256,7 +256,7 @@ static inline uint32_t model_decide(const struct model *model, uint32_t mode, ui
 
 // The number of the hart, which for the usual two is that of their entries.
 static inline uint64_t number_of(const struct model *model) {
-    bool is_usual = model->xlen == 64 && model->g == 0 && model->bits == 56 && model->has_smepmp;
+    bool is_usual = model->g == 0 && model->bits == 56 && model->has_smepmp;
     if (is_usual && (model->entries == 16 || model->entries == 64))
         return model->entries;
     return spelled(model->xlen, model->entries, model->g, model->bits, model->has_smepmp);

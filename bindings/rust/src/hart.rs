@@ -50,7 +50,7 @@ impl Hart {
             && grain.is_power_of_two()
             && (4..=4096).contains(&grain)
             && (if rv32 { 32..=34 } else { 34..=56 }).contains(&address_bits);
-        let is_usual = !rv32 && grain == 4 && address_bits == 56 && has_smepmp;
+        let is_usual = grain == 4 && address_bits == 56 && has_smepmp;
         is_one.then(|| match entries {
             16 | 64 if is_usual => Hart(u64::from(entries)),
             _ => Hart(ffi::hart(rv32, entries, grain, address_bits, has_smepmp)),
