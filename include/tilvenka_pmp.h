@@ -3,11 +3,11 @@
  * it.
  *
  * The caller owns the unit: a struct of plain numbers without pointers. It may be copied, and zeroed memory is a unit
- * of sixteen entries after reset, whose map isn't built. No call keeps a pointer, allocates, or has a condition on the
- * numbers that it is given: whatever they are, the answer is defined. Pointers have to be valid and aligned, and two of
- * one call may not overlap, but for those of save and restore. Reset, restore and save also take memory that holds
- * nothing yet. Calls on different units need no lock. Calls on one unit may run at once where all of them take it as
- * const.
+ * of sixteen entries of RV64 after reset, whose map isn't built. No call keeps a pointer, allocates, or has a condition
+ * on the numbers that it is given: whatever they are, the answer is defined. Pointers have to be valid and aligned, and
+ * two of one call may not overlap, but for those of save and restore. Reset, restore and save also take memory that
+ * holds nothing yet. Calls on different units need no lock. Calls on one unit may run at once where all of them take it
+ * as const.
  *
  * Reading the struct is like a call that takes it as const. Decisions, rights and runs go by the map where it is built,
  * and a build keeps one that is. So change the registers by these calls alone: whoever writes to the struct itself, or
@@ -76,10 +76,7 @@ enum {
 };
 
 /* Those of RV64, each with its name: TILVENKA_PMP_CSRS(CSR) is CSR(0x3a0, "pmpcfg0") and so on. A unit of sixteen
- * entries has those of the first two lines, and mseccfg. RV32 has those of TILVENKA_PMP_CSRS_RV32 beside them. */
-#define TILVENKA_PMP_CSRS_RV32(CSR) \
-    CSR(0x3a1, "pmpcfg1") CSR(0x3a3, "pmpcfg3") CSR(0x3a5, "pmpcfg5") CSR(0x3a7, "pmpcfg7") CSR(0x3a9, "pmpcfg9") \
-    CSR(0x3ab, "pmpcfg11") CSR(0x3ad, "pmpcfg13") CSR(0x3af, "pmpcfg15") CSR(0x757, "mseccfgh")
+ * entries has those of the first two lines, and mseccfg. TILVENKA_PMP_CSRS_RV32 has those of RV32 beside them. */
 #define TILVENKA_PMP_CSRS(CSR) \
     CSR(0x3a0, "pmpcfg0") CSR(0x3a2, "pmpcfg2") TILVENKA_PMP_TEN(CSR, 0x3b0, "pmpaddr") \
     TILVENKA_PMP_SIX(CSR, 0x3ba, "pmpaddr1") \
@@ -89,6 +86,9 @@ enum {
     TILVENKA_PMP_TEN(CSR, 0x3d8, "pmpaddr4") TILVENKA_PMP_TEN(CSR, 0x3e2, "pmpaddr5") \
     CSR(0x3ec, "pmpaddr60") CSR(0x3ed, "pmpaddr61") CSR(0x3ee, "pmpaddr62") CSR(0x3ef, "pmpaddr63") \
     CSR(0x747, "mseccfg")
+#define TILVENKA_PMP_CSRS_RV32(CSR) \
+    CSR(0x3a1, "pmpcfg1") CSR(0x3a3, "pmpcfg3") CSR(0x3a5, "pmpcfg5") CSR(0x3a7, "pmpcfg7") CSR(0x3a9, "pmpcfg9") \
+    CSR(0x3ab, "pmpcfg11") CSR(0x3ad, "pmpcfg13") CSR(0x3af, "pmpcfg15") CSR(0x757, "mseccfgh")
 #define TILVENKA_PMP_SIX(CSR, number, name) \
     CSR((number), name "0") CSR((number) + 1, name "1") CSR((number) + 2, name "2") CSR((number) + 3, name "3") \
     CSR((number) + 4, name "4") CSR((number) + 5, name "5")
