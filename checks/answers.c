@@ -118,7 +118,7 @@ static void try_entries_on(void) {
     expect(tilvenka_pmp_entries_on(&unit) == 1, "entries on", 64);
 }
 
-// Each register has one name, and no other number has one.
+// Each register of RV64 has one name, and RV32 has names for its own beside them. No other number has one.
 static void try_csrs(void) {
     static const struct {
         uint32_t number;
@@ -126,19 +126,26 @@ static void try_csrs(void) {
     } csrs[] = {
 #define ROW(number, name) {number, name},
         TILVENKA_PMP_CSRS(ROW)
+        TILVENKA_PMP_CSRS_RV32(ROW)
     };
+    static const unsigned rv64 = 0
+#define ONE(number, name) + 1
+        TILVENKA_PMP_CSRS(ONE);
     static unsigned named[0x800];
     for (unsigned i = 0; i < sizeof csrs / sizeof *csrs; i++) {
-        char name[16] = "mseccfg";
         uint32_t number = csrs[i].number;
-        if (number != MSECCFG)
+        char name[16];
+        if (number >= MSECCFG)
+            strcpy(name, number == MSECCFG ? "mseccfg" : "mseccfgh");
+        else
             snprintf(name, sizeof name, number < PMPADDR0 ? "pmpcfg%u" : "pmpaddr%u",
                      number - (number < PMPADDR0 ? PMPCFG0 : PMPADDR0));
         expect(strcmp(csrs[i].name, name) == 0, "name of a CSR", number);
+        expect((i < rv64) == (status_of(64, true, number) == TILVENKA_PMP_UNCHANGED), "CSR of RV64", number);
         named[number]++;
     }
     for (uint32_t number = 0; number < 0x800; number++)
-        expect(named[number] == (status_of(number) == TILVENKA_PMP_UNCHANGED), "one name for a CSR", number);
+        expect(named[number] == (status_of(32, true, number) == TILVENKA_PMP_UNCHANGED), "one name for a CSR", number);
 }
 
 int main(void) {

@@ -2,8 +2,7 @@
 // with each high bit, on the whole truth table of Smepmp, and on units of random bytes that lie beside pages which may
 // not be touched. The last line is 'N passed, M failed'.
 #define _GNU_SOURCE
-#include "library.h"
-#include <string.h>
+#include "model.h"
 #include <sys/mman.h>
 #include <unistd.h>
 
@@ -134,7 +133,7 @@ static void try_sizes(void) {
 // value or is refused leaves the unit and its map.
 static bool is_named_right(tilvenka_pmp_unit *unit, uint32_t csr) {
     static tilvenka_pmp_unit before;
-    uint32_t status = status_of(csr);
+    uint32_t status = status_of(64, true, csr);
     uint64_t value = 77;
     bool is_right = tilvenka_pmp_read(unit, csr, &value) == status;
     is_right &= value == (status == TILVENKA_PMP_UNCHANGED ? 0 : 77);
@@ -292,16 +291,6 @@ static void try_version(void) {
     expect(tilvenka_pmp_is_compatible(), "a library for the header", 0);
 }
 
-// Smepmp's truth table: L, R, W, X, and what machine mode and the other modes then have.
-static const struct {
-    const char *bits, *machine, *others;
-} TRUTH[16] = {
-    {"----", "", ""},     {"---X", "", "x"},    {"--W-", "rw", "r"}, {"--WX", "rw", "rw"},
-    {"-R--", "", "r"},    {"-R-X", "", "rx"},   {"-RW-", "", "rw"},  {"-RWX", "", "rwx"},
-    {"L---", "", ""},     {"L--X", "x", ""},    {"L-W-", "x", "x"},  {"L-WX", "rx", "x"},
-    {"LR--", "r", ""},    {"LR-X", "rx", ""},   {"LRW-", "rw", ""},  {"LRWX", "r", "r"},
-};
-
 static uint32_t set_of(const char *letters) {
     return (strchr(letters, 'r') ? TILVENKA_PMP_READ : 0) + (strchr(letters, 'w') ? TILVENKA_PMP_WRITE : 0)
         + (strchr(letters, 'x') ? TILVENKA_PMP_EXECUTE : 0);
@@ -419,7 +408,7 @@ static void try_full_snapshot(void) {
     expect(read_csr(&unit, MSECCFG) == 7, "mseccfg of a snapshot", 0);
 }
 
-// Units of random bytes.
+// Units of random bytes, half of them of a hart that their number spells.
 
 // A number that is often small, or near a power of two.
 static uint64_t next_number(void) {
@@ -509,6 +498,9 @@ static bool try_random_unit(tilvenka_pmp_unit *unit) {
     static tilvenka_pmp_unit other;
     tilvenka_pmp_registers saved;
     fill((uint8_t *)unit, sizeof *unit);
+    if (next_random() % 2)
+        unit->registers.entries = spelled(32 << next_random() % 2, next_random() % 65, next_random() % 11,
+                                          32 + next_random() % 25, next_random() % 2);
     bool is_right = ask(unit);
     uint32_t csr = next_random() % 16 ? 0x3a0 + next_random() % 80 : MSECCFG;
     uint64_t value = next_number();

@@ -6,7 +6,8 @@
 enum { U = TILVENKA_PMP_USER, S = TILVENKA_PMP_SUPERVISOR, M = TILVENKA_PMP_MACHINE };
 enum { FETCH = TILVENKA_PMP_FETCH, LOAD = TILVENKA_PMP_LOAD, STORE = TILVENKA_PMP_STORE };
 enum { SPLIT = TILVENKA_PMP_SPLIT, NONE = TILVENKA_PMP_NO_MATCH, NO_ACCESS = TILVENKA_PMP_NO_ACCESS };
-enum { MSECCFG = 0x747, PMPCFG0 = 0x3a0, PMPADDR0 = 0x3b0 };
+enum { PMPCFG0 = TILVENKA_PMP_PMPCFG0, PMPADDR0 = TILVENKA_PMP_PMPADDR0 };
+enum { MSECCFG = TILVENKA_PMP_MSECCFG, MSECCFGH = TILVENKA_PMP_MSECCFGH };
 
 static unsigned passed, failed;
 
@@ -50,11 +51,19 @@ static inline uint64_t read_csr(const tilvenka_pmp_unit *unit, uint32_t csr) {
     return tilvenka_pmp_read(unit, csr, &value) == TILVENKA_PMP_UNCHANGED ? value : UINT64_MAX;
 }
 
-// What a call answers to the number of a register, and to one of none.
-static inline uint32_t status_of(uint32_t csr) {
+// What a call answers to the number of a register of the hart, and to one of none.
+static inline uint32_t status_of(unsigned xlen, bool has_smepmp, uint32_t csr) {
     if (csr >= PMPCFG0 && csr < PMPADDR0)
-        return csr % 2 == 1 ? TILVENKA_PMP_ODD_CONFIGURATION : TILVENKA_PMP_UNCHANGED;
-    return (csr >= PMPADDR0 && csr < PMPADDR0 + 64) || csr == MSECCFG ? TILVENKA_PMP_UNCHANGED : TILVENKA_PMP_NO_REGISTER;
+        return xlen == 64 && csr % 2 == 1 ? TILVENKA_PMP_ODD_CONFIGURATION : TILVENKA_PMP_UNCHANGED;
+    bool is_mseccfg = csr == MSECCFG || (csr == MSECCFGH && xlen == 32);
+    bool is_there = (csr >= PMPADDR0 && csr < PMPADDR0 + 64) || (is_mseccfg && has_smepmp);
+    return is_there ? TILVENKA_PMP_UNCHANGED : TILVENKA_PMP_NO_REGISTER;
+}
+
+// The number of a hart by its parts, also of one that isn't there.
+static inline uint64_t spelled(unsigned xlen, uint64_t entries, uint64_t g, uint64_t bits, uint64_t smepmp) {
+    return entries + (bits << 8) + (smepmp << 16) + (xlen == 32 ? UINT64_C(1) << 17 : 0) + (g << 24)
+        + (UINT64_C(1) << 32);
 }
 
 // A unit after reset of a hart that is there.

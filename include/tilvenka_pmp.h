@@ -1,12 +1,13 @@
 /* SPDX-License-Identifier: MIT OR Apache-2.0 */
-/* The PMP unit of an RV64 hart with Smepmp 1.0, as the RISC-V Privileged Architecture, Volume II, 3.7 defines it.
+/* The PMP unit of an RV64 or RV32 hart with Smepmp 1.0, as the RISC-V Privileged Architecture, Volume II, 3.7 defines
+ * it.
  *
  * The caller owns the unit: a struct of plain numbers without pointers. It may be copied, and zeroed memory is a unit
- * of sixteen entries after reset, whose map isn't built. No call keeps a pointer, allocates, or has a condition on the
- * numbers that it is given: whatever they are, the answer is defined. Pointers have to be valid and aligned, and two of
- * one call may not overlap, but for those of save and restore. Reset, restore and save also take memory that holds
- * nothing yet. Calls on different units need no lock. Calls on one unit may run at once where all of them take it as
- * const.
+ * of sixteen entries of RV64 after reset, whose map isn't built. No call keeps a pointer, allocates, or has a condition
+ * on the numbers that it is given: whatever they are, the answer is defined. Pointers have to be valid and aligned, and
+ * two of one call may not overlap, but for those of save and restore. Reset, restore and save also take memory that
+ * holds nothing yet. Calls on different units need no lock. Calls on one unit may run at once where all of them take it
+ * as const.
  *
  * Reading the struct is like a call that takes it as const. Decisions, rights and runs go by the map where it is built,
  * and a build keeps one that is. So change the registers by these calls alone: whoever writes to the struct itself, or
@@ -65,11 +66,17 @@ typedef enum tilvenka_pmp_kind TILVENKA_PMP_WORD {
 
 TILVENKA_PMP_ASSERT(sizeof(tilvenka_pmp_mode) == 4 && sizeof(tilvenka_pmp_kind) == 4, "enumerations are narrow");
 
-/* The CSRs. Of the pmpcfg registers RV64 has the even ones. */
-enum { TILVENKA_PMP_PMPCFG0 = 0x3a0, TILVENKA_PMP_PMPADDR0 = 0x3b0, TILVENKA_PMP_MSECCFG = 0x747 };
+/* The CSRs. RV64 has the even pmpcfg registers, of eight entries each. RV32 has the odd ones too, and each is of four
+ * entries: pmpcfg1 of 4 to 7. It has mseccfgh, which reads zero, and its registers have 32 bits. */
+enum {
+    TILVENKA_PMP_PMPCFG0 = 0x3a0,
+    TILVENKA_PMP_PMPADDR0 = 0x3b0,
+    TILVENKA_PMP_MSECCFG = 0x747,
+    TILVENKA_PMP_MSECCFGH = 0x757
+};
 
-/* Each of them with its name: TILVENKA_PMP_CSRS(CSR) is CSR(0x3a0, "pmpcfg0") and so on. A unit of sixteen entries has
- * those of the first two lines, and mseccfg. */
+/* Those of RV64, each with its name: TILVENKA_PMP_CSRS(CSR) is CSR(0x3a0, "pmpcfg0") and so on. A unit of sixteen
+ * entries has those of the first two lines, and mseccfg. TILVENKA_PMP_CSRS_RV32 has those of RV32 beside them. */
 #define TILVENKA_PMP_CSRS(CSR) \
     CSR(0x3a0, "pmpcfg0") CSR(0x3a2, "pmpcfg2") TILVENKA_PMP_TEN(CSR, 0x3b0, "pmpaddr") \
     TILVENKA_PMP_SIX(CSR, 0x3ba, "pmpaddr1") \
@@ -79,6 +86,9 @@ enum { TILVENKA_PMP_PMPCFG0 = 0x3a0, TILVENKA_PMP_PMPADDR0 = 0x3b0, TILVENKA_PMP
     TILVENKA_PMP_TEN(CSR, 0x3d8, "pmpaddr4") TILVENKA_PMP_TEN(CSR, 0x3e2, "pmpaddr5") \
     CSR(0x3ec, "pmpaddr60") CSR(0x3ed, "pmpaddr61") CSR(0x3ee, "pmpaddr62") CSR(0x3ef, "pmpaddr63") \
     CSR(0x747, "mseccfg")
+#define TILVENKA_PMP_CSRS_RV32(CSR) \
+    CSR(0x3a1, "pmpcfg1") CSR(0x3a3, "pmpcfg3") CSR(0x3a5, "pmpcfg5") CSR(0x3a7, "pmpcfg7") CSR(0x3a9, "pmpcfg9") \
+    CSR(0x3ab, "pmpcfg11") CSR(0x3ad, "pmpcfg13") CSR(0x3af, "pmpcfg15") CSR(0x757, "mseccfgh")
 #define TILVENKA_PMP_SIX(CSR, number, name) \
     CSR((number), name "0") CSR((number) + 1, name "1") CSR((number) + 2, name "2") CSR((number) + 3, name "3") \
     CSR((number) + 4, name "4") CSR((number) + 5, name "5")
@@ -94,9 +104,9 @@ enum { TILVENKA_PMP_MML = 1, TILVENKA_PMP_MMWP = 2, TILVENKA_PMP_RLB = 4 };
 enum {
     /* A read, a reset or a restore is done; or a write is, the register reads the value, and all is kept as before. */
     TILVENKA_PMP_UNCHANGED = 0,
-    /* An odd pmpcfg register, which RV64 doesn't have (3.7.1). */
+    /* An odd pmpcfg register on RV64, which has none (3.7.1). */
     TILVENKA_PMP_ODD_CONFIGURATION = 1,
-    /* No register of the unit. mseccfg is none on a hart without Smepmp. */
+    /* No register of the unit. mseccfg and mseccfgh are none on a hart without Smepmp, nor is mseccfgh on RV64. */
     TILVENKA_PMP_NO_REGISTER = 2,
     /* The number that a reset or a restore was given names no hart. */
     TILVENKA_PMP_NO_HART = 3,
@@ -107,7 +117,7 @@ enum {
     TILVENKA_PMP_MOVED = 8,
     /* Bits of a write that is done: why the register doesn't read the value. There is one exactly where it doesn't. */
     TILVENKA_PMP_ABSENT = 1 << 8, /* the value isn't zero for an entry, or a register, that the unit doesn't have */
-    TILVENKA_PMP_BITS = 1 << 9, /* it has bits that the register doesn't have */
+    TILVENKA_PMP_BITS = 1 << 9, /* it has bits that the register doesn't have, as those above 31 on RV32 */
     TILVENKA_PMP_FROZEN = 1 << 10, /* it has another byte or address for an entry that is frozen */
     TILVENKA_PMP_LOW_END = 1 << 11, /* it is another address for an entry that isn't frozen, but the next is, and TOR */
     TILVENKA_PMP_RESERVED = 1 << 12, /* it has W without R for an entry that isn't frozen, and MML is 0 */
@@ -142,12 +152,17 @@ enum {
 };
 
 /* The number of a hart: how many entries it has, 0 to 64, its grain in bytes, a power of two from 4 to 4096, how many
- * bits an address has, 34 to 56, and whether it has mseccfg. With an argument that is none of these it names no hart.
- * It is a constant where they are, and may evaluate an argument more than once. 16 and 64 by themselves name the harts
- * of so many entries with a grain of 4 bytes, addresses of 56 bits and Smepmp. */
+ * bits an address has, 34 to 56, or 32 to 34 on RV32, and whether it has mseccfg. With an argument that is none of
+ * these it names no hart. It is a constant where they are, and may evaluate an argument more than once. 16 and 64 by
+ * themselves name the harts of RV64 of so many entries with a grain of 4 bytes, addresses of 56 bits and Smepmp. */
 #define TILVENKA_PMP_HART(entries, grain, address_bits, smepmp) \
+    (TILVENKA_PMP_PARTS(entries, grain, address_bits, smepmp) | UINT64_C(1) << 32)
+#define TILVENKA_PMP_HART_RV32(entries, grain, address_bits, smepmp) \
+    (TILVENKA_PMP_PARTS(entries, grain, address_bits, smepmp) | UINT64_C(1) << 17 | UINT64_C(1) << 32)
+/* What the numbers of both have. */
+#define TILVENKA_PMP_PARTS(entries, grain, address_bits, smepmp) \
     (TILVENKA_PMP_BYTE(entries) | TILVENKA_PMP_BYTE(address_bits) << 8 | ((smepmp) ? UINT64_C(1) : 0) << 16 \
-        | TILVENKA_PMP_G(grain) << 24 | UINT64_C(1) << 32)
+        | TILVENKA_PMP_G(grain) << 24)
 #define TILVENKA_PMP_BYTE(number) ((uint64_t)(number) < 255 ? (uint64_t)(number) : UINT64_C(255))
 /* The manual's G, where the grain is 2^(G+2) bytes, and 255 where it is no grain. */
 #define TILVENKA_PMP_G(grain) \
@@ -160,7 +175,8 @@ enum {
  * and 5 of a configuration byte, all of mseccfg but MML, MMWP and RLB. An address is all that was written, also below
  * the grain. */
 typedef struct tilvenka_pmp_registers {
-    uint64_t addresses[TILVENKA_PMP_MAX_ENTRIES]; /* pmpaddr0 and so on: bits 55 to 2 of a byte address */
+    /* pmpaddr0 and so on: bits 55 to 2 of a byte address, or 33 to 2 on RV32. */
+    uint64_t addresses[TILVENKA_PMP_MAX_ENTRIES];
     uint8_t configurations[TILVENKA_PMP_MAX_ENTRIES];
     uint64_t mseccfg;
     /* The number of the hart. One that names none stands for 16 in every call but restore. */
@@ -194,14 +210,16 @@ uint32_t tilvenka_pmp_version(void);
 /* How many bytes a unit has in the library. */
 uint64_t tilvenka_pmp_unit_size(void);
 
-/* Resets the unit, which from now on is of the hart that the number names: 16, 64, or what TILVENKA_PMP_HART gave. The
- * map isn't built. It answers TILVENKA_PMP_NO_HART where the number names none, and the unit is as before. */
+/* Resets the unit, which from now on is of the hart that the number names: 16, 64, or what TILVENKA_PMP_HART or
+ * TILVENKA_PMP_HART_RV32 gave. The map isn't built. It answers TILVENKA_PMP_NO_HART where the number names none, and
+ * the unit is as before. */
 uint32_t tilvenka_pmp_reset(tilvenka_pmp_unit *unit, uint64_t hart);
 
-/* Writes the CSR with this number, 0x3a0 to 0x3ef or 0x747, as firmware does in machine mode: locks, reserved bits and
- * sticky bits as 3.7.1 and Smepmp say. With TILVENKA_PMP_CHANGED the registers aren't as before, and the map isn't
- * built; else nothing changed, and there is nothing to flush. The registers of entries that a hart lacks are
- * there: they read as zero, and a write to them is done and changes nothing. */
+/* Writes the CSR with this number, 0x3a0 to 0x3ef, 0x747 or 0x757, as firmware does in machine mode: locks, reserved
+ * bits and sticky bits as 3.7.1 and Smepmp say. With TILVENKA_PMP_CHANGED the registers aren't as before, and the map
+ * isn't built; else nothing changed, and there is nothing to flush. The registers of entries that a hart lacks are
+ * there: they read as zero, and a write to them is done and changes nothing. On RV32 a caller's value has 32 bits: none
+ * above is stored, and they are TILVENKA_PMP_ABSENT of a pmpcfg, and TILVENKA_PMP_BITS of another. */
 uint32_t tilvenka_pmp_write(tilvenka_pmp_unit *unit, uint32_t csr, uint64_t value);
 
 /* Writes it too, and says what to flush. The status is the same, and has TILVENKA_PMP_MOVED where some access may be
@@ -282,17 +300,24 @@ static inline bool tilvenka_pmp_is_stored(uint32_t status) {
     return tilvenka_pmp_is_done(status) && status < TILVENKA_PMP_ABSENT;
 }
 
-/* Whether the number names a hart: 16, 64, or what TILVENKA_PMP_HART gives for arguments in their ranges. */
+/* Whether the number names a hart: 16, 64, or what TILVENKA_PMP_HART or TILVENKA_PMP_HART_RV32 gives for arguments in
+ * their ranges. */
 static inline bool tilvenka_pmp_is_hart(uint64_t hart) {
     const uint64_t bits = hart >> 8 & 0xff, grain = hart >> 24 & 0xff;
+    const bool is_rv32 = hart >> 17 & 1;
     return hart == 16 || hart == 64
-        || (hart >> 32 == 1 && (hart >> 17 & 0x7f) == 0 && (hart & 0xff) <= TILVENKA_PMP_MAX_ENTRIES && bits >= 34
-            && bits <= 56 && grain <= 10);
+        || (hart >> 32 == 1 && (hart >> 18 & 0x3f) == 0 && (hart & 0xff) <= TILVENKA_PMP_MAX_ENTRIES
+            && bits >= (is_rv32 ? 32 : 34) && bits <= (is_rv32 ? 34 : 56) && grain <= 10);
 }
 
 /* How many entries the hart has that `entries` says. */
 static inline unsigned tilvenka_pmp_count(const tilvenka_pmp_registers *registers) {
     return tilvenka_pmp_is_hart(registers->entries) ? (unsigned)(registers->entries & 0xff) : 16;
+}
+
+/* Its XLEN, 32 or 64. */
+static inline unsigned tilvenka_pmp_xlen(const tilvenka_pmp_registers *registers) {
+    return tilvenka_pmp_is_hart(registers->entries) && registers->entries >> 17 & 1 ? 32 : 64;
 }
 
 /* How many entries aren't off; NA4 is off where the grain is above 4 bytes. Where none is on, no entry matches any

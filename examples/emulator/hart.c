@@ -8,7 +8,9 @@
  *     # ..                             a comment
  *
  * and prints what each line came to. A page whose rights are mixed stays out of the TLB, which has a few runs of bytes
- * with the same rights in its place. A page is asked for as physical memory, since this hart translates no address. */
+ * with the same rights in its place. A page is asked for as physical memory, since this hart translates no address.
+ *
+ * An RV32 hart differs in its reset alone: tilvenka_pmp_reset(&hart.pmp, TILVENKA_PMP_HART_RV32(16, 4, 34, true)). */
 #include "tilvenka_pmp.h"
 
 #include <inttypes.h>

@@ -8,7 +8,7 @@
 #include "trace.h"
 
 #ifndef TARGET_RISCV64
-#error "the library is the unit of an RV64 hart"
+#error "the units are reset as those of RV64 harts"
 #endif
 
 _Static_assert(MAX_RISCV_PMPS == 16 || MAX_RISCV_PMPS == 64, "the library has units of 16 and of 64 entries");

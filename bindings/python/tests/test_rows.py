@@ -106,9 +106,9 @@ def wanted(kind: str, text: str) -> str:
 
 
 def hart(words: str) -> tuple:
-    """ENTRIES/GRAIN/BITS/SMEPMP, by the words of Unit."""
-    entries, grain, bits, smepmp = words.split("/")
-    return (int(entries), int(grain), int(bits), smepmp == "yes")
+    """ENTRIES/GRAIN/BITS/SMEPMP, or with /32 behind it that of RV32, by the words of Unit."""
+    entries, grain, bits, smepmp, *xlen = words.split("/")
+    return (int(entries), int(grain), int(bits), smepmp == "yes", *map(int, xlen))
 
 
 def harts(word: str) -> list[tuple]:
@@ -201,6 +201,10 @@ def others() -> list[tuple[object, object]]:
         refuses(ValueError, Unit, 65),
         *(refuses(ValueError, Unit, 16, it) for it in (0, 2, 12, 8192)),
         *(refuses(ValueError, Unit, 16, 4, it) for it in (33, 57)),
+        *(refuses(ValueError, Unit, 16, 4, it, True, 32) for it in (31, 35)),
+        *(refuses(ValueError, Unit, 16, 4, 34, True, it) for it in (0, 16, 33, 128)),
+        (Unit(16, xlen=32) == Unit(16, 4, 34, True, 32), True),
+        (Unit(16, xlen=32) == Unit(16, 4, 34), False),
         *(refuses(KeyError, unit.read, it) for it in ("pmpaddr64", "pmpcfg16", "pmpaddr01", "satp", 0x3F0)),
     ]
 

@@ -1,4 +1,4 @@
-"""The PMP unit of an RV64 hart with Smepmp 1.0, by the proved C library tilvenka_pmp.
+"""The PMP unit of an RV64 or RV32 hart with Smepmp 1.0, by the proved C library tilvenka_pmp.
 
     >>> unit = Unit()                                   # sixteen entries after reset
     >>> unit.write("pmpaddr0", 0x200001ff).is_changed   # each CSR write, as firmware makes it
@@ -146,13 +146,13 @@ class Run:
 class Registers:
     """All registers of a unit, with zeros for those of entries that the hart lacks."""
 
-    # pmpaddr0 and so on: bits 55 to 2 of a byte address, with those below the grain.
+    # pmpaddr0 and so on: bits 55 to 2 of a byte address, or 33 to 2 on RV32, with those below the grain.
     addresses: List[int] = field(default_factory=lambda: [0] * _c.MAX_ENTRIES)
     # The byte of each entry in its pmpcfg register.
     configurations: List[int] = field(default_factory=lambda: [0] * _c.MAX_ENTRIES)
     # MML in bit 0, MMWP in bit 1, RLB in bit 2.
     mseccfg: int = 0
-    # The number of the hart: 16, 64, or that of TILVENKA_PMP_HART.
+    # The number of the hart: 16, 64, or that of TILVENKA_PMP_HART or TILVENKA_PMP_HART_RV32.
     entries: int = 16
 
 
@@ -173,46 +173,68 @@ def _csr(register: Union[int, str]) -> int:
     """The CSR number of a register, by its name or its number."""
     if isinstance(register, int):
         return _number(register, 32, "register")
-    if register == "mseccfg":
-        return 0x747
+    if register in ("mseccfg", "mseccfgh"):
+        return 0x747 if register == "mseccfg" else 0x757
     found = re.fullmatch(r"pmp(addr|cfg)(0|[1-9]\d?)", register)
     if not found or int(found[2]) > (63 if found[1] == "addr" else 15):
         raise KeyError(register)
     return (0x3B0 if found[1] == "addr" else 0x3A0) + int(found[2])
 
 
-def _hart(entries: int, grain: int, address_bits: int, has_smepmp: bool) -> int:
-    """The number that TILVENKA_PMP_HART has for the hart."""
+def _hart(entries: int, grain: int, address_bits: Optional[int], has_smepmp: bool, xlen: int) -> int:
+    """The number that TILVENKA_PMP_HART or TILVENKA_PMP_HART_RV32 has for the hart."""
     if not 0 <= entries <= _c.MAX_ENTRIES:
         raise ValueError(f"a hart has 0 to {_c.MAX_ENTRIES} entries, not {entries}")
     if grain not in (1 << bit for bit in range(2, 13)):
         raise ValueError(f"a grain has 4, 8, 16 and so on to 4096 bytes, not {grain}")
-    if not 34 <= address_bits <= 56:
-        raise ValueError(f"a physical address has 34 to 56 bits, not {address_bits}")
-    return entries | address_bits << 8 | bool(has_smepmp) << 16 | (grain.bit_length() - 3) << 24 | 1 << 32
+    if xlen not in (32, 64):
+        raise ValueError(f"XLEN is 32 or 64, not {xlen}")
+    fewest, most = (34, 56) if xlen == 64 else (32, 34)
+    bits = most if address_bits is None else address_bits
+    if not fewest <= bits <= most:
+        raise ValueError(f"a physical address of RV{xlen} has {fewest} to {most} bits, not {bits}")
+    is_smepmp, is_rv32, g = bool(has_smepmp), xlen == 32, grain.bit_length() - 3
+    return entries | bits << 8 | is_smepmp << 16 | is_rv32 << 17 | g << 24 | 1 << 32
 
 
 class Unit:
     """The PMP unit of one hart: of so many entries, 0 to 64, a grain of so many bytes, 4, 8, 16 and so on to 4096,
-    physical addresses of so many bits, 34 to 56, and with Smepmp or not. ValueError says that there is no such hart.
+    physical addresses of so many bits, 34 to 56, or 32 to 34 where XLEN is 32, and the most where none are given, and
+    with Smepmp or not. ValueError says that there is no such hart.
 
     >>> Unit(8, 4096, 38, has_smepmp=False).read("pmpaddr8")   # of an entry that the hart lacks
     0
+    >>> Unit(16, xlen=32).write("pmpcfg1", 0x19).is_stored     # RV32 has it, of entries 4 to 7
+    True
 
     Decisions and rights go by a map where build() or settle() built it after the last change, which is faster. They are
     the same without it. Units are equal where their registers are."""
 
-    def __init__(self, entries: int = 16, grain: int = 4, address_bits: int = 56, has_smepmp: bool = True) -> None:
+    def __init__(
+        self,
+        entries: int = 16,
+        grain: int = 4,
+        address_bits: Optional[int] = None,
+        has_smepmp: bool = True,
+        xlen: int = 64,
+    ) -> None:
         self._unit = _c.Unit()
-        self.reset(entries, grain, address_bits, has_smepmp)
+        self.reset(entries, grain, address_bits, has_smepmp, xlen)
 
-    def reset(self, entries: int, grain: int = 4, address_bits: int = 56, has_smepmp: bool = True) -> None:
+    def reset(
+        self,
+        entries: int,
+        grain: int = 4,
+        address_bits: Optional[int] = None,
+        has_smepmp: bool = True,
+        xlen: int = 64,
+    ) -> None:
         """Resets the unit, whose hart from now on is this one. It raises ValueError where there is no such hart, and
         then the unit stays as it is.
 
         >>> Unit().reset(64, grain=4096)
         """
-        hart = _hart(entries, grain, address_bits, has_smepmp)
+        hart = _hart(entries, grain, address_bits, has_smepmp, xlen)
         self._expect_hart(_library.tilvenka_pmp_reset(self._unit, hart), hart)
 
     @staticmethod
@@ -222,8 +244,8 @@ class Unit:
 
     def write(self, register: Union[int, str], value: int) -> Written:
         """Writes a register, as firmware does in machine mode. What the unit doesn't store it ignores, as the manual
-        says. Where the hart has no such register, as an odd pmpcfg, or mseccfg without Smepmp, nothing changes, and it
-        raises KeyError.
+        says. Where the hart has no such register, as an odd pmpcfg on RV64, or mseccfg without Smepmp, nothing changes,
+        and it raises KeyError.
 
         >>> unit = Unit()
         >>> unit.write("pmpcfg0", 0x1a).reasons.words   # W without R

@@ -12,12 +12,16 @@ impl Csr {
     /// `mseccfg`, which a hart with Smepmp has.
     pub const MSECCFG: Csr = Csr(0x747);
 
+    /// `mseccfgh`, which such a hart has on RV32. It reads zero.
+    pub const MSECCFGH: Csr = Csr(0x757);
+
     /// `pmpaddr` of an entry.
     pub const fn address(entry: u8) -> Csr {
         Csr(0x3b0 + entry as u32)
     }
 
-    /// The `pmpcfg` register of this number, which is even on RV64 and has the configurations of eight entries.
+    /// The `pmpcfg` register of this number. On RV64 it is even and has the configurations of eight entries, on RV32 it
+    /// has those of four.
     pub const fn configuration(number: u8) -> Csr {
         Csr(0x3a0 + number as u32)
     }
@@ -26,9 +30,9 @@ impl Csr {
 /// The hart has no such register.
 #[derive(Clone, Copy, Debug, PartialEq, Eq, Hash)]
 pub enum NoRegister {
-    /// It is an odd `pmpcfg` register, which RV64 doesn't have.
+    /// It is an odd `pmpcfg` register on RV64, which has none.
     OddConfiguration,
-    /// It is none of the PMP registers, or `mseccfg` on a hart without Smepmp.
+    /// It is none of the PMP registers, or `mseccfg` or `mseccfgh` on a hart that lacks it.
     Unknown,
 }
 

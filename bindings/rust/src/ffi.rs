@@ -42,11 +42,13 @@ pub const EXECUTE: u32 = 4;
 pub const MIXED: u32 = 8;
 pub const NO_RANGE: u32 = 16;
 
-/// `TILVENKA_PMP_HART`, of arguments in their ranges: the number has the manual's G, where the grain is 2^(G+2) bytes.
-pub fn hart(entries: u8, grain: u16, address_bits: u8, has_smepmp: bool) -> u64 {
+/// `TILVENKA_PMP_HART` and `TILVENKA_PMP_HART_RV32`, of arguments in their ranges: the number has the manual's G, where
+/// the grain is 2^(G+2) bytes.
+pub fn hart(is_rv32: bool, entries: u8, grain: u16, address_bits: u8, has_smepmp: bool) -> u64 {
     u64::from(entries)
         | u64::from(address_bits) << 8
         | u64::from(has_smepmp) << 16
+        | u64::from(is_rv32) << 17
         | u64::from(grain.trailing_zeros() - 2) << 24
         | 1 << 32
 }
@@ -63,7 +65,7 @@ pub fn hart(entries: u8, grain: u16, address_bits: u8, has_smepmp: bool) -> u64 
 #[repr(C)]
 #[derive(Clone, Copy, Debug, PartialEq, Eq)]
 pub struct Registers {
-    /// `pmpaddr0` and so on: bits 55 to 2 of a byte address, with those below the grain.
+    /// `pmpaddr0` and so on: bits 55 to 2 of a byte address, or 33 to 2 on RV32, with those below the grain.
     pub addresses: [u64; MAX_ENTRIES],
     /// The byte of each entry in its `pmpcfg` register.
     pub configurations: [u8; MAX_ENTRIES],

@@ -5,7 +5,7 @@ use std::convert::Infallible;
 use std::error::Error;
 use std::fmt;
 
-/// How many entries a hart has that has a grain of 4 bytes, addresses of 56 bits, and Smepmp.
+/// How many entries a hart of RV64 has that has a grain of 4 bytes, addresses of 56 bits, and Smepmp.
 #[derive(Clone, Copy, Debug, PartialEq, Eq, Hash)]
 pub enum Size {
     /// 16 entries.
@@ -14,7 +14,8 @@ pub enum Size {
     SixtyFour = 64,
 }
 
-/// How many entries a hart has, how fine they are, how wide its physical addresses are, and whether it has Smepmp.
+/// How many entries a hart has, how fine they are, how wide its physical addresses are, whether it has Smepmp, and its
+/// XLEN.
 ///
 /// ```
 /// # use tilvenka_pmp::{Hart, Unit};
@@ -25,17 +26,34 @@ pub enum Size {
 pub struct Hart(u64);
 
 impl Hart {
-    /// The hart with so many entries, 0 to 64, a grain of so many bytes, 4, 8, 16 and so on to 4096, and addresses of so
-    /// many bits, 34 to 56. `None` where there is no such hart.
+    /// The hart of RV64 with so many entries, 0 to 64, a grain of so many bytes, 4, 8, 16 and so on to 4096, and
+    /// addresses of so many bits, 34 to 56. `None` where there is no such hart.
     pub fn new(entries: u8, grain: u16, address_bits: u8, has_smepmp: bool) -> Option<Hart> {
+        Hart::of(false, entries, grain, address_bits, has_smepmp)
+    }
+
+    /// That of RV32, whose addresses have 32 to 34 bits.
+    ///
+    /// ```
+    /// # use tilvenka_pmp::{Csr, Hart, Unit};
+    /// let mut unit = Unit::new(Hart::rv32(16, 4, 34, true).expect("a hart"));
+    /// unit.write(Csr::configuration(1), 0x19)?; // of entry 4
+    /// assert_eq!(unit.save().configurations[4], 0x19);
+    /// # Ok::<(), tilvenka_pmp::NoRegister>(())
+    /// ```
+    pub fn rv32(entries: u8, grain: u16, address_bits: u8, has_smepmp: bool) -> Option<Hart> {
+        Hart::of(true, entries, grain, address_bits, has_smepmp)
+    }
+
+    fn of(rv32: bool, entries: u8, grain: u16, address_bits: u8, has_smepmp: bool) -> Option<Hart> {
         let is_one = entries <= 64
             && grain.is_power_of_two()
             && (4..=4096).contains(&grain)
-            && (34..=56).contains(&address_bits);
+            && (if rv32 { 32..=34 } else { 34..=56 }).contains(&address_bits);
         let is_usual = grain == 4 && address_bits == 56 && has_smepmp;
         is_one.then(|| match entries {
             16 | 64 if is_usual => Hart(u64::from(entries)),
-            _ => Hart(ffi::hart(entries, grain, address_bits, has_smepmp)),
+            _ => Hart(ffi::hart(rv32, entries, grain, address_bits, has_smepmp)),
         })
     }
 
@@ -56,12 +74,13 @@ impl TryFrom<u64> for Hart {
     type Error = NoHart;
 
     fn try_from(number: u64) -> Result<Hart, NoHart> {
-        let [entries, bits, smepmp, shift, ..] = number.to_le_bytes();
+        let [entries, bits, flags, shift, ..] = number.to_le_bytes();
         let grain = 4u16.checked_shl(u32::from(shift)).unwrap_or(0);
+        let (has_smepmp, rv32) = (flags & 1 != 0, flags & 2 != 0);
         match number {
             16 | 64 => Some(Hart(number)),
-            _ => Hart::new(entries, grain, bits, smepmp == 1)
-                .filter(|_| ffi::hart(entries, grain, bits, smepmp == 1) == number),
+            _ => Hart::of(rv32, entries, grain, bits, has_smepmp)
+                .filter(|_| ffi::hart(rv32, entries, grain, bits, has_smepmp) == number),
         }
         .ok_or(NoHart)
     }

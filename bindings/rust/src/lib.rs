@@ -1,4 +1,4 @@
-//! The PMP unit of an RV64 hart with Smepmp 1.0, by the proved C library `tilvenka_pmp`.
+//! The PMP unit of an RV64 or RV32 hart with Smepmp 1.0, by the proved C library `tilvenka_pmp`.
 //!
 //! ```
 //! use tilvenka_pmp::{Access, Csr, Kind, Mode, Size, Unit};

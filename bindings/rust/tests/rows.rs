@@ -17,8 +17,10 @@ fn number(text: &str) -> u64 {
 }
 
 fn csr(name: &str) -> Csr {
-    if name == "mseccfg" {
-        return Csr::MSECCFG;
+    match name {
+        "mseccfg" => return Csr::MSECCFG,
+        "mseccfgh" => return Csr::MSECCFGH,
+        _ => (),
     }
     if let Some(entry) = name.strip_prefix("pmpaddr") {
         return Csr::address(entry.parse().unwrap());
@@ -191,11 +193,16 @@ fn answer(unit: &Unit, kind: &str, question: &str) -> String {
     }
 }
 
-/// The hart ENTRIES/GRAIN/BITS/SMEPMP, if there is one.
+/// The hart ENTRIES/GRAIN/BITS/SMEPMP, or with /32 behind it that of RV32, if there is one.
 fn hart(words: &str) -> Option<Hart> {
     let parts: Vec<&str> = words.split('/').collect();
     let [entries, grain, bits] = [0, 1, 2].map(|it| number(parts[it]) as u16);
-    Hart::new(entries as u8, grain, bits as u8, parts[3] == "yes")
+    let made = match parts.get(4) {
+        None => Hart::new,
+        Some(&"32") => Hart::rv32,
+        Some(other) => panic!("{other}"),
+    };
+    made(entries as u8, grain, bits as u8, parts[3] == "yes")
 }
 
 /// The harts that the first word of a row names.
@@ -254,7 +261,7 @@ fn rows_are_answered() {
             count += 1;
         }
     }
-    assert!(count > 200, "{count} rows");
+    assert!(count > 330, "{count} rows");
 }
 
 #[test]
@@ -297,6 +304,9 @@ fn harts_are_equal_where_they_are_one() {
     assert_eq!(Hart::try_from(0x100013810), Ok(sixteen));
     assert_ne!(Hart::new(16, 8, 56, true), Some(sixteen));
     assert_ne!(Hart::new(16, 4, 56, false), Some(sixteen));
+    let rv32 = Hart::rv32(16, 4, 34, true);
+    assert_eq!(Hart::try_from(0x100032210).ok(), rv32);
+    assert_ne!(Hart::new(16, 4, 34, true), rv32);
 }
 
 #[test]
