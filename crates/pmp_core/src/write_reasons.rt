@@ -206,7 +206,12 @@ impl<'a> Registers<'a> {
                     None => false,
                 }
             }
-            (WriteReason::Grain, Csr::Cfg(register)) => match byte_for(self.hart(), register, value, index) {
+            (WriteReason::Grain, Csr::Cfg(register)) => match byte_for(
+                self.hart(),
+                register,
+                value,
+                index,
+            ) {
                 Some(byte) => !frozen && self.adds_na4(byte),
                 None => false,
             },

@@ -21,9 +21,9 @@ pub enum Refusal {
     BadLine = 11,
     /// A name or number of no register.
     BadName = 12,
-    /// A `pmpcfg` register with an odd number, which RV64 doesn't have.
+    /// A `pmpcfg` register with an odd number, which the hart of RV64 doesn't have.
     OddCfg = 13,
-    /// A value that is no number below `2^64`.
+    /// A value that is no number below `2^64`, or that is written on RV32 and not below `2^32`.
     BadNumber = 14,
     /// More than 64 events stand before a script's `publish`.
     BatchFull = 15,
@@ -138,12 +138,13 @@ impl Refusal {
             Refusal::BadVersion =>
                 "pmp 1 for a unit of 16 entries, pmp 2 for one of 64, or pmp 3 for any hart, before every line but comments",
             Refusal::BadLine =>
-                "write NAME VALUE, reset or publish; with pmp 3 also set NAME VALUE, expect NAME VALUE, and hart with entries N, grain BYTES, bits N or smepmp yes or no",
+                "write NAME VALUE, reset or publish; with pmp 3 also set NAME VALUE, expect NAME VALUE, and hart with xlen 32 or 64, entries N, grain BYTES, bits N or smepmp yes or no",
             Refusal::BadName =>
                 "mseccfg, pmpcfg0, pmpcfg2, .. pmpcfg14, pmpaddr0 to pmpaddr63, or the register's number after 0x",
-            Refusal::OddCfg => "a pmpcfg register with an even number, since RV64 has no odd ones",
+            Refusal::OddCfg =>
+                "a pmpcfg register with an even number, since RV64 has no odd ones; RV32 has, with pmp 3 and hart xlen 32",
             Refusal::BadNumber =>
-                "a number below 2^64: 1 to 20 decimal digits, or 0x and 1 to 16 hexadecimal digits",
+                "a number below 2^64, in a write with hart xlen 32 below 2^32: 1 to 20 decimal digits, or 0x and 1 to 16 hexadecimal digits",
             Refusal::BatchFull => "at most 64 writes and resets before a publish",
             Refusal::Unpublished => "a publish after this event",
             Refusal::TooLong =>
@@ -166,7 +167,7 @@ impl Refusal {
             Refusal::LateHead => "hart and set before the first write, reset or publish",
             Refusal::Twice => "each field of the hart once, and each register set once",
             Refusal::BadEntries => "0 to 64 entries",
-            Refusal::BadBits => "34 to 56 address bits",
+            Refusal::BadBits => "34 to 56 address bits, or 32 to 34 with hart xlen 32",
             Refusal::NotHeld => "a value that the register of this hart keeps",
             Refusal::BadGrain => "a grain of 4, 8, 16 and so on to 4096 bytes",
         }
@@ -184,7 +185,7 @@ impl Refusal {
             Refusal::BadName =>
                 "write it so, in lower case and without leading zeros; leave out writes to other registers",
             Refusal::OddCfg =>
-                "write both halves to the even one before it; RV32 firmware can't be replayed",
+                "write both halves to the even one before it; for RV32 firmware begin with pmp 3 and hart xlen 32",
             Refusal::BadNumber =>
                 "put 0x before hexadecimal digits and nothing behind them; leave out signs and underscores: a register's -1 is 0xffffffffffffffff",
             Refusal::BatchFull => "put a publish between them",

@@ -6,7 +6,7 @@ pub use crate::topics::MORE;
 pub const VERSION: &str = "0.2.0";
 
 pub const ABOUT: &str =
-    "Decides accesses to physical memory as the PMP unit of one RV64 hart does.";
+    "Decides accesses to physical memory as the PMP unit of one RISC-V hart does.";
 
 pub const CHECK: &str = "Decides one access after publications of a script, and writes its row";
 

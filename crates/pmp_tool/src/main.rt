@@ -1,4 +1,4 @@
-//! The command `pmp`, which decides accesses to physical memory as the PMP unit of one RV64 hart does.
+//! The command `pmp`, which decides accesses to physical memory as the PMP unit of one RISC-V hart does.
 #![tactic(auto)]
 
 mod answer;

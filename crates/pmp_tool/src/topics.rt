@@ -42,10 +42,13 @@ first:
   publish
 
 A line behind the first may be one of these too:
+  hart xlen N        its registers have so many bits: 32, or 64 as where nothing
+                     is said
   hart entries N     the hart has so many entries, 0 to 64; where nothing is
                      said, 16
   hart grain BYTES   its grain: 4, 8, 16 and so on to 4,096 bytes; else 4
-  hart bits N        its physical addresses have so many bits, 34 to 56; else 56
+  hart bits N        its physical addresses have so many bits: 34 to 56, else
+                     56; on RV32 32 to 34, else 34
   hart smepmp WORD   yes or no: whether it has Smepmp, with mseccfg; else yes
   set NAME VALUE     the register keeps VALUE before the first event
   expect NAME VALUE  the register reads VALUE here, behind the events above this
@@ -315,12 +318,13 @@ The order depends on the script's version:
 - 1: pmpcfg0, pmpcfg2, pmpaddr0 to pmpaddr15, mseccfg: 19 lines
 - 2: pmpcfg0, pmpcfg2, pmpcfg4, .. pmpcfg14, pmpaddr0 to pmpaddr63, mseccfg: 73
   lines
-- 3: likewise those with bytes and addresses of the hart's entries, and mseccfg
+- 3: likewise those with bytes and addresses of the hart's entries, on RV32
+  pmpcfg1 and so on too, and mseccfg
 
 With `--script` it writes a script of version 3 that begins with this very
-register file, and has no publication: the four lines that say the hart, and a
-`set` line, in the same order, for each register that keeps another value than
-0.
+register file, and has no publication: the lines that say the hart, with its
+XLEN where that is 32, and a `set` line, in the same order, for each register
+that keeps another value than 0.
 
 Exit status:
   0  the answer is written
@@ -461,11 +465,12 @@ each event of the script, in order, and behind them a row for each `expect`.
                a reason, ascending, parted by one space
 
 The reasons are:
-  absent    the value isn't 0 for an entry, or for mseccfg, that the hart
-            doesn't have
+  absent    the value isn't 0 for an entry, or for mseccfg or mseccfgh, that the
+            hart doesn't have
   bits      the value has bits that the register doesn't have: of an address 63
             to 54, or what the hart's address bits leave out, 6 and 5 of a
-            configuration byte, 63 to 3 of mseccfg if the hart has it
+            configuration byte, 63 to 3 of mseccfg and all of mseccfgh if the
+            hart has them
   frozen    an entry is frozen, and the value has another byte or address for it
             than it has
   tor       the entry isn't frozen, the next one is and is TOR, and the value is

@@ -14,7 +14,9 @@ use crate::script::hart_field::{HartField, kind_of};
 use crate::script::hart_registers::{first_foreign_expectation, first_foreign_line};
 use crate::script::head::{Head, HeadLine};
 use crate::script::statement::HeadStatement;
-use pmp_core::{Csr, Hart, MAX_ADDRESS_BITS, MAX_ENTRIES, MID_ADDRESS_BITS, Profile, RegFile, SavedRegisters};
+use pmp_core::{
+    Csr, Hart, MAX_ADDRESS_BITS, MAX_ENTRIES, MID_ADDRESS_BITS, Profile, RegFile, SavedRegisters,
+};
 
 /// Puts so many bytes of a value, lowest first, over those of the entries from the first on.
 fn set_bytes(saved: &mut SavedRegisters, first: usize, count: usize, value: u64)
