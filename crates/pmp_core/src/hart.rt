@@ -144,13 +144,13 @@ impl Hart {
         }
     }
 
-    /// Whether `of` gives it.
+    /// Whether `of` gives it. RV32 has no addresses of so many bits.
     fn is_usual(&self) -> bool
         ensures { result ≡ is_usual self.now }
     {
         let profile = self.profile;
         let is_one_of_two = profile.entries == 16 || profile.entries == 64;
-        let is_widest = profile.address_bits == MAX_ADDRESS_BITS && !profile.is_rv32;
+        let is_widest = profile.address_bits == MAX_ADDRESS_BITS;
         is_one_of_two && profile.grain == 0 && is_widest && profile.has_smepmp
     }
 
