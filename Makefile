@@ -12,6 +12,7 @@
 #                           told
 # make soak SECONDS=..      lets a publisher and eight checkers run so long, and compares each answer with a replay
 # make conformance          tries QEMU's unit, or that of HART="simulator ELF", by cases of each rule
+# make rv32                 boots an RV32 hart of QEMU, and compares what it refuses with what pmp refuses
 # make qemu                 builds QEMU 7.2 as it is and over the library, boots OpenSBI and U-Boot on both, and compares
 # make test                 proves and tests everything, has the prover refuse the wrong bodies, then tries the program, the
 #                           libraries, the launcher and the documents; its last line is the sum of all
@@ -28,7 +29,7 @@ export PREFIX DESTDIR
 # ci has one process for each, which is less work than several for one.
 LANES = $(shell awk -v most="$$(nproc)" '/^MemAvailable/ { n = int($$2 / 3500000); print n < 1 ? 1 : n < most ? n : most }' /proc/meminfo)
 
-.PHONY: build library page page-test docs test conformance qemu install install-program install-library uninstall dist \
+.PHONY: build library page page-test docs test conformance rv32 qemu install install-program install-library uninstall dist \
     dist-test soak stress bench bench-decide bench-emulator bench-threads bench-limits bench-audit bench-page bench-qemu
 
 build:
@@ -71,6 +72,7 @@ test:
 	    checks/summing \
 	    'checks/hostile $(PROGRAM)' \
 	    'checks/machines $(PROGRAM)' \
+	    'checks/rv32 $(PROGRAM)' \
 	    'checks/growths $(GROWTHS)' \
 	    'if command -v chromium; then RT=$(CURDIR)/checks/over-proved make page; fi && checks/page $(PROGRAM)'
 
@@ -83,6 +85,9 @@ conformance:
 	    echo "there is no $$it; Debian's packages are qemu-system-misc and gcc-riscv64-unknown-elf" >&2; exit 2; }; done
 	@$(MAKE) build
 	conformance/run --cases conformance/out/cases -- $(HART)
+
+rv32: build
+	checks/rv32 $(PROGRAM)
 
 qemu: library
 	@integrations/qemu/try

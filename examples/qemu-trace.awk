@@ -8,6 +8,8 @@
 #
 # The script is of version 2, for a unit of 64 entries, where a value other than zero is written to a register of
 # entries 16 to 63; else it is of version 1, for one of 16 entries. With -v version=1 or -v version=2 it is of that one.
+# Where an odd pmpcfg register is written, as RV32 alone has, or with -v xlen=32, it is of version 3, for an RV32 hart
+# of as many entries. With -v entries=8 it is of version 3 too, for 8 entries.
 #
 # It was made for QEMU 7.2, whose events have the form
 #
@@ -20,6 +22,12 @@
 
 function say(words) {
     print "qemu-trace: " words | "cat 1>&2"
+}
+
+function refuse(words) {
+    say(words)
+    failed = 1
+    exit 1
 }
 
 # Nothing is printed before the end, since the first line needs the version.
@@ -50,11 +58,8 @@ function is_high(name) {
 
 BEGIN {
     if (hart == "") hart = 0
-    if (version "" !~ /^[12]?$/) {
-        say("version=" version " is no version of scripts, which are 1 and 2")
-        failed = 1
-        exit
-    }
+    if (version "" !~ /^[12]?$/) refuse("version=" version " is no version of scripts, which are 1 and 2")
+    if (xlen "" !~ /^(32|64)?$/) refuse("xlen=" xlen " is neither 32 nor 64")
     form = "hart [0-9]+: write (reg[0-9]+|addr[0-9]+|mseccfg), val: 0x[0-9a-f]+$"
 }
 
@@ -67,11 +72,7 @@ BEGIN {
     next
 }
 
-$0 !~ ("_csr_write " form) {
-    say("line " NR " isn't in the form of QEMU 7.2: " $0)
-    failed = 1
-    exit
-}
+$0 !~ ("_csr_write " form) { refuse("line " NR " isn't in the form of QEMU 7.2: " $0) }
 
 {
     # What is left: 0: write reg0, val: 0x18
@@ -86,6 +87,10 @@ $0 !~ ("_csr_write " form) {
     sub(/^reg/, "pmpcfg", name)
     sub(/^addr/, "pmpaddr", name)
     if (!high && is_high(name) && $5 !~ /^0x0+$/) high = $5 " is written to " name
+    if (xlen == "" && name ~ /^pmpcfg[0-9]*[13579]$/) {
+        xlen = 32
+        odd = name
+    }
     add("write " name " " $5)
     writes++
     open++
@@ -100,8 +105,15 @@ END {
         say("the trace has no write of hart " hart (harts ? ": choose another, as by -v hart=" busiest : ""))
         exit 1
     }
-    print "pmp " (version ? version : high ? 2 : 1)
+    is_third = xlen == 32 || entries != ""
+    if (is_third && version) refuse("version=" version " is without RV32 and entries=, which version 3 has")
+    if (high && !version && entries == "") why = (is_third ? "64 entries" : "version 2") ", since " high
+    if (is_third && why) entries = 64
+    print "pmp " (is_third ? 3 : version ? version : high ? 2 : 1)
     print "# from QEMU's trace of hart " hart ", a publication for each " (bursts ? "burst" : "write")
-    if (!version && high) print "# version 2, since " high
+    if (odd) print "# RV32, since " odd " is written"
+    if (why) print "# " why
+    if (xlen == 32) print "hart xlen 32"
+    if (entries != "") print "hart entries " entries
     for (i = 1; i <= lines; i++) print script[i]
 }

@@ -12,10 +12,13 @@
 # such a register in another form is refused, and all others are passed over. Where a debugger doesn't know mseccfg,
 # -v mseccfg=0x7 gives its value, and it is 0 where nothing does.
 #
+# A hart with (/32) in OpenOCD's form, an odd pmpcfg register or mseccfgh is of RV32; of others -v xlen=32 says that.
+#
 # The script is of version 3 and has no publication: each register is set, whatever locks it is under. What the hart is,
 # the registers don't say, but for entries 16 to 63: -v entries=8, -v grain=4096, -v bits=38 and -v smepmp=no do, and
-# what isn't said is 16 entries, or 64, 4 bytes, 56 bits, and Smepmp. pmp refuses a value that such a hart can't hold, by
-# its line. Registers that no RV64 hart has are refused here, by a line on standard error, status 1 and no script.
+# what isn't said is 16 entries, or 64, 4 bytes, 56 bits, or 34 on RV32, and Smepmp. pmp refuses a value that such a
+# hart can't hold, by its line. Registers that no such hart has are refused here, by a line on standard error, status 1
+# and no script.
 
 function refuse(words) {
     print "registers: " words | "cat 1>&2"
@@ -23,10 +26,15 @@ function refuse(words) {
     exit 1
 }
 
-# Whether an RV64 hart has the register.
+# Whether RV32 alone has the register.
+function is_of_rv32(name) {
+    return name ~ /^(pmpcfg([13579]|1[135])|mseccfgh)$/
+}
+
+# Whether the hart has the register.
 function is_there(name) {
-    if (name ~ /^pmpcfg(0|[1-9][0-9]?)$/) return substr(name, 7) + 0 < 16 && substr(name, 7) % 2 == 0
-    return name == "mseccfg" || name ~ /^pmpaddr(0|[1-9][0-9]?)$/ && substr(name, 8) + 0 < 64
+    if (name ~ /^pmpcfg(0|[2468]|1[024])$/ || name == "mseccfg") return 1
+    return xlen == 32 && is_of_rv32(name) || name ~ /^pmpaddr(0|[1-9][0-9]?)$/ && substr(name, 8) + 0 < 64
 }
 
 # A number in hexadecimal digits as sixteen of them.
@@ -38,7 +46,8 @@ function sixteen(number) {
 
 # Takes a register's value. `where` says what gives it.
 function take(name, number, where) {
-    if (!is_there(name)) refuse(where ": an RV64 hart has no " name)
+    if (xlen == "" && is_of_rv32(name)) xlen = 32
+    if (!is_there(name)) refuse(where ": an RV" (xlen == "" ? 64 : xlen) " hart has no " name)
     if (name in value) refuse(where ": " name " stands at " place[name] " too")
     value[name] = sixteen(number)
     place[name] = where
@@ -47,7 +56,7 @@ function take(name, number, where) {
 
 # The register that has entry i's configuration.
 function configuration(i) {
-    return "pmpcfg" (i - i % 8) / 4
+    return "pmpcfg" (i - i % (xlen / 8)) / 4
 }
 
 # That what entry i matches is there.
@@ -55,7 +64,7 @@ function look_at(i,    name, byte, where) {
     name = configuration(i)
     if (!(name in value) && ("pmpaddr" i) in value) refuse(place["pmpaddr" i] ": pmpaddr" i " is there without " name)
     if (!(name in value)) return
-    byte = substr(value[name], 15 - i % 8 * 2, 2)
+    byte = substr(value[name], 15 - i % (xlen / 8) * 2, 2)
     where = place[name] ": entry " i
     if (byte ~ /[89a-f]$|^[13579bdf]/ && !(("pmpaddr" i) in value)) refuse(where " is on, without pmpaddr" i)
     if (byte ~ /^[02468ace][89a-f]$/ && i > 0 && !(("pmpaddr" (i - 1)) in value))
@@ -69,8 +78,12 @@ function add(name, digits) {
     if (digits != "") print "set " name " 0x" digits
 }
 
-function add_all(kind, most, step,    i) {
-    for (i = 0; i < most; i += step) add(kind i)
+function add_all(kind, most,    i) {
+    for (i = 0; i < most; i++) add(kind i)
+}
+
+BEGIN {
+    if (xlen "" !~ /^(32|64)?$/) refuse("xlen=" xlen " is neither 32 nor 64")
 }
 
 { sub(/\r$/, "") }
@@ -78,8 +91,10 @@ function add_all(kind, most, step,    i) {
 # What is typed, and gdb's answer where it doesn't know a register.
 /^(\(gdb\)|>|Invalid register)/ || !/(pmpcfg|pmpaddr|mseccfg)/ { next }
 
-/^(\([0-9]+\) )?[a-z0-9]+ \(\/64\): 0x[0-9a-fA-F]+( \(dirty\))?$/ {
+/^(\([0-9]+\) )?[a-z0-9]+ \(\/(32|64)\): 0x[0-9a-fA-F]+( \(dirty\))?$/ {
     sub(/^\([0-9]+\) /, "")
+    if (xlen == "") xlen = substr($2, 3, 2)
+    if ($2 != "(/" xlen "):") refuse("line " NR ": an RV" xlen " hart has no register of " substr($2, 3, 2) " bits")
     take($1, $3, "line " NR)
     next
 }
@@ -93,20 +108,25 @@ function add_all(kind, most, step,    i) {
 
 END {
     if (failed) exit 1
-    for (name in value) if (name != "mseccfg") registers++
+    for (name in value) if (name !~ /^mseccfg/) registers++
     if (!registers) refuse("there is no pmpcfg and no pmpaddr register")
     if (mseccfg != "" && mseccfg !~ /^0x[0-9a-fA-F]+$/) refuse("mseccfg=" mseccfg " isn't 0x and hexadecimal digits")
     if (mseccfg != "") take("mseccfg", mseccfg, "-v mseccfg=" mseccfg)
+    if (xlen == "") xlen = 64
+    for (name in value)
+        if (xlen == 32 && substr(value[name], 1, 8) != "00000000") refuse(place[name] ": " name " of RV32 has 32 bits")
     for (i = 0; i < 64; i++) look_at(i)
     for (i = 16; i < 64 && entries == ""; i++)
         if (("pmpaddr" i) in value || configuration(i) in value) entries = 64
     print "pmp 3"
     print "# the registers of a hart" (place["mseccfg"] == "" ? ", with mseccfg taken as 0" : "")
+    if (xlen == 32) print "hart xlen 32"
     if (entries != "") print "hart entries " entries
     if (grain != "") print "hart grain " grain
     if (bits != "") print "hart bits " bits
     if (smepmp != "") print "hart smepmp " smepmp
-    add_all("pmpcfg", 16, 2)
-    add_all("pmpaddr", 64, 1)
+    add_all("pmpcfg", 16)
+    add_all("pmpaddr", 64)
     add("mseccfg")
+    add("mseccfgh")
 }
