@@ -27,7 +27,7 @@ ghost use Rattle.pmp_c.specs.Unit.{file_of_unit, unit_size, version, IsBuilt, Is
 mod numbers;
 mod unit;
 
-use crate::numbers::{MOVED, NO_HART, NO_RANGE, UNCHANGED, refusal_status, rights_number};
+use crate::numbers::{NO_HART, NO_RANGE, UNCHANGED, rights_number};
 use pmp_core::{ADDRESS_LIMIT, Hart, SavedRegisters};
 use pmp_map::{NO_CAUSE, access_of, cause_number, mode_of, no_access, whole_cause};
 pub use unit::Unit;
@@ -76,12 +76,9 @@ pub extern "C" fn tilvenka_pmp_write(unit: &mut Unit, csr: u32, value: u64) -> u
         (λ named. IsWriteAnswer unit.old unit.new named value result)
         (λ fault. (result ≡ status_number (Err fault)) × (unit.new ≡ unit.old)) }
 {
-    match unit.register(csr) {
-        Ok(csr) => {
-            let written = unit.registers.write(csr, value);
-            unit.noted(&written)
-        }
-        Err(fault) => refusal_status(fault),
+    match unit.usual_register(csr) {
+        Some(csr) => unit.write(csr, value),
+        None => unit.write_on_hart(csr, value),
     }
 }
 
@@ -101,20 +98,9 @@ pub extern "C" fn tilvenka_pmp_write_moved(
         (λ fault. (result ≡ status_number (Err fault)) × (unit.new ≡ unit.old)
         × (ends first.new last.new ≡ ends first.old last.old)) }
 {
-    match unit.register(csr) {
-        Ok(csr) => {
-            let (written, moved) = unit.registers.write_moved(csr, value);
-            let status = unit.noted(&written);
-            match moved {
-                Some(span) => {
-                    *first = span.first;
-                    *last = span.last;
-                    status + MOVED
-                }
-                None => status,
-            }
-        }
-        Err(fault) => refusal_status(fault),
+    match unit.usual_register(csr) {
+        Some(csr) => unit.write_moved(csr, value, first, last),
+        None => unit.write_moved_on_hart(csr, value, first, last),
     }
 }
 
@@ -126,12 +112,12 @@ pub extern "C" fn tilvenka_pmp_read(unit: &Unit, csr: u32, value: &mut u64) -> u
         (λ named. value.new ≡ register_value (file_of_unit unit.now) named)
         (λ fault. value.new ≡ value.old) }
 {
-    match unit.register(csr) {
-        Ok(csr) => {
+    match unit.usual_register(csr) {
+        Some(csr) => {
             *value = unit.registers.read(csr);
             UNCHANGED
         }
-        Err(fault) => refusal_status(fault),
+        None => unit.read_on_hart(csr, value),
     }
 }
 

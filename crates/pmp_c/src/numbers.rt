@@ -57,6 +57,7 @@ pub fn csr_of(number: u32) -> Result<Csr, CsrFault>
 }
 
 /// The register of this hart with this CSR number.
+#[inline(always)]
 pub fn csr_on(hart: Hart, number: u32) -> Result<Csr, CsrFault>
     ensures { result ≡ numbered_on hart.is_rv32 number }
 {

@@ -1,15 +1,16 @@
 //! The unit: its registers, and the tables of its map.
 
-ghost use Rattle.std.specs.Prelude.{◌≡◌, ◌+◌, ◌^◌, ◌<◌, ◌≤◌, false, true};
+ghost use Rattle.std.specs.Prelude.{◌≡◌, ◌+◌, ◌^◌, ◌<◌, ◌≤◌, IfSome, Err, MatchResult, Ok, false, true};
 ghost use Rattle.pmp_core.specs.declared.access.TheConstants.{ADDRESS_LIMIT};
 ghost use Rattle.pmp_core.specs.Ranges.{decision_of};
 ghost use Rattle.pmp_map.specs.Answer.{answer_number};
 ghost use Rattle.pmp_map.specs.RangeRights.{AreRangeRights};
 ghost use Rattle.pmp_map.specs.Runs.{IsRunAround};
-ghost use Rattle.pmp_c.specs.Status.{register_in, write_number};
+ghost use Rattle.pmp_core.specs.RegisterValue.{register_value};
+ghost use Rattle.pmp_c.specs.Status.{IsMoveAnswer, IsWriteAnswer, ends, register_in, status_number, write_number};
 ghost use Rattle.pmp_c.specs.Unit.{file_of_unit, IsBuilt, IsUnit};
 
-use crate::numbers::{csr_of, csr_on, write_status};
+use crate::numbers::{MOVED, UNCHANGED, csr_of, csr_on, refusal_status, write_status};
 use pmp_core::{Access, Csr, CsrFault, Mode, Perms, Registers, SavedRegisters, Written};
 use pmp_map::{Run, Tables, answer_number, rights_in, run_around};
 
@@ -23,20 +24,20 @@ pub struct Unit {
 }
 
 impl Unit {
-    /// The register of its hart with this CSR number. What RV64 has but for `mseccfg` is on each hart.
+    /// The register with this CSR number where RV64 has it, and so each hart, but for `mseccfg`.
     #[inline(always)]
-    pub fn register(&self, number: u32) -> Result<Csr, CsrFault>
-        ensures { result ≡ register_in (file_of_unit self.now) number }
+    pub fn usual_register(&self, number: u32) -> Option<Csr>
+        ensures { IfSome result (λ csr. register_in (file_of_unit self.now) number ≡ Ok csr) }
     {
         match csr_of(number) {
-            Ok(Csr::Cfg(register)) => Ok(Csr::Cfg(register)),
-            Ok(Csr::Addr(register)) => Ok(Csr::Addr(register)),
-            _ => self.register_on_hart(number),
+            Ok(Csr::Mseccfg) if !Registers::of(&self.registers).hart().has_smepmp() => None,
+            Ok(csr) => Some(csr),
+            Err(_) => None,
         }
     }
 
-    /// The same where it takes the hart to say.
-    fn register_on_hart(&self, number: u32) -> Result<Csr, CsrFault>
+    /// The register of its hart with this CSR number.
+    fn register(&self, number: u32) -> Result<Csr, CsrFault>
         ensures { result ≡ register_in (file_of_unit self.now) number }
     {
         let hart = Registers::of(&self.registers).hart();
@@ -59,6 +60,85 @@ impl Unit {
             self.map.runs = 0;
         }
         write_status(written)
+    }
+
+    /// Writes the register. If one is another than before, the map isn't built.
+    #[inline(always)]
+    pub fn write(&mut self, csr: Csr, value: u64) -> u32
+        ensures { IsWriteAnswer self.old self.new csr value result }
+    {
+        let written = self.registers.write(csr, value);
+        self.noted(&written)
+    }
+
+    /// Writes the register with this CSR number, if its hart has it.
+    #[cold]
+    #[inline(never)]
+    pub fn write_on_hart(&mut self, number: u32, value: u64) -> u32
+        ensures { MatchResult (register_in (file_of_unit self.old) number)
+            (λ csr. IsWriteAnswer self.old self.new csr value result)
+            (λ fault. (result ≡ status_number (Err fault)) × (self.new ≡ self.old)) }
+    {
+        match self.register(number) {
+            Ok(csr) => self.write(csr, value),
+            Err(fault) => refusal_status(fault),
+        }
+    }
+
+    /// Writes the register, and the ends of what it moves, if anything.
+    #[inline(always)]
+    pub fn write_moved(&mut self, csr: Csr, value: u64, first: &mut u64, last: &mut u64) -> u32
+        ensures { IsMoveAnswer self.old self.new csr value (ends first.old last.old) (ends first.new last.new) result }
+    {
+        let (written, moved) = self.registers.write_moved(csr, value);
+        let status = self.noted(&written);
+        match moved {
+            Some(span) => {
+                *first = span.first;
+                *last = span.last;
+                status + MOVED
+            }
+            None => status,
+        }
+    }
+
+    /// The same of the register with this CSR number, if its hart has it.
+    #[cold]
+    #[inline(never)]
+    pub fn write_moved_on_hart(
+        &mut self,
+        number: u32,
+        value: u64,
+        first: &mut u64,
+        last: &mut u64,
+    ) -> u32
+        ensures { MatchResult (register_in (file_of_unit self.old) number)
+            (λ csr. IsMoveAnswer self.old self.new csr value (ends first.old last.old) (ends first.new last.new) result)
+            (λ fault. (result ≡ status_number (Err fault)) × (self.new ≡ self.old)
+            × (ends first.new last.new ≡ ends first.old last.old)) }
+    {
+        match self.register(number) {
+            Ok(csr) => self.write_moved(csr, value, first, last),
+            Err(fault) => refusal_status(fault),
+        }
+    }
+
+    /// Reads the register with this CSR number, if its hart has it.
+    #[cold]
+    #[inline(never)]
+    pub fn read_on_hart(&self, number: u32, value: &mut u64) -> u32
+        ensures status { result ≡ status_number (register_in (file_of_unit self.now) number) }
+        ensures value { MatchResult (register_in (file_of_unit self.now) number)
+            (λ csr. value.new ≡ register_value (file_of_unit self.now) csr)
+            (λ fault. value.new ≡ value.old) }
+    {
+        match self.register(number) {
+            Ok(csr) => {
+                *value = self.registers.read(csr);
+                UNCHANGED
+            }
+            Err(fault) => refusal_status(fault),
+        }
     }
 
     /// Builds the map, where it isn't built.

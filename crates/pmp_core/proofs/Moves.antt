@@ -79,24 +79,24 @@ same_fields one other same =
     ∙ ap (λ (b : Bool). record { mml = other.mml; mmwp = other.mmwp; rlb = b }) ((booleans_Decides _ _).0 rest.1)
 
 pub same_profile : (one other : Profile)
-    → not (beq one.is_rv32 other.is_rv32 && (eqb one.entries other.entries && (eqb one.grain other.grain
-    && (eqb one.address_bits other.address_bits && beq one.has_smepmp other.has_smepmp)))) ≡ false → one ≡ other
+    → not (eqb one.entries other.entries && (eqb one.grain other.grain && (eqb one.address_bits other.address_bits
+    && (beq one.has_smepmp other.has_smepmp && beq one.is_rv32 other.is_rv32)))) ≡ false → one ≡ other
 same_profile one other same =
     let all = and_parts _ _ (not-false _ same) in
-    let counts = and_parts _ _ all.1 in
-    let rest = and_parts _ _ counts.1 in
-    let last = and_parts _ _ rest.1 in
-    let rv32 = (booleans_Decides _ _).0 all.0 in
-    let entries = eqb-true _ _ counts.0 in
+    let rest = and_parts _ _ all.1 in
+    let wide = and_parts _ _ rest.1 in
+    let last = and_parts _ _ wide.1 in
+    let entries = eqb-true _ _ all.0 in
     let grain = eqb-true _ _ rest.0 in
-    let bits = eqb-true _ _ last.0 in
-    let smepmp = (booleans_Decides _ _).0 last.1 in
+    let bits = eqb-true _ _ wide.0 in
+    let smepmp = (booleans_Decides _ _).0 last.0 in
+    let rv32 = (booleans_Decides _ _).0 last.1 in
     (λ i. record {
-      is_rv32 = rv32 i;
       entries = entries i;
       grain = grain i;
       address_bits = bits i;
       has_smepmp = smepmp i;
+      is_rv32 = rv32 i;
     })
 
 module _ (one other : RegisterFile) (i : ℕ) where

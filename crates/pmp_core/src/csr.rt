@@ -35,6 +35,7 @@ impl Csr {
     }
 
     /// The register with this CSR number where XLEN is 32, or 64.
+    #[inline(always)]
     pub fn on(is_rv32: bool, number: u16) -> Result<Csr, CsrFault>
         ensures { result ≡ numbered_on is_rv32 number }
     {
@@ -43,7 +44,7 @@ impl Csr {
             0x3A0..=0x3AF => Ok(Csr::Cfg((number - 0x3A0) as u8)),
             0x3B0..=0x3EF => Ok(Csr::Addr((number - 0x3B0) as u8)),
             0x747 => Ok(Csr::Mseccfg),
-            0x757 if is_rv32 => Ok(Csr::Mseccfgh),
+            _ if is_rv32 && number == 0x757 => Ok(Csr::Mseccfgh),
             _ => Err(CsrFault::NotPmp),
         }
     }

@@ -26,8 +26,6 @@ pub const MAX_ADDRESS_BITS: u8 = 56;
 /// What a hart has of physical memory protection (Volume II, 3.7.1), if there is such a hart: `Hart::new` says so.
 #[derive(Clone, Copy, Debug, PartialEq, Eq)]
 pub struct Profile {
-    /// Whether XLEN is 32, and not 64.
-    pub is_rv32: bool,
     /// How many entries there are, 0 to 64.
     pub entries: u8,
     /// The manual's G, 0 to 10: the grain is `2^(G+2)` bytes.
@@ -36,6 +34,8 @@ pub struct Profile {
     pub address_bits: u8,
     /// Whether there is `mseccfg`, with Smepmp.
     pub has_smepmp: bool,
+    /// Whether XLEN is 32, and not 64.
+    pub is_rv32: bool,
 }
 
 /// A hart as it is from the time that it is made on. A contract sees it as its profile.
@@ -122,6 +122,7 @@ impl Hart {
 
     /// Its register with this CSR number. A hart without Smepmp has no `mseccfg` and no `mseccfgh`, but their numbers
     /// name them all the same.
+    #[inline(always)]
     pub fn csr(&self, number: u16) -> Result<Csr, CsrFault>
         ensures { result ≡ numbered_on self.now.is_rv32 number }
     {
