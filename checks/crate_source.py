@@ -17,6 +17,8 @@ class Source:
     OWNER = re.compile(
         r"^impl(?:<[^{]*?>)? (?:([\w:]+)(?:<([\w:]+)[^{]*>)?\s+for )?([\w:]+)|^(?:pub )?trait (\w+)|^}", re.M
     )
+    # Where more than the contract of a function may count for its callers.
+    BODY_COUNTS = re.compile(r"\bconst fn\b|-> impl\b|\bfn main\b")
     TYPE = re.compile(r"^(?:pub(?:\(\w+\))? )?(?:struct|enum) (\w+)", re.M)
     CONTRACT = re.compile(r"\b(ensures|requires|ghost)\b")
     USE = re.compile(r"^\s*(?:pub )?(?:ghost )?use [^;]*;|^use .*|//.*|--.*", re.M)
@@ -62,6 +64,37 @@ class Source:
     def text_of(self, place):
         file, start, _, end, _ = self.places[place]
         return self.texts[file][start:end]
+
+    def answers(self, function, goal):
+        """Whether the function's proof has an answer for the goal."""
+        text = self.texts.get(f"proofs/{function.replace('::', '/')}/Answers.antt", "")
+        return re.search(rf"^pub {re.escape(goal)} :", text, re.M) is not None
+
+    def open_head(self, place):
+        """Where the attributes of a function begin and end, and what they are where no tactic tries its goals."""
+        file, start, *_ = self.places[place]
+        text = self.text_of(place)
+        end = self.FN.search(text).start()
+        others = [it for it in text[:end].splitlines(True) if "#[tactic(" not in it]
+        return start, start + end, "".join([*others, "#[tactic(none)]\n"])
+
+    def called(self, place):
+        """What a function becomes that is only called: where it stands, and its contract over a body that nothing
+        proves. None where it has to stay as it is."""
+        file, start, body, end, _ = self.places[place]
+        at, to, head = self.open_head(place)
+        signature = self.texts[file][to:body]
+        is_whole = signature.endswith("{") and signature.count("{") == signature.count("}") + 1
+        if not is_whole or self.BODY_COUNTS.search(signature):
+            return None
+        return file, at, end, f"{head}{signature}\n    unreachable!()\n}}"
+
+    def proof_of(self, place):
+        """The files of the function's proof, but for one that another names."""
+        folder, own = f"proofs/{place.replace('::', '/')}", f".proofs.{place.replace('::', '.')}."
+        files = [it for it in self.texts if os.path.dirname(it) == folder]
+        others = [text for it, text in self.texts.items() if it not in files]
+        return [it for it in files if not any(own + os.path.basename(it)[:-5] in text for text in others)]
 
     def copied(self, edit):
         """The text of the edit's function with all that it changes, or None where a copy can't stand behind it, or the

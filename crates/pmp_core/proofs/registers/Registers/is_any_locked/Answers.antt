@@ -1,3 +1,4 @@
+use Rattle.std.proofs.Common.{rules}
 use Rattle.std.proofs.Common.{◌≡◌, ◌<◌, true, length, sym, ◌∙◌, arith}
 use Rattle.std.proofs.lemmas.List.Folds.{list_any_at}
 use Rattle.pmp_core.specs.Entry.{Entry}
@@ -21,3 +22,6 @@ returns c = sym (none_any (λ (e : Entry). e.configuration.locked) c.args.self.n
       c.loop-index-test.false,
       c.count-index-end.ensures.count,
     ))))
+
+pub loop-index-preserved : goal.loop-index-preserved
+loop-index-preserved c = search rules

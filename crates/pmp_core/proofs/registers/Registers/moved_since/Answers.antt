@@ -1,3 +1,4 @@
+use Rattle.std.proofs.Common.{rules}
 use Rattle.std.proofs.Common.{◌≡◌, ◌∙◌, ap, sym, arith, inl, inr, length}
 use Rattle.std.proofs.lemmas.Bool.{cases_lt}
 use Rattle.pmp_core.specs.declared.hart.Profile.{Profile}
@@ -45,3 +46,6 @@ returns-clause-beside c =
       c.count-index-end.ensures.count,
       many,
     )))
+
+pub loop-index-init : goal.loop-index-init
+loop-index-init c = search rules
