@@ -140,7 +140,7 @@ impl Refusal {
             Refusal::BadLine =>
                 "write NAME VALUE, reset or publish; with pmp 3 also set NAME VALUE, expect NAME VALUE, and hart with xlen 32 or 64, entries N, grain BYTES, bits N or smepmp yes or no",
             Refusal::BadName =>
-                "mseccfg, pmpcfg0, pmpcfg2, .. pmpcfg14, pmpaddr0 to pmpaddr63, or the register's number after 0x",
+                "mseccfg, pmpcfg0, pmpcfg2, .. pmpcfg14, pmpaddr0 to pmpaddr63, or the register's number after 0x; with hart xlen 32 also mseccfgh and the odd pmpcfg",
             Refusal::OddCfg =>
                 "a pmpcfg register with an even number, since RV64 has no odd ones; RV32 has, with pmp 3 and hart xlen 32",
             Refusal::BadNumber =>
@@ -185,9 +185,9 @@ impl Refusal {
             Refusal::BadName =>
                 "write it so, in lower case and without leading zeros; leave out writes to other registers",
             Refusal::OddCfg =>
-                "write both halves to the even one before it; for RV32 firmware begin with pmp 3 and hart xlen 32",
+                "write both halves to the even one before it; for RV32 firmware begin with pmp 3 and hart xlen 32, above every write",
             Refusal::BadNumber =>
-                "put 0x before hexadecimal digits and nothing behind them; leave out signs and underscores: a register's -1 is 0xffffffffffffffff",
+                "put 0x before hexadecimal digits and nothing behind them; leave out signs and underscores: a register's -1 is 0xffffffffffffffff, on RV32 0xffffffff",
             Refusal::BatchFull => "put a publish between them",
             Refusal::Unpublished => "end the script with a publish",
             Refusal::TooLong =>

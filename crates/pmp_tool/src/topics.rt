@@ -21,8 +21,8 @@ first word begins with `#`, is skipped. Every other line is one of these:
 A write or a reset is an event. The events of a publication take effect
 together, in their order. A batch holds at most 64 events, and none with events
 is open at the end. The words in capitals are:
-  NAME   mseccfg; pmpcfg0, pmpcfg2, .. pmpcfg14; pmpaddr0 to pmpaddr63; or the
-         register's number behind 0x
+  NAME   mseccfg; pmpcfg0, pmpcfg2, .. pmpcfg14, on RV32 pmpcfg1 and so on too,
+         and mseccfgh; pmpaddr0 to pmpaddr63; or the register's number behind 0x
   VALUE  a number
 
 The programs in `examples/` make scripts of QEMU's traces, Spike's logs and a
@@ -42,7 +42,7 @@ first:
   publish
 
 A line behind the first may be one of these too:
-  hart xlen N        its registers have so many bits: 32, or 64 as where nothing
+  hart xlen WORD     its registers have so many bits: 32, or 64 as where nothing
                      is said
   hart entries N     the hart has so many entries, 0 to 64; where nothing is
                      said, 16
