@@ -112,9 +112,9 @@ pub extern "C" fn tilvenka_pmp_read(unit: &Unit, csr: u32, value: &mut u64) -> u
         (λ named. value.new ≡ register_value (file_of_unit unit.now) named)
         (λ fault. value.new ≡ value.old) }
 {
-    match unit.usual_register(csr) {
-        Some(csr) => {
-            *value = unit.registers.read(csr);
+    match unit.standard_register(csr) {
+        Some((registers, csr)) => {
+            *value = registers.read(csr);
             UNCHANGED
         }
         None => unit.read_on_hart(csr, value),

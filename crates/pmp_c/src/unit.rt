@@ -7,11 +7,13 @@ ghost use Rattle.pmp_map.specs.Answer.{answer_number};
 ghost use Rattle.pmp_map.specs.RangeRights.{AreRangeRights};
 ghost use Rattle.pmp_map.specs.Runs.{IsRunAround};
 ghost use Rattle.pmp_core.specs.RegisterValue.{register_value};
-ghost use Rattle.pmp_c.specs.Status.{IsMoveAnswer, IsWriteAnswer, ends, register_in, status_number, write_number};
+ghost use Rattle.pmp_c.specs.Status.{IsMoveAnswer, IsWriteAnswer, ends, found_on, register_in, status_number};
+ghost use Rattle.pmp_c.specs.Status.{write_number};
+ghost use Rattle.pmp_core.specs.Csr.{numbered_on};
 ghost use Rattle.pmp_c.specs.Unit.{file_of_unit, IsBuilt, IsUnit};
 
 use crate::numbers::{MOVED, UNCHANGED, csr_of, csr_on, refusal_status, write_status};
-use pmp_core::{Access, Csr, CsrFault, Mode, Perms, Registers, SavedRegisters, Written};
+use pmp_core::{Access, Csr, CsrFault, Hart, Mode, Perms, Registers, SavedRegisters, Written};
 use pmp_map::{Run, Tables, answer_number, rights_in, run_around};
 
 /// A unit. All zero it is one of sixteen entries after reset, whose map isn't built.
@@ -23,7 +25,24 @@ pub struct Unit {
     pub map: Tables,
 }
 
+/// The register of this hart with this CSR number.
+#[inline(always)]
+fn register_on(hart: Hart, number: u32) -> Result<Csr, CsrFault>
+    ensures { result ≡ found_on hart (numbered_on hart.is_rv32 number) }
+{
+    match csr_on(hart, number) {
+        Ok(Csr::Mseccfg | Csr::Mseccfgh) if !hart.has_smepmp() => Err(CsrFault::NotPmp),
+        found => found,
+    }
+}
+
 impl Unit {
+    fn hart(&self) -> Hart
+        ensures { result ≡ (file_of_unit self.now).profile }
+    {
+        Registers::of(&self.registers).hart()
+    }
+
     /// The register with this CSR number where RV64 has it, and so each hart, but for `mseccfg`.
     #[inline(always)]
     pub fn usual_register(&self, number: u32) -> Option<Csr>
@@ -33,17 +52,6 @@ impl Unit {
             Ok(Csr::Mseccfg) if !Registers::of(&self.registers).hart().has_smepmp() => None,
             Ok(csr) => Some(csr),
             Err(_) => None,
-        }
-    }
-
-    /// The register of its hart with this CSR number.
-    fn register(&self, number: u32) -> Result<Csr, CsrFault>
-        ensures { result ≡ register_in (file_of_unit self.now) number }
-    {
-        let hart = Registers::of(&self.registers).hart();
-        match csr_on(hart, number) {
-            Ok(Csr::Mseccfg | Csr::Mseccfgh) if !hart.has_smepmp() => Err(CsrFault::NotPmp),
-            found => found,
         }
     }
 
@@ -79,7 +87,7 @@ impl Unit {
             (λ csr. IsWriteAnswer self.old self.new csr value result)
             (λ fault. (result ≡ status_number (Err fault)) × (self.new ≡ self.old)) }
     {
-        match self.register(number) {
+        match register_on(self.hart(), number) {
             Ok(csr) => self.write(csr, value),
             Err(fault) => refusal_status(fault),
         }
@@ -117,14 +125,27 @@ impl Unit {
             (λ fault. (result ≡ status_number (Err fault)) × (self.new ≡ self.old)
             × (ends first.new last.new ≡ ends first.old last.old)) }
     {
-        match self.register(number) {
+        match register_on(self.hart(), number) {
             Ok(csr) => self.write_moved(csr, value, first, last),
             Err(fault) => refusal_status(fault),
         }
     }
 
+    /// The registers of a standard hart, and which of them has this CSR number.
+    #[inline(always)]
+    pub fn standard_register(&self, number: u32) -> Option<(Registers<'_>, Csr)>
+        ensures { let file = file_of_unit self.now in
+            IfSome result (λ found. (found.0 ≡ file) × (register_in file number ≡ Ok found.1)) }
+    {
+        let registers = Registers::on_standard(&self.registers)?;
+        match csr_of(number) {
+            Ok(Csr::Mseccfg) if !registers.hart().has_smepmp() => None,
+            Ok(csr) => Some((registers, csr)),
+            Err(_) => None,
+        }
+    }
+
     /// Reads the register with this CSR number, if its hart has it.
-    #[cold]
     #[inline(never)]
     pub fn read_on_hart(&self, number: u32, value: &mut u64) -> u32
         ensures status { result ≡ status_number (register_in (file_of_unit self.now) number) }
@@ -132,9 +153,10 @@ impl Unit {
             (λ csr. value.new ≡ register_value (file_of_unit self.now) csr)
             (λ fault. value.new ≡ value.old) }
     {
-        match self.register(number) {
+        let registers = Registers::of(&self.registers);
+        match register_on(registers.hart(), number) {
             Ok(csr) => {
-                *value = self.registers.read(csr);
+                *value = registers.read(csr);
                 UNCHANGED
             }
             Err(fault) => refusal_status(fault),
