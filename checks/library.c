@@ -459,6 +459,25 @@ static bool asks_alike(const tilvenka_pmp_unit *unit, uint32_t mode, uint64_t st
                        || tilvenka_pmp_rights(&bare, mode, last, 2) == TILVENKA_PMP_MIXED);
 }
 
+// Whether random questions, most of which name an access, have the answers that each has alone. Those behind the last
+// one, and all that is asked, stay.
+static bool answers_all(const tilvenka_pmp_unit *unit) {
+    tilvenka_pmp_question asked[16], told[16];
+    size_t count = next_random() % 17;
+    fill((uint8_t *)asked, sizeof asked);
+    for (unsigned i = 0; i < 16; i += 1 + next_random() % 2) {
+        asked[i].start = next_number() >> 8;
+        asked[i].length = 1 + next_random() % 16;
+        asked[i].mode = MODES[next_random() % 3];
+        asked[i].kind = next_random() % 3;
+    }
+    memcpy(told, asked, sizeof told);
+    tilvenka_pmp_decide_many(unit, told, count);
+    for (size_t i = 0; i < count; i++)
+        asked[i].answer = tilvenka_pmp_decide(unit, asked[i].mode, asked[i].kind, asked[i].start, asked[i].length);
+    return memcmp(told, asked, sizeof told) == 0;
+}
+
 // Whether the unit decides alike by its registers and by the map that is built of them, whatever they were.
 static bool agrees(tilvenka_pmp_unit *unit) {
     bool is_same = true;
@@ -473,6 +492,7 @@ static bool agrees(tilvenka_pmp_unit *unit) {
         is_same &= tilvenka_pmp_decide(unit, mode, kind, start, length) == answer;
         is_same &= asks_alike(unit, mode, start, length);
     }
+    is_same &= answers_all(unit);
     return is_same;
 }
 

@@ -1,5 +1,7 @@
-# find_package(tilvenka_pmp) gives the targets tilvenka_pmp::shared and tilvenka_pmp::archive, by where this file lies.
-get_filename_component(tilvenka_pmp_prefix "${CMAKE_CURRENT_LIST_DIR}/../../.." ABSOLUTE)
+# find_package(tilvenka_pmp) gives the targets tilvenka_pmp::shared and tilvenka_pmp::archive, by where this file lies:
+# /lib may be a link to /usr/lib.
+get_filename_component(tilvenka_pmp_prefix "${CMAKE_CURRENT_LIST_DIR}" REALPATH)
+get_filename_component(tilvenka_pmp_prefix "${tilvenka_pmp_prefix}/../../.." ABSOLUTE)
 if(NOT TARGET tilvenka_pmp::shared)
     add_library(tilvenka_pmp::shared SHARED IMPORTED)
     set_target_properties(tilvenka_pmp::shared PROPERTIES

@@ -195,6 +195,16 @@ typedef struct tilvenka_pmp_unit {
     tilvenka_pmp_map map;
 } tilvenka_pmp_unit;
 
+/* An access and its answer, for many at once. */
+typedef struct tilvenka_pmp_question {
+    uint64_t start;
+    uint32_t length;
+    uint32_t mode;
+    uint32_t kind;
+    uint32_t answer;
+} tilvenka_pmp_question;
+
+TILVENKA_PMP_ASSERT(sizeof(tilvenka_pmp_question) == 24, "a question is laid out otherwise");
 TILVENKA_PMP_ASSERT(sizeof(tilvenka_pmp_registers) == 592, "the registers are laid out otherwise");
 TILVENKA_PMP_ASSERT(offsetof(tilvenka_pmp_registers, configurations) == 512, "the bytes lie elsewhere");
 TILVENKA_PMP_ASSERT(offsetof(tilvenka_pmp_registers, mseccfg) == 576, "mseccfg lies elsewhere");
@@ -253,6 +263,10 @@ uint32_t tilvenka_pmp_decide(const tilvenka_pmp_unit *unit, tilvenka_pmp_mode mo
 /* The same by the registers alone: slower, and independent of the map. */
 uint32_t tilvenka_pmp_decide_by_registers(const tilvenka_pmp_unit *unit, tilvenka_pmp_mode mode,
                                           tilvenka_pmp_kind kind, uint64_t start, uint64_t length);
+
+/* Decides so many accesses, each as tilvenka_pmp_decide does, and puts its answer beside it: for callers to whom each
+ * call is dear, as those of another language. */
+void tilvenka_pmp_decide_many(const tilvenka_pmp_unit *unit, tilvenka_pmp_question *questions, size_t count);
 
 /* What holds for every access of the mode inside the range. It serves a TLB fill: a page is a range of 4096 bytes. An
  * access that goes on into the next page isn't covered by the rights of both: it has to be decided. */

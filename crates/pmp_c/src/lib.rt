@@ -9,6 +9,7 @@
 #![tactic(auto)]
 
 ghost use Rattle.std.specs.Prelude.{◌≡◌, ◌<◌, ◌≤◌, ◌↔◌, ◌⊎◌, Err, IsTrue, MatchResult, false, true};
+ghost use Rattle.std.specs.List.{AllZip};
 ghost use Rattle.pmp_core.specs.declared.access.Access.{Access};
 ghost use Rattle.pmp_core.specs.declared.access.Mode.{Mode};
 ghost use Rattle.pmp_core.specs.declared.access.TheConstants.{ADDRESS_LIMIT};
@@ -18,6 +19,7 @@ ghost use Rattle.pmp_core.specs.RegisterValue.{register_value};
 ghost use Rattle.pmp_core.specs.SavedRegisters.{names_hart, saved_registers, restored_file, saved_hart};
 ghost use Rattle.pmp_map.specs.Answer.{answer_number, no_access, no_cause};
 ghost use Rattle.pmp_map.specs.Request.{IsNamed, mode_number};
+ghost use Rattle.pmp_c.specs.Questions.{IsAnswered};
 ghost use Rattle.pmp_c.specs.RangeRights.{IsRangeOf, IsRightsNumber, no_range};
 ghost use Rattle.pmp_c.specs.RunAnswer.{IsRunAnswer};
 ghost use Rattle.pmp_c.specs.Settling.{IsSettled};
@@ -25,11 +27,13 @@ ghost use Rattle.pmp_c.specs.Status.{ends, no_hart, register_in, status_number, 
 ghost use Rattle.pmp_c.specs.Unit.{file_of_unit, unit_size, version, IsBuilt, IsSetTo, IsUnit};
 
 mod numbers;
+mod question;
 mod unit;
 
 use crate::numbers::{NO_HART, NO_RANGE, UNCHANGED, rights_number};
 use pmp_core::{ADDRESS_LIMIT, Hart, SavedRegisters};
 use pmp_map::{NO_CAUSE, access_of, cause_number, mode_of, no_access, whole_cause};
+pub use question::Question;
 pub use unit::Unit;
 
 /// The version of the library: 10,000 times the major number, 100 times the minor one, and the patch.
@@ -165,6 +169,16 @@ pub extern "C" fn tilvenka_pmp_decide(
     match access_of(mode, kind, start, length) {
         Some(access) => u32::from(unit.answer(&access)),
         None => u32::from(no_access(kind)),
+    }
+}
+
+/// Decides so many accesses, each as `tilvenka_pmp_decide` does, and puts the answers beside them.
+#[unsafe(no_mangle)]
+pub extern "C" fn tilvenka_pmp_decide_many(unit: &Unit, questions: &mut [Question])
+    ensures { AllZip (IsAnswered unit.now) questions.old questions.new }
+{
+    for question in questions.iter_mut() {
+        question.decide(unit);
     }
 }
 

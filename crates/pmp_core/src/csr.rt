@@ -3,8 +3,8 @@
 ghost use Rattle.std.specs.Prelude.{◌≡◌};
 ghost use Rattle.pmp_core.specs.Csr.{numbered, numbered_on};
 
-/// A PMP register (Volume II, 3.7.1), or `mseccfg` (Smepmp). A value that names none, such as `Cfg(3)`, reads zero, and
-/// writing it changes nothing.
+/// A PMP register (Volume II, 3.7.1), or `mseccfg` (Smepmp). One that the hart lacks, as RV64 lacks `Cfg(3)`, reads zero,
+/// and writing it changes nothing.
 #[derive(Clone, Copy, Debug, PartialEq, Eq)]
 pub enum Csr {
     /// `pmpcfg` with this number: eight configuration bytes, or four on RV32.

@@ -73,7 +73,7 @@ impl Hart {
     ghost use Rattle.pmp_core.specs.SavedRegisters.{is_usual, hart_number, names_hart, saved_hart, spelled_hart, spells_hart};
     ghost use Rattle.pmp_core.specs.Grain.{napot_address, read_address, tor_address};
     ghost use Rattle.pmp_core.specs.Csr.{numbered_on};
-    ghost use Rattle.pmp_core.specs.Hart.{bytes_in, fewest_bits, hart_fault, most_bits, profile_of, word_addresses};
+    ghost use Rattle.pmp_core.specs.Hart.{bytes_in, hart_fault, profile_of, word_addresses};
 
     /// The hart of this profile. Entries, grain and address bits are tested in this order.
     pub fn new(profile: Profile) -> Result<Hart, HartFault>

@@ -52,6 +52,66 @@ fn decides_group(checker: &mut Checker, page: Access) -> bool {
     decisions.as_slice() == [decision_after(2); GROUP_ACCESSES].as_slice() && seen == events(2)
 }
 
+/// Starts a unit as the case says.
+fn starts<R: Wait>(case: &str, rt: &R, alloc: Global) -> Result<bool, ShareFault> {
+    let unit = if case == "start" {
+        start(rt, alloc, 2)?
+    } else {
+        start_from(rt, alloc, &file_after(1).save(), 2)?
+    };
+    Ok(is_new(rt, unit))
+}
+
+/// Makes the call of a case of the publisher.
+fn publishes<R: Wait>(
+    case: &str,
+    rt: &R,
+    alloc: Global,
+    publisher: &mut Publisher,
+) -> Result<bool, ShareFault> {
+    match case {
+        // Both vectors of pending batches have to grow.
+        "submit" => match batch(6) {
+            Ok(seventh) => publisher.submit(&seventh).map(|()| true),
+            Err(_) => Ok(false),
+        },
+        "publish" => Ok(publisher.publish(rt)? == events(6)),
+        "tell" => Ok(is_notice_of(&publisher.tell()?, 2)),
+        _ => rings(alloc, publisher),
+    }
+}
+
+/// Learns from the notice, and then decides at its place, where the case says so.
+fn learns(case: &str, checker: &mut Checker, notice: Notice) -> bool
+    requires { checker.old.unit ≡ notice.unit }
+{
+    let Ok(page) = page_load() else {
+        return false;
+    };
+    let len = notice.len();
+    checker.learn(notice);
+    if case == "decide_at" {
+        checker.decide_at(len, &page) == Ok(decision_after(2))
+    } else {
+        checker.count() == events(2)
+    }
+}
+
+/// Makes the call of a case that only asks the checker.
+fn asks(case: &str, checker: &mut Checker) -> bool {
+    let Ok(page) = page_load() else {
+        return false;
+    };
+    match case {
+        "decide" => checker.decide(&page) == (decision_after(2), events(2)),
+        "decide_group" => decides_group(checker, page),
+        "rights" => checker.rights(Mode::U, 0x80000000, 4096) == (Some(Perms::R), events(2)),
+        "count" => checker.count() == events(2),
+        "read" => checker.read(Csr::Cfg(0)) == (0x1900, events(2)),
+        _ => false,
+    }
+}
+
 /// Makes the call of a case, on a unit with two batches published and four pending, which the notice is of. Whether its
 /// answer is right.
 fn call<R: Wait>(
@@ -64,33 +124,12 @@ fn call<R: Wait>(
 ) -> Result<bool, ShareFault>
     requires { checker.old.unit ≡ notice.unit }
 {
-    let (Ok(seventh), Ok(page)) = (batch(6), page_load()) else {
-        return Ok(false);
-    };
-    let len = notice.len();
     match case {
-        "start" => Ok(is_new(rt, start(rt, alloc, 2)?)),
-        "start_from" => Ok(is_new(rt, start_from(rt, alloc, &file_after(1).save(), 2)?)),
-        // Both vectors of pending batches have to grow.
-        "submit" => publisher.submit(&seventh).map(|()| true),
-        "publish" => Ok(publisher.publish(rt)? == events(6)),
-        "tell" => Ok(is_notice_of(&publisher.tell()?, 2)),
-        "notice_ring" => rings(alloc, publisher),
+        "start" | "start_from" => starts(case, rt, alloc),
+        "submit" | "publish" | "tell" | "notice_ring" => publishes(case, rt, alloc, publisher),
         "copy_journal" => Ok(is_journal_of(&checker.copy_journal()?, 2)),
-        "learn" => {
-            checker.learn(notice);
-            Ok(checker.count() == events(2))
-        }
-        "decide" => Ok(checker.decide(&page) == (decision_after(2), events(2))),
-        "decide_at" => {
-            checker.learn(notice);
-            Ok(checker.decide_at(len, &page) == Ok(decision_after(2)))
-        }
-        "decide_group" => Ok(decides_group(checker, page)),
-        "rights" => Ok(checker.rights(Mode::U, 0x80000000, 4096) == (Some(Perms::R), events(2))),
-        "count" => Ok(checker.count() == events(2)),
-        "read" => Ok(checker.read(Csr::Cfg(0)) == (0x1900, events(2))),
-        _ => Ok(false),
+        "learn" | "decide_at" => Ok(learns(case, checker, notice)),
+        _ => Ok(asks(case, checker)),
     }
 }
 
