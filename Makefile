@@ -1,16 +1,19 @@
 # make                      proves and builds the program, where that isn't done; JOBS=4 does so by four processes,
 #                           which takes less time and more work
-# make library              proves and builds the C library, where that isn't done
+# make library              proves and builds the C library, where that isn't done; TARGET=aarch64-unknown-linux-gnu does
+#                           so for that processor, in out/TARGET
+# make portable             writes the C library as one file for any 64-bit compiler, out/portable/tilvenka_pmp.c
 # make install PREFIX=..    puts what a release has below PREFIX, as release/files lists it; install-program and
 #                           install-library put a part
 # make uninstall PREFIX=..  takes it away
-# make dist                 writes a release of what is built to dist/
+# make dist                 writes a release of what is built to dist/; TARGET= as above, of the library alone
 # make dist-test            makes one, and wants each tool that its check asks for
 # make page                 builds the page for a browser, web/out/pmp.html, and its module
 # make page-test            compares in headless Chromium what it answers and shows with what the program answers
 # make docs                 writes what the help and the man page have of docs/FORMATS.md, and where a limit or a refusal is
 #                           told
 # make soak SECONDS=..      lets a publisher and eight checkers run so long, and compares each answer with a replay
+# make fuzz SECONDS=..      has libFuzzer try the C library so long
 # make conformance          tries QEMU's unit, or that of HART="simulator ELF", by cases of each rule
 # make rv32                 boots an RV32 hart of QEMU, and compares what it refuses with what pmp refuses
 # make qemu                 builds QEMU 7.2 as it is and over the library, boots OpenSBI and U-Boot on both, and compares
@@ -29,14 +32,18 @@ export PREFIX DESTDIR
 # ci has one process for each, which is less work than several for one.
 LANES = $(shell awk -v most="$$(nproc)" '/^MemAvailable/ { n = int($$2 / 3500000); print n < 1 ? 1 : n < most ? n : most }' /proc/meminfo)
 
-.PHONY: build library page page-test docs test conformance rv32 qemu install install-program install-library uninstall dist \
+.PHONY: build library portable page page-test docs test fuzz conformance rv32 qemu install install-program install-library uninstall dist \
     dist-test soak stress bench bench-decide bench-emulator bench-threads bench-limits bench-audit bench-page bench-qemu
 
 build:
 	@release/build program
 
 library:
-	@release/build library
+	@$(if $(filter-out x86_64-unknown-linux-gnu,$(TARGET)),release/cross $(TARGET),release/build library)
+
+portable:
+	@portable/make --can 2>/dev/null || portable/wabt
+	@portable/make
 
 page:
 	@web/module
@@ -58,6 +65,8 @@ test:
 	@checks/all 'RT_JOBS=$(LANES) rt ci' \
 	    '$(PROVED) && RT=$(CURDIR)/checks/over-proved make library && LANES=$(LANES) checks/wrong-bodies --proved' \
 	    'checks/library $(LIBRARY)' \
+	    'RT=$(CURDIR)/checks/over-proved checks/cross' \
+	    'RT=$(CURDIR)/checks/over-proved checks/portable' \
 	    checks/release \
 	    'checks/worked $(PROGRAM)' \
 	    'checks/worked --tried' \
@@ -86,6 +95,11 @@ conformance:
 	@$(MAKE) build
 	conformance/run --cases conformance/out/cases -- $(HART)
 
+fuzz: library
+	@mkdir -p out && clang -g -O1 -fsanitize=fuzzer,address,undefined -Iinclude examples/fuzz.c $(LIBRARY) -o out/fuzz \
+	    || { echo "Debian's packages are clang and libclang-rt-14-dev" >&2; exit 2; }
+	out/fuzz -max_len=1024 -len_control=0 -max_total_time=$(SECONDS)
+
 rv32: build
 	checks/rv32 $(PROGRAM)
 
@@ -105,7 +119,7 @@ uninstall:
 	@release/install --remove
 
 dist:
-	@release/dist
+	@release/dist $(if $(TARGET),--target $(TARGET))
 
 dist-test: build library
 	checks/release --all

@@ -41,6 +41,13 @@ passed_over() {
     echo "passed over: $1: install $2"
 }
 
+# passed_over_whole WHAT PACKAGE: nothing of this check is tried here, and it ends.
+passed_over_whole() {
+    passed_over "$1" "$2"
+    echo '0 passed, 0 failed'
+    exit 0
+}
+
 # samples PAGE: each command of pmp that the page shows with its first line, as two lines: in a row of a table, or after
 # a dollar sign, where the line below is the first one.
 samples() {
@@ -53,6 +60,16 @@ samples() {
 # snippet PAGE LANGUAGE: the page's first block of code in the language.
 snippet() {
     awk -v first="\`\`\`$2" '$0 == first && !count { count++; is_in = 1; next } /^```/ { is_in = 0 } is_in' "$1"
+}
+
+# links_lead FILE: the file lists pages, a path a line. They have links, and each leads to a file that is there.
+links_lead() {
+    while read -r page; do
+        grep -o '\]([^)#: ]\{1,\}' "$page" | cut -c 3- | while read -r link; do
+            if [ -e "$(dirname "$page")/$link" ]; then echo; else echo "$page: $link isn't there"; fi
+        done
+    done <"$1" >"$work/links"
+    ! grep . "$work/links" && [ -s "$work/links" ]
 }
 
 # commands_of PROGRAM: the commands that its help lists. options_of PROGRAM COMMAND: the options that its help lists.

@@ -1,0 +1,113 @@
+/* ---- The calls of tilvenka_pmp.h, over the module above.
+ *
+ * The module's memory is the process's: an address there is a pointer less MEMORY, by which the module's one segment of
+ * data lies in its place. Each call has a module and a stack of its own, so calls may run at once as the header says. */
+#if defined(__BYTE_ORDER__) && __BYTE_ORDER__ != __ORDER_LITTLE_ENDIAN__
+#error "tilvenka_pmp.c is for little-endian processors"
+#endif
+TILVENKA_PMP_ASSERT(sizeof(void *) == 8, "tilvenka_pmp.c is for 64-bit processors");
+
+#define MEMORY ((uintptr_t)SEGMENT - SEGMENT_ADDRESS)
+
+struct call {
+    w2c_pmp module;
+    struct {
+        uint64_t bytes[2];
+    } stack[1024]; /* 16 KiB, of which a build takes half */
+};
+
+static w2c_pmp *begin(struct call *call) {
+    uintptr_t top = (uintptr_t)(call->stack + sizeof call->stack / sizeof *call->stack) & ~(uintptr_t)15;
+    memset(&call->module, 0, sizeof call->module);
+    call->module.w2c_memory.data = (uint8_t *)MEMORY;
+    call->module.w2c_0x5F_stack_pointer = top - MEMORY;
+    return &call->module;
+}
+
+static uint64_t at(const void *pointer) {
+    return (uintptr_t)pointer - MEMORY;
+}
+
+uint32_t tilvenka_pmp_version(void) {
+    struct call call;
+    return w2c_pmp_tilvenka_pmp_version(begin(&call));
+}
+
+uint64_t tilvenka_pmp_unit_size(void) {
+    struct call call;
+    return w2c_pmp_tilvenka_pmp_unit_size(begin(&call));
+}
+
+uint32_t tilvenka_pmp_reset(tilvenka_pmp_unit *unit, uint64_t hart) {
+    struct call call;
+    return w2c_pmp_tilvenka_pmp_reset(begin(&call), at(unit), hart);
+}
+
+uint32_t tilvenka_pmp_write(tilvenka_pmp_unit *unit, uint32_t csr, uint64_t value) {
+    struct call call;
+    return w2c_pmp_tilvenka_pmp_write(begin(&call), at(unit), csr, value);
+}
+
+uint32_t tilvenka_pmp_write_moved(tilvenka_pmp_unit *unit, uint32_t csr, uint64_t value, uint64_t *first,
+                                  uint64_t *last) {
+    struct call call;
+    return w2c_pmp_tilvenka_pmp_write_moved(begin(&call), at(unit), csr, value, at(first), at(last));
+}
+
+uint32_t tilvenka_pmp_read(const tilvenka_pmp_unit *unit, uint32_t csr, uint64_t *value) {
+    struct call call;
+    return w2c_pmp_tilvenka_pmp_read(begin(&call), at(unit), csr, at(value));
+}
+
+void tilvenka_pmp_build(tilvenka_pmp_unit *unit) {
+    struct call call;
+    w2c_pmp_tilvenka_pmp_build(begin(&call), at(unit));
+}
+
+bool tilvenka_pmp_settle(tilvenka_pmp_unit *unit, uint64_t questions) {
+    struct call call;
+    return w2c_pmp_tilvenka_pmp_settle(begin(&call), at(unit), questions) != 0;
+}
+
+bool tilvenka_pmp_is_built(const tilvenka_pmp_unit *unit) {
+    struct call call;
+    return w2c_pmp_tilvenka_pmp_is_built(begin(&call), at(unit)) != 0;
+}
+
+uint32_t tilvenka_pmp_decide(const tilvenka_pmp_unit *unit, tilvenka_pmp_mode mode, tilvenka_pmp_kind kind,
+                             uint64_t start, uint64_t length) {
+    struct call call;
+    return w2c_pmp_tilvenka_pmp_decide(begin(&call), at(unit), mode, kind, start, length);
+}
+
+uint32_t tilvenka_pmp_decide_by_registers(const tilvenka_pmp_unit *unit, tilvenka_pmp_mode mode,
+                                          tilvenka_pmp_kind kind, uint64_t start, uint64_t length) {
+    struct call call;
+    return w2c_pmp_tilvenka_pmp_decide_by_registers(begin(&call), at(unit), mode, kind, start, length);
+}
+
+void tilvenka_pmp_decide_many(const tilvenka_pmp_unit *unit, tilvenka_pmp_question *questions, size_t count) {
+    struct call call;
+    w2c_pmp_tilvenka_pmp_decide_many(begin(&call), at(unit), at(questions), count);
+}
+
+uint32_t tilvenka_pmp_rights(const tilvenka_pmp_unit *unit, tilvenka_pmp_mode mode, uint64_t start, uint64_t length) {
+    struct call call;
+    return w2c_pmp_tilvenka_pmp_rights(begin(&call), at(unit), mode, start, length);
+}
+
+uint32_t tilvenka_pmp_run(const tilvenka_pmp_unit *unit, tilvenka_pmp_mode mode, uint64_t address, uint64_t *first,
+                          uint64_t *last) {
+    struct call call;
+    return w2c_pmp_tilvenka_pmp_run(begin(&call), at(unit), mode, address, at(first), at(last));
+}
+
+void tilvenka_pmp_save_to(const tilvenka_pmp_unit *unit, tilvenka_pmp_registers *registers) {
+    struct call call;
+    w2c_pmp_tilvenka_pmp_save_to(begin(&call), at(unit), at(registers));
+}
+
+uint32_t tilvenka_pmp_restore_from(tilvenka_pmp_unit *unit, const tilvenka_pmp_registers *registers) {
+    struct call call;
+    return w2c_pmp_tilvenka_pmp_restore_from(begin(&call), at(unit), at(registers));
+}
