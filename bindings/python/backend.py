@@ -5,31 +5,63 @@ from __future__ import annotations
 
 import base64
 import hashlib
+import platform
 import re
 import zipfile
 from pathlib import Path
 
 HERE = Path(__file__).resolve().parent
 LIBRARY = HERE / "../../../lib/libtilvenka_pmp.so.2"
-METADATA = "Metadata-Version: 2.1\nName: tilvenka_pmp\nVersion: {version}\nSummary: {description}\nLicense: {license}\n"
+METADATA = """\
+Metadata-Version: 2.1
+Name: tilvenka_pmp
+Version: {version}
+Summary: {description}
+Keywords: {keywords}
+License: {license}
+Requires-Python: {requires}
+{classifiers}
+Description-Content-Type: text/plain
+
+{text}
+"""
 WHEEL = "Wheel-Version: 1.0\nGenerator: tilvenka\nRoot-Is-Purelib: {pure}\nTag: {tag}\n"
+# glibc 2.14 is the newest that the library asks for, and manylinux2014 has 2.17.
+PLATFORM = f"manylinux2014_{platform.machine()}"
+
+
+def values(name: str) -> list[str]:
+    """The values of this name in pyproject.toml."""
+    project = (HERE / "pyproject.toml").read_text().partition("[project]")[2]
+    found = re.search(rf"^{name} = (\[[^]]*\]|.*)$", project, re.M)
+    assert found
+    return re.findall(r'"([^"]*)"', found[1])
 
 
 def said(name: str) -> str:
-    """The value of this name in pyproject.toml."""
-    found = re.search(rf'^{name} = "(.*)"$', (HERE / "pyproject.toml").read_text(), re.M)
-    assert found
-    return found[1]
+    return values(name)[0]
+
+
+def metadata() -> str:
+    """What a list of packages shows: the project's file, and the package's own words."""
+    return METADATA.format(
+        version=said("version"),
+        description=said("description"),
+        keywords=",".join(values("keywords")),
+        license=said("license"),
+        requires=said("requires-python"),
+        classifiers="\n".join(f"Classifier: {it}" for it in values("classifiers")),
+        text=(HERE / "tilvenka_pmp/__init__.py").read_text().split('"""')[1],
+    )
 
 
 def files_of(version: str, pure: bool, tag: str) -> dict[str, bytes]:
     info = f"tilvenka_pmp-{version}.dist-info"
-    metadata = METADATA.format(version=version, description=said("description"), license="MIT OR Apache-2.0")
     package = sorted(it for it in (HERE / "tilvenka_pmp").iterdir() if it.suffix in (".py", ".typed"))
     files = {f"tilvenka_pmp/{it.name}": it.read_bytes() for it in package}
     if not pure:
         files[f"tilvenka_pmp/{LIBRARY.name}"] = LIBRARY.read_bytes()
-    files[f"{info}/METADATA"] = metadata.encode()
+    files[f"{info}/METADATA"] = metadata().encode()
     files[f"{info}/WHEEL"] = WHEEL.format(pure=str(pure).lower(), tag=tag).encode()
     record = ""
     for name, data in files.items():
@@ -42,7 +74,7 @@ def files_of(version: str, pure: bool, tag: str) -> dict[str, bytes]:
 def build_wheel(wheel_directory: str, config_settings: object = None, metadata_directory: object = None) -> str:
     """The hook by which pip asks for a wheel."""
     pure = not LIBRARY.is_file()
-    tag = "py3-none-any" if pure else "py3-none-linux_x86_64"
+    tag = f"py3-none-{'any' if pure else PLATFORM}"
     name = f"tilvenka_pmp-{said('version')}-{tag}.whl"
     with zipfile.ZipFile(Path(wheel_directory) / name, "w", zipfile.ZIP_DEFLATED) as wheel:
         for file, data in files_of(said("version"), pure, tag).items():

@@ -1,11 +1,14 @@
 """The rows of rows.txt, on each of their harts, before and after the map is built. The last line is 'N passed, M failed'."""
 from __future__ import annotations
 
+import copy
 import sys
 from pathlib import Path
 from types import SimpleNamespace
 
-from tilvenka_pmp import Kind, Mode, Reason, Registers, Rights, Unit, Written, __version__, _c, version
+import tilvenka_pmp
+from tilvenka_pmp import Answer, Hart, Kind, Mode, Question, Reason, Registers, Rights, Run, Unit, Written
+from tilvenka_pmp import QUESTION, __version__, _c, version
 
 ROWS = Path(__file__).resolve().parents[2] / "rows.txt"
 MODES = {"M": Mode.MACHINE, "S": Mode.SUPERVISOR, "U": Mode.USER}
@@ -18,12 +21,17 @@ def register(name: str) -> int | str:
 def check(unit: Unit, question: str) -> str:
     mode, kind, start, length = question.split()
     words = (MODES[mode], Kind[kind.upper()], int(start, 0), int(length, 0))
+    asked = (Question * 2)((0, 1, Mode.MACHINE, Kind.LOAD), (words[2], words[3], words[0], words[1]))
+    unit.decide_many(asked)
     try:
         answer = unit.decide(*words)
     except ValueError:
+        assert refuses(ValueError, Answer.of_number, asked[1].answer) == ("ValueError", "ValueError")
         return "no access"
+    assert [Answer.of_number(it.answer) for it in asked] == [unit.decide(Mode.MACHINE, Kind.LOAD, 0, 1), answer]
     assert answer == unit.decide_by_registers(*words)
-    verdict = "allow," if answer.is_allowed else f"fault,{answer.fault}"
+    assert bool(answer) == answer.is_allowed
+    verdict = "allow," if answer else f"fault,{answer.fault}"
     return f"{verdict},{answer.cause.value},{'' if answer.entry is None else answer.entry}"
 
 
@@ -80,12 +88,23 @@ def restore(unit: Unit, question: str) -> str:
     return told(unit, after, after.restore, saved)
 
 
+def line(it: Run) -> str:
+    owner = "-" if it.owner is None else it.owner
+    return f"{it.first:014x},{it.last:014x},{owner},{it.machine.letters},{it.others.letters}"
+
+
 def lines(unit: Unit) -> str:
-    return " ".join(
-        f"{it.first:014x},{it.last:014x},{'-' if it.owner is None else it.owner},"
-        f"{it.machine.letters},{it.others.letters}"
-        for it in unit.map()
-    )
+    """Each run is that of its bytes."""
+    runs = unit.map()
+    assert all(it == unit.run(it.first) == unit.run(it.last) for it in runs)
+    return " ".join(map(line, runs))
+
+
+def run(unit: Unit, question: str) -> str:
+    try:
+        return line(unit.run(int(question, 0)))
+    except ValueError:
+        return "no range"
 
 
 KINDS = {
@@ -93,6 +112,7 @@ KINDS = {
     "read": read,
     "write": write,
     "map": lambda unit, question: lines(unit),
+    "run": run,
     "settle": settle,
     "reset": reset,
     "restore": restore,
@@ -151,7 +171,7 @@ def refuses(fault: type[Exception], call, *words) -> tuple[str, str]:
         return (fault.__name__, fault.__name__)
 
 
-class Answer:
+class Call:
     """A call that answers this."""
 
     def __init__(self, answer: int) -> None:
@@ -163,7 +183,7 @@ class Answer:
 
 def library(version: int, size: int) -> SimpleNamespace:
     """A library that says that it is of this version, and that its units have this size."""
-    return SimpleNamespace(tilvenka_pmp_version=Answer(version), tilvenka_pmp_unit_size=Answer(size))
+    return SimpleNamespace(tilvenka_pmp_version=Call(version), tilvenka_pmp_unit_size=Call(size))
 
 
 def versions() -> list[tuple[object, object]]:
@@ -178,10 +198,47 @@ def versions() -> list[tuple[object, object]]:
     ]
 
 
+def copies() -> list[tuple[object, object]]:
+    """A copy is a unit of its own, however it is made."""
+    unit = unit_after((16,), "pmpaddr0 0x200001ff; pmpcfg0 0x19")
+    made = [unit.copy(), copy.copy(unit), copy.deepcopy(unit)]
+    same = [it == unit for it in made]
+    for it in made:
+        it.write("pmpaddr0", 0)
+    return [(same, [True] * 3), ([it == unit for it in made], [False] * 3), (unit.read("pmpaddr0"), 0x200001FF)]
+
+
+def buffers() -> list[tuple[object, object]]:
+    """Any writable buffer takes questions."""
+    unit, asked = Unit(), Question(0x80000000, 8, Mode.USER, Kind.LOAD)
+    buffer = bytearray(bytes(asked) * 3)
+    unit.decide_many(buffer)
+    asked.answer = 5 * 1024 + 512
+    sizes = sum(int(size[2]) for _, size in QUESTION)
+    return [
+        (bytes(buffer), bytes(asked) * 3),
+        (unit.decide_many(bytearray()), None),
+        ([name for name, _ in QUESTION], [name for name, _ in Question._fields_]),
+        (sizes, 24),
+        refuses(ValueError, unit.decide_many, bytearray(25)),
+        refuses(TypeError, unit.decide_many, bytes(24)),
+    ]
+
+
 def others() -> list[tuple[object, object]]:
     """What no row says."""
     unit = unit_after((16,), "pmpaddr0 0x200001ff; pmpcfg0 0x19")
     return [
+        *copies(),
+        *buffers(),
+        (Unit().hart, Hart(16, 4, 56, True, 64)),
+        (Unit(64).hart, Hart(64, 4, 56, True, 64)),
+        (Unit(16, 8).hart, Hart(16, 8, 56, True, 64)),
+        (Unit(0, 4096, 32, False, 32).hart, Hart(0, 4096, 32, False, 32)),
+        (repr(Unit(xlen=32)), "<Unit of RV32 with 16 entries, grain 4, 34 address bits and Smepmp>"),
+        (sorted(set(tilvenka_pmp.__all__) - set(dir(tilvenka_pmp))), []),
+        refuses(ValueError, unit.run, -1),
+        refuses(ValueError, unit.run, 1 << 64),
         (unit.rights(Mode.USER, 0x80000000, 4096), Rights.READ),
         (unit.rights(Mode.USER, 0x80000800, 4096), None),
         (Unit() == Unit(64), False),

@@ -18,12 +18,32 @@ import ctypes
 import enum
 import re
 from dataclasses import dataclass, field
-from typing import List, Optional, Tuple, Union
+from typing import Dict, List, Optional, Tuple, Union
 
 from tilvenka_pmp import _c
-from tilvenka_pmp._c import library as _library
+from tilvenka_pmp._c import Question, library as _library
 
 __version__ = "0.2.0"
+__all__ = [
+    "Answer",
+    "Cause",
+    "Hart",
+    "Kind",
+    "Mode",
+    "QUESTION",
+    "Question",
+    "Reason",
+    "Registers",
+    "Rights",
+    "Run",
+    "Unit",
+    "Written",
+    "version",
+]
+
+
+# The fields of a Question, as numpy.dtype takes them.
+QUESTION = [("start", "=u8"), ("length", "=u4"), ("mode", "=u4"), ("kind", "=u4"), ("answer", "=u4")]
 
 
 class Mode(enum.IntEnum):
@@ -120,7 +140,11 @@ class Cause(enum.Enum):
 
 @dataclass(frozen=True)
 class Answer:
-    """Whether an access may be made, and what decided that."""
+    """Whether an access may be made, and what decided that. It is true where the access is allowed.
+
+    >>> bool(Unit().decide(Mode.USER, Kind.LOAD, 0, 8)), bool(Unit().decide(Mode.MACHINE, Kind.LOAD, 0, 8))
+    (False, True)
+    """
 
     fault: Optional[int]  # the exception code of an access that fails: 1, 5 or 7
     cause: Cause
@@ -129,6 +153,20 @@ class Answer:
     @property
     def is_allowed(self) -> bool:
         return self.fault is None
+
+    def __bool__(self) -> bool:
+        return self.is_allowed
+
+    @staticmethod
+    def of_number(number: int) -> Answer:
+        """The answer that decide_many gives as this number. It raises ValueError where the question is no access."""
+        fault, cause = divmod(number, _c.FAULT)
+        if cause == _c.NO_ACCESS:
+            raise ValueError("an access has 1 to 4096 bytes below 2^56")
+        if cause == _c.NO_MATCH:
+            return Answer(fault or None, Cause.NO_MATCH, None)
+        is_split, entry = divmod(cause, _c.SPLIT)
+        return Answer(fault or None, Cause.SPLIT if is_split else Cause.RULE, entry)
 
 
 @dataclass(frozen=True)
@@ -154,6 +192,23 @@ class Registers:
     mseccfg: int = 0
     # The number of the hart: 16, 64, or that of TILVENKA_PMP_HART or TILVENKA_PMP_HART_RV32.
     entries: int = 16
+
+
+@dataclass(frozen=True)
+class Hart:
+    """How many entries a hart has, how many bytes its grain has, how many bits its physical addresses have, whether it
+    has Smepmp, and its XLEN."""
+
+    entries: int
+    grain: int
+    address_bits: int
+    has_smepmp: bool
+    xlen: int
+
+    def __str__(self) -> str:
+        smepmp = "Smepmp" if self.has_smepmp else "no Smepmp"
+        entries = f"{self.entries} entries, grain {self.grain}"
+        return f"RV{self.xlen} with {entries}, {self.address_bits} address bits and {smepmp}"
 
 
 def version() -> Tuple[int, int, int]:
@@ -237,6 +292,19 @@ class Unit:
         hart = _hart(entries, grain, address_bits, has_smepmp, xlen)
         self._expect_hart(_library.tilvenka_pmp_reset(self._unit, hart), hart)
 
+    @property
+    def hart(self) -> Hart:
+        """Its hart.
+
+        >>> print(Unit(8, 4096, 38, has_smepmp=False).hart)
+        RV64 with 8 entries, grain 4096, 38 address bits and no Smepmp
+        """
+        number = self._unit.registers.entries
+        if number in (16, 64):
+            return Hart(number, 4, 56, True, 64)
+        entries, bits, flags, g = number.to_bytes(8, "little")[:4]
+        return Hart(entries, 4 << g, bits, bool(flags & 1), 32 if flags & 2 else 64)
+
     @staticmethod
     def _expect_hart(status: int, hart: int) -> None:
         if status == _c.NO_HART:
@@ -306,14 +374,23 @@ class Unit:
 
     def _answer(self, call: ctypes._NamedFuncPointer, mode: Mode, kind: Kind, start: int, length: int) -> Answer:
         start, length = _number(start, 64, "start"), _number(length, 64, "length")
-        number = call(self._unit, Mode(mode), Kind(kind), start, length)
-        fault, cause = divmod(number, _c.FAULT)
-        if cause == _c.NO_ACCESS:
-            raise ValueError("an access has 1 to 4096 bytes below 2^56")
-        if cause == _c.NO_MATCH:
-            return Answer(fault or None, Cause.NO_MATCH, None)
-        is_split, entry = divmod(cause, _c.SPLIT)
-        return Answer(fault or None, Cause.SPLIT if is_split else Cause.RULE, entry)
+        return Answer.of_number(call(self._unit, Mode(mode), Kind(kind), start, length))
+
+    def decide_many(self, questions: Union[bytearray, memoryview, ctypes.Array]) -> None:
+        """Decides the accesses of a writable buffer of questions, each of 24 bytes: its start, of 8 bytes, and of 4
+        bytes each its length, mode, kind and answer. The answers are written there: each the number of an Answer. An
+        array of Question is such a buffer, and so is one of numpy whose dtype is QUESTION.
+
+        >>> questions = (Question * 2)((0x80000000, 8, Mode.USER, Kind.LOAD), (0x80000000, 8, Mode.MACHINE, Kind.LOAD))
+        >>> Unit().decide_many(questions)
+        >>> [bool(Answer.of_number(it.answer)) for it in questions]
+        [False, True]
+        """
+        view = memoryview(questions).cast("B")
+        count, rest = divmod(view.nbytes, ctypes.sizeof(Question))
+        if rest:
+            raise ValueError(f"{view.nbytes} bytes are no whole number of questions")
+        _library.tilvenka_pmp_decide_many(self._unit, (Question * count).from_buffer(view), count)
 
     def rights(self, mode: Mode, start: int, length: int) -> Optional[Rights]:
         """What every access of the mode inside the range may do. None where not all bytes have the same entry, so that
@@ -345,18 +422,32 @@ class Unit:
         saved = _c.Registers(tuple(addresses), tuple(configurations), mseccfg, hart)
         self._expect_hart(_library.tilvenka_pmp_restore_from(self._unit, saved), hart)
 
-    def map(self) -> List[Run]:
-        """The owners of all bytes, in order: as `pmp map` writes them."""
-        built = self.copy()
-        built.build()
-        starts = list(built._unit.map.starts[: built._unit.map.runs])
-        return [built._run(start, end) for start, end in zip(starts, starts[1:] + [1 << 56])]
+    def run(self, address: int) -> Run:
+        """All bytes round this one that have the same entry, or none. It raises ValueError where the address isn't
+        below 2^56.
 
-    def _run(self, start: int, end: int) -> Run:
-        machine = self.rights(Mode.MACHINE, start, end - start)
-        others = self.rights(Mode.USER, start, end - start)
-        assert machine is not None and others is not None
-        return Run(start, end - 1, self.decide(Mode.USER, Kind.LOAD, start, 1).entry, machine, others)
+        >>> run = Unit().run(0x80000000)
+        >>> hex(run.last), run.owner, run.machine.letters
+        ('0xffffffffffffff', None, 'rwx')
+        """
+        first, last = ctypes.c_uint64(), ctypes.c_uint64()
+        address = _number(address, 64, "address")
+        machine, others = (
+            _library.tilvenka_pmp_run(self._unit, mode, address, first, last) for mode in (Mode.MACHINE, Mode.USER)
+        )
+        rights, owner = divmod(machine, _c.FAULT)
+        if owner == _c.NO_ACCESS:
+            raise ValueError("an address is below 2^56")
+        entry = None if owner == _c.NO_MATCH else owner
+        return Run(first.value, last.value, entry, Rights(rights), Rights(others // _c.FAULT))
+
+    def map(self) -> List[Run]:
+        """The runs of all bytes, in order: as `pmp map` writes them."""
+        built, runs = self.copy(), [self.run(0)]
+        built.build()
+        while runs[-1].last + 1 < 1 << 56:
+            runs.append(built.run(runs[-1].last + 1))
+        return runs
 
     def copy(self) -> Unit:
         """A unit of its own with these registers and this map."""
@@ -364,10 +455,15 @@ class Unit:
         other._unit = _c.Unit.from_buffer_copy(self._unit)
         return other
 
+    __copy__ = copy
+
+    def __deepcopy__(self, memo: Dict[int, object]) -> Unit:
+        return self.copy()
+
     def __eq__(self, other: object) -> bool:
         return isinstance(other, Unit) and self.save() == other.save()
 
     __hash__ = None  # type: ignore[assignment]
 
     def __repr__(self) -> str:
-        return f"<Unit of {self._unit.registers.entries % 256} entries: {self.map()}>"
+        return f"<Unit of {self.hart}>"

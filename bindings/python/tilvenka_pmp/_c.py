@@ -43,6 +43,16 @@ class Unit(ctypes.Structure):
     _fields_ = [("registers", Registers), ("map", Map)]
 
 
+class Question(ctypes.Structure):
+    _fields_ = [
+        ("start", ctypes.c_uint64),
+        ("length", ctypes.c_uint32),
+        ("mode", ctypes.c_uint32),
+        ("kind", ctypes.c_uint32),
+        ("answer", ctypes.c_uint32),
+    ]
+
+
 def expect_compatible(library: ctypes.CDLL, path: str) -> None:
     """Raises ImportError where the library isn't one for this module: its major and minor numbers are the module's, and
     so is the size of its units."""
@@ -83,7 +93,9 @@ def load() -> ctypes.CDLL:
         ("is_built", truth, [unit]),
         ("decide", word, [unit, word, word, number, number]),
         ("decide_by_registers", word, [unit, word, word, number, number]),
+        ("decide_many", None, [unit, ctypes.POINTER(Question), ctypes.c_size_t]),
         ("rights", word, [unit, word, number, number]),
+        ("run", word, [unit, word, number, place, place]),
         ("save_to", None, [unit, registers]),
         ("restore_from", word, [unit, registers]),
     ):

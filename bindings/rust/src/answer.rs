@@ -1,11 +1,12 @@
-//! What a unit is asked, and what it answers.
+//! What a unit is asked, and what it answers. Words are those of the command `pmp`.
 
 use crate::ffi;
-use std::error::Error;
-use std::fmt;
+use crate::word::NoWord;
+use core::fmt;
+use core::str::FromStr;
 
 /// The effective mode of an access: that of MPP for loads and stores under MPRV, and supervisor mode where a page table
-/// is walked.
+/// is walked. Its words are `U`, `S` and `M`.
 #[derive(Clone, Copy, Debug, PartialEq, Eq, Hash)]
 pub enum Mode {
     /// U-mode.
@@ -16,7 +17,30 @@ pub enum Mode {
     Machine = ffi::MACHINE as isize,
 }
 
-/// What the bytes are accessed for. An AMO or a store-conditional is a store.
+impl fmt::Display for Mode {
+    fn fmt(&self, to: &mut fmt::Formatter) -> fmt::Result {
+        to.pad(match self {
+            Mode::User => "U",
+            Mode::Supervisor => "S",
+            Mode::Machine => "M",
+        })
+    }
+}
+
+impl FromStr for Mode {
+    type Err = NoWord;
+
+    fn from_str(word: &str) -> Result<Mode, NoWord> {
+        match word {
+            "U" => Ok(Mode::User),
+            "S" => Ok(Mode::Supervisor),
+            "M" => Ok(Mode::Machine),
+            _ => Err(NoWord::wanted("a mode is M, S or U")),
+        }
+    }
+}
+
+/// What the bytes are accessed for. An AMO or a store-conditional is a store. Its words are `fetch`, `load` and `store`.
 #[derive(Clone, Copy, Debug, PartialEq, Eq, Hash)]
 pub enum Kind {
     /// To execute them: right X.
@@ -25,6 +49,29 @@ pub enum Kind {
     Load = ffi::LOAD as isize,
     /// To write them: right W.
     Store = ffi::STORE as isize,
+}
+
+impl fmt::Display for Kind {
+    fn fmt(&self, to: &mut fmt::Formatter) -> fmt::Result {
+        to.pad(match self {
+            Kind::Fetch => "fetch",
+            Kind::Load => "load",
+            Kind::Store => "store",
+        })
+    }
+}
+
+impl FromStr for Kind {
+    type Err = NoWord;
+
+    fn from_str(word: &str) -> Result<Kind, NoWord> {
+        match word {
+            "fetch" => Ok(Kind::Fetch),
+            "load" => Ok(Kind::Load),
+            "store" => Ok(Kind::Store),
+            _ => Err(NoWord::wanted("a kind is fetch, load or store")),
+        }
+    }
 }
 
 /// An access of some bytes of physical memory.
@@ -42,6 +89,7 @@ pub struct Access {
 
 impl Access {
     /// The access of so many bytes from this address on. Numbers that name none are refused where it is decided.
+    #[must_use]
     pub const fn new(mode: Mode, kind: Kind, start: u64, length: u64) -> Access {
         Access {
             mode,
@@ -49,6 +97,20 @@ impl Access {
             start,
             length,
         }
+    }
+}
+
+/// The words of `pmp check`.
+///
+/// ```
+/// # use tilvenka_pmp::{Access, Kind, Mode};
+/// let access = Access::new(Mode::Supervisor, Kind::Store, 0x80000000, 8);
+/// assert_eq!(access.to_string(), "S store 0x80000000 8");
+/// ```
+impl fmt::Display for Access {
+    fn fmt(&self, to: &mut fmt::Formatter) -> fmt::Result {
+        let (mode, kind) = (self.mode, self.kind);
+        write!(to, "{mode} {kind} {:#x} {}", self.start, self.length)
     }
 }
 
@@ -65,8 +127,20 @@ pub enum Fault {
 
 impl Fault {
     /// The code that `mcause` takes.
+    #[must_use]
     pub const fn code(self) -> u64 {
         self as u64
+    }
+}
+
+/// The manual's words.
+impl fmt::Display for Fault {
+    fn fmt(&self, to: &mut fmt::Formatter) -> fmt::Result {
+        to.pad(match self {
+            Fault::Instruction => "instruction access fault",
+            Fault::Load => "load access fault",
+            Fault::Store => "store/AMO access fault",
+        })
     }
 }
 
@@ -81,6 +155,17 @@ pub enum Cause {
     NoMatch,
 }
 
+/// The last two fields of a row of `pmp check`.
+impl fmt::Display for Cause {
+    fn fmt(&self, to: &mut fmt::Formatter) -> fmt::Result {
+        match self {
+            Cause::Rule(entry) => write!(to, "rule,{entry}"),
+            Cause::Split(entry) => write!(to, "split,{entry}"),
+            Cause::NoMatch => to.write_str("none,"),
+        }
+    }
+}
+
 /// Whether an access may be made, and what decided that.
 #[derive(Clone, Copy, Debug, PartialEq, Eq, Hash)]
 pub struct Answer {
@@ -92,6 +177,7 @@ pub struct Answer {
 
 impl Answer {
     /// Whether the access may be made.
+    #[must_use]
     pub const fn is_allowed(&self) -> bool {
         self.fault.is_none()
     }
@@ -113,6 +199,23 @@ impl Answer {
     }
 }
 
+/// A row of `pmp check` without its number.
+///
+/// ```
+/// # use tilvenka_pmp::{Access, Kind, Mode, Unit};
+/// let answer = Unit::default().decide(&Access::new(Mode::User, Kind::Load, 0, 8))?;
+/// assert_eq!(answer.to_string(), "fault,5,none,");
+/// # Ok::<(), tilvenka_pmp::NoAccess>(())
+/// ```
+impl fmt::Display for Answer {
+    fn fmt(&self, to: &mut fmt::Formatter) -> fmt::Result {
+        match self.fault {
+            None => write!(to, "allow,,{}", self.cause),
+            Some(fault) => write!(to, "fault,{},{}", fault.code(), self.cause),
+        }
+    }
+}
+
 /// The numbers name no access: it has no bytes or more than 4096, or ends above 2^56.
 #[derive(Clone, Copy, Debug, PartialEq, Eq, Hash)]
 pub struct NoAccess;
@@ -122,58 +225,3 @@ impl fmt::Display for NoAccess {
         to.write_str("an access has 1 to 4096 bytes below 2^56")
     }
 }
-
-impl Error for NoAccess {}
-
-/// What every access inside a range may do.
-#[derive(Clone, Copy, Debug, PartialEq, Eq, Hash)]
-pub struct Rights {
-    /// Load.
-    pub read: bool,
-    /// Store.
-    pub write: bool,
-    /// Fetch.
-    pub execute: bool,
-}
-
-impl Rights {
-    /// `None` where the bytes don't all have the same entry.
-    pub(crate) fn of_number(number: u32) -> Result<Option<Rights>, NoRange> {
-        let has = |right| number & right != 0;
-        match number {
-            ffi::NO_RANGE => Err(NoRange),
-            ffi::MIXED => Ok(None),
-            _ => Ok(Some(Rights {
-                read: has(ffi::READ),
-                write: has(ffi::WRITE),
-                execute: has(ffi::EXECUTE),
-            })),
-        }
-    }
-}
-
-/// The letters `rwx`, or `-` for each.
-impl fmt::Display for Rights {
-    fn fmt(&self, to: &mut fmt::Formatter) -> fmt::Result {
-        let letter = |has, letter| if has { letter } else { '-' };
-        write!(
-            to,
-            "{}{}{}",
-            letter(self.read, 'r'),
-            letter(self.write, 'w'),
-            letter(self.execute, 'x')
-        )
-    }
-}
-
-/// The numbers name no range: it has no bytes, or ends above 2^56.
-#[derive(Clone, Copy, Debug, PartialEq, Eq, Hash)]
-pub struct NoRange;
-
-impl fmt::Display for NoRange {
-    fn fmt(&self, to: &mut fmt::Formatter) -> fmt::Result {
-        to.write_str("a range has 1 byte or more, below 2^56")
-    }
-}
-
-impl Error for NoRange {}

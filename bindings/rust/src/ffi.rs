@@ -1,6 +1,7 @@
 //! What is taken of `tilvenka_pmp.h`, by its names without their prefix, which `checks/release` compares.
 
-use std::mem::size_of;
+use crate::registers::Registers;
+use core::mem::size_of;
 
 pub const VERSION: u32 = 200;
 
@@ -53,28 +54,6 @@ pub fn hart(is_rv32: bool, entries: u8, grain: u16, address_bits: u8, has_smepmp
         | 1 << 32
 }
 
-/// All registers of a unit, as a snapshot has them.
-///
-/// ```
-/// # use tilvenka_pmp::{Csr, Size, Unit};
-/// let mut unit = Unit::new(Size::Sixteen);
-/// unit.write(Csr::address(0), 0x200001ff)?;
-/// assert_eq!(unit.save().addresses[0], 0x200001ff);
-/// # Ok::<(), tilvenka_pmp::NoRegister>(())
-/// ```
-#[repr(C)]
-#[derive(Clone, Copy, Debug, PartialEq, Eq)]
-pub struct Registers {
-    /// `pmpaddr0` and so on: bits 55 to 2 of a byte address, or 33 to 2 on RV32, with those below the grain.
-    pub addresses: [u64; MAX_ENTRIES],
-    /// The byte of each entry in its `pmpcfg` register.
-    pub configurations: [u8; MAX_ENTRIES],
-    /// MML in bit 0, MMWP in bit 1, RLB in bit 2.
-    pub mseccfg: u64,
-    /// The number of the hart, which [`Hart::try_from`](crate::Hart) reads.
-    pub entries: u64,
-}
-
 #[repr(C)]
 #[derive(Clone, Copy)]
 pub struct Map {
@@ -123,6 +102,13 @@ extern "C" {
         length: u64,
     ) -> u32;
     pub fn tilvenka_pmp_rights(unit: *const Unit, mode: u32, start: u64, length: u64) -> u32;
+    pub fn tilvenka_pmp_run(
+        unit: *const Unit,
+        mode: u32,
+        address: u64,
+        first: *mut u64,
+        last: *mut u64,
+    ) -> u32;
     pub fn tilvenka_pmp_save_to(unit: *const Unit, registers: *mut Registers);
     pub fn tilvenka_pmp_restore_from(unit: *mut Unit, registers: *const Registers) -> u32;
 }

@@ -1,9 +1,8 @@
 //! The hart of a unit.
 
 use crate::ffi;
-use std::convert::Infallible;
-use std::error::Error;
-use std::fmt;
+use core::convert::Infallible;
+use core::fmt;
 
 /// How many entries a hart of RV64 has that has a grain of 4 bytes, addresses of 56 bits, and Smepmp.
 #[derive(Clone, Copy, Debug, PartialEq, Eq, Hash)]
@@ -21,13 +20,16 @@ pub enum Size {
 /// # use tilvenka_pmp::{Hart, Unit};
 /// let hart = Hart::new(8, 4096, 38, false).expect("a hart");
 /// assert_eq!(Hart::try_from(Unit::new(hart).save().entries), Ok(hart)); // the hart of saved registers
+/// assert_eq!((hart.entries(), hart.grain(), hart.address_bits()), (8, 4096, 38));
+/// assert_eq!(hart.to_string(), "RV64 with 8 entries, grain 4096, 38 address bits and no Smepmp");
 /// ```
-#[derive(Clone, Copy, Debug, PartialEq, Eq, Hash)]
+#[derive(Clone, Copy, PartialEq, Eq, Hash)]
 pub struct Hart(u64);
 
 impl Hart {
     /// The hart of RV64 with so many entries, 0 to 64, a grain of so many bytes, 4, 8, 16 and so on to 4096, and
     /// addresses of so many bits, 34 to 56. `None` where there is no such hart.
+    #[must_use]
     pub fn new(entries: u8, grain: u16, address_bits: u8, has_smepmp: bool) -> Option<Hart> {
         Hart::of(false, entries, grain, address_bits, has_smepmp)
     }
@@ -41,6 +43,7 @@ impl Hart {
     /// assert_eq!(unit.save().configurations[4], 0x19);
     /// # Ok::<(), tilvenka_pmp::NoRegister>(())
     /// ```
+    #[must_use]
     pub fn rv32(entries: u8, grain: u16, address_bits: u8, has_smepmp: bool) -> Option<Hart> {
         Hart::of(true, entries, grain, address_bits, has_smepmp)
     }
@@ -58,10 +61,89 @@ impl Hart {
     }
 
     /// The number that saved registers have for it.
-    pub(crate) fn number(self) -> u64 {
+    #[must_use]
+    pub const fn number(self) -> u64 {
         self.0
     }
+
+    /// Its number, or for 16 and 64 the one that has all of it.
+    const fn whole(self) -> u64 {
+        match self.0 {
+            16 | 64 => USUAL | self.0,
+            number => number,
+        }
+    }
+
+    /// How many entries it has.
+    #[must_use]
+    pub const fn entries(self) -> u8 {
+        self.whole() as u8
+    }
+
+    /// How many bytes its grain has.
+    #[must_use]
+    pub const fn grain(self) -> u16 {
+        4 << (self.whole() >> 24 & 0xff)
+    }
+
+    /// How many bits its physical addresses have.
+    #[must_use]
+    pub const fn address_bits(self) -> u8 {
+        (self.whole() >> 8) as u8
+    }
+
+    /// Whether it has Smepmp.
+    #[must_use]
+    pub const fn has_smepmp(self) -> bool {
+        self.whole() >> 16 & 1 != 0
+    }
+
+    /// XLEN, 32 or 64.
+    #[must_use]
+    pub const fn xlen(self) -> u8 {
+        if self.whole() >> 17 & 1 != 0 {
+            32
+        } else {
+            64
+        }
+    }
 }
+
+impl fmt::Debug for Hart {
+    fn fmt(&self, to: &mut fmt::Formatter) -> fmt::Result {
+        to.debug_struct("Hart")
+            .field("xlen", &self.xlen())
+            .field("entries", &self.entries())
+            .field("grain", &self.grain())
+            .field("address_bits", &self.address_bits())
+            .field("has_smepmp", &self.has_smepmp())
+            .finish()
+    }
+}
+
+impl fmt::Display for Hart {
+    fn fmt(&self, to: &mut fmt::Formatter) -> fmt::Result {
+        write!(
+            to,
+            "RV{} with {} entries, grain {}, {} address bits and {}Smepmp",
+            self.xlen(),
+            self.entries(),
+            self.grain(),
+            self.address_bits(),
+            if self.has_smepmp() { "" } else { "no " }
+        )
+    }
+}
+
+/// That of sixteen entries of RV64 with a grain of 4 bytes, addresses of 56 bits, and Smepmp.
+impl Default for Hart {
+    fn default() -> Hart {
+        Size::Sixteen.into()
+    }
+}
+
+/// What the number of a hart of RV64 has beside its entries that has a grain of 4 bytes, addresses of 56 bits, and Smepmp.
+const USUAL: u64 = 1 << 32 | 1 << 16 | 56 << 8;
 
 impl From<Size> for Hart {
     fn from(size: Size) -> Hart {
@@ -113,8 +195,6 @@ impl fmt::Display for NoHart {
         to.write_str("the number is that of no hart")
     }
 }
-
-impl Error for NoHart {}
 
 /// What names a hart always is no fault.
 impl From<Infallible> for NoHart {

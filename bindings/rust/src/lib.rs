@@ -14,19 +14,43 @@
 //! A [`Unit`] takes the CSR writes that firmware makes, and decides an [`Access`] as the RISC-V Privileged
 //! Architecture, Volume II, says. It is plain numbers: it needs no allocation, and may be cloned and sent to other
 //! threads. No call has a condition on its numbers. Addresses are byte addresses of physical memory.
+//!
+//! # Features
+//!
+//! - `std`, a default: the errors are [`std::error::Error`]s. Without it the crate is `no_std`.
+//! - `shared`: links the shared library, which has to be found where the program runs, and not the archive.
+//! - `static`: changes nothing. The archive is linked without it too.
+#![cfg_attr(not(any(test, feature = "std")), no_std)]
+#![warn(missing_docs)]
 
 mod answer;
 mod csr;
 mod ffi;
 mod hart;
+mod registers;
+mod run;
 mod unit;
 mod version;
+mod word;
 mod written;
 
-pub use answer::{Access, Answer, Cause, Fault, Kind, Mode, NoAccess, NoRange, Rights};
+pub use answer::{Access, Answer, Cause, Fault, Kind, Mode, NoAccess};
 pub use csr::{Csr, NoRegister};
-pub use ffi::Registers;
 pub use hart::{Hart, NoHart, Size};
-pub use unit::{Run, Unit};
+pub use registers::Registers;
+pub use run::{NoRange, Rights, Run, Runs};
+pub use unit::Unit;
 pub use version::{is_compatible, version};
+pub use word::NoWord;
 pub use written::{Reason, Reasons, Written};
+
+#[cfg(feature = "std")]
+mod errors {
+    use std::error::Error;
+
+    impl Error for crate::NoAccess {}
+    impl Error for crate::NoHart {}
+    impl Error for crate::NoRange {}
+    impl Error for crate::NoRegister {}
+    impl Error for crate::NoWord {}
+}

@@ -1,27 +1,15 @@
 //! The unit. Each call of the C library stands once, here.
 
-use crate::answer::{Access, Answer, Cause, Kind, Mode, NoAccess, NoRange, Rights};
+use crate::answer::{Access, Answer, Mode, NoAccess};
 use crate::csr::{Csr, NoRegister};
-use crate::ffi::{self, Registers};
-use crate::hart::{Hart, NoHart, Size};
+use crate::ffi;
+use crate::hart::{Hart, NoHart};
+use crate::registers::Registers;
+use crate::run::{NoRange, Rights, Run, Runs};
 use crate::version::{is_compatible, version};
 use crate::written::Written;
-use std::fmt;
-
-/// Consecutive bytes that one entry owns, and what may be done with them.
-#[derive(Clone, Copy, Debug, PartialEq, Eq, Hash)]
-pub struct Run {
-    /// The address of the first one.
-    pub first: u64,
-    /// The address of the last one.
-    pub last: u64,
-    /// The lowest-numbered entry that matches them.
-    pub owner: Option<u8>,
-    /// What M-mode may do there.
-    pub machine: Rights,
-    /// What S-mode and U-mode may do there.
-    pub others: Rights,
-}
+use core::fmt;
+use core::hash::{Hash, Hasher};
 
 /// The PMP unit of one hart.
 ///
@@ -33,7 +21,7 @@ pub struct Unit {
 }
 
 impl Unit {
-    /// The unit of a [`Hart`] or of a [`Size`] after reset, whose map isn't built.
+    /// The unit of a [`Hart`] or of a [`Size`](crate::Size) after reset, whose map isn't built.
     ///
     /// # Panics
     ///
@@ -50,19 +38,29 @@ impl Unit {
             runs: 0,
             rows: [[0; 16]; ffi::PLACES],
         };
-        let registers = Registers {
-            addresses: [0; ffi::MAX_ENTRIES],
-            configurations: [0; ffi::MAX_ENTRIES],
-            mseccfg: 0,
-            entries: hart.into().number(),
-        };
+        let registers = Registers::of(hart.into());
         Unit {
             unit: ffi::Unit { registers, map },
         }
     }
 
-    /// Resets the unit, whose hart changes to this one: a [`Hart`], a [`Size`], or what a number names. Where that is no
-    /// hart, the unit stays as it is.
+    /// Its hart.
+    ///
+    /// ```
+    /// # use tilvenka_pmp::{Hart, Unit};
+    /// assert_eq!(Unit::default().hart(), Hart::default());
+    /// ```
+    #[must_use]
+    pub fn hart(&self) -> Hart {
+        Hart::try_from(self.unit.registers.entries).unwrap_or_default()
+    }
+
+    /// Resets the unit, whose hart changes to this one: a [`Hart`], a [`Size`](crate::Size), or what a number names.
+    /// Where that is no hart, the unit stays as it is.
+    ///
+    /// # Errors
+    ///
+    /// `NoHart` where the number names none.
     ///
     /// ```
     /// # use tilvenka_pmp::{NoHart, Size, Unit};
@@ -79,7 +77,10 @@ impl Unit {
     }
 
     /// Writes a register, as firmware does in machine mode. What the unit doesn't store it ignores, as the manual says.
-    /// Where the hart has no such register, nothing changes.
+    ///
+    /// # Errors
+    ///
+    /// `NoRegister` where the hart has no such register. Then nothing changes.
     ///
     /// ```
     /// # use tilvenka_pmp::{Csr, Size, Unit};
@@ -92,12 +93,22 @@ impl Unit {
     pub fn write(&mut self, csr: Csr, value: u64) -> Result<Written, NoRegister> {
         let (mut first, mut last) = (0, 0);
         let status = unsafe {
-            ffi::tilvenka_pmp_write_moved(&mut self.unit, csr.0, value, &mut first, &mut last)
+            ffi::tilvenka_pmp_write_moved(
+                &mut self.unit,
+                csr.number(),
+                value,
+                &mut first,
+                &mut last,
+            )
         };
         Written::of_status(status, first, last)
     }
 
-    /// Reads a register. Where the hart has none of this number, it is an error.
+    /// Reads a register.
+    ///
+    /// # Errors
+    ///
+    /// `NoRegister` where the hart has no such register.
     ///
     /// ```
     /// # use tilvenka_pmp::{Csr, Hart, NoRegister, Unit};
@@ -108,7 +119,9 @@ impl Unit {
     /// ```
     pub fn read(&self, csr: Csr) -> Result<u64, NoRegister> {
         let mut value = 0;
-        NoRegister::of_status(unsafe { ffi::tilvenka_pmp_read(&self.unit, csr.0, &mut value) })?;
+        NoRegister::of_status(unsafe {
+            ffi::tilvenka_pmp_read(&self.unit, csr.number(), &mut value)
+        })?;
         Ok(value)
     }
 
@@ -136,12 +149,16 @@ impl Unit {
     }
 
     /// Whether the map is built. A write that changes something leaves none.
+    #[must_use]
     pub fn is_built(&self) -> bool {
         unsafe { ffi::tilvenka_pmp_is_built(&self.unit) }
     }
 
-    /// Decides an access, by the map where it is built, and else by the registers. It is an error where the numbers name
-    /// none.
+    /// Decides an access, by the map where it is built, and else by the registers.
+    ///
+    /// # Errors
+    ///
+    /// `NoAccess` where the numbers name none.
     ///
     /// ```
     /// # use tilvenka_pmp::{Access, Cause, Fault, Kind, Mode, Size, Unit};
@@ -163,6 +180,10 @@ impl Unit {
     }
 
     /// The same by the registers alone: slower, and independent of the map.
+    ///
+    /// # Errors
+    ///
+    /// `NoAccess` where the numbers name none.
     pub fn decide_by_registers(&self, access: &Access) -> Result<Answer, NoAccess> {
         let Access {
             mode,
@@ -182,8 +203,11 @@ impl Unit {
     }
 
     /// What every access of the mode inside the range of so many bytes may do, as a TLB wants it of a page. `None` where
-    /// not all bytes have the same entry, so that each access has to be decided. It is an error where the range has no
-    /// bytes or ends above 2^56.
+    /// not all bytes have the same entry, so that each access has to be decided.
+    ///
+    /// # Errors
+    ///
+    /// `NoRange` where the range has no bytes or ends above 2^56.
     ///
     /// ```
     /// # use tilvenka_pmp::{Mode, Size, Unit};
@@ -198,6 +222,7 @@ impl Unit {
     }
 
     /// All registers, with zeros for those of entries that the hart lacks.
+    #[must_use]
     pub fn save(&self) -> Registers {
         let mut registers = self.unit.registers;
         unsafe { ffi::tilvenka_pmp_save_to(&self.unit, &mut registers) }
@@ -206,6 +231,10 @@ impl Unit {
 
     /// Takes registers back, whatever they hold and whatever is locked. Where their number names no hart, the unit stays
     /// as it is.
+    ///
+    /// # Errors
+    ///
+    /// `NoHart` then.
     ///
     /// ```
     /// # use tilvenka_pmp::{Size, Unit};
@@ -217,49 +246,61 @@ impl Unit {
         NoHart::of_status(unsafe { ffi::tilvenka_pmp_restore_from(&mut self.unit, registers) })
     }
 
-    /// The owners of all bytes, in order: as `pmp map` writes them.
+    /// All bytes round this one that have the same entry, or none, as a TLB with entries of any size wants them.
+    ///
+    /// # Errors
+    ///
+    /// `NoRange` where the address isn't below 2^56.
+    ///
+    /// ```
+    /// # use tilvenka_pmp::{Csr, Size, Unit};
+    /// let mut unit = Unit::new(Size::Sixteen);
+    /// unit.write(Csr::address(0), 0x200001ff)?;
+    /// unit.write(Csr::configuration(0), 0x19)?;
+    /// let run = unit.run(0x80000800).expect("an address below 2^56");
+    /// assert_eq!((run.first, run.last, run.owner), (0x80000000, 0x80000fff, Some(0)));
+    /// # Ok::<(), tilvenka_pmp::NoRegister>(())
+    /// ```
+    pub fn run(&self, address: u64) -> Result<Run, NoRange> {
+        let (mut first, mut last) = (0, 0);
+        let mut ask = |mode| unsafe {
+            ffi::tilvenka_pmp_run(&self.unit, mode, address, &mut first, &mut last)
+        };
+        let (machine, others) = (ask(ffi::MACHINE), ask(ffi::USER));
+        let owner = match machine % ffi::FAULT {
+            ffi::NO_ACCESS => return Err(NoRange),
+            ffi::NO_MATCH => None,
+            entry => Some(entry as u8),
+        };
+        Ok(Run {
+            first,
+            last,
+            owner,
+            machine: Rights::in_number(machine / ffi::FAULT),
+            others: Rights::in_number(others / ffi::FAULT),
+        })
+    }
+
+    /// The runs of all bytes, in order: as `pmp map` writes them.
     ///
     /// ```
     /// # use tilvenka_pmp::{Size, Unit};
-    /// let runs = Unit::new(Size::Sixteen).runs();
-    /// assert_eq!((runs.len(), runs[0].last, runs[0].owner), (1, (1 << 56) - 1, None));
+    /// let mut runs = Unit::new(Size::Sixteen).runs();
+    /// assert_eq!((runs.len(), runs.next().map(|it| it.last)), (1, Some((1 << 56) - 1)));
     /// ```
-    pub fn runs(&self) -> Vec<Run> {
+    #[must_use]
+    pub fn runs(&self) -> Runs {
         let mut built = self.clone();
         built.build();
         let count = built.unit.map.runs as usize;
-        let starts = &built.unit.map.starts[..count];
-        let ends = starts[1..].iter().copied().chain([1 << 56]);
-        starts
-            .iter()
-            .zip(ends)
-            .map(|(&start, end)| built.run(start, end))
-            .collect()
-    }
-
-    fn run(&self, start: u64, end: u64) -> Run {
-        let rights = |mode| self.rights(mode, start, end - start).ok().flatten();
-        let answer = self.decide(&Access::new(Mode::User, Kind::Load, start, 1));
-        Run {
-            first: start,
-            last: end - 1,
-            owner: answer.ok().and_then(|it| {
-                if let Cause::Rule(entry) = it.cause {
-                    Some(entry)
-                } else {
-                    None
-                }
-            }),
-            machine: rights(Mode::Machine).expect("a run has one owner"),
-            others: rights(Mode::User).expect("a run has one owner"),
-        }
+        Runs::of(built, count)
     }
 }
 
 /// Sixteen entries after reset.
 impl Default for Unit {
     fn default() -> Unit {
-        Unit::new(Size::Sixteen)
+        Unit::new(Hart::default())
     }
 }
 
@@ -271,6 +312,12 @@ impl PartialEq for Unit {
 }
 
 impl Eq for Unit {}
+
+impl Hash for Unit {
+    fn hash<H: Hasher>(&self, to: &mut H) {
+        self.save().hash(to);
+    }
+}
 
 impl fmt::Debug for Unit {
     fn fmt(&self, to: &mut fmt::Formatter) -> fmt::Result {

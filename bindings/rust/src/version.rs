@@ -1,13 +1,14 @@
 //! The version of the library.
 
 use crate::ffi;
-use std::mem::size_of;
+use core::mem::size_of;
 
 /// The version of the library that is linked or loaded: its major, its minor and its patch number.
 ///
 /// ```
 /// assert_eq!(tilvenka_pmp::version().0, 0);
 /// ```
+#[must_use]
 pub fn version() -> (u32, u32, u32) {
     let number = unsafe { ffi::tilvenka_pmp_version() };
     (number / 10000, number / 100 % 100, number % 100)
@@ -19,6 +20,7 @@ pub fn version() -> (u32, u32, u32) {
 /// ```
 /// assert!(tilvenka_pmp::is_compatible());
 /// ```
+#[must_use]
 pub fn is_compatible() -> bool {
     let (number, size) = unsafe { (ffi::tilvenka_pmp_version(), ffi::tilvenka_pmp_unit_size()) };
     is_for_this(number, size)

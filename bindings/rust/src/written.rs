@@ -2,8 +2,8 @@
 
 use crate::csr::NoRegister;
 use crate::ffi;
-use std::fmt;
-use std::ops::RangeInclusive;
+use core::fmt;
+use core::ops::RangeInclusive;
 
 /// Why a register doesn't read what was written to it.
 ///
@@ -79,11 +79,13 @@ pub struct Reasons(u32);
 
 impl Reasons {
     /// Whether there is none.
+    #[must_use]
     pub const fn is_empty(self) -> bool {
         self.0 == 0
     }
 
     /// Whether this one is among them.
+    #[must_use]
     pub const fn contains(self, reason: Reason) -> bool {
         self.0 & reason as u32 != 0
     }
@@ -134,6 +136,7 @@ pub struct Written {
 
 impl Written {
     /// Whether the register reads the value.
+    #[must_use]
     pub const fn is_stored(&self) -> bool {
         self.reasons.is_empty()
     }

@@ -2,10 +2,8 @@
 
 use std::error::Error;
 use std::ops::RangeInclusive;
-use tilvenka_pmp::{
-    is_compatible, version, Access, Cause, Csr, Hart, Kind, Mode, NoAccess, NoHart,
-};
-use tilvenka_pmp::{NoRegister, Reason, Reasons, Size, Unit};
+use tilvenka_pmp::{is_compatible, version, Access, Csr, Hart, Kind, Mode, NoAccess, NoHart};
+use tilvenka_pmp::{NoRange, NoRegister, Reason, Reasons, Registers, Run, Size, Unit};
 
 const ROWS: &str = include_str!(concat!(env!("CARGO_MANIFEST_DIR"), "/../rows.txt"));
 
@@ -16,36 +14,27 @@ fn number(text: &str) -> u64 {
     }
 }
 
-fn csr(name: &str) -> Csr {
-    match name {
-        "mseccfg" => return Csr::MSECCFG,
-        "mseccfgh" => return Csr::MSECCFGH,
-        _ => (),
+/// The register with this name or this number.
+fn csr(name: &str) -> Result<Csr, NoRegister> {
+    if name.starts_with("0x") {
+        return Csr::try_from(number(name) as u32);
     }
-    if let Some(entry) = name.strip_prefix("pmpaddr") {
-        return Csr::address(entry.parse().unwrap());
-    }
-    match name.strip_prefix("pmpcfg") {
-        Some(register) => Csr::configuration(register.parse().unwrap()),
-        None => Csr(number(name) as u32),
-    }
+    let csr: Csr = name.parse().unwrap();
+    assert_eq!(
+        (csr.to_string(), Csr::try_from(csr.number())),
+        (name.to_string(), Ok(csr))
+    );
+    Ok(csr)
 }
 
 fn access(question: &str) -> Access {
     let words: Vec<&str> = question.split(' ').collect();
-    let mode = match words[0] {
-        "M" => Mode::Machine,
-        "S" => Mode::Supervisor,
-        "U" => Mode::User,
-        other => panic!("{other}"),
-    };
-    let kind = match words[1] {
-        "fetch" => Kind::Fetch,
-        "load" => Kind::Load,
-        "store" => Kind::Store,
-        other => panic!("{other}"),
-    };
-    Access::new(mode, kind, number(words[2]), number(words[3]))
+    let (mode, kind) = (words[0].parse().unwrap(), words[1].parse().unwrap());
+    let access = Access::new(mode, kind, number(words[2]), number(words[3]));
+    assert!(access
+        .to_string()
+        .starts_with(&format!("{} {} 0x", words[0], words[1])));
+    access
 }
 
 fn check(unit: &Unit, question: &str) -> String {
@@ -54,17 +43,7 @@ fn check(unit: &Unit, question: &str) -> String {
     assert_eq!(answer, unit.decide_by_registers(&access));
     match answer {
         Err(NoAccess) => "no access".to_string(),
-        Ok(answer) => {
-            let verdict = match answer.fault {
-                None => "allow,".to_string(),
-                Some(fault) => format!("fault,{}", fault.code()),
-            };
-            match answer.cause {
-                Cause::Rule(entry) => format!("{verdict},rule,{entry}"),
-                Cause::Split(entry) => format!("{verdict},split,{entry}"),
-                Cause::NoMatch => format!("{verdict},none,"),
-            }
-        }
+        Ok(answer) => answer.to_string(),
     }
 }
 
@@ -76,13 +55,14 @@ fn absence(fault: NoRegister) -> String {
 }
 
 fn read(unit: &Unit, question: &str) -> String {
-    unit.read(csr(question))
+    csr(question)
+        .and_then(|csr| unit.read(csr))
         .map_or_else(absence, |value| format!("{value:#x}"))
 }
 
 /// An access of a byte that didn't move is decided as before. Bytes at both ends of each run stand for all.
 fn stays_beside(moved: &Option<RangeInclusive<u64>>, before: &Unit, after: &Unit) {
-    let runs = before.runs().into_iter().chain(after.runs());
+    let runs = before.runs().chain(after.runs());
     let is_moved = |byte: &u64| moved.as_ref().map_or(false, |it| it.contains(byte));
     for byte in runs
         .flat_map(|it| [it.first, it.last])
@@ -100,7 +80,10 @@ fn stays_beside(moved: &Option<RangeInclusive<u64>>, before: &Unit, after: &Unit
 /// A write is changed where the registers are others, and stored where the register reads the value.
 fn write(unit: &Unit, question: &str) -> String {
     let (name, value) = question.split_once(' ').unwrap();
-    let (csr, value) = (csr(name), number(value));
+    let (csr, value) = match csr(name) {
+        Ok(csr) => (csr, number(value)),
+        Err(fault) => return absence(fault),
+    };
     let mut after = unit.clone();
     match after.write(csr, value) {
         Err(fault) => {
@@ -165,19 +148,20 @@ fn restore(unit: &Unit, question: &str) -> String {
     tell(unit, &after, done)
 }
 
+/// Each run is that of its bytes, and they are as many as they say.
 fn map(unit: &Unit) -> String {
-    let lines: Vec<String> = unit
-        .runs()
-        .iter()
-        .map(|it| {
-            let owner = it.owner.map_or("-".to_string(), |entry| entry.to_string());
-            format!(
-                "{:014x},{:014x},{owner},{},{}",
-                it.first, it.last, it.machine, it.others
-            )
-        })
-        .collect();
+    let (runs, count) = (unit.runs().collect::<Vec<_>>(), unit.runs().len());
+    assert_eq!(runs.len(), count);
+    for run in &runs {
+        assert_eq!([run.first, run.last].map(|it| unit.run(it)), [Ok(*run); 2]);
+    }
+    let lines: Vec<String> = runs.iter().map(Run::to_string).collect();
     lines.join(" ")
+}
+
+fn run(unit: &Unit, question: &str) -> String {
+    unit.run(number(question))
+        .map_or_else(|NoRange| "no range".to_string(), |run| run.to_string())
 }
 
 fn answer(unit: &Unit, kind: &str, question: &str) -> String {
@@ -186,6 +170,7 @@ fn answer(unit: &Unit, kind: &str, question: &str) -> String {
         "read" => read(unit, question),
         "write" => write(unit, question),
         "map" => map(unit),
+        "run" => run(unit, question),
         "settle" => settle(unit, question),
         "reset" => reset(unit, question),
         "restore" => restore(unit, question),
@@ -220,7 +205,7 @@ fn unit_after(hart: Hart, writes: &str) -> Unit {
     for write in writes.split(';').map(str::trim).filter(|it| !it.is_empty()) {
         match write.split_once(' ') {
             None => unit.reset(hart).unwrap(),
-            Some((name, value)) => drop(unit.write(csr(name), number(value)).unwrap()),
+            Some((name, value)) => drop(unit.write(csr(name).unwrap(), number(value)).unwrap()),
         }
     }
     unit
@@ -237,6 +222,7 @@ fn try_row(hart: Hart, row: &str) {
         parts[3].to_string()
     };
     let mut unit = unit_after(hart, parts[1]);
+    assert_eq!(unit.hart(), hart);
     assert_eq!(answer(&unit, kind, parts[2]), wanted, "{row}");
     unit.build();
     assert!(unit.is_built());
@@ -275,8 +261,8 @@ fn ranges_of_several_entries_are_mixed() {
         "r--"
     );
     assert_eq!(unit.rights(Mode::User, 0x80000800, 4096), Ok(None));
-    assert!(unit.rights(Mode::User, 0, 0).is_err());
-    assert!(unit.rights(Mode::User, 1, 1 << 56).is_err());
+    assert_eq!(unit.rights(Mode::User, 0, 0), Err(NoRange));
+    assert_eq!(unit.rights(Mode::User, 1, 1 << 56), Err(NoRange));
 }
 
 #[test]
@@ -307,6 +293,77 @@ fn harts_are_equal_where_they_are_one() {
     let rv32 = Hart::rv32(16, 4, 34, true);
     assert_eq!(Hart::try_from(0x100032210).ok(), rv32);
     assert_ne!(Hart::new(16, 4, 34, true), rv32);
+}
+
+#[test]
+fn harts_say_what_they_are() {
+    let numbers = |it: Hart| (it.xlen(), it.entries(), it.grain(), it.address_bits());
+    let small = Hart::rv32(0, 4096, 32, false).unwrap();
+    assert_eq!(numbers(small), (32, 0, 4096, 32));
+    assert_eq!(numbers(Size::SixtyFour.into()), (64, 64, 4, 56));
+    assert_eq!(
+        numbers(Hart::new(16, 8, 34, true).unwrap()),
+        (64, 16, 8, 34)
+    );
+    assert!(Hart::default().has_smepmp() && !small.has_smepmp());
+    assert_eq!(
+        small.to_string(),
+        "RV32 with 0 entries, grain 4096, 32 address bits and no Smepmp"
+    );
+    assert_eq!(
+        format!("{:?}", Hart::default()),
+        "Hart { xlen: 64, entries: 16, grain: 4, address_bits: 56, has_smepmp: true }"
+    );
+}
+
+#[test]
+fn registers_show_their_entries() {
+    let mut saved = Unit::new(Hart::new(1, 4, 56, true).unwrap()).save();
+    saved.addresses[0] = 0x200001ff;
+    let text = format!("{saved:?}");
+    assert!(
+        text.starts_with("Registers { hart: Hart { xlen: 64, entries: 1, "),
+        "{text}"
+    );
+    assert!(
+        text.ends_with("mseccfg: 0, configurations: [0], addresses: [200001ff] }"),
+        "{text}"
+    );
+    saved.entries = 8;
+    assert!(format!("{saved:?}").starts_with("Registers { entries: 8, mseccfg: 0"));
+    assert_eq!(Registers::default(), Unit::default().save());
+}
+
+#[test]
+fn names_are_read_as_they_are_written() {
+    for word in [
+        "pmpaddr64",
+        "pmpaddr01",
+        "pmpaddr+1",
+        "pmpaddr",
+        "pmpcfg16",
+        "satp",
+        "MSECCFG",
+        "",
+    ] {
+        assert!(word.parse::<Csr>().is_err(), "{word}");
+    }
+    assert!([0x39f, 0x3f0, 0x746, 0x748, 0x756, 0x758, u32::MAX]
+        .into_iter()
+        .all(|it| Csr::try_from(it) == Err(NoRegister::Unknown)));
+    assert!("u".parse::<Mode>().is_err() && "Load".parse::<Kind>().is_err());
+}
+
+#[test]
+#[should_panic(expected = "pmpaddr63")]
+fn no_address_register_is_past_the_last() {
+    let _ = Csr::address(64);
+}
+
+#[test]
+#[should_panic(expected = "pmpcfg15")]
+fn no_configuration_register_is_past_the_last() {
+    let _ = Csr::configuration(16);
 }
 
 #[test]
