@@ -6,7 +6,8 @@
 # make install PREFIX=..    puts what a release has below PREFIX, as release/files lists it; install-program and
 #                           install-library put a part
 # make uninstall PREFIX=..  takes it away
-# make dist                 writes a release of what is built to dist/; TARGET= as above, of the library alone
+# make dist                 writes a release of what is built to dist/, with the page and the one file where they are made;
+#                           TARGET= as above, of the library alone
 # make dist-test            makes one, and wants each tool that its check asks for
 # make page                 builds the page for a browser, web/out/pmp.html, and its module
 # make page-test            compares in headless Chromium what it answers and shows with what the program answers
@@ -48,6 +49,7 @@ portable:
 page:
 	@web/module
 	@web/build
+	@release/build --note page web/build "$$(release/build --sources)"
 
 page-test:
 	@command -v chromium >/dev/null || { echo "there is no chromium; Debian's package is chromium" >&2; exit 2; }
@@ -67,6 +69,7 @@ test:
 	    'checks/library $(LIBRARY)' \
 	    'RT=$(CURDIR)/checks/over-proved checks/cross' \
 	    'RT=$(CURDIR)/checks/over-proved checks/portable' \
+	    'if command -v chromium; then RT=$(CURDIR)/checks/over-proved make page; fi && checks/page $(PROGRAM)' \
 	    checks/release \
 	    'checks/worked $(PROGRAM)' \
 	    'checks/worked --tried' \
@@ -82,8 +85,7 @@ test:
 	    'checks/hostile $(PROGRAM)' \
 	    'checks/machines $(PROGRAM)' \
 	    'checks/rv32 $(PROGRAM)' \
-	    'checks/growths $(GROWTHS)' \
-	    'if command -v chromium; then RT=$(CURDIR)/checks/over-proved make page; fi && checks/page $(PROGRAM)'
+	    'checks/growths $(GROWTHS)'
 
 # Notes that rt ci has proved the program.
 PROVED = release/build --note program "rt ci" "$$(cat out/proving)" && rm out/proving
