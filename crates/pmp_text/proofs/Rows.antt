@@ -4,6 +4,7 @@ use Rattle.std.proofs.Common.{None, Result, Err, refl, sym, ap, ◌∙◌, appen
 use Rattle.std.specs.Prelude.{filter_map}
 use Rattle.std.proofs.lemmas.Bool.{cond-true, cond-false, lt-ltb, le-ltb}
 use Rattle.pmp_text.specs.declared.refusal.Refusal.TheVariants.{BadHeader, TooLong}
+use Rattle.pmp_text.specs.declared.moments.Moments.{Moments}
 use Rattle.pmp_text.specs.declared.trace.TraceFault.{TraceFault}
 use Rattle.pmp_text.specs.Tables.{behind_header, fault_or_rows, records_of, within_limit}
 use Rattle.pmp_text.specs.Traces.{is_header, rows_meaning, trace_meaning}
@@ -14,24 +15,24 @@ use Rattle.pmp_text.specs.declared.trace.reader.TheConstants.{MAX_TRACE}
 use Rattle.pmp_text.specs.Flaws.{at_row, as_whole}
 
 -- what is meant where so many rows of a policy were read, which say this, and these records are left
-abbrev pub with_policy_read : (publications : ℕ) → (count : ℕ) → List PolicyFields → List (List (List ℕ))
+abbrev pub with_policy_read : (moments : Moments) → (count : ℕ) → List PolicyFields → List (List (List ℕ))
     → Result (List PolicyFields) TraceFault
-with_policy_read publications count rows left = fault_or_rows (first_policy_fault publications (count + 1) left)
-    (rows ++ filter_map (policy_of_record publications) left)
+with_policy_read moments count rows left = fault_or_rows (first_policy_fault moments (count + 1) left)
+    (rows ++ filter_map (policy_of_record moments) left)
 
 -- one row more of it is read
-pub one_policy_row : (publications count : ℕ) (rows : List PolicyFields) (row : PolicyFields)
-    (fields : List (List ℕ)) (left : List (List (List ℕ))) → policy_in publications fields ≡ Ok row
-    → policy_row_fault publications (policy_in publications fields) ≡ None
-    → with_policy_read publications count rows (fields ∷ left)
-    ≡ with_policy_read publications (count + 1) (rows ++ row ∷ []) left
-one_policy_row publications count rows row fields left says fine =
-    let said = filter_map (policy_of_record publications) left in
-    let fault : first_policy_fault publications (count + 1) (fields ∷ left)
-    ≡ first_policy_fault publications (count + 1 + 1) left = rw fine refl in
-    let picked : filter_map (policy_of_record publications) (fields ∷ left) ≡ row ∷ said = rw says refl in
+pub one_policy_row : (moments : Moments) (count : ℕ) (rows : List PolicyFields) (row : PolicyFields)
+    (fields : List (List ℕ)) (left : List (List (List ℕ))) → policy_in moments fields ≡ Ok row
+    → policy_row_fault moments.publications (policy_in moments fields) ≡ None
+    → with_policy_read moments count rows (fields ∷ left)
+    ≡ with_policy_read moments (count + 1) (rows ++ row ∷ []) left
+one_policy_row moments count rows row fields left says fine =
+    let said = filter_map (policy_of_record moments) left in
+    let fault : first_policy_fault moments (count + 1) (fields ∷ left)
+    ≡ first_policy_fault moments (count + 1 + 1) left = rw fine refl in
+    let picked : filter_map (policy_of_record moments) (fields ∷ left) ≡ row ∷ said = rw says refl in
     (λ i. fault_or_rows (fault i) (rows ++ picked i))
-    ∙ ap (λ (all : List PolicyFields). fault_or_rows (first_policy_fault publications (count + 1 + 1) left) all)
+    ∙ ap (λ (all : List PolicyFields). fault_or_rows (first_policy_fault moments (count + 1 + 1) left) all)
     (sym (append_assoc rows (row ∷ []) said))
 
 -- ---- from the header on
@@ -56,13 +57,12 @@ module _ {X : Type 0} (is_header : List (List ℕ) → Bool) (meaning : List (Li
 
 -- ---- of a trace, and of a policy
 
-module _ (publications : ℕ) (text : List ℕ) where
-  pub trace_is : trace_meaning publications text
-      ≡ within_limit (behind_header is_header (rows_meaning publications)) text
-  unfolding trace_meaning
-  trace_is = refl
+pub trace_is : (publications : ℕ) (text : List ℕ) → trace_meaning publications text
+    ≡ within_limit (behind_header is_header (rows_meaning publications)) text
+unfolding trace_meaning
+trace_is publications text = refl
 
-  pub policy_is : policy_meaning publications text
-      ≡ within_limit (behind_header is_policy_header (policy_rows_meaning publications)) text
-  unfolding policy_meaning
-  policy_is = refl
+pub policy_is : (moments : Moments) (text : List ℕ) → policy_meaning moments text
+    ≡ within_limit (behind_header is_policy_header (policy_rows_meaning moments)) text
+unfolding policy_meaning
+policy_is moments text = refl

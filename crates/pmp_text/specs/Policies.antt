@@ -20,7 +20,10 @@ use Rattle.pmp_text.specs.declared.policy.row_fields.PolicyFields.{PolicyFields}
 use Rattle.pmp_text.specs.declared.flaw.Flaw.{Flaw}
 use Rattle.pmp_text.specs.declared.refusal.Refusal.TheVariants.{BadRow, BadAfter, PastEnd}
 use Rattle.pmp_text.specs.declared.trace.TraceFault.{TraceFault}
+use Rattle.pmp_text.specs.declared.moments.Asked.{Asked}
+use Rattle.pmp_text.specs.declared.moments.Moments.{Moments}
 use Rattle.pmp_text.specs.AccessWords.{kind_named}
+use Rattle.pmp_text.specs.Moments.{asked_between, moment_said, to_said}
 use Rattle.pmp_text.specs.Numbers.{is_bare, word_number}
 use Rattle.pmp_text.specs.Tables.{behind_header, fault_or_rows, within_limit}
 use Rattle.pmp_text.specs.Flaws.{and_then, at_row, of_part, part, as_whole}
@@ -76,11 +79,6 @@ abbrev pub at_least : (least : ℕ) → Option ℕ → Option ℕ
 at_least least None = None
 at_least least (Some number) = if nat_le least number then Some number else None
 
--- up to how many publications, from so many on: nothing stands for all that there are
-abbrev pub to_named : (publications from : ℕ) → List ℕ → Option ℕ
-to_named publications from [] = Some publications
-to_named publications from (byte ∷ more) = at_least from (word_number (byte ∷ more))
-
 -- ---- one row
 
 -- the fields of a record that has seven
@@ -124,13 +122,15 @@ policy_fields row = record {
   first = row.first;
   last = row.last;
   demand = row.demand;
+  coming = row.coming;
   is_bare = row.is_bare;
 }
 
--- what seven words say of publications beside a script with so many: from how many to how many
-unfoldable pub publications_said : (publications : ℕ) → SevenFields → Result (ℕ × ℕ) Flaw
-publications_said publications words =
-    of_part 0 (word_number words.from) (λ from. of_part 1 (to_named publications from words.to) (λ to. Ok (from, to)))
+-- what seven words say of moments: from which one to which
+unfoldable pub moments_said : Moments → SevenFields → Result Asked Flaw
+moments_said moments words =
+    of_part 0 (moment_said moments words.from) (λ from. of_part 1 (to_said moments from words.to) (λ to.
+    Ok (asked_between moments.publications from to)))
 
 -- of accesses: modes and kinds
 unfoldable pub accesses_said : SevenFields → Result (Modes × Kinds) Flaw
@@ -144,27 +144,28 @@ bytes_said words =
     Ok (first, last)))
 
 -- all that they say, and the demand
-unfoldable pub policy_of_fields : (publications : ℕ) → SevenFields → Result PolicyFields Flaw
-policy_of_fields publications words =
-    and_then (publications_said publications words) (λ (from, to). and_then (accesses_said words) (λ (modes, kinds).
+unfoldable pub policy_of_fields : Moments → SevenFields → Result PolicyFields Flaw
+policy_of_fields moments words =
+    and_then (moments_said moments words) (λ asked. and_then (accesses_said words) (λ (modes, kinds).
     and_then (bytes_said words) (λ (first, last). of_part 6 (demand_named words.demand) (λ demand. Ok (record {
-      from = from;
-      to = to;
+      from = asked.from;
+      to = asked.to;
       modes = modes;
       kinds = kinds;
       first = first;
       last = last;
       demand = demand;
+      coming = asked.coming;
       is_bare = is_bare words.first || is_bare words.last;
     })))))
 
 -- what a record says as a row, or what of it says nothing
-abbrev pub policy_in : (publications : ℕ) → List (List ℕ) → Result PolicyFields Flaw
-policy_in publications fields =
-    elim (seven_fields fields) [ Some words ↦ policy_of_fields publications words | None ↦ Err (as_whole BadRow) ]
+abbrev pub policy_in : Moments → List (List ℕ) → Result PolicyFields Flaw
+policy_in moments fields =
+    elim (seven_fields fields) [ Some words ↦ policy_of_fields moments words | None ↦ Err (as_whole BadRow) ]
 
-abbrev pub policy_of_record : (publications : ℕ) → List (List ℕ) → Option PolicyFields
-policy_of_record publications fields = result_ok (policy_in publications fields)
+abbrev pub policy_of_record : Moments → List (List ℕ) → Option PolicyFields
+policy_of_record moments fields = result_ok (policy_in moments fields)
 
 -- the fault of what a row says: more publications than there are, then a last byte that is none
 abbrev pub policy_fields_fault : (publications : ℕ) → PolicyFields → Option Flaw
@@ -187,18 +188,17 @@ policy_row_fault publications (Ok row) = policy_fields_fault publications row
 -- ---- all rows
 
 -- the fault of the first row that has one; the first row has this number
-abbrev pub first_policy_fault : (publications number : ℕ) → List (List (List ℕ)) → Option TraceFault
-first_policy_fault publications number [] = None
-first_policy_fault publications number (row ∷ more) =
-    option_or (option_map (at_row number) (policy_row_fault publications (policy_in publications row)))
-    (first_policy_fault publications (number + 1) more)
+abbrev pub first_policy_fault : Moments → (number : ℕ) → List (List (List ℕ)) → Option TraceFault
+first_policy_fault moments number [] = None
+first_policy_fault moments number (row ∷ more) =
+    option_or (option_map (at_row number) (policy_row_fault moments.publications (policy_in moments row)))
+    (first_policy_fault moments (number + 1) more)
 
 -- the rows are numbered from 1
-abbrev pub policy_rows_meaning : (publications : ℕ) → List (List (List ℕ)) → Result (List PolicyFields) TraceFault
-policy_rows_meaning publications rows =
-    fault_or_rows (first_policy_fault publications 1 rows) (filter_map (policy_of_record publications) rows)
+abbrev pub policy_rows_meaning : Moments → List (List (List ℕ)) → Result (List PolicyFields) TraceFault
+policy_rows_meaning moments rows =
+    fault_or_rows (first_policy_fault moments 1 rows) (filter_map (policy_of_record moments) rows)
 
--- what a text means as a policy beside a script with so many publications
-unfoldable pub policy_meaning : (publications : ℕ) → List ℕ → Result (List PolicyFields) TraceFault
-policy_meaning publications text =
-    within_limit (behind_header is_policy_header (policy_rows_meaning publications)) text
+-- what a text means as a policy beside a script with these moments
+unfoldable pub policy_meaning : Moments → List ℕ → Result (List PolicyFields) TraceFault
+policy_meaning moments text = within_limit (behind_header is_policy_header (policy_rows_meaning moments)) text

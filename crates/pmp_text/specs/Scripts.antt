@@ -23,7 +23,7 @@ use Rattle.pmp_text.specs.declared.script.version.Version.{Version}
 use Rattle.pmp_text.specs.declared.script.version.Version.TheVariants.{Sized, Headed}
 use Rattle.pmp_text.specs.Heads.{event_flaw, is_same, own_fault, rv32_with, size_for, started}
 use Rattle.pmp_text.specs.Lines.{words, lines}
-use Rattle.pmp_text.specs.Statements.{statement_of}
+use Rattle.pmp_text.specs.Statements.{has_rv32, statement_of}
 use Rattle.pmp_text.specs.Contents.{Publications, ScriptContents}
 use Rattle.pmp_text.specs.declared.script.reader.TheConstants.{MAX_SCRIPT}
 use Rattle.pmp_text.specs.Flaws.{at_line, part, as_whole}
@@ -291,6 +291,18 @@ meaning_behind first more (Some Headed) =
 abbrev pub lines_meaning : List Line → Result ScriptContents ScriptFault
 lines_meaning [] = Err (at_line 1 (as_whole BadVersion))
 lines_meaning (version ∷ more) = meaning_behind version more (version_named version.words)
+
+-- the version that the first of these lines names is 3
+abbrev pub is_headed_by : List Line → Bool
+is_headed_by [] = false
+is_headed_by (first ∷ more) = elim (version_named first.words) [
+  | Some version ↦ has_rv32 version
+  | None ↦ false
+]
+
+-- the text is a script of version 3, or refused behind its version
+abbrev pub is_headed : List ℕ → Bool
+is_headed text = is_headed_by (significant_lines text)
 
 -- what a text means; one of more bytes than the limit is too long, whatever it says
 unfoldable pub script_meaning : List ℕ → Result ScriptContents ScriptFault

@@ -9,6 +9,7 @@ mod flaw;
 mod input;
 pub mod laws;
 mod lines;
+mod moments;
 mod names;
 mod numbers;
 mod output;
@@ -25,14 +26,15 @@ pub use expectation::Expectation;
 pub use flaw::Flaw;
 pub use input::{MAX_LIMIT, read_bytes};
 pub use lines::{
-    Breach, Change, EventPlace, NoMemory, Only, Since, write_change, write_effect, write_entries,
-    write_expected, write_picture, write_registers, write_row, write_runs, write_script,
-    write_verdict,
+    Breach, Change, EventPlace, NoMemory, Only, Since, Verdict, write_change, write_effect,
+    write_entries, write_expected, write_picture, write_registers, write_row, write_runs,
+    write_script, write_verdict,
 };
+pub use moments::{Coming, Lasting, Moments};
 pub use numbers::{is_bare, read_word_number};
 pub use output::{OutputFault, write_out};
 pub use policy::{Demand, Kinds, Modes, PolicyFields, PolicyRow, read_policy};
 pub use refusal::{InputFault, Refusal, ScriptKind, TraceKind};
-pub use script::{MAX_SCRIPT, Script, ScriptFault, read_script};
+pub use script::{MAX_SCRIPT, Script, ScriptFault, is_headed, read_script};
 pub use sink::Sink;
 pub use trace::{MAX_TRACE, Place, Row, RowReader, TraceFault, read_trace};

@@ -29,7 +29,7 @@ pub use report::write_row;
 pub use runs::write_runs;
 pub use script::write_script;
 pub use since::Since;
-pub use verdict::{Breach, write_verdict};
+pub use verdict::{Breach, Verdict, write_verdict};
 /// There is no room for more of a text, as the calls say that append texts.
 pub use std::alloc::AllocError as NoMemory;
 use std::alloc::AllocError;

@@ -8,6 +8,7 @@ mod row_fields;
 mod words;
 
 use crate::flaw::Flaw;
+use crate::moments::Coming;
 use crate::refusal::Refusal;
 use pmp_core::{Kind, Mode};
 pub use reader::read_policy;
@@ -88,6 +89,8 @@ pub struct PolicyRow {
     /// The byte address of the last byte.
     pub last: u64,
     pub demand: Demand,
+    /// Whether the moments that it speaks of come. Where they don't, it asks of none.
+    pub coming: Coming,
     /// Whether `first` or `last` is 14 digits without `0x`: a decimal number, where rows mean hexadecimal.
     pub is_bare: bool,
     pub ghost forward: { from ≤ to },

@@ -26,7 +26,7 @@ use crate::event_log::EventLog;
 use crate::expectation::Expectation;
 use crate::refusal::{Refusal, ScriptKind};
 use pmp_core::{BATCH_EVENTS, ENTRIES, Event, RegFile, Size};
-pub use reader::{MAX_SCRIPT, read_script};
+pub use reader::{MAX_SCRIPT, is_headed, read_script};
 use std::alloc::AllocError;
 use std::marker::Model;
 

@@ -5,6 +5,7 @@ ghost use Rattle.pmp_text.specs.Outcomes.{GivesRows};
 ghost use Rattle.pmp_text.specs.Policies.{is_policy_header, policy_fields, policy_meaning, policy_rows_meaning};
 ghost use Rattle.pmp_text.specs.Tables.{behind_header};
 
+use crate::moments::Moments;
 use crate::policy::PolicyRow;
 use crate::policy::row_fields::{is_policy_header, read_policy_row};
 use crate::refusal::Refusal;
@@ -15,15 +16,15 @@ use std::alloc::Global;
 fn read_rows(
     alloc: Global,
     records: &mut Records<'_>,
-    publications: u64,
+    moments: Moments,
 ) -> Result<Vec<PolicyRow>, TraceFault>
     ensures given { GivesRows (λ rows. map policy_fields rows.items) result
-        (policy_rows_meaning publications records.old.left) }
-    ensures within { IfOk result (λ rows. All (λ row. row.to ≤ publications) rows.items) }
+        (policy_rows_meaning moments records.old.left) }
+    ensures within { IfOk result (λ rows. All (λ row. row.to ≤ moments.publications) rows.items) }
 {
     let mut rows = Vec::new(alloc);
     while records.read()? {
-        match read_policy_row(records.fields(), publications) {
+        match read_policy_row(records.fields(), moments) {
             Ok(row) => rows.push(row)?,
             Err(flaw) => return Err(flaw.at_row(rows.len() as u64 + 1)),
         }
@@ -35,31 +36,31 @@ fn read_rows(
 fn read_records(
     alloc: Global,
     records: &mut Records<'_>,
-    publications: u64,
+    moments: Moments,
 ) -> Result<Vec<PolicyRow>, TraceFault>
     ensures given { GivesRows (λ rows. map policy_fields rows.items) result
-        (behind_header is_policy_header (policy_rows_meaning publications) records.old.left) }
-    ensures within { IfOk result (λ rows. All (λ row. row.to ≤ publications) rows.items) }
+        (behind_header is_policy_header (policy_rows_meaning moments) records.old.left) }
+    ensures within { IfOk result (λ rows. All (λ row. row.to ≤ moments.publications) rows.items) }
 {
     if !records.read()? || !is_policy_header(records.fields()) {
         return Err(Refusal::BadHeader.whole().at_row(0));
     }
-    read_rows(alloc, records, publications)
+    read_rows(alloc, records, moments)
 }
 
-/// The rows of the policy that a text describes, beside a script with so many publications, else its first fault. The
+/// The rows of the policy that a text describes, beside a script with these moments, else its first fault. The
 /// time is linear in the text, and only the rows and one record take memory: where they can't grow, `Memory` is
 /// answered in place of any fault further on.
 pub fn read_policy(
     alloc: Global,
     text: &[u8],
-    publications: u64,
+    moments: Moments,
 ) -> Result<Vec<PolicyRow>, TraceFault>
-    ensures given { GivesRows (λ rows. map policy_fields rows.items) result (policy_meaning publications text.now) }
-    ensures within { IfOk result (λ rows. All (λ row. row.to ≤ publications) rows.items) }
+    ensures given { GivesRows (λ rows. map policy_fields rows.items) result (policy_meaning moments text.now) }
+    ensures within { IfOk result (λ rows. All (λ row. row.to ≤ moments.publications) rows.items) }
 {
     if text.len() > MAX_TRACE {
         return Err(Refusal::TooLong.whole().at_row(0));
     }
-    read_records(alloc, &mut Records::open(alloc, text), publications)
+    read_records(alloc, &mut Records::open(alloc, text), moments)
 }

@@ -6,24 +6,26 @@ ghost use Rattle.pmp_text.specs.Policies.{
   accesses_said,
   bytes_said,
   is_policy_header,
+  moments_said,
   policy_fields,
   policy_fields_fault,
   policy_in,
   policy_row_fault,
-  publications_said,
   seven_fields,
 };
 ghost use Rattle.pmp_text.specs.Steps.Views.{seen_seven};
 
 use crate::flaw::Flaw;
+use crate::moments::{Asked, Coming, Moments};
 use crate::numbers::{is_bare, read_word_number};
-use crate::policy::words::{read_at_least, read_demand, read_kinds, read_modes, read_to};
+use crate::policy::words::{read_at_least, read_demand, read_kinds, read_modes};
 use crate::policy::{Demand, Kinds, Modes, PolicyRow};
 use crate::refusal::Refusal;
 use csv::ByteRecord;
 use pmp_core::ADDRESS_LIMIT;
 
-/// What the seven fields of a row say, be it a row or not: its publications, modes, kinds, byte addresses and demand.
+/// What the seven fields of a row say, be it a row or not: its publications, modes, kinds, byte addresses and demand. Of a
+/// row whose moments don't come `from` and `to` are the number of all publications.
 #[derive(Clone, Copy, Debug, PartialEq, Eq)]
 pub struct PolicyFields {
     pub from: u64,
@@ -33,6 +35,8 @@ pub struct PolicyFields {
     pub first: u64,
     pub last: u64,
     pub demand: Demand,
+    /// Whether the moments that it speaks of come.
+    pub coming: Coming,
     /// Whether `first` or `last` is 14 digits without `0x`.
     pub is_bare: bool,
 }
@@ -98,15 +102,17 @@ pub fn is_policy_header(fields: &ByteRecord) -> bool
 }
 
 impl Words<'_> {
-    /// From how many publications to how many of so many they speak.
-    #[tactic(auto, unfolding(crate::specs::Policies::publications_said))]
-    fn publications(self, publications: u64) -> Result<(u64, u64), Flaw>
-        ensures said { result ≡ publications_said publications (seen_seven self.entry) }
-        ensures forward { IfOk result (λ said. said.0 ≤ publications → said.0 ≤ said.1) }
+    /// From which moment to which they speak.
+    #[tactic(auto, unfolding(crate::specs::Policies::moments_said))]
+    fn moments(self, moments: Moments) -> Result<Asked, Flaw>
+        ensures said { result ≡ moments_said moments (seen_seven self.entry) }
+        ensures forward { IfOk result (λ said. said.from ≤ moments.publications → said.from ≤ said.to) }
     {
-        let from = read_word_number(self.from).ok_or(Refusal::BadRow.part(0))?;
-        let to = read_to(publications, from, self.to).ok_or(Refusal::BadRow.part(1))?;
-        Ok((from, to))
+        let from = moments.read(self.from).ok_or(Refusal::BadRow.part(0))?;
+        let to = moments
+            .read_to(from, self.to)
+            .ok_or(Refusal::BadRow.part(1))?;
+        Ok(moments.between(from, to))
     }
 
     /// Of which modes and kinds they speak.
@@ -132,15 +138,15 @@ impl Words<'_> {
 }
 
 impl PolicyFields {
-    /// What a record says as a row beside a script with so many publications, or which field says nothing.
+    /// What a record says as a row beside a script with these moments, or which field says nothing.
     #[tactic(auto, unfolding(crate::specs::Policies::policy_of_fields))]
-    pub fn read(fields: &ByteRecord, publications: u64) -> Result<PolicyFields, Flaw>
-        ensures said { result ≡ policy_in publications (fields_of fields.now) }
-        ensures forward { IfOk result (λ row. row.from ≤ publications → row.from ≤ row.to) }
+    pub fn read(fields: &ByteRecord, moments: Moments) -> Result<PolicyFields, Flaw>
+        ensures said { result ≡ policy_in moments (fields_of fields.now) }
+        ensures forward { IfOk result (λ row. row.from ≤ moments.publications → row.from ≤ row.to) }
         ensures ordered { IfOk result (λ row. row.first ≤ row.last) }
     {
         let words = seven_fields(fields).ok_or(Refusal::BadRow.whole())?;
-        let (from, to) = words.publications(publications)?;
+        let Asked { from, to, coming } = words.moments(moments)?;
         let (modes, kinds) = words.accesses()?;
         let (first, last) = words.bytes()?;
         let demand = read_demand(words.demand).ok_or(Refusal::BadRow.part(6))?;
@@ -152,6 +158,7 @@ impl PolicyFields {
             first,
             last,
             demand,
+            coming,
             is_bare: is_bare(words.first) || is_bare(words.last),
         })
     }
@@ -182,19 +189,20 @@ impl PolicyFields {
             first: self.first,
             last: self.last,
             demand: self.demand,
+            coming: self.coming,
             is_bare: self.is_bare,
         })
     }
 }
 
-/// The row that a record says, beside a script with so many publications.
-pub fn read_policy_row(fields: &ByteRecord, publications: u64) -> Result<PolicyRow, Flaw>
+/// The row that a record says, beside a script with these moments.
+pub fn read_policy_row(fields: &ByteRecord, moments: Moments) -> Result<PolicyRow, Flaw>
     ensures ok { IfOk result (λ row.
-        (policy_in publications (fields_of fields.now) ≡ Ok (policy_fields row))
-        × (policy_row_fault publications (policy_in publications (fields_of fields.now)) ≡ None)) }
-    ensures within { IfOk result (λ row. row.to ≤ publications) }
+        (policy_in moments (fields_of fields.now) ≡ Ok (policy_fields row))
+        × (policy_row_fault moments.publications (policy_in moments (fields_of fields.now)) ≡ None)) }
+    ensures within { IfOk result (λ row. row.to ≤ moments.publications) }
     ensures err { IfErr result (λ flaw.
-        policy_row_fault publications (policy_in publications (fields_of fields.now)) ≡ Some flaw) }
+        policy_row_fault moments.publications (policy_in moments (fields_of fields.now)) ≡ Some flaw) }
 {
-    PolicyFields::read(fields, publications)?.check(publications)
+    PolicyFields::read(fields, moments)?.check(moments.publications)
 }

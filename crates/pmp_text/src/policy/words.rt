@@ -1,7 +1,7 @@
 //! The words in a policy's fields: demands, kinds, modes and ranges.
 
-ghost use Rattle.std.specs.Prelude.{◌≡◌, ◌≤◌, IfSome};
-ghost use Rattle.pmp_text.specs.Policies.{at_least, demand_named, kinds_named, modes_named, times, to_named};
+ghost use Rattle.std.specs.Prelude.{◌≡◌};
+ghost use Rattle.pmp_text.specs.Policies.{at_least, demand_named, kinds_named, modes_named, times};
 ghost use Rattle.pmp_text.specs.Numbers.{word_number};
 
 use crate::access_words::read_kind;
@@ -66,16 +66,4 @@ pub fn read_at_least(least: u64, word: &[u8]) -> Option<u64>
 {
     let number = read_word_number(word)?;
     (number >= least).then_some(number)
-}
-
-/// The greatest number of publications that a row speaks of, from the least one on: the word's, or all that there are
-/// where it is empty.
-pub fn read_to(publications: u64, from: u64, word: &[u8]) -> Option<u64>
-    ensures named { result ≡ to_named publications from word.now }
-    ensures forward { IfSome result (λ to. from ≤ publications → from ≤ to) }
-{
-    if word.is_empty() {
-        return Some(publications);
-    }
-    read_at_least(from, word)
 }

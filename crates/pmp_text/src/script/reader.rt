@@ -1,8 +1,9 @@
 //! Reading a script: the version, then line by line, up to the first fault.
 
+ghost use Rattle.std.specs.Prelude.{◌≡◌, ◌<◌, ◌^◌, length};
 ghost use Rattle.pmp_text.specs.Outcomes.{Gives};
 ghost use Rattle.pmp_text.specs.Steps.Progress.{concluded, nothing_begun, resumed};
-ghost use Rattle.pmp_text.specs.Scripts.{script_meaning};
+ghost use Rattle.pmp_text.specs.Scripts.{is_headed, script_meaning};
 ghost use Rattle.pmp_text.specs.Steps.Views.{lines_left};
 
 use crate::event_log::EventLog;
@@ -48,5 +49,19 @@ pub fn read_script<'a, L: EventLog>(log: &'a mut L, text: &[u8]) -> Result<Scrip
     match read_version(first.bytes) {
         Ok(version) => read_statements(log, version, lines),
         Err(flaw) => Err(flaw.at_line(first.number)),
+    }
+}
+
+/// Whether a text's first significant line is `pmp 3`.
+pub fn is_headed(text: &[u8]) -> bool
+    requires { length text.now < 2 ^ 63 }
+    ensures { result ≡ is_headed text.now }
+{
+    let Some(first) = SignificantLines::new(text).next() else {
+        return false;
+    };
+    match read_version(first.bytes) {
+        Ok(version) => version.has_rv32(),
+        Err(_) => false,
     }
 }

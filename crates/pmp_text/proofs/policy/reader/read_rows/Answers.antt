@@ -8,7 +8,7 @@ use Rattle.pmp_text.proofs.policy.reader.read_rows.Goals as goal
 pub loop-rows-preserved : goal.loop-rows-preserved
 loop-rows-preserved c =
     let found : c.in_ok-read.field-0 ≡ true = c.if-branch.true in
-    let publications = c.args.publications in
+    let moments = c.args.moments in
     let rows = c.loop-rows.rows.items in
     let row = c.in-Ok.row in
     let fields = c.read.new.self.fields in
@@ -18,10 +18,10 @@ loop-rows-preserved c =
     omega (arith, ap length more, length-append rows (row ∷ [])) in
     let said = sym (ap (map policy_fields) more ∙ map-append policy_fields rows (row ∷ [])) in (
       c.loop-rows.invariant.0
-          ∙ ap (with_policy_read publications (length rows) (map policy_fields rows))
+          ∙ ap (with_policy_read moments (length rows) (map policy_fields rows))
           (c.in_ok-read.ensures.next (ap Ok found))
-          ∙ one_policy_row publications (length rows) (map policy_fields rows) (policy_fields row) fields left
+          ∙ one_policy_row moments (length rows) (map policy_fields rows) (policy_fields row) fields left
           (rw c.fields.ensures at c.in-Ok.ensures.ok.0) (rw c.fields.ensures at c.in-Ok.ensures.ok.1)
-          ∙ (λ i. with_policy_read publications (count i) (said i) left),
-      rw more (All-push (λ row. row.to ≤ publications) rows row c.loop-rows.invariant.1 c.in-Ok.ensures.within),
+          ∙ (λ i. with_policy_read moments (count i) (said i) left),
+      rw more (All-push (λ row. row.to ≤ moments.publications) rows row c.loop-rows.invariant.1 c.in-Ok.ensures.within),
     )
