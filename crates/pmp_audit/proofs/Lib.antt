@@ -21,6 +21,7 @@ pub mod Stopping
 pub mod WrittenAnswers
 pub mod WrittenEvents
 pub mod PolicyAnswers
+pub mod PolicyMoments
 pub mod PolicySteps
 pub mod PolicySweep
 pub mod PolicyVerdicts

@@ -11,6 +11,10 @@ use Rattle.pmp_core.specs.RegisterFile.{RegisterFile}
 use Rattle.pmp_core.proofs.Decisions.{least_once}
 use Rattle.pmp_map.specs.declared.run.Run.{Run}
 use Rattle.pmp_text.specs.declared.lines.verdict.Breach.{Breach}
+use Rattle.pmp_text.specs.declared.lines.verdict.Verdict.{Verdict}
+use Rattle.pmp_text.specs.declared.lines.verdict.Verdict.TheVariants.{Broken, Holds, Unmet}
+use Rattle.pmp_text.specs.declared.moments.Coming.{Coming}
+use Rattle.pmp_text.specs.declared.moments.Coming.TheVariants as coming
 use Rattle.pmp_text.specs.declared.policy.Demand.{Demand}
 use Rattle.pmp_text.specs.declared.policy.Demand.TheVariants.{Never, Always, Held}
 use Rattle.pmp_text.specs.declared.policy.PolicyRow.{PolicyRow}
@@ -20,8 +24,9 @@ use Rattle.pmp_text.specs.Policies.{policy_fields}
 use Rattle.pmp_audit.specs.Laws.{OnePolicyAnswerLaw}
 use Rattle.pmp_audit.specs.PolicyCheck.{IsBroken, IsFirstBreach, IsFirstIn, IsFirstNotHeld, IsFirstOf, IsFirstOfAll}
 use Rattle.pmp_audit.specs.PolicyCheck.{IsFirstRun, IsNotHeld}
-use Rattle.pmp_audit.specs.PolicyCheck.{IsVerdict, IsVerdictBy, policy_summary, state_after, step_count, verdicts_text}
+use Rattle.pmp_audit.specs.PolicyCheck.{IsBreachOf, IsVerdict, IsVerdictBy, IsVerdictOn, policy_summary, state_after, step_count, verdicts_text}
 use Rattle.pmp_audit.proofs.Lists.{one_list}
+use Rattle.pmp_audit.proofs.PolicyMoments.{one_moments}
 
 -- ---- one run
 
@@ -141,11 +146,27 @@ module _ (state : ℕ → RegisterFile) (row : PolicyRow) (from to : ℕ) where
   one_verdict_by Held one other (inr is) (inl too) = absurd (never_both other too.0 too.1 is.0)
   one_verdict_by Held one other (inr is) (inr too) = one_loose one other is.1 too.1
 
+one_told : (coming : Coming) (IsSo : Option Breach → Type 0)
+    → ((one other : Option Breach) → IsSo one → IsSo other → one ≡ other) → (one other : Verdict)
+    → IsVerdictOn coming IsSo one → IsVerdictOn coming IsSo other → one ≡ other
+one_told coming.Met IsSo once Holds Holds is too = refl
+one_told coming.Met IsSo once Holds (Broken breach) is too = absurd (none-some breach (once None (Some breach) is too))
+one_told coming.Met IsSo once (Broken breach) Holds is too = absurd (none-some breach (once None (Some breach) too is))
+one_told coming.Met IsSo once (Broken one) (Broken other) is too =
+    let same = once (Some one) (Some other) is too in
+    let breach : one ≡ other = cc in
+    ap Broken breach
+one_told coming.Met IsSo once (Unmet waived) other is too = absurd is
+one_told coming.Met IsSo once Holds (Unmet waived) is too = absurd too
+one_told coming.Met IsSo once (Broken breach) (Unmet waived) is too = absurd too
+one_told coming.Unmet IsSo once one other is too = is ∙ sym too
+one_told coming.Waived IsSo once one other is too = is ∙ sym too
+
 -- ---- a row is what a policy says of it
 
-row_of : (from to : ℕ) (modes : Modes) (kinds : Kinds) (first last : ℕ) (demand : Demand) (is_bare : Bool) → from ≤ to
-    → first ≤ last → last < ADDRESS_LIMIT → PolicyRow
-row_of from to modes kinds first last demand is_bare forward ordered inside = record {
+row_of : (from to : ℕ) (modes : Modes) (kinds : Kinds) (first last : ℕ) (demand : Demand) (coming : Coming)
+    (is_bare : Bool) → from ≤ to → first ≤ last → last < ADDRESS_LIMIT → PolicyRow
+row_of from to modes kinds first last demand coming is_bare forward ordered inside = record {
   from = from;
   to = to;
   modes = modes;
@@ -153,6 +174,7 @@ row_of from to modes kinds first last demand is_bare forward ordered inside = re
   first = first;
   last = last;
   demand = demand;
+  coming = coming;
   is_bare = is_bare;
   forward = forward;
   ordered = ordered;
@@ -163,8 +185,8 @@ same_row : (one other : PolicyRow) → policy_fields one ≡ policy_fields other
 unfolding row_of
 same_row one other same =
     let From : ℕ → ℕ → ℕ → ℕ → Type 0 = λ f t a b. (forward : f ≤ t) (ordered : a ≤ b) (inside : b < ADDRESS_LIMIT)
-    → one ≡ row_of f t one.modes one.kinds a b one.demand one.is_bare forward ordered inside in
-    let here = row_of one.from one.to one.modes one.kinds one.first one.last one.demand one.is_bare in
+    → one ≡ row_of f t one.modes one.kinds a b one.demand one.coming one.is_bare forward ordered inside in
+    let here = row_of one.from one.to one.modes one.kinds one.first one.last one.demand one.coming one.is_bare in
     let own : From one.from one.to one.first one.last = λ forward ordered inside.
     ap (λ f. here f one.ordered one.inside) (le_prop one.forward forward)
     ∙ ap (λ o. here forward o one.inside) (le_prop one.ordered ordered)
@@ -173,10 +195,10 @@ same_row one other same =
     let moved_to = subst (λ (n : ℕ). From other.from n one.first one.last) (ap (λ f. f.to) same) moved in
     let moved_first = subst (λ (n : ℕ). From other.from other.to n one.last) (ap (λ f. f.first) same) moved_to in
     let moved_last = subst (λ (n : ℕ). From other.from other.to other.first n) (ap (λ f. f.last) same) moved_first in
-    let there : Modes → Kinds → Demand → Bool → PolicyRow = λ m k d b.
-    row_of other.from other.to m k other.first other.last d b other.forward other.ordered other.inside in
+    let there : Modes → Kinds → Demand → Coming → Bool → PolicyRow = λ m k d c b.
+    row_of other.from other.to m k other.first other.last d c b other.forward other.ordered other.inside in
     moved_last other.forward other.ordered other.inside
-    ∙ (λ i. there (same i).modes (same i).kinds (same i).demand (same i).is_bare)
+    ∙ (λ i. there (same i).modes (same i).kinds (same i).demand (same i).coming (same i).is_bare)
 
 same_rows : (one other : List PolicyRow) → map policy_fields one ≡ map policy_fields other → one ≡ other
 same_rows [] [] same = refl
@@ -192,13 +214,16 @@ same_rows (row ∷ one) (another ∷ other) same =
 pub one_policy_answer : OnePolicyAnswerLaw
 one_policy_answer pace script policy one other text another said too =
     let contents : said.contents ≡ too.contents = cc (said.script_means, too.script_means) in
+    let moments : said.moments ≡ too.moments =
+    one_moments script too.contents said.moments too.moments (rw contents at said.moments_are) too.moments_are in
     let fields : map policy_fields said.rows ≡ map policy_fields too.rows =
-    cc (contents, said.policy_means, too.policy_means) in
+    cc (moments, said.policy_means, too.policy_means) in
     let rows = same_rows said.rows too.rows fields in
     let judged = rw (contents, rows) at said.judged in
     let verdicts = one_list (IsVerdict pace too.contents)
-    (λ row. one_verdict_by (state_after pace too.contents) row (step_count pace too.contents.batches row.from)
-    (step_count pace too.contents.batches row.to) row.demand) too.rows said.verdicts too.verdicts judged too.judged in (
+    (λ row. one_told row.coming (IsBreachOf pace too.contents row)
+    (one_verdict_by (state_after pace too.contents) row (step_count pace too.contents.batches row.from)
+    (step_count pace too.contents.batches row.to) row.demand)) too.rows said.verdicts too.verdicts judged too.judged in (
       said.counted ∙ ap (λ rows. policy_summary rows said.verdicts) rows ∙ ap (policy_summary too.rows) verdicts
           ∙ sym too.counted,
       said.text_is ∙ ap verdicts_text verdicts ∙ sym too.text_is,

@@ -11,16 +11,18 @@ use Rattle.pmp_core.specs.Moved.{AreAlikeBeside, IsMoved}
 use Rattle.pmp_core.specs.RegisterFile.{RegisterFile}
 use Rattle.pmp_map.specs.declared.run.Run.{Run}
 use Rattle.pmp_text.specs.declared.lines.verdict.Breach.{Breach}
+use Rattle.pmp_text.specs.declared.moments.Coming.{Coming}
+use Rattle.pmp_text.specs.declared.moments.Coming.TheVariants as coming
 use Rattle.pmp_text.specs.declared.policy.Demand.{Demand}
 use Rattle.pmp_text.specs.declared.policy.Demand.TheVariants.{Never, Always, Held}
 use Rattle.pmp_text.specs.declared.policy.PolicyRow.{PolicyRow}
 use Rattle.pmp_audit.specs.PolicyCheck.{IsBroken, IsFirstBreach, IsFirstIn, IsFirstNotHeld, IsFirstOf}
-use Rattle.pmp_audit.specs.PolicyCheck.{IsNotHeld, IsVerdict, IsVerdictBy, state_after, step_count}
+use Rattle.pmp_audit.specs.PolicyCheck.{IsBreachOf, IsNotHeld, IsVerdict, IsVerdictBy, IsVerdictOn, state_after, step_count}
 use Rattle.pmp_text.specs.Contents.{ScriptContents}
 use Rattle.pmp_audit.specs.declared.policy_check.steps.Pace.{Pace}
 use Rattle.pmp_audit.specs.declared.policy_check.steps.State.{State}
 use Rattle.pmp_audit.specs.declared.policy_check.sweep.Judged.{Judged}
-use Rattle.pmp_audit.specs.PolicySweep.{IsJudged, IsStateOf, IsVerdictBefore}
+use Rattle.pmp_audit.specs.PolicySweep.{IsJudged, IsStateOf, IsVerdictBefore, told_of, verdict_on}
 use Rattle.pmp_audit.proofs.PolicySteps.{no_fewer}
 
 -- ---- from one state to the next
@@ -158,6 +160,14 @@ module _ (states : ℕ → RegisterFile) (state : State) (row : PolicyRow) (from
     subst (λ (f : RegisterFile). IsFirstOf f (IsNotHeld f row) row (Some run)) (is.file ∙ ap states last) first,
   )
 
+-- what is told of a row by its breach
+told_so : (coming : Coming) (IsSo : Option Breach → Type 0) (breach : Option Breach) → IsSo breach
+    → IsVerdictOn coming IsSo (verdict_on coming breach)
+told_so coming.Met IsSo None is = is
+told_so coming.Met IsSo (Some breach) is = is
+told_so coming.Unmet IsSo breach is = refl
+told_so coming.Waived IsSo breach is = refl
+
 module _ (pace : Pace) (script : ScriptContents) (judged : Judged) (done : ℕ)
     (is : IsJudged pace script done judged) where
   forward : judged.from ≤ judged.to
@@ -185,10 +195,11 @@ module _ (pace : Pace) (script : ScriptContents) (judged : Judged) (done : ℕ)
 
   -- once all states have gone by
   pub whole_verdict : step_count pace script.batches (length script.batches) < done
-      → IsVerdict pace script judged.row judged.verdict
+      → IsVerdict pace script judged.row (told_of judged)
   whole_verdict past =
       let fewer = no_fewer pace script.batches judged.row.to (length script.batches) is.within in
-      rw (is.from, is.to) at (is.verdict.asked (omega (arith, is.to, fewer, past)))
+      told_so judged.row.coming (IsBreachOf pace script judged.row) judged.verdict
+      (rw (is.from, is.to) at (is.verdict.asked (omega (arith, is.to, fewer, past))))
 
 -- ---- all rows
 

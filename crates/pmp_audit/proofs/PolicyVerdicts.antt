@@ -1,31 +1,41 @@
 -- The verdicts on a policy's rows, one after another.
-use Rattle.std.proofs.Common.{◌≡◌, ℕ, ◌+◌, ◌<◌, ◌≤◌, cond, List, [], ◌∷◌, ◌++◌, length, map, None, Ok, Option, Some}
+use Rattle.std.proofs.Common.{◌≡◌, ℕ, ◌+◌, ◌<◌, cond, List, [], ◌∷◌, ◌++◌, length, map, None, Ok, Err, Option, Some, ◌⊎◌, inl, inr}
 use Rattle.std.proofs.Common.{get_or, suc, take, sym, ap, ◌∙◌, append_assoc, arith}
-use Rattle.std.specs.Prelude.{All, count_by, is_some}
+use Rattle.std.specs.Prelude.{All, count_by}
 use Rattle.std.specs.List.{AllZip, enumerate_from, flat_map, position_from}
 use Rattle.std.specs.Option.{option_or}
 use Rattle.std.proofs.lemmas.List.{append-nil, flat_map_more, length-append, length-map, map-append, take_more}
-use Rattle.std.proofs.lemmas.List.Sums.{count_by-le-length, sum_by_push}
-use Rattle.pmp_text.specs.declared.lines.verdict.Breach.{Breach}
+use Rattle.std.proofs.lemmas.List.Sums.{sum_by_push}
+use Rattle.pmp_text.specs.declared.lines.verdict.Verdict.{Verdict}
+use Rattle.pmp_text.specs.declared.moments.Moments.{Moments}
 use Rattle.pmp_text.specs.declared.policy.PolicyRow.{PolicyRow}
+use Rattle.pmp_text.specs.declared.refusal.Refusal.{Refusal}
+use Rattle.pmp_text.specs.declared.refusal.Refusal.TheVariants as kinds
+use Rattle.pmp_text.specs.declared.trace.TraceFault.{TraceFault}
+use Rattle.pmp_text.specs.Outcomes.{no_input_for_rows, no_memory_for_rows}
+use Rattle.pmp_audit.specs.declared.fault.AuditFault.{AuditFault}
+use Rattle.pmp_audit.specs.Answers.{IsRefused}
+use Rattle.pmp_audit.specs.Fault.{fault_of_policy, policy_fault_as}
 use Rattle.pmp_text.specs.Contents.{ScriptContents}
 use Rattle.pmp_text.specs.Policies.{policy_fields, policy_meaning}
 use Rattle.pmp_text.specs.Scripts.{script_meaning}
-use Rattle.pmp_text.specs.Verdicts.{verdict_row}
+use Rattle.pmp_text.specs.Verdicts.{is_breach, verdict_row}
 use Rattle.pmp_text.proofs.Numbered.{enumerate_from-push}
 use Rattle.pmp_text.proofs.PieceFaults.{position_apart}
 use Rattle.pmp_audit.specs.declared.policy_check.PolicySummary.{PolicySummary}
 use Rattle.pmp_audit.specs.declared.policy_check.steps.Pace.{Pace}
-use Rattle.pmp_audit.specs.PolicyCheck.{IsVerdict, PolicySays, policy_summary, verdicts_text}
+use Rattle.pmp_audit.specs.PolicyCheck.{IsFaultyPolicy, IsVerdict, PolicyRefuses, PolicySays, policy_summary, verdicts_text}
 use Rattle.pmp_audit.specs.declared.policy_check.sweep.Judged.{Judged}
+use Rattle.std.proofs.KnownBytes.{Keeps-refl}
+use Rattle.pmp_audit.specs.PolicyMoments.{AreMoments}
 use Rattle.pmp_audit.specs.PolicyRows.{AreWritten}
-use Rattle.pmp_audit.specs.PolicySweep.{rows_of, verdicts_of}
+use Rattle.pmp_audit.specs.PolicySweep.{rows_of, told_of, verdicts_of}
 
-verdicts_text-push : (verdicts : List (Option Breach)) (verdict : Option Breach)
+verdicts_text-push : (verdicts : List Verdict) (verdict : Verdict)
     → verdicts_text (verdicts ++ verdict ∷ []) ≡ verdicts_text verdicts ++ verdict_row (length verdicts + 1) verdict
 unfolding verdicts_text
 verdicts_text-push verdicts verdict =
-    let line : ℕ × Option Breach → List ℕ = λ (number, v). verdict_row number v in
+    let line : ℕ × Verdict → List ℕ = λ (number, v). verdict_row number v in
     let number : 1 + length verdicts ≡ length verdicts + 1 = omega arith in
     ap (flat_map line) (enumerate_from-push 1 verdicts verdict)
     ∙ sym (flat_map_more line [] (enumerate_from 1 verdicts) (1 + length verdicts, verdict))
@@ -57,47 +67,47 @@ module _ (judged : List Judged) (before held : List ℕ) (summary : PolicySummar
   abbrev asked : List PolicyRow
   asked = rows_of judged
 
-  abbrev verdicts : List (Option Breach)
+  abbrev verdicts : List Verdict
   verdicts = verdicts_of judged
 
   verdicts_so_far : summary.rows ≡ length verdicts
   verdicts_so_far = ap (λ (s : PolicySummary). s.rows) so_far.counted
 
   pub rows_so_far : summary.rows ≡ length judged
-  rows_so_far = verdicts_so_far ∙ length-map judged (λ one. one.verdict)
+  rows_so_far = verdicts_so_far ∙ length-map judged told_of
 
   module _ (one : Judged) (after : List ℕ) (more : PolicySummary) where
     abbrev pub IsCounted : Type 0
-    IsCounted = (more.rows ≡ summary.rows + 1) × (more.broken ≡ summary.broken + cond (is_some one.verdict) 1 0)
+    IsCounted = (more.rows ≡ summary.rows + 1) × (more.broken ≡ summary.broken + cond (is_breach (told_of one)) 1 0)
         × (more.bare ≡ option_or summary.bare (cond one.row.is_bare (Some (summary.rows + 1)) None))
 
-    counted : IsCounted → more ≡ policy_summary (asked ++ one.row ∷ []) (verdicts ++ one.verdict ∷ [])
+    counted : IsCounted → more ≡ policy_summary (asked ++ one.row ∷ []) (verdicts ++ told_of one ∷ [])
     counted (one_more, broken, bare) =
-        let many : more.rows ≡ length (verdicts ++ one.verdict ∷ []) =
-        one_more ∙ ap (λ (n : ℕ). n + 1) verdicts_so_far ∙ sym (length-append verdicts (one.verdict ∷ [])) in
-        let faults : more.broken ≡ count_by is_some (verdicts ++ one.verdict ∷ []) = broken
-        ∙ ap (λ (s : PolicySummary). s.broken + cond (is_some one.verdict) 1 0) so_far.counted
-        ∙ sym (sum_by_push (λ (v : Option Breach). cond (is_some v) 1 0) verdicts one.verdict) in
+        let many : more.rows ≡ length (verdicts ++ told_of one ∷ []) =
+        one_more ∙ ap (λ (n : ℕ). n + 1) verdicts_so_far ∙ sym (length-append verdicts (told_of one ∷ [])) in
+        let faults : more.broken ≡ count_by is_breach (verdicts ++ told_of one ∷ []) = broken
+        ∙ ap (λ (s : PolicySummary). s.broken + cond (is_breach (told_of one)) 1 0) so_far.counted
+        ∙ sym (sum_by_push (λ (v : Verdict). cond (is_breach v) 1 0) verdicts (told_of one)) in
         let long : summary.rows ≡ length asked = rows_so_far ∙ sym (length-map judged (λ one. one.row)) in
         let first : more.bare ≡ position_from (λ row. row.is_bare) 1 (asked ++ one.row ∷ []) = bare
         ∙ (λ i. option_or (so_far.counted i).bare (cond one.row.is_bare (Some (long i + 1)) None))
         ∙ bare_push asked one.row in
-        same_summary more (policy_summary (asked ++ one.row ∷ []) (verdicts ++ one.verdict ∷ [])) many faults first
+        same_summary more (policy_summary (asked ++ one.row ∷ []) (verdicts ++ told_of one ∷ [])) many faults first
 
-    written : more.rows ≡ summary.rows + 1 → after ≡ held ++ verdict_row more.rows one.verdict
-        → after ≡ before ++ verdicts_text (verdicts ++ one.verdict ∷ [])
+    written : more.rows ≡ summary.rows + 1 → after ≡ held ++ verdict_row more.rows (told_of one)
+        → after ≡ before ++ verdicts_text (verdicts ++ told_of one ∷ [])
     written one_more appended =
         let number : more.rows ≡ length verdicts + 1 = one_more ∙ ap (λ (n : ℕ). n + 1) verdicts_so_far in
-        let last = verdict_row (length verdicts + 1) one.verdict in
-        appended ∙ ap (λ (n : ℕ). held ++ verdict_row n one.verdict) number
+        let last = verdict_row (length verdicts + 1) (told_of one) in
+        appended ∙ ap (λ (n : ℕ). held ++ verdict_row n (told_of one)) number
         ∙ ap (λ l. l ++ last) so_far.text_is ∙ append_assoc before (verdicts_text verdicts) last
-        ∙ ap (λ l. before ++ l) (sym (verdicts_text-push verdicts one.verdict))
+        ∙ ap (λ l. before ++ l) (sym (verdicts_text-push verdicts (told_of one)))
 
-    pub one_written : after ≡ held ++ verdict_row more.rows one.verdict → IsCounted
+    pub one_written : after ≡ held ++ verdict_row more.rows (told_of one) → IsCounted
         → AreWritten (judged ++ one ∷ []) before after more
     one_written appended all =
         let rows_more = sym (map-append (λ (j : Judged). j.row) judged (one ∷ [])) in
-        let verdicts_more = sym (map-append (λ (j : Judged). j.verdict) judged (one ∷ [])) in
+        let verdicts_more = sym (map-append told_of judged (one ∷ [])) in
         record {
           text_is = written all.0 appended ∙ ap (λ vs. before ++ verdicts_text vs) verdicts_more;
           counted = counted all ∙ (λ i. policy_summary (rows_more i) (verdicts_more i));
@@ -109,8 +119,8 @@ module _ (judged : List Judged) (i : ℕ) (one : Judged) (inside : i < length ju
   pub one_row_more : take (i + 1) judged ≡ take i judged ++ one ∷ []
   one_row_more = take_more judged i one inside ∙ ap (λ (j : Judged). take i judged ++ j ∷ []) (sym is)
 
-each_judged : (R : PolicyRow → Option Breach → Type 0) (judged : List Judged)
-    → All (λ one. R one.row one.verdict) judged → AllZip R (rows_of judged) (verdicts_of judged)
+each_judged : (R : PolicyRow → Verdict → Type 0) (judged : List Judged)
+    → All (λ one. R one.row (told_of one)) judged → AllZip R (rows_of judged) (verdicts_of judged)
 each_judged R [] all = tt
 each_judged R (one ∷ judged) all = (
   all 0 one (omega arith),
@@ -118,16 +128,18 @@ each_judged R (one ∷ judged) all = (
 )
 
 pub policy_says : (pace : Pace) (script policy : List ℕ) (contents : ScriptContents) (rows : List PolicyRow)
-    (judged : List Judged) (before after text : List ℕ) (summary : PolicySummary)
-    → script_meaning script ≡ Ok contents
-    → policy_meaning (length contents.batches) policy ≡ Ok (map policy_fields rows) → rows_of judged ≡ rows
-    → All (λ one. IsVerdict pace contents one.row one.verdict) judged → AreWritten judged before after summary
+    (judged : List Judged) (before after text : List ℕ) (summary : PolicySummary) (moments : Moments)
+    → script_meaning script ≡ Ok contents → AreMoments script contents moments
+    → policy_meaning moments policy ≡ Ok (map policy_fields rows) → rows_of judged ≡ rows
+    → All (λ one. IsVerdict pace contents one.row (told_of one)) judged → AreWritten judged before after summary
     → before ≡ [] → text ≡ after → PolicySays pace script policy summary text
-policy_says pace script policy contents rows judged before after text summary script_means policy_means same all
-    written empty whole =
+policy_says pace script policy contents rows judged before after text summary moments script_means moments_are
+    policy_means same all written empty whole =
     record {
       contents = contents;
       script_means = script_means;
+      moments = moments;
+      moments_are = moments_are;
       rows = rows_of judged;
       policy_means = policy_means ∙ ap (λ (l : List PolicyRow). Ok (map policy_fields l)) (sym same);
       verdicts = verdicts_of judged;
@@ -135,3 +147,31 @@ policy_says pace script policy contents rows judged before after text summary sc
       text_is = whole ∙ written.text_is ∙ ap (λ front. front ++ verdicts_text (verdicts_of judged)) empty;
       counted = written.counted;
     }
+
+-- ---- why a policy has no verdicts
+
+module _ (pace : Pace) (script policy : List ℕ) (contents : ScriptContents) (moments : Moments)
+    (means : script_meaning script ≡ Ok contents) (are : AreMoments script contents moments) (fault : TraceFault)
+    (out : Option (List ℕ)) where
+  abbrev Refused : AuditFault → Type 0
+  Refused = IsRefused (PolicySays pace script policy) out out (PolicyRefuses script policy)
+
+  faulty : (policy_meaning moments policy ≡ Err fault) ⊎ (fault ≡ no_input_for_rows)
+      → IsFaultyPolicy script policy fault
+  faulty why = record {
+    contents = contents;
+    script_means = means;
+    moments = moments;
+    moments_are = are;
+    policy_means = why;
+  }
+
+  by_kind : (kind : Refusal) → policy_meaning moments policy ≡ Err fault → Refused (policy_fault_as kind fault)
+  by_kind kinds.Memory e = Keeps-refl out
+  by_kind kind e = (faulty (inl e), Keeps-refl out)
+
+  pub policy_fails : (policy_meaning moments policy ≡ Err fault) ⊎ (fault ≡ no_memory_for_rows)
+      ⊎ (fault ≡ no_input_for_rows) → Refused (fault_of_policy fault)
+  policy_fails (inl e) = by_kind fault.kind e
+  policy_fails (inr (inl memory)) = rw memory (Keeps-refl out)
+  policy_fails (inr (inr input)) = rw (ap fault_of_policy input) (rw input at (faulty (inr input)), Keeps-refl out)

@@ -1,6 +1,6 @@
 -- What the rows of a policy come to, by bytes and by states of the register file (Volume II, 3.7.1.3).
 use Rattle.std.specs.Prelude.{◌≡◌, ◌≢◌, ℕ, ◌+◌, ◌<◌, ◌≤◌, Bool, true, false, List, [], ◌∷◌, length, map, take, count_by}
-use Rattle.std.specs.Prelude.{Option, Some, None, IsSome, is_some, Ok, Err, ◌⊎◌, option_map}
+use Rattle.std.specs.Prelude.{Option, Some, None, IsSome, Ok, Err, ◌⊎◌, option_map}
 use Rattle.std.specs.List.{AllZip, enumerate_from, flat_map, position_from}
 use Rattle.pmp_core.specs.declared.access.Kind.{Kind}
 use Rattle.pmp_core.specs.declared.access.Mode.{Mode}
@@ -12,6 +12,11 @@ use Rattle.pmp_map.specs.declared.run.Run.{Run}
 use Rattle.pmp_map.specs.OpenBytes.{IsAnswered, IsHeldByte}
 use Rattle.pmp_map.specs.Runs.{IsInRun}
 use Rattle.pmp_text.specs.declared.lines.verdict.Breach.{Breach}
+use Rattle.pmp_text.specs.declared.lines.verdict.Verdict.{Verdict}
+use Rattle.pmp_text.specs.declared.lines.verdict.Verdict.TheVariants.{Broken, Holds, Unmet}
+use Rattle.pmp_text.specs.declared.moments.Coming.{Coming}
+use Rattle.pmp_text.specs.declared.moments.Coming.TheVariants as coming
+use Rattle.pmp_text.specs.declared.moments.Moments.{Moments}
 use Rattle.pmp_text.specs.declared.policy.Demand.{Demand}
 use Rattle.pmp_text.specs.declared.policy.Demand.TheVariants.{Never, Always, Held}
 use Rattle.pmp_text.specs.declared.policy.PolicyRow.{PolicyRow}
@@ -23,12 +28,13 @@ use Rattle.pmp_text.specs.Policies.{has_kind, has_mode, policy_fields, policy_me
 use Rattle.pmp_text.specs.Reports.{file_behind}
 use Rattle.pmp_text.specs.Scripts.{script_meaning}
 use Rattle.pmp_text.specs.Flaws.{at_row}
-use Rattle.pmp_text.specs.Verdicts.{verdict_row}
+use Rattle.pmp_text.specs.Verdicts.{is_breach, verdict_row}
 use Rattle.pmp_audit.specs.declared.fault.AuditFault.{AuditFault}
 use Rattle.pmp_audit.specs.declared.fault.AuditFault.TheVariants.{Policy, Script}
 use Rattle.pmp_audit.specs.declared.policy_check.PolicySummary.{PolicySummary}
 use Rattle.pmp_audit.specs.declared.policy_check.steps.Pace.{Pace}
 use Rattle.pmp_audit.specs.declared.policy_check.steps.Pace.TheVariants.{Publications, Events}
+use Rattle.pmp_audit.specs.PolicyMoments.{AreMoments}
 
 -- ---- the states that are asked
 
@@ -115,22 +121,34 @@ IsVerdictBy Always state row from to verdict = IsFirstOfAll state row from to ve
 IsVerdictBy Held state row from to verdict = (IsSome verdict × IsFirstOfAll state row from to verdict)
     ⊎ (IsFirstOfAll state row from to None × IsFirstNotHeld state row to verdict)
 
--- whether the row holds, and its first breach where it doesn't
-abbrev pub IsVerdict : Pace → ScriptContents → PolicyRow → Option Breach → Type 0
-IsVerdict pace script row = IsVerdictBy row.demand (state_after pace script) row
+-- the row's first breach, or none where it holds
+abbrev pub IsBreachOf : Pace → ScriptContents → PolicyRow → Option Breach → Type 0
+IsBreachOf pace script row = IsVerdictBy row.demand (state_after pace script) row
     (step_count pace script.batches row.from) (step_count pace script.batches row.to)
+
+-- where the row's moments come, its breach is so; else it is unmet
+abbrev pub IsVerdictOn : Coming → (IsSo : Option Breach → Type 0) → Verdict → Type 0
+IsVerdictOn coming.Met IsSo Holds = IsSo None
+IsVerdictOn coming.Met IsSo (Broken breach) = IsSo (Some breach)
+IsVerdictOn coming.Met IsSo (Unmet waived) = ⊥
+IsVerdictOn coming.Unmet IsSo verdict = verdict ≡ Unmet false
+IsVerdictOn coming.Waived IsSo verdict = verdict ≡ Unmet true
+
+-- whether the row holds, and its first breach where it doesn't
+abbrev pub IsVerdict : Pace → ScriptContents → PolicyRow → Verdict → Type 0
+IsVerdict pace script row = IsVerdictOn row.coming (IsBreachOf pace script row)
 
 -- ---- a whole policy
 
 -- a row for each verdict, numbered from 1
-unfoldable pub verdicts_text : List (Option Breach) → List ℕ
+unfoldable pub verdicts_text : List Verdict → List ℕ
 verdicts_text verdicts = flat_map (λ (number, verdict). verdict_row number verdict) (enumerate_from 1 verdicts)
 
--- how many rows there are, how many of them are broken, and the number of the first that has a bare address
-abbrev pub policy_summary : List PolicyRow → List (Option Breach) → PolicySummary
+-- how many rows there are, how many of them are broken or unmet, and the number of the first that has a bare address
+abbrev pub policy_summary : List PolicyRow → List Verdict → PolicySummary
 policy_summary rows verdicts = record {
   rows = length verdicts;
-  broken = count_by is_some verdicts;
+  broken = count_by is_breach verdicts;
   bare = position_from (λ row. row.is_bare) 1 rows;
 }
 
@@ -138,15 +156,17 @@ policy_summary rows verdicts = record {
 pub record PolicySays (pace : Pace) (script policy : List ℕ) (summary : PolicySummary) (text : List ℕ) : Type 0 where
   pub contents : ScriptContents
   pub script_means : script_meaning script ≡ Ok contents
+  pub moments : Moments
+  pub moments_are : AreMoments script contents moments
   pub rows : List PolicyRow
-  pub policy_means : policy_meaning (length contents.batches) policy ≡ Ok (map policy_fields rows)
-  pub verdicts : List (Option Breach)
+  pub policy_means : policy_meaning moments policy ≡ Ok (map policy_fields rows)
+  pub verdicts : List Verdict
   pub judged : AllZip (IsVerdict pace contents) rows verdicts
   pub text_is : text ≡ verdicts_text verdicts
   pub counted : summary ≡ policy_summary rows verdicts
 
 -- the script means this, the fields are a row beside it, and the text has the verdict on it, as row of this number
-pub record VerdictSays (pace : Pace) (script : List ℕ) (number : ℕ) (fields : PolicyFields) (verdict : Option Breach)
+pub record VerdictSays (pace : Pace) (script : List ℕ) (number : ℕ) (fields : PolicyFields) (verdict : Verdict)
     (text : List ℕ) : Type 0 where
   pub contents : ScriptContents
   pub script_means : script_meaning script ≡ Ok contents
@@ -168,7 +188,9 @@ VerdictRefuses script number fields _ = ⊥
 pub record IsFaultyPolicy (script policy : List ℕ) (fault : TraceFault) : Type 0 where
   pub contents : ScriptContents
   pub script_means : script_meaning script ≡ Ok contents
-  pub policy_means : (policy_meaning (length contents.batches) policy ≡ Err fault) ⊎ (fault ≡ no_input_for_rows)
+  pub moments : Moments
+  pub moments_are : AreMoments script contents moments
+  pub policy_means : (policy_meaning moments policy ≡ Err fault) ⊎ (fault ≡ no_input_for_rows)
 
 -- the script's own fault, then the policy's
 abbrev pub PolicyRefuses : (script policy : List ℕ) → AuditFault → Type 0

@@ -1,8 +1,12 @@
 -- How far the rows of a policy are judged while the states go by.
-use Rattle.std.specs.Prelude.{◌≡◌, ℕ, ◌+◌, ◌<◌, ◌≤◌, List, length, map, Option, Some, None}
+use Rattle.std.specs.Prelude.{◌≡◌, ℕ, ◌+◌, ◌<◌, ◌≤◌, List, length, map, Option, Some, None, true, false}
 use Rattle.pmp_core.specs.Moved.{AreAlikeBeside}
 use Rattle.pmp_core.specs.RegisterFile.{RegisterFile}
 use Rattle.pmp_text.specs.declared.lines.verdict.Breach.{Breach}
+use Rattle.pmp_text.specs.declared.lines.verdict.Verdict.{Verdict}
+use Rattle.pmp_text.specs.declared.lines.verdict.Verdict.TheVariants.{Broken, Holds, Unmet}
+use Rattle.pmp_text.specs.declared.moments.Coming.{Coming}
+use Rattle.pmp_text.specs.declared.moments.Coming.TheVariants as coming
 use Rattle.pmp_text.specs.declared.policy.PolicyRow.{PolicyRow}
 use Rattle.pmp_text.specs.Contents.{ScriptContents}
 use Rattle.pmp_audit.specs.declared.policy_check.steps.Pace.{Pace}
@@ -36,5 +40,15 @@ pub record IsJudged (pace : Pace) (script : ScriptContents) (done : ℕ) (judged
 abbrev pub rows_of : List Judged → List PolicyRow
 rows_of all = map (λ judged. judged.row) all
 
-abbrev pub verdicts_of : List Judged → List (Option Breach)
-verdicts_of all = map (λ judged. judged.verdict) all
+-- a row's verdict by its breach, if it has one
+abbrev pub verdict_on : Coming → Option Breach → Verdict
+verdict_on coming.Met None = Holds
+verdict_on coming.Met (Some breach) = Broken breach
+verdict_on coming.Unmet breach = Unmet false
+verdict_on coming.Waived breach = Unmet true
+
+abbrev pub told_of : Judged → Verdict
+told_of judged = verdict_on judged.row.coming judged.verdict
+
+abbrev pub verdicts_of : List Judged → List Verdict
+verdicts_of all = map told_of all

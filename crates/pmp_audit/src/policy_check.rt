@@ -1,14 +1,15 @@
 //! The rows of a policy, each judged in all states that it asks of.
 
-ghost use Rattle.std.specs.Prelude.{◌≡◌, ◌+◌, ◌^◌, ◌<◌, ◌≤◌, ◌++◌, All, IfOk, IfErr, OnErr, OnOk, length, is_some};
+ghost use Rattle.std.specs.Prelude.{◌≡◌, ◌+◌, ◌^◌, ◌<◌, ◌≤◌, ◌++◌, All, IfOk, IfErr, OnErr, OnOk, length};
 ghost use Rattle.std.specs.Prelude.{None, Some, if◌then◌else◌};
 ghost use Rattle.std.specs.Option.{option_or};
-ghost use Rattle.pmp_text.specs.Verdicts.{verdict_row};
+ghost use Rattle.pmp_text.specs.Verdicts.{is_breach, verdict_row};
 ghost use Rattle.pmp_audit.specs.Answers.{Declines, IsAppended, IsWritten, IsRefused};
 ghost use Rattle.pmp_audit.specs.Fault.{fault_of_policy};
 ghost use Rattle.pmp_audit.specs.PolicyCheck.{PolicySays, PolicyRefuses, VerdictRefuses, VerdictSays};
 ghost use Rattle.pmp_audit.specs.PolicyRows.{AreWritten};
 
+mod moments;
 mod question;
 mod search;
 mod steps;
@@ -16,17 +17,18 @@ mod sweep;
 
 use crate::answer::write_answer;
 use crate::fault::AuditFault;
+use crate::policy_check::moments::moments_of;
 use crate::policy_check::steps::Steps;
 use crate::policy_check::sweep::{Judged, judge, unjudged};
 use pmp_text::{
-    Breach, EventLog, GrowingLog, PolicyFields, PolicyRow, Sink, read_policy, read_script,
+    EventLog, GrowingLog, PolicyFields, PolicyRow, Sink, Verdict, read_policy, read_script,
     write_verdict,
 };
 use std::alloc::{AllocError, Global};
 use std::io::Write;
 pub use steps::Pace;
 
-/// How many rows a policy has, and how many of them are broken.
+/// How many rows a policy has, and how many of them are broken, or unmet though they don't allow it.
 #[derive(Clone, Copy, Debug, Default, PartialEq, Eq)]
 pub struct PolicySummary {
     pub rows: u64,
@@ -37,7 +39,8 @@ pub struct PolicySummary {
 }
 
 /// Judges each row of the policy after the script's publications that it names, or after each of their events, and
-/// writes a row for each, numbered from 1: that it holds, or its first breach, in time and then in address.
+/// writes a row for each, numbered from 1: that it holds, or its first breach, in time and then in address, or that its
+/// moments never come.
 ///
 /// The script's fault comes before any of the policy. The text is whole before its first byte is written, so every
 /// refusal but `Output` leaves the output untouched. The states are gone through once, and a row is asked again where a
@@ -57,13 +60,15 @@ pub fn check_policy<W: Write>(
         (PolicyRefuses script.now policy.now)) }
 {
     let mut log = GrowingLog::new(alloc);
-    let script = read_script(&mut log, script)?;
-    let rows = match read_policy(alloc, policy, script.batches()) {
+    let read = read_script(&mut log, script)?;
+    let rows = match read_policy(alloc, policy, moments_of(script, &read)) {
         Ok(rows) => rows,
         Err(fault) => return Err(AuditFault::of_policy(fault)),
     };
-    let script = &script;
-    let steps = Steps { script, pace };
+    let steps = Steps {
+        script: &read,
+        pace,
+    };
     let mut judged = unjudged(alloc, &steps, &rows)?;
     judge(&steps, &mut judged);
     let mut text = Vec::new(alloc);
@@ -71,7 +76,7 @@ pub fn check_policy<W: Write>(
     write_answer(writer, &text, Ok(summary))
 }
 
-/// Appends the verdict on one row, as that of the row with this number, and answers the row's first breach. The
+/// Appends the verdict on one row, as that of the row with this number, and answers it. The
 /// script's events are kept in the log, and `Memory` says that they have no room there, or the text none.
 ///
 /// The script's fault comes before any of the row.
@@ -82,7 +87,7 @@ pub fn append_verdict<L: EventLog, S: Sink>(
     number: u64,
     fields: PolicyFields,
     out: &mut S,
-) -> Result<Option<Breach>, AuditFault>
+) -> Result<Verdict, AuditFault>
     ensures ok { IfOk result
         (IsAppended (VerdictSays pace script.now number fields) (S.text out.old) (S.text out.new)) }
     ensures err { IfErr result (Declines (VerdictRefuses script.now number fields)) }
@@ -97,7 +102,8 @@ pub fn append_verdict<L: EventLog, S: Sink>(
     let steps = Steps { script, pace };
     let mut judged = [Judged::new(&steps, &row)];
     judge(&steps, &mut judged);
-    let [Judged { verdict, .. }] = judged;
+    let [one] = judged;
+    let verdict = one.told();
     write_verdict(out, number, verdict)?;
     Ok(verdict)
 }
@@ -108,7 +114,7 @@ fn write_verdicts(out: &mut Vec<u8>, judged: &[Judged]) -> Result<PolicySummary,
 {
     let mut summary = PolicySummary::default();
     for one in judged {
-        summary.add_row(out, &one.row, one.verdict)?;
+        summary.add_row(out, &one.row, one.told())?;
     }
     Ok(summary)
 }
@@ -119,18 +125,18 @@ impl PolicySummary {
         &mut self,
         out: &mut Vec<u8>,
         row: &PolicyRow,
-        verdict: Option<Breach>,
+        verdict: Verdict,
     ) -> Result<(), AllocError>
         requires rows { self.old.rows + 1 < 2 ^ 64 }
         requires broken { self.old.broken ≤ self.old.rows }
         ensures rows { self.new.rows ≡ self.old.rows + 1 }
-        ensures broken { self.new.broken ≡ self.old.broken + (if is_some verdict then 1 else 0) }
+        ensures broken { self.new.broken ≡ self.old.broken + (if is_breach verdict then 1 else 0) }
         ensures bare { self.new.bare ≡ option_or self.old.bare
             (if row.now.is_bare then Some (self.old.rows + 1) else None) }
         ensures written { OnOk result (out.new.items ≡ out.old.items ++ verdict_row self.new.rows verdict) }
     {
         self.rows += 1;
-        if verdict.is_some() {
+        if verdict.is_breach() {
             self.broken += 1;
         }
         self.bare = self.bare.or(row.is_bare.then_some(self.rows));

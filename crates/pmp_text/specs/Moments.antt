@@ -1,9 +1,7 @@
 -- The moments of a script, each of them how many publications are done, as the words of a policy say them.
 use Rattle.std.specs.Prelude.{ℕ, ◌-◌, List, [], ◌∷◌, length, take, drop, Bool, true, false, ◌&&◌, ◌||◌, Option, Some, None}
 use Rattle.std.specs.Prelude.{option_map, nat_le, nat_lt, codes, bytes_eq, if◌then◌else◌}
-use Rattle.std.specs.Option.{option_or}
 use Rattle.pmp_text.specs.declared.moments.Asked.{Asked}
-use Rattle.pmp_text.specs.declared.moments.Coming.{Coming}
 use Rattle.pmp_text.specs.declared.moments.Coming.TheVariants as coming
 use Rattle.pmp_text.specs.declared.moments.Lasting.{Lasting}
 use Rattle.pmp_text.specs.declared.moments.Moment.{Moment}

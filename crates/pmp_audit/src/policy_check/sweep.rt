@@ -6,14 +6,14 @@ ghost use Rattle.pmp_core.specs.RegisterFile.{RegisterFile};
 ghost use Rattle.pmp_text.specs.Contents.{ScriptContents};
 ghost use Rattle.pmp_audit.specs.declared.policy_check.steps.Pace.{Pace};
 ghost use Rattle.pmp_audit.specs.PolicyCheck.{IsFirstIn, IsVerdict, state_after};
-ghost use Rattle.pmp_audit.specs.PolicySweep.{IsJudged, IsStateOf, IsVerdictBefore, rows_of};
+ghost use Rattle.pmp_audit.specs.PolicySweep.{IsJudged, IsStateOf, IsVerdictBefore, rows_of, told_of};
 
 use crate::policy_check::question::Question;
 use crate::policy_check::search::first_run;
 use crate::policy_check::steps::{State, Steps};
 use pmp_core::Span;
 use pmp_map::Run;
-use pmp_text::{Breach, Demand, PolicyRow};
+use pmp_text::{Breach, Coming, Demand, PolicyRow, Verdict};
 use std::alloc::{AllocError, Global};
 
 /// A row of a policy, and its verdict as far as the states went.
@@ -25,7 +25,7 @@ pub struct Judged {
     /// How many steps are done in the last state that the row asks of.
     to: u64,
     /// Its first breach, or none so far.
-    pub verdict: Option<Breach>,
+    verdict: Option<Breach>,
 }
 
 /// Whether a byte of the row's range may have moved.
@@ -51,6 +51,18 @@ impl Judged {
             from: steps.count(row.from),
             to: steps.count(row.to),
             verdict: None,
+        }
+    }
+
+    /// What the row comes to. One whose moments don't come is judged in the last state, and that isn't told.
+    pub fn told(&self) -> Verdict
+        ensures { result ≡ told_of self.now }
+    {
+        match (self.row.coming, self.verdict) {
+            (Coming::Met, None) => Verdict::Holds,
+            (Coming::Met, Some(breach)) => Verdict::Broken(breach),
+            (Coming::Unmet, _) => Verdict::Unmet(false),
+            (Coming::Waived, _) => Verdict::Unmet(true),
         }
     }
 
@@ -133,7 +145,7 @@ pub fn unjudged(
 /// breach only those that begin in it, or have such bytes, ask it.
 pub fn judge(steps: &Steps<'_>, rows: &mut [Judged])
     requires { All (IsJudged steps.now.pace steps.now.script.now 0) rows.old }
-    ensures judged { All (λ one. IsVerdict steps.now.pace steps.now.script.now one.row one.verdict) rows.new }
+    ensures judged { All (λ one. IsVerdict steps.now.pace steps.now.script.now one.row (told_of one)) rows.new }
     ensures rows { rows_of rows.new ≡ rows_of rows.old }
 {
     let last = steps.count(steps.script.batches());

@@ -14,16 +14,17 @@ returns-clause-ok g c =
     let inside : 0 < length all = omega (arith, c.judge.auto.rows) in
     let same : one.row ≡ row = sym (get_or-map (λ (j : Judged). j.row) all 0 c.index-judged-0.result row inside)
     ∙ ap (λ (l : List PolicyRow). get_or l 0 row) c.judge.ensures.rows ∙ c.new-2.ensures.row in
+    let told = c.told-verdict.ensures in
     record {
-      text = verdict_row c.args.number one.verdict;
+      text = verdict_row c.args.number c.told-verdict.result;
       says = record {
         contents = c.in_ok-script.script;
         script_means = c.in_ok-script.ensures;
         row = row;
         row_is = c.in-Ok.ensures.ok.1;
         proper = rw (← c.batches.ensures) c.in-Ok.ensures.ok.0;
-        judged = subst (λ (r : PolicyRow). IsVerdict c.args.pace c.in_ok-script.script r one.verdict) same
-            (c.judge.ensures.judged 0 c.index-judged-0.result inside);
+        judged = subst (λ (r : PolicyRow). IsVerdict c.args.pace c.in_ok-script.script r c.told-verdict.result) same
+            (rw told (c.judge.ensures.judged 0 c.index-judged-0.result inside));
         text_is = refl;
       };
       appended = c.in_ok-write_verdict.ensures.ok;

@@ -4,7 +4,7 @@ use Rattle.pmp_text.specs.Policies.{policy_fields, policy_meaning}
 use Rattle.pmp_audit.specs.declared.policy_check.sweep.Judged.{Judged}
 use Rattle.pmp_audit.specs.PolicyCheck.{PolicyRefuses, PolicySays}
 use Rattle.pmp_audit.specs.PolicySweep.{rows_of}
-use Rattle.pmp_audit.proofs.PolicyVerdicts.{policy_says}
+use Rattle.pmp_audit.proofs.PolicyVerdicts.{policy_fails, policy_says}
 use Rattle.pmp_audit.proofs.WrittenAnswers.{answered, refused}
 use Rattle.pmp_audit.proofs.policy_check.check_policy.Goals as goal
 use Rattle.pmp_audit.proofs.policy_check.check_policy.Goals.{After-write_answer}
@@ -12,11 +12,11 @@ use Rattle.pmp_audit.proofs.policy_check.check_policy.Goals.{After-write_answer}
 says : (g : _) (c : After-write_answer g)
     → PolicySays c.args.pace c.args.script.now c.args.policy.now c.in_ok-summary.summary c.deref-3.result.now
 says g c =
-    let script = c.in_ok-script.script in
+    let script = c.in_ok-read.read in
     let rows = c.deref.result.now in
     let judged = c.judge.new.rows in
-    let policy_means : policy_meaning (length script.batches) c.args.policy.now ≡ Ok (map policy_fields rows) =
-    rw (c.deref.ensures.value, ← c.batches.ensures) c.in-Ok.ensures.given in
+    let policy_means : policy_meaning c.moments_of.result c.args.policy.now ≡ Ok (map policy_fields rows) =
+    rw c.deref.ensures.value c.in-Ok.ensures.given in
     let given = c.deref_mut.ensures.value in
     let same : rows_of judged ≡ rows = c.judge.ensures.rows ∙ ap rows_of given ∙ c.in_ok-judged.ensures.rows in
     let long : length judged ≡ c.in_ok-judged.judged.len = omega (
@@ -28,7 +28,7 @@ says g c =
     let left : c.deref-2.result.now ≡ judged = c.deref-2.ensures.value
     ∙ take_at judged _ c.in_ok-judged.judged.len long in
     policy_says c.args.pace c.args.script.now c.args.policy.now script rows judged _ _ c.deref-3.result.now
-    c.in_ok-summary.summary c.in_ok-script.ensures policy_means same c.judge.ensures.judged
+    c.in_ok-summary.summary c.moments_of.result c.in_ok-read.ensures c.moments_of.ensures policy_means same c.judge.ensures.judged
     (rw left at c.in_ok-summary.ensures) c.new-text.ensures.items c.deref-3.ensures.value
 
 pub returns-clause-ok : goal.returns-clause-ok
@@ -42,3 +42,8 @@ returns-clause-err g c =
     (says g (goal.at.returns-clause-err g c).After-write_answer)
     (PolicyRefuses c.args.script.now c.args.policy.now) (λ never. never) tt _
     c.write_answer.ensures.err
+
+pub returns-in-Err-clause-err : goal.returns-in-Err-clause-err
+returns-in-Err-clause-err g c =
+    rw c.of_policy.ensures (policy_fails c.args.pace c.args.script.now c.args.policy.now c.in_ok-read.read
+    c.moments_of.result c.in_ok-read.ensures c.moments_of.ensures c.in-Err.fault _ c.in-Err.ensures.given)

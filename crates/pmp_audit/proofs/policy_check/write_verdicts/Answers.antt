@@ -23,5 +23,5 @@ loop-one-preserved c =
     let all = c.args.judged.now in
     rw (one_row_more all i c.one-item.result c.loop-one-test.true c.one-item.is)
     (one_written (take i all) c.args.out.now.items c.loop-one.out.items c.loop-one.summary c.loop-one.invariant
-    c.one-item.result c.add_row.new.out.items c.add_row.new.self c.in_ok-add_row.ensures.written
-    (c.add_row.ensures.rows, c.add_row.ensures.broken, c.add_row.ensures.bare))
+    c.one-item.result c.add_row.new.out.items c.add_row.new.self (rw c.told.ensures at c.in_ok-add_row.ensures.written)
+    (c.add_row.ensures.rows, rw c.told.ensures at c.add_row.ensures.broken, c.add_row.ensures.bare))

@@ -1,0 +1,44 @@
+-- The moments of a script that a policy may name (Smepmp, mseccfg).
+use Rattle.std.specs.Prelude.{◌≡◌, ℕ, ◌+◌, ◌≤◌, Bool, true, false, not, List, length, Option, Some, None, unwrap_or}
+use Rattle.std.specs.Prelude.{if◌then◌else◌}
+use Rattle.pmp_core.specs.RegisterFile.{RegisterFile}
+use Rattle.pmp_text.specs.declared.moments.Lasting.{Lasting}
+use Rattle.pmp_text.specs.declared.moments.Moments.{Moments}
+use Rattle.pmp_text.specs.Contents.{ScriptContents}
+use Rattle.pmp_text.specs.Reports.{file_of_script}
+use Rattle.pmp_text.specs.Scripts.{is_headed}
+
+-- it holds from this moment to the last one, and in none right before; or it doesn't hold in the last one
+abbrev pub LastsFrom : (holds : ℕ → Bool) → (last : ℕ) → Option ℕ → Type 0
+LastsFrom holds last None = holds last ≡ false
+LastsFrom holds last (Some first) = (first ≤ last)
+    × ((done : ℕ) → first ≤ done → done ≤ last → holds done ≡ true)
+    × ((done : ℕ) → done + 1 ≡ first → holds done ≡ false)
+
+-- from when on MML is set, MMWP is set, and RLB is clear, in the first so many publications of a script
+pub record AllLast (script : ScriptContents) (last : ℕ) (lasting : Lasting) : Type 0 where
+  pub mml : LastsFrom (λ done. (file_of_script script done).mseccfg.mml) last lasting.mml
+  pub mmwp : LastsFrom (λ done. (file_of_script script done).mseccfg.mmwp) last lasting.mmwp
+  pub rlb_clear : LastsFrom (λ done. not (file_of_script script done).mseccfg.rlb) last lasting.rlb_clear
+
+-- words may name moments in version 3 alone
+abbrev pub MayName : (headed : Bool) → ScriptContents → Option Lasting → Type 0
+MayName true script None = ⊥
+MayName true script (Some lasting) = AllLast script (length script.batches) lasting
+MayName false script lasting = lasting ≡ None
+
+-- the moments of the script that this text means
+pub record AreMoments (text : List ℕ) (script : ScriptContents) (moments : Moments) : Type 0 where
+  pub publications : moments.publications ≡ length script.batches
+  pub names : MayName (is_headed text) script moments.lasting
+
+-- from when on it holds once so many publications are done, where it held from then on before
+abbrev pub since : (before : Option ℕ) → (holds : Bool) → (done : ℕ) → Option ℕ
+since before holds done = if holds then Some (unwrap_or before done) else None
+
+abbrev pub lasting_with : Lasting → RegisterFile → (done : ℕ) → Lasting
+lasting_with before file done = record {
+  mml = since before.mml file.mseccfg.mml done;
+  mmwp = since before.mmwp file.mseccfg.mmwp done;
+  rlb_clear = since before.rlb_clear (not file.mseccfg.rlb) done;
+}

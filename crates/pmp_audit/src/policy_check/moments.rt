@@ -1,0 +1,60 @@
+//! The moments of a script that a policy may name.
+
+ghost use Rattle.std.specs.Prelude.{◌≡◌, ◌<◌, ◌^◌, length};
+ghost use Rattle.pmp_audit.specs.PolicyMoments.{AllLast, AreMoments, lasting_with, since};
+
+use crate::replay::Replay;
+use pmp_core::{Csr, RegFile};
+use pmp_text::{Lasting, Moments, Script, is_headed};
+
+/// From when on it holds once so many publications are done, where it held from `before` on until then.
+fn since(before: Option<u64>, holds: bool, done: u64) -> Option<u64>
+    ensures { result ≡ since before holds done }
+{
+    if holds {
+        Some(before.unwrap_or(done))
+    } else {
+        None
+    }
+}
+
+/// The same of each thing that lasts, with the register file after so many publications.
+fn lasting_with(before: &Lasting, file: &RegFile, done: u64) -> Lasting
+    ensures { result ≡ lasting_with before.now file.now done }
+{
+    let mseccfg = file.read(Csr::Mseccfg);
+    Lasting {
+        mml: since(before.mml, mseccfg % 2 == 1, done),
+        mmwp: since(before.mmwp, mseccfg / 2 % 2 == 1, done),
+        rlb_clear: since(before.rlb_clear, mseccfg / 4 % 2 == 0, done),
+    }
+}
+
+/// From when on each of them lasts to the script's end.
+fn lasting(script: &Script<'_>) -> Lasting
+    ensures { AllLast script.now (length script.now.batches) result }
+{
+    let mut replay = Replay::new(script);
+    let mut lasting = lasting_with(&Lasting::default(), replay.file(), 0);
+    for done in 0..script.batches() {
+        replay.advance(done + 1);
+        lasting = lasting_with(&lasting, replay.file(), done + 1);
+    }
+    lasting
+}
+
+/// The moments of the script that the text means.
+pub fn moments_of(text: &[u8], script: &Script<'_>) -> Moments
+    requires { length text.now < 2 ^ 63 }
+    ensures { AreMoments text.now script.now result }
+{
+    let lasting = if is_headed(text) {
+        Some(lasting(script))
+    } else {
+        None
+    };
+    Moments {
+        publications: script.batches(),
+        lasting,
+    }
+}
