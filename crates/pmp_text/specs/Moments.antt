@@ -5,7 +5,7 @@ use Rattle.pmp_text.specs.declared.moments.Asked.{Asked}
 use Rattle.pmp_text.specs.declared.moments.Coming.TheVariants as coming
 use Rattle.pmp_text.specs.declared.moments.Lasting.{Lasting}
 use Rattle.pmp_text.specs.declared.moments.Moment.{Moment}
-use Rattle.pmp_text.specs.declared.moments.Moment.TheVariants.{Named, Numbered, Unmet}
+use Rattle.pmp_text.specs.declared.moments.Moment.TheVariants.{Named, Numbered}
 use Rattle.pmp_text.specs.declared.moments.Moments.{Moments}
 use Rattle.pmp_text.specs.Numbers.{word_number}
 
@@ -28,18 +28,13 @@ place_named publications lasting word =
 abbrev pub is_waived : List ℕ → Bool
 is_waived word = bytes_eq (drop (length word - 7) word) (codes " if-any")
 
--- the moment that is named, or one that never comes, and whether that is waived
-abbrev pub named_moment : (waived : Bool) → Option ℕ → Moment
-named_moment waived (Some place) = Named place
-named_moment waived None = Unmet waived
-
 -- what a word says that is no number, where words may name moments
 unfoldable pub moment_named : Moments → List ℕ → Option Moment
 moment_named moments word = elim moments.lasting [
   | Some lasting ↦
       if is_waived word
-      then option_map (named_moment true) (place_named moments.publications lasting (take (length word - 7) word))
-      else option_map (named_moment false) (place_named moments.publications lasting word)
+      then option_map (λ place. Named place true) (place_named moments.publications lasting (take (length word - 7) word))
+      else option_map (λ place. Named place false) (place_named moments.publications lasting word)
   | None ↦ None
 ]
 
@@ -58,36 +53,29 @@ unless_backward from None = None
 
 -- the moment up to which a row asks: nothing stands for the last one
 abbrev pub to_said : Moments → (from : Moment) → List ℕ → Option Moment
-to_said moments from [] = Some (Named moments.publications)
+to_said moments from [] = Some (Named (Some moments.publications) false)
 to_said moments from (byte ∷ more) = unless_backward from (moment_said moments (byte ∷ more))
 
--- a row whose moments come asks from one to the other; else it asks of none, whose place is the last moment
-abbrev pub asked_at : (publications : ℕ) → (from to : ℕ) → Asked
-asked_at publications from to =
-    if nat_le from to || nat_lt publications from then record { from = from; to = to; coming = coming.Met }
-    else record { from = publications; to = publications; coming = coming.Unmet }
-
-abbrev pub unasked : (publications : ℕ) → (waived : Bool) → Asked
-unasked publications true = record { from = publications; to = publications; coming = coming.Waived }
-unasked publications false = record { from = publications; to = publications; coming = coming.Unmet }
-
--- the place of a moment that comes
 abbrev pub place_of : Moment → Option ℕ
 place_of (Numbered place) = Some place
-place_of (Named place) = Some place
-place_of (Unmet waived) = None
+place_of (Named place waived) = place
 
--- it comes, or need not
-abbrev pub is_granted : Moment → Bool
-is_granted (Numbered place) = true
-is_granted (Named place) = true
-is_granted (Unmet waived) = waived
+abbrev pub waives : Moment → Bool
+waives (Numbered place) = false
+waives (Named place waived) = waived
 
+-- a row asks of no moment, for which the last one stands
+abbrev pub unasked : (publications : ℕ) → (waived : Bool) → Asked
+unasked publications waived =
+    record { from = publications; to = publications; coming = if waived then coming.Waived else coming.Unmet }
+
+-- a row asks from one moment to the other, where these come, and the second not before the first
 abbrev pub between_places : (publications : ℕ) → (waived : Bool) → (from to : Option ℕ) → Asked
-between_places publications waived (Some from) (Some to) = asked_at publications from to
+between_places publications waived (Some from) (Some to) =
+    if nat_le from to || nat_lt publications from then record { from = from; to = to; coming = coming.Met }
+    else unasked publications waived
 between_places publications waived _ _ = unasked publications waived
 
--- what a row asks of that goes from one moment to the other
+-- what a row asks of that goes from one moment to the other; one word that waives is enough
 abbrev pub asked_between : (publications : ℕ) → (from to : Moment) → Asked
-asked_between publications from to =
-    between_places publications (is_granted from && is_granted to) (place_of from) (place_of to)
+asked_between publications from to = between_places publications (waives from || waives to) (place_of from) (place_of to)

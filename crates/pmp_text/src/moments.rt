@@ -2,7 +2,7 @@
 
 ghost use Rattle.std.specs.Prelude.{◌≡◌, ◌≤◌};
 ghost use Rattle.pmp_text.specs.Moments.{asked_between, is_backward, moment_named, moment_said, place_named, to_said};
-ghost use Rattle.pmp_text.specs.Moments.{asked_at, is_granted, named_moment, place_of, unasked};
+ghost use Rattle.pmp_text.specs.Moments.{place_of, unasked, waives};
 
 use crate::numbers::read_word_number;
 
@@ -32,19 +32,17 @@ pub struct Moments {
 pub enum Moment {
     /// After so many publications, by their number.
     Numbered(u64),
-    /// After so many publications, by a name.
-    Named(u64),
-    /// One that never comes, and whether that is waived.
-    Unmet(bool),
+    /// By a name, after so many publications if it ever comes, and whether the row need not be met.
+    Named(Option<u64>, bool),
 }
 
 /// Whether the moments of a policy's row come.
 #[derive(Clone, Copy, Debug, PartialEq, Eq)]
 pub enum Coming {
     Met,
-    /// One never comes, or the last is before the first, so that the row asks of no moment.
+    /// One never comes, or the last before the first, so that the row asks of no moment.
     Unmet,
-    /// One never comes, as the row allows.
+    /// The same, which the row allows.
     Waived,
 }
 
@@ -79,28 +77,19 @@ fn place_named(publications: u64, lasting: &Lasting, word: &[u8]) -> Option<Opti
     Some(publications.checked_sub(back))
 }
 
-/// The moment at this place, or one that never comes.
-fn named_moment(is_waived: bool, place: Option<u64>) -> Moment
-    ensures { result ≡ named_moment is_waived place }
-{
-    match place {
-        Some(place) => Moment::Named(place),
-        None => Moment::Unmet(is_waived),
-    }
-}
-
-/// What a row asks of one of whose moments never comes.
+/// What a row asks of whose moments don't come.
 fn unasked(publications: u64, is_waived: bool) -> Asked
     ensures { result ≡ unasked publications is_waived }
 {
+    let coming = if is_waived {
+        Coming::Waived
+    } else {
+        Coming::Unmet
+    };
     Asked {
         from: publications,
         to: publications,
-        coming: if is_waived {
-            Coming::Waived
-        } else {
-            Coming::Unmet
-        },
+        coming,
     }
 }
 
@@ -110,18 +99,18 @@ impl Moment {
         ensures { result ≡ place_of self }
     {
         match self {
-            Moment::Numbered(place) | Moment::Named(place) => Some(place),
-            Moment::Unmet(_) => None,
+            Moment::Numbered(place) => Some(place),
+            Moment::Named(place, _) => place,
         }
     }
 
-    /// Whether it comes, or need not.
-    fn is_granted(self) -> bool
-        ensures { result ≡ is_granted self }
+    /// Whether its word lets the row be unmet.
+    fn waives(self) -> bool
+        ensures { result ≡ waives self }
     {
         match self {
-            Moment::Numbered(_) | Moment::Named(_) => true,
-            Moment::Unmet(is_waived) => is_waived,
+            Moment::Numbered(_) => false,
+            Moment::Named(_, is_waived) => is_waived,
         }
     }
 
@@ -143,10 +132,12 @@ impl Moments {
         ensures { result ≡ moment_named self.now word.now }
     {
         let lasting = self.lasting?;
-        match word.strip_suffix(b" if-any") {
-            Some(word) => Some(named_moment(true, place_named(self.publications, &lasting, word)?)),
-            None => Some(named_moment(false, place_named(self.publications, &lasting, word)?)),
-        }
+        let (word, is_waived) = match word.strip_suffix(b" if-any") {
+            Some(word) => (word, true),
+            None => (word, false),
+        };
+        let place = place_named(self.publications, &lasting, word)?;
+        Some(Moment::Named(place, is_waived))
     }
 
     /// The moment that a word says: a number, or in version 3 `last`, `last-N`, `mml`, `mmwp` or `rlb-clear`, with
@@ -165,7 +156,7 @@ impl Moments {
         ensures { result ≡ to_said self.now from word.now }
     {
         if word.is_empty() {
-            return Some(Moment::Named(self.publications));
+            return Some(Moment::Named(Some(self.publications), false));
         }
         let to = self.read(word)?;
         (!from.is_above(to)).then_some(to)
@@ -176,24 +167,14 @@ impl Moments {
         ensures asked { result ≡ asked_between self.now.publications from to }
         ensures forward { result.from ≤ self.now.publications → result.from ≤ result.to }
     {
+        let is_waived = from.waives() || to.waives();
         match (from.place(), to.place()) {
-            (Some(from), Some(to)) => self.at(from, to),
-            _ => unasked(self.publications, from.is_granted() && to.is_granted()),
-        }
-    }
-
-    /// What a row asks of from so many publications to so many. There are none where the last come before the first.
-    fn at(&self, from: u64, to: u64) -> Asked
-        ensures asked { result ≡ asked_at self.now.publications from to }
-        ensures forward { result.from ≤ self.now.publications → result.from ≤ result.to }
-    {
-        if from <= to || from > self.publications {
-            return Asked {
+            (Some(from), Some(to)) if from <= to || from > self.publications => Asked {
                 from,
                 to,
                 coming: Coming::Met,
-            };
+            },
+            _ => unasked(self.publications, is_waived),
         }
-        unasked(self.publications, false)
     }
 }

@@ -20,7 +20,7 @@ use Rattle.pmp_audit.specs.declared.view.View.{View}
 use Rattle.pmp_audit.specs.WriteList.{WritesSay}
 use Rattle.pmp_audit.specs.PolicyCheck.{VerdictRefuses, VerdictSays}
 use Rattle.pmp_audit.specs.RightsDiff.{DiffSays}
-use Rattle.pmp_text.specs.declared.lines.verdict.Breach.{Breach}
+use Rattle.pmp_text.specs.declared.lines.verdict.Verdict.{Verdict}
 use Rattle.pmp_web.specs.declared.rooms.Answer.{Answer}
 use Rattle.pmp_web.specs.declared.request.Question.{Question}
 use Rattle.pmp_map.specs.Request.{IsNamed}
@@ -91,7 +91,7 @@ AnswersView script after (Some view) status answer =
 -- the text has the verdict on the row
 abbrev pub VerdictAnswerSays : (script : List ℕ) → Question → (text : List ℕ) → Type 0
 VerdictAnswerSays script it text =
-    (verdict : Option Breach) × VerdictSays it.pace script it.number it.fields verdict text
+    (verdict : Verdict) × VerdictSays it.pace script it.number it.fields verdict text
 
 -- the row that the numbers name has its verdict, or they name none
 abbrev pub AnswersVerdict : (script : List ℕ) → Option Question → (status : ℕ) → Answer → Type 0

@@ -1,6 +1,7 @@
 -- What a row of a policy by numbers demands, and when its numbers name nothing.
 use Rattle.std.specs.Prelude.{ℕ, ◌/◌, ◌%◌, ◌==◌, ◌||◌, nat_lt, Option, Some, None, if◌then◌else◌, false}
 use Rattle.pmp_core.specs.declared.access.Kind.TheVariants.{Fetch, Load, Store}
+use Rattle.pmp_text.specs.declared.moments.Coming.TheVariants.{Met}
 use Rattle.pmp_text.specs.declared.policy.Demand.TheVariants as demand
 use Rattle.pmp_text.specs.declared.policy.Kinds.{Kinds}
 use Rattle.pmp_text.specs.declared.policy.Kinds.TheVariants.{One, Any}
@@ -47,6 +48,7 @@ question_by room (Some modes) (Some kinds) (Some demand) (Some pace) = Some (rec
     first = room.first;
     last = room.last;
     demand = demand;
+    coming = Met;
     is_bare = false;
   };
 })

@@ -9,7 +9,7 @@ use crate::rooms::Demand;
 use pmp_audit::{Pace, View};
 use pmp_core::{Access, Kind};
 use pmp_map::{kind_of, mode_of};
-use pmp_text::{Kinds, Modes, PolicyFields, Refusal};
+use pmp_text::{Coming, Kinds, Modes, PolicyFields, Refusal};
 
 /// The access that these numbers name.
 pub fn access_of(mode: u32, kind: u32, start: u64, length: u64) -> Result<Access, Refusal>
@@ -104,6 +104,7 @@ pub fn question_of(room: &Demand) -> Option<Question>
             first: room.first,
             last: room.last,
             demand: demand_of(room.demand)?,
+            coming: Coming::Met,
             is_bare: false,
         },
     })

@@ -11,8 +11,8 @@ const TRACE: [&str; 5] = [
 
 /// Those of a policy.
 const POLICY: [&str; 7] = [
-    "from: a number of publications",
-    "to: a number of publications that isn't below from, or nothing for all",
+    "from: a number of publications, or with pmp 3 last, last-N, mml, mmwp or rlb-clear",
+    "to: a number of publications that isn't below from, or nothing for all, or with pmp 3 last, last-N, mml, mmwp or rlb-clear",
     "modes: one or more of the letters M, S and U, each once",
     "kind: fetch, load, store or any",
     "first: a byte address, in decimal or with 0x",
