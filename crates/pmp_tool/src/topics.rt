@@ -105,9 +105,9 @@ for each row of the trace, in order.
 
   1,fault,5,none,
 
-`pmp policy` writes a row for each row of the policy, in order: `N,holds,,,,` or
-`N,broken,DONE,FIRST,LAST,OWNER` with its first breach, in time and then in
-address. Further ones aren't told.
+`pmp policy` writes a row for each row of the policy, in order: `N,holds,,,,`,
+or `N,broken,DONE,FIRST,LAST,OWNER` with its first breach, in time and then in
+address, or `N,unmet,,,,`. Further breaches aren't told.
 
   1,broken,0,00000000000000,0000000000000f,-
 
@@ -257,7 +257,7 @@ A policy lists demands on ranges of bytes and on publications of a script:
 
 It is read as a trace is: CSV of at most 16,777,216 bytes, that header, and a
 row of seven fields for each demand, numbered from 1:
-  from    the first number of publications that is asked of: a number, at most
+  from    the first moment that is asked of: a number of publications, at most
           as many as there are; 0 is before the first
   to      the last one, not below from and at most as many as there are; where
           it is empty, that is the number of all
@@ -267,6 +267,16 @@ row of seven fields for each demand, numbered from 1:
   last    that of the last byte, which is asked of too: not below first, and
           below 2^56
   demand  never, always or held
+
+Where the script is of version 3, `from` and `to` may name a moment too, so that
+a policy outlives a change of the firmware:
+  last         after the last publication
+  last-N       so many publications before it, a number
+  mml or mmwp  the first one from which that bit of mseccfg is set to the end
+  rlb-clear    the first one from which RLB is clear to the end
+
+A row is unmet where such a moment never comes, or `to` comes before `from`. A
+name may end with a blank and `if-any`: then the row need not be met.
 
 A byte is open to a mode and a kind where the access of that one byte is
 allowed.
@@ -279,9 +289,9 @@ allowed.
           entries before it are frozen then, or, where no entry owns it, all
           entries are
 
-`pmp policy` writes a row for each row of the policy, in order: `N,holds,,,,` or
-`N,broken,DONE,FIRST,LAST,OWNER` with its first breach, in time and then in
-address. Further ones aren't told.
+`pmp policy` writes a row for each row of the policy, in order: `N,holds,,,,`,
+or `N,broken,DONE,FIRST,LAST,OWNER` with its first breach, in time and then in
+address, or `N,unmet,,,,`. Further breaches aren't told.
   N      the row's number, from 1
   DONE   after how many publications it is broken; where the hold alone is
          missing, the last of those that are asked of
