@@ -1,7 +1,10 @@
 /* SPDX-License-Identifier: MIT OR Apache-2.0 */
-/* What firmware starts in supervisor mode on an RV32 hart of QEMU's virt machine: it tries each access of rows.h in the
- * row's mode, writes the row's number and the cause of the exception behind it to the console, and ends QEMU. After a
- * load or a store that is allowed comes a breakpoint; an allowed fetch finds no instruction. */
+/* What firmware starts in supervisor mode on a hart of QEMU's virt machine, RV32 or RV64: it tries each access of rows.h
+ * in the row's mode, writes the row's number and the cause of the exception behind it to the console, and ends QEMU. After
+ * a load or a store that is allowed comes a breakpoint; an allowed fetch finds no instruction. */
+#if __riscv_xlen == 32
+#define lwu lw
+#endif
 #define CONSOLE 0x10000000
 #define DEVICE 0x100000
 #define DONE 0x5555
@@ -19,9 +22,9 @@ next:
     li t1, 0x100
     csrc sstatus, t1
     csrs sstatus, t0
-    lw t0, 4(s0)
+    lwu t0, 4(s0)
     csrw sepc, t0
-    lw a0, 8(s0)
+    lwu a0, 8(s0)
     addi s0, s0, 12
     addi s1, s1, 1
     sret
