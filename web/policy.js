@@ -95,8 +95,8 @@ function readRow(fields, publications) {
     const [from, first, last] = [fields[0], fields[4], fields[5]].map(readNumber);
     const to = fields[1] === '' ? publications : readNumber(fields[1]);
     const [modes, kind, demand] = [readModes(fields[2]), wordIn(POLICY_KINDS, fields[3]), wordIn(DEMANDS, fields[6])];
-    if (from === null) return bad('from has to be a number of publications.');
-    if (to === null) return bad('to has to be a number of publications, or empty for all.');
+    if (from === null) return bad('from has to be a number of publications; names of moments are for pmp policy.');
+    if (to === null) return bad('to has to be a number of publications, or empty for all; names of moments are for pmp policy.');
     if (fields[1] !== '' && to < from) return bad('to has to be at least from.');
     if (modes === null) return bad('modes has to be one to three of the letters M, S and U, none twice.');
     if (kind === null) return bad('kind has to be fetch, load, store or any.');
