@@ -24,17 +24,18 @@ place_named publications lasting word =
     else (if bytes_eq (take 5 word) (codes "last-")
     then option_map (back_from publications) (word_number (drop 5 word)) else None))))
 
--- the word ends with ` if-any`
+-- the word ends with ` if-any`, and what stands before that
 abbrev pub is_waived : List ℕ → Bool
 is_waived word = bytes_eq (drop (length word - 7) word) (codes " if-any")
+
+abbrev pub name_in : List ℕ → List ℕ
+name_in word = if is_waived word then take (length word - 7) word else word
 
 -- what a word says that is no number, where words may name moments
 unfoldable pub moment_named : Moments → List ℕ → Option Moment
 moment_named moments word = elim moments.lasting [
   | Some lasting ↦
-      if is_waived word
-      then option_map (λ place. Named place true) (place_named moments.publications lasting (take (length word - 7) word))
-      else option_map (λ place. Named place false) (place_named moments.publications lasting word)
+      option_map (λ place. Named place (is_waived word)) (place_named moments.publications lasting (name_in word))
   | None ↦ None
 ]
 
