@@ -10,6 +10,7 @@ use Rattle.pmp_core.specs.declared.event.Event.{Event}
 use Rattle.pmp_core.specs.declared.event.TheConstants.{BATCH_EVENTS}
 use Rattle.pmp_text.specs.declared.flaw.Flaw.{Flaw}
 use Rattle.pmp_text.specs.declared.refusal.Refusal.TheVariants.{BatchFull}
+use Rattle.pmp_text.specs.declared.mark.Name.{Name}
 use Rattle.pmp_text.specs.declared.script.ScriptFault.{ScriptFault}
 use Rattle.pmp_text.specs.declared.script.statement.Statement.{Statement}
 use Rattle.pmp_text.specs.declared.script.statement.Statement.TheVariants as statement
@@ -17,9 +18,10 @@ use Rattle.pmp_text.specs.Heads.{event_flaw, profile_said}
 use Rattle.pmp_text.specs.Lines.{is_line_feed, has_bytes, without_empty_end, lines}
 use Rattle.pmp_text.specs.Statements.{statement_of}
 use Rattle.pmp_text.specs.Scripts.{Line, numbered_from, counts, significant_from, significant_lines}
-use Rattle.pmp_text.specs.Scripts.{head_fault, script_meaning}
+use Rattle.pmp_text.specs.Marks.{is_in}
+use Rattle.pmp_text.specs.Scripts.{head_fault, mark_fault, marks_from, name_fault, script_meaning}
 use Rattle.pmp_text.specs.Steps.Progress.{Progress, longer, published, HeadSoFar, says_in, longer_head, unless, Reading}
-use Rattle.pmp_text.specs.Steps.Progress.{Read, nothing_begun, with_publish, with_progress, with_head, with_expected}
+use Rattle.pmp_text.specs.Steps.Progress.{Read, nothing_begun, with_publish, with_progress, with_head, with_expected, with_mark}
 use Rattle.pmp_text.specs.Steps.Progress.{after_event, after_statement, all_published, read_in, resumed}
 use Rattle.pmp_text.specs.declared.script.version.Version.{Version}
 use Rattle.pmp_text.specs.Sizes.{script_size}
@@ -79,11 +81,24 @@ module _ (version : Version) (more : List Line) (bounded : IsBounded version mor
   with_fault None head e = let n = bounded _ all e in omega arith
   with_fault (Some fault) head e = absurd cc
 
+  with_publication : (fault : Option Flaw) (name : Option Name)
+      → on version more (unless number fault (with_publish so_far name)) ≡ Ok all
+      → script_size all.published.batches ≤ suc (read so_far.progress) + length more
+  with_publication None name e = let n = bounded (with_publish so_far name) all e in
+      let m = read_published so_far.progress in omega arith
+  with_publication (Some fault) name e = absurd cc
+
+  with_name : (fault : Option Flaw) (name : Name) → on version more (unless number fault (with_mark so_far name)) ≡ Ok all
+      → script_size all.published.batches ≤ suc (read so_far.progress) + length more
+  with_name None name e = let n = bounded (with_mark so_far name) all e in omega arith
+  with_name (Some fault) name e = absurd cc
+
   one_line : (says : Result Statement Flaw) → on version more (after_statement version so_far number says) ≡ Ok all
       → script_size all.published.batches ≤ suc (read so_far.progress) + length more
   one_line (Err kind) e = absurd cc
-  one_line (Ok statement.Publish) e = let n = bounded (with_publish so_far) all e in
-      let m = read_published so_far.progress in omega arith
+  one_line (Ok (statement.Publish name)) e = with_publication (name_fault (is_in so_far.marks) name) name e
+  one_line (Ok (statement.Mark name)) e =
+      with_name (mark_fault (length so_far.progress.batch) (is_in so_far.marks name)) name e
   one_line (Ok (statement.Event event)) e =
       with_flaw (event_flaw version (profile_said so_far.head.lines).is_rv32 event) event e
   one_line (Ok (statement.Head says)) e =
@@ -150,7 +165,8 @@ size_at_most text script e =
     let more = it.more in
     let fine = faultless (first_fault (it.first ∷ []) more) (first_unpublished version more) (publications version more)
     (published_in script) it.made.published in
-    let all = read_of version (publications version more) (head_lines version more) (expected_from version 0 more) in
+    let all = read_of version (publications version more) (head_lines version more) (expected_from version 0 more)
+    (marks_from version 0 more) in
     let read : resumed version nothing_begun more ≡ Ok all =
     sym (read_from_nothing text it.short it.first more it.lines version it.named)
     ∙ (λ i. fault_or_publications (fine.0 i) (fine.1 i) all) in

@@ -9,7 +9,7 @@ use Rattle.pmp_text.specs.declared.script.version.Version.{Version}
 use Rattle.pmp_text.specs.declared.script.version.Version.TheVariants.{Sized, Headed}
 use Rattle.pmp_text.specs.declared.script.ScriptFault.{ScriptFault}
 use Rattle.pmp_text.specs.Scripts.{Line, line_fault, first_fault, fault_or_publications, first_unpublished, version_flaw}
-use Rattle.pmp_text.specs.Scripts.{publications, version_named, for_unit, for_head, head_lines, expected_from}
+use Rattle.pmp_text.specs.Scripts.{publications, version_named, for_unit, for_head, head_lines, expected_from, marks_from}
 use Rattle.pmp_text.specs.Scripts.{meaning_behind, lines_meaning}
 use Rattle.pmp_text.specs.Scripts.{significant_lines, script_meaning}
 use Rattle.pmp_text.specs.Faults.{fault_at, IsLeastFault}
@@ -66,7 +66,7 @@ refused_behind None first more fault e = let same : at_line first.number (versio
 refused_behind (Some (Sized size)) first more fault e =
     ap (for_unit size) (by_fault (Sized size) first more (first_fault (first ∷ []) more) fault e)
 refused_behind (Some Headed) first more fault e =
-    ap (for_head (head_lines Headed more) (expected_from Headed 0 more))
+    ap (for_head (head_lines Headed more) (expected_from Headed 0 more) (marks_from Headed 0 more))
     (by_fault Headed first more (first_fault (first ∷ []) more) fault e)
 
 refused : (lines : List Line) (fault : ScriptFault) → first_fault [] lines ≡ Some fault

@@ -10,9 +10,10 @@ use Rattle.pmp_text.specs.declared.script.version.Version.TheVariants.{Sized, He
 use Rattle.pmp_text.specs.Contents.{Publications, ScriptContents}
 use Rattle.pmp_core.specs.RegisterFile.{RegisterFile}
 use Rattle.pmp_text.specs.declared.expectation.Expectation.{Expectation}
+use Rattle.pmp_text.specs.declared.mark.Mark.{Mark}
 use Rattle.pmp_text.specs.Heads.{bits_fault, fault_on, size_for, start_said}
 use Rattle.pmp_text.specs.Scripts.{Line, expected_from, fault_or_publications, for_head}
-use Rattle.pmp_text.specs.Scripts.{for_unit, head_lines, lines_meaning, meaning_behind}
+use Rattle.pmp_text.specs.Scripts.{for_unit, head_lines, lines_meaning, marks_from, meaning_behind}
 use Rattle.pmp_text.specs.Scripts.{published_behind, script_meaning, significant_lines, version_named}
 use Rattle.pmp_text.specs.Versions.{HasNoHead}
 use Rattle.pmp_text.proofs.Meanings.{by_lines, long_script}
@@ -34,29 +35,31 @@ as_made : (made script : ScriptContents) → ◌≡◌ {A = Result ScriptContent
 as_made made script e = cc
 
 module _ (first : Line) (more : List Line) (script : ScriptContents) where
-  abbrev headed : RegisterFile → Publications → List Expectation → ScriptContents
-  headed start published expectations = record {
+  abbrev headed : RegisterFile → Publications → List Expectation → List Mark → ScriptContents
+  headed start published expectations marks = record {
     size = size_for start;
     start = start;
     batches = published.batches;
     lines = published.lines;
     expectations = expectations;
+    marks = marks;
   }
 
-  abbrev begun : Result RegisterFile ScriptFault → Publications → List Expectation → Result ScriptContents ScriptFault
-  begun started published expectations =
-      elim started [ Ok start ↦ Ok (headed start published expectations) | Err fault ↦ Err fault ]
+  abbrev begun : Result RegisterFile ScriptFault → Publications → List Expectation → List Mark
+      → Result ScriptContents ScriptFault
+  begun started published expectations marks =
+      elim started [ Ok start ↦ Ok (headed start published expectations marks) | Err fault ↦ Err fault ]
 
   without_fault : (bits fault : Option ScriptFault) (start : RegisterFile) (published : Publications)
-      (expectations : List Expectation)
+      (expectations : List Expectation) (marks : List Mark)
       → begun (elim bits as (λ _. Result RegisterFile ScriptFault) [
         | Some it ↦ Err it
         | None ↦ elim fault as (λ _. Result RegisterFile ScriptFault) [ Some it ↦ Err it | None ↦ Ok start ]
-      ]) published expectations ≡ Ok script
-      → headed start published expectations ≡ script
-  without_fault None None start published expectations e = as_made _ script e
-  without_fault None (Some it) start published expectations e = absurd cc
-  without_fault (Some it) fault start published expectations e = absurd cc
+      ]) published expectations marks ≡ Ok script
+      → headed start published expectations marks ≡ script
+  without_fault None None start published expectations marks e = as_made _ script e
+  without_fault None (Some it) start published expectations marks e = absurd cc
+  without_fault (Some it) fault start published expectations marks e = absurd cc
 
   of_unit : (size : Size) (read : Result Publications ScriptFault) → published_behind first more (Sized size) ≡ read
       → for_unit size read ≡ Ok script → IsMade first more (Sized size) script
@@ -67,19 +70,21 @@ module _ (first : Line) (more : List Line) (script : ScriptContents) where
           sized = sym (ap (λ (s : ScriptContents). s.size) is);
           start = sym (ap (λ (s : ScriptContents). s.start) is);
           nothing = sym (ap (λ (s : ScriptContents). s.expectations) is);
+          unnamed = sym (ap (λ (s : ScriptContents). s.marks) is);
         };
         published = was ∙ ap (λ (s : ScriptContents). Ok (published_in s)) is;
       }
   of_unit size (Err fault) was e = absurd cc
 
   of_head : (read : Result Publications ScriptFault) → published_behind first more Headed ≡ read
-      → for_head (head_lines Headed more) (expected_from Headed 0 more) read ≡ Ok script
+      → for_head (head_lines Headed more) (expected_from Headed 0 more) (marks_from Headed 0 more) read ≡ Ok script
       → IsMade first more Headed script
   of_head (Ok all) was e =
       let head = head_lines Headed more in
       let expected = expected_from Headed 0 more in
       let start = start_said head in
-      let is = without_fault (bits_fault head) (fault_on start head expected) start all expected e in
+      let is = without_fault (bits_fault head) (fault_on start head expected) start all expected
+      (marks_from Headed 0 more) e in
       record {
         begins = sym (ap (λ (s : ScriptContents). s.start) is);
         published = was ∙ ap (λ (s : ScriptContents). Ok (published_in s)) is;

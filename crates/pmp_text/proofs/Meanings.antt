@@ -11,6 +11,7 @@ use Rattle.pmp_text.specs.declared.refusal.Refusal.TheVariants.{BadVersion, BadL
 use Rattle.pmp_text.specs.declared.script.ScriptFault.{ScriptFault}
 use Rattle.pmp_text.specs.declared.script.statement.Statement.{Statement}
 use Rattle.pmp_text.specs.declared.expectation.Expectation.{Expectation}
+use Rattle.pmp_text.specs.declared.mark.Mark.{Mark}
 use Rattle.pmp_text.specs.declared.script.head.HeadLine.{HeadLine}
 use Rattle.pmp_text.specs.declared.script.version.Version.{Version}
 use Rattle.pmp_text.specs.declared.script.version.Version.TheVariants.{Sized, Headed}
@@ -18,7 +19,7 @@ use Rattle.pmp_text.specs.Contents.{Publications}
 use Rattle.pmp_text.specs.Statements.{statement_of}
 use Rattle.pmp_text.specs.Scripts.{Line, counted, ends_head, rv32_behind, says_same, version_flaw}
 use Rattle.pmp_text.specs.Scripts.{first_fault}
-use Rattle.pmp_text.specs.Scripts.{head_lines, expected_from}
+use Rattle.pmp_text.specs.Scripts.{head_lines, expected_from, marks_from, names_same}
 use Rattle.pmp_text.specs.Scripts.{fault_or_publications}
 use Rattle.pmp_text.specs.Scripts.{version_numbered, version_named}
 use Rattle.pmp_text.specs.Scripts.{significant_lines, for_unit, for_head, meaning_behind, lines_meaning, script_meaning}
@@ -27,7 +28,7 @@ use Rattle.pmp_text.specs.Steps.Progress.{Read, nothing_begun}
 use Rattle.pmp_text.specs.Steps.Progress.{resumed}
 use Rattle.pmp_text.specs.Steps.Progress.{concluded}
 use Rattle.pmp_text.specs.declared.script.reader.TheConstants.{MAX_SCRIPT}
-use Rattle.pmp_text.proofs.NoExpectations.{expects_nothing}
+use Rattle.pmp_text.proofs.NoExpectations.{expects_nothing, names_nothing}
 use Rattle.pmp_text.proofs.Resumed.{Knows, meant_from-nothing, read_of, reading_means}
 use Rattle.pmp_text.specs.Flaws.{at_line, part, as_whole}
 
@@ -57,35 +58,39 @@ no_statement (name ∷ number ∷ word ∷ more) version e any = absurd cc
 -- ---- what is concluded
 
 module _ (published : Publications) (head : List HeadLine) where
-  abbrev whole : List Expectation → Read
-  whole expectations = record { published = published; head = head; expectations = expectations }
+  abbrev whole : List Expectation → List Mark → Read
+  whole expectations marks =
+      record { published = published; head = head; expectations = expectations; marks = marks }
 
   sized_as_concluded : (size : Size) (fault : Option ScriptFault) (unpublished : Option ℕ)
       → for_unit size (fault_or_publications fault unpublished published)
-      ≡ concluded (Sized size) (fault_or_publications fault unpublished (whole []))
+      ≡ concluded (Sized size) (fault_or_publications fault unpublished (whole [] []))
   sized_as_concluded size (Some fault) unpublished = refl
   sized_as_concluded size None (Some number) = refl
   sized_as_concluded size None None = refl
 
-  headed_as_concluded : (expectations : List Expectation) (fault : Option ScriptFault) (unpublished : Option ℕ)
-      → for_head head expectations (fault_or_publications fault unpublished published)
-      ≡ concluded Headed (fault_or_publications fault unpublished (whole expectations))
-  headed_as_concluded expectations (Some fault) unpublished = refl
-  headed_as_concluded expectations None (Some number) = refl
-  headed_as_concluded expectations None None = refl
+  headed_as_concluded : (expectations : List Expectation) (marks : List Mark) (fault : Option ScriptFault)
+      (unpublished : Option ℕ)
+      → for_head head expectations marks (fault_or_publications fault unpublished published)
+      ≡ concluded Headed (fault_or_publications fault unpublished (whole expectations marks))
+  headed_as_concluded expectations marks (Some fault) unpublished = refl
+  headed_as_concluded expectations marks None (Some number) = refl
+  headed_as_concluded expectations marks None None = refl
 
 as_concluded : (version : Version) (first : Line) (more : List Line) → meaning_behind first more (Some version)
     ≡ concluded version (fault_or_publications (first_fault (first ∷ []) more) (first_unpublished version more)
-    (read_of version (publications version more) (head_lines version more) (expected_from version 0 more)))
+    (read_of version (publications version more) (head_lines version more) (expected_from version 0 more)
+    (marks_from version 0 more)))
 as_concluded (Sized size) first more =
     sized_as_concluded (publications (Sized size) more) (head_lines (Sized size) more) size
     (first_fault (first ∷ []) more) (first_unpublished (Sized size) more)
-    ∙ ap (λ (e : List Expectation). concluded (Sized size) (fault_or_publications (first_fault (first ∷ []) more)
+    ∙ (λ i. concluded (Sized size) (fault_or_publications (first_fault (first ∷ []) more)
     (first_unpublished (Sized size) more)
-    (whole (publications (Sized size) more) (head_lines (Sized size) more) e)))
-    (sym (expects_nothing size more 0))
+    (whole (publications (Sized size) more) (head_lines (Sized size) more) (sym (expects_nothing size more 0) i)
+    (sym (names_nothing size more 0) i))))
 as_concluded Headed first more =
     headed_as_concluded (publications Headed more) (head_lines Headed more) (expected_from Headed 0 more)
+    (marks_from Headed 0 more)
     (first_fault (first ∷ []) more) (first_unpublished Headed more)
 
 module _ (text : List ℕ) where
@@ -114,10 +119,12 @@ module _ (text : List ℕ) where
               count = sym (ap (λ (r : Result Statement Flaw). counted r 0) no);
               over = sym (ap (λ (r : Result Statement Flaw). ends_head r || false) no);
               said = λ here. sym (ap (λ (r : Result Statement Flaw). says_same here r || false) no);
+              marked = λ name. sym (ap (λ (r : Result Statement Flaw). names_same name r || false) no);
             }
 
         pub read_from_nothing : fault_or_publications (first_fault (first ∷ []) more) (first_unpublished version more)
-            (read_of version (publications version more) (head_lines version more) (expected_from version 0 more))
+            (read_of version (publications version more) (head_lines version more) (expected_from version 0 more)
+            (marks_from version 0 more))
             ≡ resumed version nothing_begun more
         read_from_nothing =
             sym (meant_from-nothing version (first ∷ []) more)

@@ -14,6 +14,8 @@ use Rattle.pmp_text.specs.declared.script.ScriptFault.{ScriptFault}
 use Rattle.pmp_text.specs.declared.script.statement.Statement.{Statement}
 use Rattle.pmp_text.specs.declared.script.statement.Statement.TheVariants as statement
 use Rattle.pmp_text.specs.declared.expectation.Expectation.{Expectation}
+use Rattle.pmp_text.specs.declared.mark.Mark.{Mark}
+use Rattle.pmp_text.specs.declared.mark.Name.{Name}
 use Rattle.pmp_text.specs.declared.script.statement.HeadStatement.{HeadStatement}
 use Rattle.pmp_text.specs.declared.script.statement.HeadStatement.TheVariants.{Hart, Set}
 use Rattle.pmp_text.specs.declared.script.hart_field.HartField.TheVariants.{Xlen, Entries, Grain, Bits, Smepmp}
@@ -27,14 +29,16 @@ use Rattle.pmp_text.specs.Heads.{event_flaw, is_same, profile_said, rv32_with, u
 use Rattle.pmp_text.specs.Statements.{statement_of}
 use Rattle.pmp_text.specs.Scripts.{Line, counted, ends_head, says_same, open_events, is_over, is_said}
 use Rattle.pmp_text.specs.Scripts.{event_fault, head_fault, is_rv32, rv32_behind, statement_fault, fault_behind, line_fault, first_fault, event_of}
+use Rattle.pmp_text.specs.Marks.{is_in, same_name}
 use Rattle.pmp_text.specs.Scripts.{event_in, head_line_in, head_lines, expected_by, expected_from}
+use Rattle.pmp_text.specs.Scripts.{is_marked, mark_at, mark_fault, marks_by, marks_from, name_fault, names_same}
 use Rattle.pmp_text.specs.Scripts.{publishes, fault_or_publications}
 use Rattle.pmp_text.specs.Scripts.{version_above}
 use Rattle.pmp_text.specs.Scripts.{publications, first_unpublished}
 use Rattle.pmp_text.specs.Steps.Progress.{Progress, longer, published, over, says_in}
 use Rattle.pmp_text.specs.Steps.Progress.{longer_head, unless, Reading, Read, nothing_begun, with_publish}
 use Rattle.pmp_text.specs.Steps.Progress.{after_event, with_event, with_progress}
-use Rattle.pmp_text.specs.Steps.Progress.{with_head, with_expected, after_statement, all_published, read_in, resumed}
+use Rattle.pmp_text.specs.Steps.Progress.{with_head, with_expected, with_mark, after_statement, all_published, read_in, resumed}
 use Rattle.pmp_text.proofs.Published.{all_from, all_from-event, all_from-nothing, all_from-passed, all_from-published}
 use Rattle.pmp_text.proofs.Published.{pieces_of, same_publications, since_from, since_from-event, since_from-nothing}
 use Rattle.pmp_text.proofs.Published.{since_from-passed, since_from-published, some_piece}
@@ -47,15 +51,16 @@ module _ (version : Version) where
     published = all_from version so_far.progress pieces;
     head = so_far.head.lines ++ head_lines version lines;
     expectations = so_far.expectations ++ expected_from version so_far.events lines;
+    marks = so_far.marks ++ marks_from version so_far.done lines;
   }
 
-  abbrev pub read_of : Publications → List HeadLine → List Expectation → Read
-  read_of published head expectations =
-      record { published = published; head = head; expectations = expectations }
+  abbrev pub read_of : Publications → List HeadLine → List Expectation → List Mark → Read
+  read_of published head expectations marks =
+      record { published = published; head = head; expectations = expectations; marks = marks }
 
-  same_read : (p q : Publications) (h k : List HeadLine) (e f : List Expectation) → p ≡ q → h ≡ k → e ≡ f
-      → read_of p h e ≡ read_of q k f
-  same_read p q h k e f same_p same_h same_e = λ i. read_of (same_p i) (same_h i) (same_e i)
+  same_read : (p q : Publications) (h k : List HeadLine) (e f : List Expectation) (m n : List Mark) → p ≡ q → h ≡ k
+      → e ≡ f → m ≡ n → read_of p h e m ≡ read_of q k f n
+  same_read p q h k e f m n same_p same_h same_e same_m = λ i. read_of (same_p i) (same_h i) (same_e i) (same_m i)
 
   -- what is meant by lines that have this first fault, or none
   abbrev meant_by : Reading → Option ScriptFault → List Line → List (List Line) → Result Read ScriptFault
@@ -73,10 +78,11 @@ module _ (version : Version) where
 
   pub meant_from-nothing : (before lines : List Line) → meant_from nothing_begun before lines
       ≡ fault_or_publications (first_fault before lines) (first_unpublished version lines)
-      (read_of (publications version lines) (head_lines version lines) (expected_from version 0 lines))
+      (read_of (publications version lines) (head_lines version lines) (expected_from version 0 lines)
+      (marks_from version 0 lines))
   meant_from-nothing before lines = same_meant (first_fault before lines) _ _ _ _
       (since_from-nothing version (pieces_of version lines))
-      (same_read _ _ _ _ _ _ (all_from-nothing version (pieces_of version lines)) refl refl)
+      (same_read _ _ _ _ _ _ _ _ (all_from-nothing version (pieces_of version lines)) refl refl refl)
 
   -- ---- what is known of the lines before
 
@@ -86,6 +92,7 @@ module _ (version : Version) where
     pub count : length so_far.progress.batch ≡ open_events version before
     pub over : so_far.head.is_over ≡ is_over version before
     pub said : (says : HeadStatement) → says_in so_far.head.lines says ≡ is_said version before says
+    pub marked : (name : Name) → is_in so_far.marks name ≡ is_marked version before name
 
   -- ---- one line more
 
@@ -106,7 +113,7 @@ module _ (version : Version) where
     abbrev faulty : Result Statement Flaw → Option Flaw
     faulty says = statement_fault (event_flaw version (is_rv32 version (last ∷ front)))
         (open_events version (last ∷ front)) (is_over version (last ∷ front))
-        (is_said version (last ∷ front)) says
+        (is_said version (last ∷ front)) (is_marked version (last ∷ front)) says
 
     abbrev means : Result Statement Flaw → Result Read ScriptFault
     means says = meant_by so_far (option_or (option_map (at_line line.number) (faulty says)) later)
@@ -137,31 +144,58 @@ module _ (version : Version) where
     expected_here says e = ap (λ (r : Result Statement Flaw).
         expected_by so_far.events line.number r (λ events. expected_from version events more)) e
 
-    publish_agrees : statement_of version line.words ≡ Ok statement.Publish
-        → resumed version (with_publish so_far) more ≡ meant_from (with_publish so_far) (line ∷ last ∷ front) more
-        → resumed version (with_publish so_far) more ≡ means (Ok statement.Publish)
-    publish_agrees says same = same ∙ same_meant later _ _ _ _
+    marks_here : (says : Result Statement Flaw) → statement_of version line.words ≡ says
+        → marks_from version so_far.done (line ∷ more)
+        ≡ marks_by so_far.done says (λ done. marks_from version done more)
+    marks_here says e = ap (λ (r : Result Statement Flaw).
+        marks_by so_far.done r (λ done. marks_from version done more)) e
+
+    -- reading goes on behind the line, unless it has a fault
+    by_fault : (next : Reading) (publish : Bool) (fault : Option Flaw)
+        → resumed version next more ≡ meant_by so_far later (line ∷ more) (cut publish)
+        → reads (unless line.number fault next)
+        ≡ meant_by so_far (option_or (option_map (at_line line.number) fault) later) (line ∷ more) (cut publish)
+    by_fault next publish None same = same
+    by_fault next publish (Some fault) same = refl
+
+    name_known : (name : Option Name)
+        → name_fault (is_in so_far.marks) name ≡ name_fault (is_marked version (last ∷ front)) name
+    name_known None = refl
+    name_known (Some name) = ap (λ (is : Bool). name_fault (λ _. is) (Some name)) (knows.marked name)
+
+    publish_agrees : (name : Option Name) → statement_of version line.words ≡ Ok (statement.Publish name)
+        → resumed version (with_publish so_far name) more
+        ≡ meant_from (with_publish so_far name) (line ∷ last ∷ front) more
+        → reads (after_statement version so_far line.number (Ok (statement.Publish name)))
+        ≡ means (Ok (statement.Publish name))
+    publish_agrees name says same =
+        by_fault (with_publish so_far name) true (name_fault (is_in so_far.marks) name)
+        (same ∙ same_meant later _ _ _ _
         (sym (since_from-published version so_far.progress.since (pieces_of version more) (some_piece version more)))
-        (same_read _ _ _ _ _ _
+        (same_read _ _ _ _ _ _ _ _
         (sym (all_from-published version so_far.progress (pieces_of version more) (some_piece version more)))
         (ap (λ (h : List HeadLine). so_far.head.lines ++ h) (sym (head_here _ says)))
-        (ap (λ (e : List Expectation). so_far.expectations ++ e) (sym (expected_here _ says))))
+        (ap (λ (e : List Expectation). so_far.expectations ++ e) (sym (expected_here _ says)))
+        (append_assoc so_far.marks _ _ ∙ ap (λ (m : List Mark). so_far.marks ++ m) (sym (marks_here _ says)))))
+        ∙ ap (λ (fault : Option Flaw). meant_by so_far (option_or (option_map (at_line line.number) fault) later)
+        (line ∷ more) (cut true)) (name_known name)
 
     -- a line of the head, or one that is expected: the pieces are as without it
     passes : (next : Reading) → next.progress ≡ so_far.progress → event_of version line ≡ None
         → next.head.lines ++ head_lines version more ≡ so_far.head.lines ++ head_lines version (line ∷ more)
         → next.expectations ++ expected_from version next.events more
         ≡ so_far.expectations ++ expected_from version so_far.events (line ∷ more)
+        → next.marks ++ marks_from version next.done more ≡ so_far.marks ++ marks_from version so_far.done (line ∷ more)
         → resumed version next more ≡ meant_from next (line ∷ last ∷ front) more
         → resumed version next more ≡ meant_by so_far later (line ∷ more) (cut false)
-    passes next progress none heads expected same = same ∙ same_meant later _ _ _ _
+    passes next progress none heads expected marks same = same ∙ same_meant later _ _ _ _
         (ap (λ (p : Progress). since_from version p.since (pieces_of version more)) progress
         ∙ sym (since_from-passed version line none so_far.progress.since
         (pieces_of version more) (some_piece version more)))
-        (same_read _ _ _ _ _ _
+        (same_read _ _ _ _ _ _ _ _
         (ap (λ (p : Progress). all_from version p (pieces_of version more)) progress
         ∙ sym (all_from-passed version so_far.progress line none (pieces_of version more)))
-        heads expected)
+        heads expected marks)
 
     expected_agrees : (register : Csr) (value : ℕ)
         → statement_of version line.words ≡ Ok (statement.Expect register value)
@@ -173,37 +207,50 @@ module _ (version : Version) where
         passes (with_expected so_far line.number register value) refl (ap event_in says)
         (ap (λ (h : List HeadLine). so_far.head.lines ++ h) (sym (head_here _ says)))
         (append_assoc so_far.expectations _ _
-        ∙ ap (λ (e : List Expectation). so_far.expectations ++ e) (sym (expected_here _ says))) same
+        ∙ ap (λ (e : List Expectation). so_far.expectations ++ e) (sym (expected_here _ says)))
+        (ap (λ (m : List Mark). so_far.marks ++ m) (sym (marks_here _ says))) same
+
+    mark_agrees : (name : Name) → statement_of version line.words ≡ Ok (statement.Mark name)
+        → resumed version (with_mark so_far name) more ≡ meant_from (with_mark so_far name) (line ∷ last ∷ front) more
+        → reads (after_statement version so_far line.number (Ok (statement.Mark name))) ≡ means (Ok (statement.Mark name))
+    mark_agrees name says same =
+        by_fault (with_mark so_far name) false (mark_fault (length so_far.progress.batch) (is_in so_far.marks name))
+        (passes (with_mark so_far name) refl (ap event_in says)
+        (ap (λ (h : List HeadLine). so_far.head.lines ++ h) (sym (head_here _ says)))
+        (ap (λ (e : List Expectation). so_far.expectations ++ e) (sym (expected_here _ says)))
+        (append_assoc so_far.marks _ _ ∙ ap (λ (m : List Mark). so_far.marks ++ m) (sym (marks_here _ says))) same)
+        ∙ (λ i. meant_by so_far (option_or (option_map (at_line line.number)
+        (mark_fault (knows.count i) (knows.marked name i))) later) (line ∷ more) (cut false))
 
     module _ (says : HeadStatement) where
       abbrev next_head : Reading
       next_head = record so_far { head = longer_head so_far.head line.number says }
 
-      by_fault : (fault : Option Flaw)
+      by_head : (fault : Option Flaw)
           → (fault ≡ None → resumed version next_head more ≡ meant_by so_far later (line ∷ more) (cut false))
           → reads (with_head so_far (unless line.number fault (longer_head so_far.head line.number says)))
           ≡ meant_by so_far (option_or (option_map (at_line line.number) fault) later) (line ∷ more) (cut false)
-      by_fault None same = same refl
-      by_fault (Some fault) same = refl
+      by_head None same = same refl
+      by_head (Some fault) same = refl
 
       head_agrees : statement_of version line.words ≡ Ok (statement.Head says)
           → resumed version next_head more ≡ meant_from next_head (line ∷ last ∷ front) more
           → reads (after_statement version so_far line.number (Ok (statement.Head says))) ≡ means (Ok (statement.Head says))
       head_agrees is same =
-          by_fault (head_fault so_far.head.is_over (says_in so_far.head.lines says) says)
+          by_head (head_fault so_far.head.is_over (says_in so_far.head.lines says) says)
           (λ _. passes next_head refl (ap event_in is)
           (append_assoc so_far.head.lines _ _
           ∙ ap (λ (h : List HeadLine). so_far.head.lines ++ h) (sym (head_here _ is)))
-          (ap (λ (e : List Expectation). so_far.expectations ++ e) (sym (expected_here _ is))) same)
+          (ap (λ (e : List Expectation). so_far.expectations ++ e) (sym (expected_here _ is)))
+          (ap (λ (m : List Mark). so_far.marks ++ m) (sym (marks_here _ is))) same)
           ∙ (λ i. meant_by so_far (option_or (option_map (at_line line.number)
           (head_fault (knows.over i) (knows.said says i) says)) later) (line ∷ more) (cut false))
 
     module _ (event : Event) where
       abbrev next_one : Reading
-      next_one = record {
+      next_one = record so_far {
         progress = longer so_far.progress line.number event;
         head = over so_far.head;
-        expectations = so_far.expectations;
         events = so_far.events + 1;
       }
 
@@ -240,9 +287,11 @@ module _ (version : Version) where
           (λ room. same room ∙ same_meant later _ _ _ _
           (sym (since_from-event version line event says so_far.progress.since
           (pieces_of version more) (some_piece version more)))
-          (same_read _ _ _ _ _ _ (sym (all_from-event version so_far.progress line event says (pieces_of version more)))
+          (same_read _ _ _ _ _ _ _ _
+          (sym (all_from-event version so_far.progress line event says (pieces_of version more)))
           (ap (λ (h : List HeadLine). so_far.head.lines ++ h) (sym (head_here _ says)))
-          (ap (λ (e : List Expectation). so_far.expectations ++ e) (sym (expected_here _ says)))))
+          (ap (λ (e : List Expectation). so_far.expectations ++ e) (sym (expected_here _ says)))
+          (ap (λ (m : List Mark). so_far.marks ++ m) (sym (marks_here _ says)))))
           ∙ ap (λ (n : ℕ). meant_by so_far (option_or (own_fault (ltb n BATCH_EVENTS)) later) (line ∷ more) (cut false))
           knows.count)
           ∙ ap (λ (narrow : Bool). meant_by so_far (option_or (option_map (at_line line.number)
@@ -269,19 +318,55 @@ module _ (version : Version) where
         → rv32_behind says (is_rv32 version front) ≡ is_rv32 version (line ∷ front)
     xlen_as says e = sym (ap (λ (r : Result Statement Flaw). rv32_behind r (is_rv32 version front)) e)
 
-    knows_publish : statement_of version line.words ≡ Ok statement.Publish → Knows (with_publish so_far) (line ∷ front)
-    knows_publish e = record {
+    marked_as : (name : Name) (says : Result Statement Flaw) → statement_of version line.words ≡ says
+        → (names_same name says || is_marked version front name) ≡ is_marked version (line ∷ front) name
+    marked_as name says e = sym (ap (λ (r : Result Statement Flaw).
+        names_same name r || is_marked version front name) e)
+
+    said_too : (a b : Bool) → (a || (b || false)) ≡ (b || a)
+    said_too true true = refl
+    said_too true false = refl
+    said_too false true = refl
+    said_too false false = refl
+
+    -- the marks so far, and one more
+    marked_too : (name other : Name) (done : ℕ)
+        → is_in (so_far.marks ++ mark_at (Some other) done) name ≡ (same_name name other || is_marked version front name)
+    marked_too name other done = list_any-append (λ mark. same_name name mark.name) so_far.marks _
+        ∙ said_too (is_in so_far.marks name) (same_name name other)
+        ∙ ap (λ (b : Bool). same_name name other || b) (knows.marked name)
+
+    marked_behind : (name : Name) (given : Option Name) (done : ℕ)
+        → statement_of version line.words ≡ Ok (statement.Publish given)
+        → is_in (so_far.marks ++ mark_at given done) name ≡ is_marked version (line ∷ front) name
+    marked_behind name None done e =
+        ap (λ (m : List Mark). is_in m name) (append-nil so_far.marks) ∙ knows.marked name ∙ marked_as name _ e
+    marked_behind name (Some other) done e = marked_too name other done ∙ marked_as name _ e
+
+    knows_publish : (name : Option Name) → statement_of version line.words ≡ Ok (statement.Publish name)
+        → Knows (with_publish so_far name) (line ∷ front)
+    knows_publish name e = record {
       xlen = knows.xlen ∙ xlen_as _ e;
       count = counted_as _ e;
       over = over_as _ e;
       said = λ here. knows.said here ∙ said_as here _ e;
+      marked = λ here. marked_behind here name (so_far.done + 1) e;
+    }
+
+    knows_mark : (name : Name) → statement_of version line.words ≡ Ok (statement.Mark name)
+        → Knows (with_mark so_far name) (line ∷ front)
+    knows_mark name e = record {
+      xlen = knows.xlen ∙ xlen_as _ e;
+      count = knows.count ∙ counted_as _ e;
+      over = knows.over ∙ over_as _ e;
+      said = λ here. knows.said here ∙ said_as here _ e;
+      marked = λ here. marked_too here name so_far.done ∙ marked_as here _ e;
     }
 
     knows_event : (event : Event) → statement_of version line.words ≡ Ok (statement.Event event)
-        → Knows (record {
+        → Knows (record so_far {
           progress = longer so_far.progress line.number event;
           head = over so_far.head;
-          expectations = so_far.expectations;
           events = so_far.events + 1;
         }) (line ∷ front)
     knows_event event e = record {
@@ -289,6 +374,7 @@ module _ (version : Version) where
       count = length-append so_far.progress.batch (event ∷ []) ∙ ap (λ (n : ℕ). n + 1) knows.count ∙ counted_as _ e;
       over = over_as _ e;
       said = λ here. knows.said here ∙ said_as here _ e;
+      marked = λ here. knows.marked here ∙ marked_as here _ e;
     }
 
     knows_expected : (register : Csr) (value : ℕ)
@@ -299,6 +385,7 @@ module _ (version : Version) where
       count = knows.count ∙ counted_as _ e;
       over = knows.over ∙ over_as _ e;
       said = λ here. knows.said here ∙ said_as here _ e;
+      marked = λ here. knows.marked here ∙ marked_as here _ e;
     }
 
     rv32_said : (said : Profile) (says : HeadStatement)
@@ -309,12 +396,6 @@ module _ (version : Version) where
     rv32_said said (Hart (Bits n)) = refl
     rv32_said said (Hart (Smepmp has)) = refl
     rv32_said said (Set register value) = refl
-
-    said_too : (a b : Bool) → (a || (b || false)) ≡ (b || a)
-    said_too true true = refl
-    said_too true false = refl
-    said_too false true = refl
-    said_too false false = refl
 
     knows_head : (says : HeadStatement) → statement_of version line.words ≡ Ok (statement.Head says)
         → Knows (record so_far { head = longer_head so_far.head line.number says }) (line ∷ front)
@@ -328,6 +409,7 @@ module _ (version : Version) where
       said = λ here. list_any-append (λ it. is_same here it.statement) so_far.head.lines _
           ∙ said_too (says_in so_far.head.lines here) (is_same here says)
           ∙ ap (λ (b : Bool). is_same here says || b) (knows.said here) ∙ said_as here _ e;
+      marked = λ here. knows.marked here ∙ marked_as here _ e;
     }
 
   -- ---- all lines
@@ -341,10 +423,15 @@ module _ (version : Version) where
       → statement_of version line.words ≡ says → HoldsOf more → HoldsOf (line ∷ more)
   by_saying (Err kind) line more says same so_far last front above knows =
       agree so_far last front above knows line more (Err kind) says refl
-  by_saying (Ok statement.Publish) line more says same so_far last front above knows =
-      agree so_far last front above knows line more (Ok statement.Publish) says
-      (publish_agrees so_far last front above knows line more says
-      (same (with_publish so_far) line (last ∷ front) above (knows_publish so_far (last ∷ front) knows line says)))
+  by_saying (Ok (statement.Publish name)) line more says same so_far last front above knows =
+      agree so_far last front above knows line more (Ok (statement.Publish name)) says
+      (publish_agrees so_far last front above knows line more name says
+      (same (with_publish so_far name) line (last ∷ front) above
+      (knows_publish so_far (last ∷ front) knows line name says)))
+  by_saying (Ok (statement.Mark name)) line more says same so_far last front above knows =
+      agree so_far last front above knows line more (Ok (statement.Mark name)) says
+      (mark_agrees so_far last front above knows line more name says
+      (same (with_mark so_far name) line (last ∷ front) above (knows_mark so_far (last ∷ front) knows line name says)))
   by_saying (Ok (statement.Event event)) line more says same so_far last front above knows =
       agree so_far last front above knows line more (Ok (statement.Event event)) says
       (event_agrees so_far last front above knows line more event says
@@ -364,10 +451,10 @@ module _ (version : Version) where
   nothing_left : (so_far : Reading) (since : Option ℕ)
       → all_published since (read_in so_far) ≡ fault_or_publications None (option_or since None)
       (read_from so_far [] ([] ∷ []))
-  nothing_left so_far None = ap (λ (all : Read). Ok all) (sym (same_read _ _ _ _ _ _
+  nothing_left so_far None = ap (λ (all : Read). Ok all) (sym (same_read _ _ _ _ _ _ _ _
       (same_publications version _ _ _ _
       (append-nil so_far.progress.published.batches) (append-nil so_far.progress.published.lines))
-      (append-nil so_far.head.lines) (append-nil so_far.expectations)))
+      (append-nil so_far.head.lines) (append-nil so_far.expectations) (append-nil so_far.marks)))
   nothing_left so_far (Some number) = refl
 
   pub reading_means : (lines : List Line) → HoldsOf lines

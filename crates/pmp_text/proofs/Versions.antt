@@ -178,7 +178,8 @@ says_alike (word ∷ operands) = refl
 takes_alike : (so_far : Reading) (number : ℕ) (says : Result Statement Flaw)
     → after_statement (Sized Sixteen) so_far number says ≡ after_statement (Sized SixtyFour) so_far number says
 takes_alike so_far number (Err flaw) = refl
-takes_alike so_far number (Ok statement.Publish) = refl
+takes_alike so_far number (Ok (statement.Publish name)) = refl
+takes_alike so_far number (Ok (statement.Mark name)) = refl
 takes_alike so_far number (Ok (statement.Event event)) = refl
 takes_alike so_far number (Ok (statement.Head says)) = refl
 takes_alike so_far number (Ok (statement.Expect register value)) = refl
@@ -201,6 +202,7 @@ of_size size all = record {
   batches = all.published.batches;
   lines = all.published.lines;
   expectations = all.expectations;
+  marks = all.marks;
 }
 
 -- what was read of a script of version 1

@@ -4,6 +4,7 @@ use Rattle.pmp_core.specs.declared.event.Event.{Event}
 use Rattle.pmp_core.specs.declared.size.Size.{Size}
 use Rattle.pmp_core.specs.RegisterFile.{RegisterFile}
 use Rattle.pmp_text.specs.declared.expectation.Expectation.{Expectation}
+use Rattle.pmp_text.specs.declared.mark.Mark.{Mark}
 
 -- its publications, each a list of events, and for each of these the number of its line
 pub record Publications : Type 0 where
@@ -11,10 +12,11 @@ pub record Publications : Type 0 where
   pub lines : List (List ℕ)
 
 -- the size of the unit that it is for, the register file before the first event, its publications, the lines of their
--- events, and what it expects of registers
+-- events, what it expects of registers, and the moments that it names
 pub record ScriptContents : Type 0 where
   pub size : Size
   pub start : RegisterFile
   pub batches : List (List Event)
   pub lines : List (List ℕ)
   pub expectations : List Expectation
+  pub marks : List Mark

@@ -2,16 +2,19 @@
 use Rattle.std.specs.Prelude.{ℕ, List, [], ◌∷◌, ◌++◌, length}
 use Rattle.pmp_core.specs.declared.event.Event.{Event}
 use Rattle.pmp_text.specs.declared.expectation.Expectation.{Expectation}
+use Rattle.pmp_text.specs.declared.mark.Mark.{Mark}
 
--- events, the line of each, how many are published with each publication and those before it, and what is expected
+-- events, the line of each, how many are published with each publication and those before it, what is expected, and the
+-- moments that have names
 pub record Kept : Type 0 where
   pub events : List Event
   pub lines : List ℕ
   pub ends : List ℕ
   pub expectations : List Expectation
+  pub marks : List Mark
 
 abbrev pub nothing_kept : Kept
-nothing_kept = record { events = []; lines = []; ends = []; expectations = [] }
+nothing_kept = record { events = []; lines = []; ends = []; expectations = []; marks = [] }
 
 -- an event more
 abbrev pub with_event : Kept → (line : ℕ) → Event → Kept
@@ -24,3 +27,7 @@ with_end kept = record kept { ends = kept.ends ++ length kept.events ∷ [] }
 -- an expectation more
 abbrev pub with_expectation : Kept → Expectation → Kept
 with_expectation kept expectation = record kept { expectations = kept.expectations ++ expectation ∷ [] }
+
+-- a moment that has a name, more
+abbrev pub with_mark : Kept → Mark → Kept
+with_mark kept mark = record kept { marks = kept.marks ++ mark ∷ [] }

@@ -16,6 +16,7 @@ pub mod Hexadecimal
 pub mod Inputs
 pub mod Lines
 pub mod LongTraces
+pub mod Marks
 pub mod Moments
 pub mod Names
 pub mod Numbers

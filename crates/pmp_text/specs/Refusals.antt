@@ -7,7 +7,7 @@ use Rattle.pmp_text.specs.declared.refusal.Refusal.TheVariants.{BadLength, PastE
 use Rattle.pmp_text.specs.declared.refusal.Refusal.TheVariants.{OddCfg, BadNumber, BatchFull, Unpublished, TooLong}
 use Rattle.pmp_text.specs.declared.refusal.Refusal.TheVariants.{BadHeader, BadRow, BadAfter, Order, BadWord, Memory}
 use Rattle.pmp_text.specs.declared.refusal.Refusal.TheVariants.{NoPlace, Full, Moved, Input, Output}
-use Rattle.pmp_text.specs.declared.refusal.Refusal.TheVariants.{LateHead, Twice, BadEntries, BadBits, NotHeld, BadGrain}
+use Rattle.pmp_text.specs.declared.refusal.Refusal.TheVariants.{LateHead, Twice, BadEntries, BadBits, NotHeld, BadGrain, BadMark, OpenMark}
 
 abbrev pub number_of : Refusal → ℕ
 number_of BadLength = 3
@@ -37,6 +37,8 @@ number_of BadEntries = 52
 number_of BadBits = 53
 number_of NotHeld = 54
 number_of BadGrain = 55
+number_of BadMark = 56
+number_of OpenMark = 57
 
 abbrev pub name_of : Refusal → List ℕ
 name_of BadLength = codes "BadLength"
@@ -66,6 +68,8 @@ name_of BadEntries = codes "BadEntries"
 name_of BadBits = codes "BadBits"
 name_of NotHeld = codes "NotHeld"
 name_of BadGrain = codes "BadGrain"
+name_of BadMark = codes "BadMark"
+name_of OpenMark = codes "OpenMark"
 
 -- the program's exit status: 3 where memory, input, output or a shared unit failed, and else 2
 abbrev pub status_of : Refusal → ℕ

@@ -1,5 +1,5 @@
 -- What a script means: where its unit begins, its publications and what it expects, or its fault.
-use Rattle.std.specs.Prelude.{ℕ, ◌+◌, List, [], ◌∷◌, length, map, filter, filter_map, find, Bool, true, false, not}
+use Rattle.std.specs.Prelude.{ℕ, ◌+◌, List, [], ◌∷◌, ◌++◌, length, map, filter, filter_map, find, Bool, true, false, not}
 use Rattle.std.specs.Prelude.{◌==◌, Option, Some, None, Result, Ok, Err, is_some, option_map, nat_lt, codes}
 use Rattle.std.specs.Prelude.{bytes_eq, slice_index, unwrap_or, if◌then◌else◌}
 use Rattle.std.specs.List.{list_any, slice_split}
@@ -12,8 +12,10 @@ use Rattle.pmp_core.specs.Hart.{profile_of}
 use Rattle.pmp_core.specs.RegisterFile.{reset_file}
 use Rattle.pmp_text.specs.declared.expectation.Expectation.{Expectation}
 use Rattle.pmp_text.specs.declared.flaw.Flaw.{Flaw}
+use Rattle.pmp_text.specs.declared.mark.Mark.{Mark}
+use Rattle.pmp_text.specs.declared.mark.Name.{Name}
 use Rattle.pmp_text.specs.declared.refusal.Refusal.TheVariants.{BadVersion, BatchFull, Unpublished, TooLong}
-use Rattle.pmp_text.specs.declared.refusal.Refusal.TheVariants.{LateHead, Twice}
+use Rattle.pmp_text.specs.declared.refusal.Refusal.TheVariants.{LateHead, OpenMark, Twice}
 use Rattle.pmp_text.specs.declared.script.ScriptFault.{ScriptFault}
 use Rattle.pmp_text.specs.declared.script.statement.Statement.{Statement}
 use Rattle.pmp_text.specs.declared.script.statement.Statement.TheVariants as statement
@@ -23,6 +25,7 @@ use Rattle.pmp_text.specs.declared.script.version.Version.{Version}
 use Rattle.pmp_text.specs.declared.script.version.Version.TheVariants.{Sized, Headed}
 use Rattle.pmp_text.specs.Heads.{event_flaw, is_same, own_fault, rv32_with, size_for, started}
 use Rattle.pmp_text.specs.Lines.{words, lines}
+use Rattle.pmp_text.specs.Marks.{same_name}
 use Rattle.pmp_text.specs.Statements.{has_rv32, statement_of}
 use Rattle.pmp_text.specs.Contents.{Publications, ScriptContents}
 use Rattle.pmp_text.specs.declared.script.reader.TheConstants.{MAX_SCRIPT}
@@ -82,7 +85,8 @@ version_above (line ∷ next ∷ before) = version_above (next ∷ before)
 -- one event line more, or none since a `publish`
 abbrev pub counted : Result Statement Flaw → ℕ → ℕ
 counted (Ok (statement.Event event)) count = count + 1
-counted (Ok statement.Publish) count = 0
+counted (Ok (statement.Publish name)) count = 0
+counted (Ok (statement.Mark name)) count = count
 counted (Ok (statement.Head says)) count = count
 counted (Ok (statement.Expect register value)) count = count
 counted (Err flaw) count = count
@@ -95,7 +99,8 @@ open_events version (line ∷ before) = counted (statement_of version line.words
 -- an event or a `publish` ends the head
 abbrev pub ends_head : Result Statement Flaw → Bool
 ends_head (Ok (statement.Event event)) = true
-ends_head (Ok statement.Publish) = true
+ends_head (Ok (statement.Publish name)) = true
+ends_head (Ok (statement.Mark name)) = false
 ends_head (Ok (statement.Head says)) = false
 ends_head (Ok (statement.Expect register value)) = false
 ends_head (Err flaw) = false
@@ -106,7 +111,8 @@ is_over version before = list_any (λ line. ends_head (statement_of version line
 -- a line says the same of the hart, or sets the same register
 abbrev pub says_same : HeadStatement → Result Statement Flaw → Bool
 says_same says (Ok (statement.Event event)) = false
-says_same says (Ok statement.Publish) = false
+says_same says (Ok (statement.Publish name)) = false
+says_same says (Ok (statement.Mark name)) = false
 says_same says (Ok (statement.Head other)) = is_same says other
 says_same says (Ok (statement.Expect register value)) = false
 says_same says (Err flaw) = false
@@ -114,10 +120,24 @@ says_same says (Err flaw) = false
 abbrev pub is_said : Version → List Line → HeadStatement → Bool
 is_said version before says = list_any (λ line. says_same says (statement_of version line.words)) before
 
+-- a line gives a moment this name
+abbrev pub names_same : Name → Result Statement Flaw → Bool
+names_same name (Ok (statement.Event event)) = false
+names_same name (Ok (statement.Publish None)) = false
+names_same name (Ok (statement.Publish (Some other))) = same_name name other
+names_same name (Ok (statement.Mark other)) = same_name name other
+names_same name (Ok (statement.Head says)) = false
+names_same name (Ok (statement.Expect register value)) = false
+names_same name (Err flaw) = false
+
+abbrev pub is_marked : Version → List Line → Name → Bool
+is_marked version before name = list_any (λ line. names_same name (statement_of version line.words)) before
+
 -- whether XLEN is 32, as the lines before say, from the nearest back
 abbrev pub rv32_behind : Result Statement Flaw → Bool → Bool
 rv32_behind (Ok (statement.Event event)) before = before
-rv32_behind (Ok statement.Publish) before = before
+rv32_behind (Ok (statement.Publish name)) before = before
+rv32_behind (Ok (statement.Mark name)) before = before
 rv32_behind (Ok (statement.Head says)) before = rv32_with says before
 rv32_behind (Ok (statement.Expect register value)) before = before
 rv32_behind (Err flaw) before = before
@@ -130,6 +150,15 @@ is_rv32 version (line ∷ before) = rv32_behind (statement_of version line.words
 abbrev pub head_fault : (over said : Bool) → HeadStatement → Option Flaw
 head_fault over said says = if over then Some (as_whole LateHead) else (if said then Some (part 1 Twice) else own_fault says)
 
+-- a name is at fault that was given before, and a `mark` behind events that aren't published
+abbrev pub name_fault : (marked : Name → Bool) → Option Name → Option Flaw
+name_fault marked None = None
+name_fault marked (Some name) = if marked name then Some (part 1 Twice) else None
+
+abbrev pub mark_fault : (count : ℕ) → (marked : Bool) → Option Flaw
+mark_fault count marked =
+    if nat_lt 0 count then Some (as_whole OpenMark) else (if marked then Some (part 1 Twice) else None)
+
 -- an event is at fault where the hart doesn't have what it writes, or as many are open before it as a batch holds
 abbrev pub event_fault : Option Flaw → (count : ℕ) → Option Flaw
 event_fault (Some flaw) count = Some flaw
@@ -137,18 +166,18 @@ event_fault None count = if nat_lt count BATCH_EVENTS then None else Some (as_wh
 
 -- a line that is no statement is at fault by itself
 abbrev pub statement_fault : (of_event : Event → Option Flaw) → (count : ℕ) → (over : Bool)
-    → (said : HeadStatement → Bool) → Result Statement Flaw → Option Flaw
-statement_fault of_event count over said (Err flaw) = Some flaw
-statement_fault of_event count over said (Ok statement.Publish) = None
-statement_fault of_event count over said (Ok (statement.Event event)) = event_fault (of_event event) count
-statement_fault of_event count over said (Ok (statement.Head says)) = head_fault over (said says) says
-statement_fault of_event count over said (Ok (statement.Expect register value)) = None
+    → (said : HeadStatement → Bool) → (marked : Name → Bool) → Result Statement Flaw → Option Flaw
+statement_fault of_event count over said marked (Err flaw) = Some flaw
+statement_fault of_event count over said marked (Ok (statement.Publish name)) = name_fault marked name
+statement_fault of_event count over said marked (Ok (statement.Mark name)) = mark_fault count (marked name)
+statement_fault of_event count over said marked (Ok (statement.Event event)) = event_fault (of_event event) count
+statement_fault of_event count over said marked (Ok (statement.Head says)) = head_fault over (said says) says
+statement_fault of_event count over said marked (Ok (statement.Expect register value)) = None
 
 abbrev pub fault_behind : Version → (before : List Line) → Line → Option Flaw
 fault_behind version before line =
     statement_fault (event_flaw version (is_rv32 version before)) (open_events version before) (is_over version before)
-    (is_said version before)
-    (statement_of version line.words)
+    (is_said version before) (is_marked version before) (statement_of version line.words)
 
 -- the fault of a significant line, by its words and the significant lines before it, the nearest first
 abbrev pub line_fault : (before : List Line) → Line → Option Flaw
@@ -166,7 +195,8 @@ first_fault before (line ∷ more) =
 -- the event that a line adds, if any
 abbrev pub event_in : Result Statement Flaw → Option Event
 event_in (Ok (statement.Event event)) = Some event
-event_in (Ok statement.Publish) = None
+event_in (Ok (statement.Publish name)) = None
+event_in (Ok (statement.Mark name)) = None
 event_in (Ok (statement.Head says)) = None
 event_in (Ok (statement.Expect register value)) = None
 event_in (Err flaw) = None
@@ -180,7 +210,8 @@ event_line_of version line = option_map (λ _. line.number) (event_of version li
 
 abbrev pub publishes : Result Statement Flaw → Bool
 publishes (Ok (statement.Event event)) = false
-publishes (Ok statement.Publish) = true
+publishes (Ok (statement.Publish name)) = true
+publishes (Ok (statement.Mark name)) = false
 publishes (Ok (statement.Head says)) = false
 publishes (Ok (statement.Expect register value)) = false
 publishes (Err flaw) = false
@@ -217,7 +248,8 @@ first_unpublished version lines =
 
 abbrev pub head_line_in : (number : ℕ) → Result Statement Flaw → Option HeadLine
 head_line_in number (Ok (statement.Event event)) = None
-head_line_in number (Ok statement.Publish) = None
+head_line_in number (Ok (statement.Publish name)) = None
+head_line_in number (Ok (statement.Mark name)) = None
 head_line_in number (Ok (statement.Head says)) = Some (record { line = number; statement = says })
 head_line_in number (Ok (statement.Expect register value)) = None
 head_line_in number (Err flaw) = None
@@ -230,7 +262,8 @@ head_lines version lines = filter_map (λ line. head_line_in line.number (statem
 abbrev pub expected_by : (events number : ℕ) → Result Statement Flaw → (later : ℕ → List Expectation)
     → List Expectation
 expected_by events number (Ok (statement.Event event)) later = later (events + 1)
-expected_by events number (Ok statement.Publish) later = later events
+expected_by events number (Ok (statement.Publish name)) later = later events
+expected_by events number (Ok (statement.Mark name)) later = later events
 expected_by events number (Ok (statement.Head says)) later = later events
 expected_by events number (Ok (statement.Expect register value)) later =
     record { register = register; value = value; line = number; events = events } ∷ later events
@@ -240,6 +273,27 @@ abbrev pub expected_from : Version → (events : ℕ) → List Line → List Exp
 expected_from version events [] = []
 expected_from version events (line ∷ more) =
     expected_by events line.number (statement_of version line.words) (λ events. expected_from version events more)
+
+-- ---- names of moments
+
+-- a moment behind so many publications, where it has a name
+abbrev pub mark_at : Option Name → (done : ℕ) → List Mark
+mark_at None done = []
+mark_at (Some name) done = record { name = name; done = done } ∷ []
+
+-- the moments that these lines name, behind so many publications
+abbrev pub marks_by : (done : ℕ) → Result Statement Flaw → (later : ℕ → List Mark) → List Mark
+marks_by done (Ok (statement.Event event)) later = later done
+marks_by done (Ok (statement.Publish name)) later = mark_at name (done + 1) ++ later (done + 1)
+marks_by done (Ok (statement.Mark name)) later = mark_at (Some name) done ++ later done
+marks_by done (Ok (statement.Head says)) later = later done
+marks_by done (Ok (statement.Expect register value)) later = later done
+marks_by done (Err flaw) later = later done
+
+abbrev pub marks_from : Version → (done : ℕ) → List Line → List Mark
+marks_from version done [] = []
+marks_from version done (line ∷ more) =
+    marks_by done (statement_of version line.words) (λ done. marks_from version done more)
 
 -- ---- the meaning
 
@@ -257,23 +311,25 @@ for_unit size (Ok published) = Ok (record {
   batches = published.batches;
   lines = published.lines;
   expectations = [];
+  marks = [];
 })
 for_unit size (Err fault) = Err fault
 
 -- these publications are for the hart of a head, from the registers on that it sets
-abbrev pub for_head : List HeadLine → List Expectation → Result Publications ScriptFault
+abbrev pub for_head : List HeadLine → List Expectation → List Mark → Result Publications ScriptFault
     → Result ScriptContents ScriptFault
-for_head head expectations (Ok published) = elim (started head expectations) [
+for_head head expectations marks (Ok published) = elim (started head expectations) [
   | Ok start ↦ Ok (record {
     size = size_for start;
     start = start;
     batches = published.batches;
     lines = published.lines;
     expectations = expectations;
+    marks = marks;
   })
   | Err fault ↦ Err fault
 ]
-for_head head expectations (Err fault) = Err fault
+for_head head expectations marks (Err fault) = Err fault
 
 -- what lines publish behind the one that names their version
 abbrev pub published_behind : Line → List Line → Version → Result Publications ScriptFault
@@ -285,7 +341,8 @@ abbrev pub meaning_behind : Line → List Line → Option Version → Result Scr
 meaning_behind first more None = Err (at_line first.number (version_flaw first.words))
 meaning_behind first more (Some (Sized size)) = for_unit size (published_behind first more (Sized size))
 meaning_behind first more (Some Headed) =
-    for_head (head_lines Headed more) (expected_from Headed 0 more) (published_behind first more Headed)
+    for_head (head_lines Headed more) (expected_from Headed 0 more) (marks_from Headed 0 more)
+    (published_behind first more Headed)
 
 -- the first line is the version; the head and publications stand behind it
 abbrev pub lines_meaning : List Line → Result ScriptContents ScriptFault

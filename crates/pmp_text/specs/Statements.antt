@@ -5,17 +5,19 @@ use Rattle.pmp_core.specs.declared.csr.Csr.{Csr}
 use Rattle.pmp_core.specs.declared.event.Event.TheVariants.{Write, Reset}
 use Rattle.pmp_text.specs.declared.flaw.Flaw.{Flaw}
 use Rattle.pmp_text.specs.declared.refusal.Refusal.{Refusal}
-use Rattle.pmp_text.specs.declared.refusal.Refusal.TheVariants.{BadLine, BadNumber, BadEntries, BadBits, BadGrain}
+use Rattle.pmp_text.specs.declared.refusal.Refusal.TheVariants.{BadLine, BadMark, BadNumber, BadEntries, BadBits, BadGrain}
 use Rattle.pmp_text.specs.declared.script.hart_field.HartField.{HartField}
 use Rattle.pmp_text.specs.declared.script.hart_field.HartField.TheVariants.{Xlen, Entries, Grain, Bits, Smepmp}
 use Rattle.pmp_text.specs.declared.script.hart_field.TheConstants.{GRAINS}
 use Rattle.pmp_text.specs.declared.script.statement.HeadStatement.TheVariants.{Hart, Set}
 use Rattle.pmp_text.specs.declared.script.statement.Statement.{Statement}
 use Rattle.pmp_text.specs.declared.script.statement.Statement.TheVariants as statement
+use Rattle.pmp_text.specs.declared.mark.Name.{Name}
 use Rattle.pmp_text.specs.declared.script.version.Version.{Version}
 use Rattle.pmp_text.specs.declared.script.version.Version.TheVariants.{Sized, Headed}
 use Rattle.pmp_text.specs.Numbers.{word_number}
 use Rattle.pmp_text.specs.Names.{register_named}
+use Rattle.pmp_text.specs.Marks.{name_said}
 use Rattle.pmp_text.specs.Flaws.{part, as_whole}
 
 -- ---- a register and a value
@@ -125,12 +127,32 @@ abbrev pub without_operands : Statement → List (List ℕ) → Result Statement
 without_operands statement [] = Ok statement
 without_operands statement (word ∷ more) = Err (part 1 BadLine)
 
--- what only version 3 has: `hart` with a field, and `set` and `expect` with a register and a value
+-- a moment's name, or none, and no more
+abbrev pub name_of : List (List ℕ) → Result (Option Name) Flaw
+name_of [] = Ok None
+name_of (word ∷ []) = elim (name_said word) [ Some name ↦ Ok (Some name) | None ↦ Err (part 1 BadMark) ]
+name_of (word ∷ next ∷ more) = Err (part 2 BadLine)
+
+-- `publish` may name the moment behind it in version 3
+abbrev pub publish_statement : Version → List (List ℕ) → Result Statement Flaw
+publish_statement (Sized size) operands = without_operands (statement.Publish None) operands
+publish_statement Headed operands = elim (name_of operands) [ Ok name ↦ Ok (statement.Publish name) | Err flaw ↦ Err flaw ]
+
+-- `mark` names the moment where it stands
+abbrev pub mark_statement : List (List ℕ) → Result Statement Flaw
+mark_statement operands = elim (name_of operands) [
+  | Ok (Some name) ↦ Ok (statement.Mark name)
+  | Ok None ↦ Err (as_whole BadLine)
+  | Err flaw ↦ Err flaw
+]
+
+-- what only version 3 has: `hart` with a field, `set` and `expect` with a register and a value, and `mark` with a name
 abbrev pub head_statement : List ℕ → List (List ℕ) → Result Statement Flaw
 head_statement word operands =
     if bytes_eq word (codes "hart") then hart_statement operands
     else (if bytes_eq word (codes "set") then set_statement operands
-    else (if bytes_eq word (codes "expect") then expect_statement operands else Err (part 0 BadLine)))
+    else (if bytes_eq word (codes "expect") then expect_statement operands
+    else (if bytes_eq word (codes "mark") then mark_statement operands else Err (part 0 BadLine))))
 
 abbrev pub further_statement : Version → List ℕ → List (List ℕ) → Result Statement Flaw
 further_statement (Sized size) word operands = Err (part 0 BadLine)
@@ -143,5 +165,5 @@ statement_of version [] = Err (as_whole BadLine)
 statement_of version (word ∷ operands) =
     if bytes_eq word (codes "write") then write_statement version operands
     else (if bytes_eq word (codes "reset") then without_operands (statement.Event Reset) operands
-    else (if bytes_eq word (codes "publish") then without_operands statement.Publish operands
+    else (if bytes_eq word (codes "publish") then publish_statement version operands
     else further_statement version word operands))

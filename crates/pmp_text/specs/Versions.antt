@@ -70,6 +70,7 @@ in_sixteen batches lines = record {
   batches = batches;
   lines = lines;
   expectations = [];
+  marks = [];
 }
 
 -- it has the fault or the publications that it has where that version is the only one, these are done in a unit of
@@ -124,11 +125,12 @@ pub record IsSized (text : List ℕ) (size : Size) : Type 0 where
   pub lines_are : significant_lines text ≡ first ∷ more
   pub says : version_named first.words ≡ Some (Sized size)
 
--- a script of version 1 or 2 is for the unit of its size, from its reset on, and expects nothing
+-- a script of version 1 or 2 is for the unit of its size, from its reset on, expects nothing, and names no moment
 pub record HasNoHead (size : Size) (script : ScriptContents) : Type 0 where
   pub sized : script.size ≡ size
   pub start : script.start ≡ reset_file (profile_of size)
   pub nothing : script.expectations ≡ []
+  pub unnamed : script.marks ≡ []
 
 abbrev pub NoHeadLaw : Type 0
 NoHeadLaw = (text : List ℕ) (size : Size) (script : ScriptContents) → IsSized text size

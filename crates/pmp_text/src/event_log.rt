@@ -2,11 +2,13 @@
 
 ghost use Rattle.std.specs.Prelude.{◌≡◌, ◌++◌, ◌∷◌, [], OnErr, OnOk, length};
 ghost use Rattle.pmp_text.specs.EventLogs.{Kept, nothing_kept, with_end, with_event, with_expectation};
+ghost use Rattle.pmp_text.specs.EventLogs.{with_mark};
 
 mod log;
 mod store;
 
 use crate::expectation::Expectation;
+use crate::mark::Mark;
 pub use log::{FixedLog, GrowingLog};
 use pmp_core::Event;
 use std::alloc::AllocError;
@@ -35,6 +37,11 @@ pub trait EventLog {
         ensures ok { OnOk result (kept self.new ≡ with_expectation (kept self.old) expectation) }
         ensures err { OnErr result (kept self.new ≡ kept self.old) };
 
+    /// Appends a moment that has a name, or nothing.
+    fn mark(&mut self, mark: Mark) -> Result<(), AllocError>
+        ensures ok { OnOk result (kept self.new ≡ with_mark (kept self.old) mark) }
+        ensures err { OnErr result (kept self.new ≡ kept self.old) };
+
     /// All events.
     fn events(&self) -> &[Event]
         ensures { result.now ≡ (kept self.now).events };
@@ -50,4 +57,8 @@ pub trait EventLog {
     /// What is expected of registers.
     fn expectations(&self) -> &[Expectation]
         ensures { result.now ≡ (kept self.now).expectations };
+
+    /// The moments that have names.
+    fn marks(&self) -> &[Mark]
+        ensures { result.now ≡ (kept self.now).marks };
 }

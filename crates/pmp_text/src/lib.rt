@@ -9,6 +9,7 @@ mod flaw;
 mod input;
 pub mod laws;
 mod lines;
+mod mark;
 mod moments;
 mod names;
 mod numbers;
@@ -30,6 +31,7 @@ pub use lines::{
     write_entries, write_expected, write_picture, write_registers, write_row, write_runs,
     write_script, write_verdict,
 };
+pub use mark::{Mark, NAME_BYTES, Name};
 pub use moments::{Coming, Lasting, Moments};
 pub use numbers::{is_bare, read_word_number};
 pub use output::{OutputFault, write_out};

@@ -55,7 +55,7 @@ pub enum Refusal {
     Output = 42,
     /// A `hart` or `set` line stands after the first `write`, `reset` or `publish`.
     LateHead = 50,
-    /// The same is said of the hart twice, or the same register is set twice.
+    /// The same is said of the hart twice, the same register is set twice, or two moments have one name.
     Twice = 51,
     /// A number of entries that no hart has.
     BadEntries = 52,
@@ -65,6 +65,10 @@ pub enum Refusal {
     NotHeld = 54,
     /// A grain that no hart has.
     BadGrain = 55,
+    /// A moment's name that is none.
+    BadMark = 56,
+    /// A `mark` stands behind an event and above its `publish`.
+    OpenMark = 57,
 }
 
 /// Why a script is refused: 10 to 17, 40, and in version 3 those from 50 on.
@@ -114,6 +118,8 @@ impl Refusal {
             Refusal::BadBits => "BadBits",
             Refusal::NotHeld => "NotHeld",
             Refusal::BadGrain => "BadGrain",
+            Refusal::BadMark => "BadMark",
+            Refusal::OpenMark => "OpenMark",
         }
     }
 
@@ -138,7 +144,7 @@ impl Refusal {
             Refusal::BadVersion =>
                 "pmp 1 for a unit of 16 entries, pmp 2 for one of 64, or pmp 3 for any hart, before every line but comments",
             Refusal::BadLine =>
-                "write NAME VALUE, reset or publish; with pmp 3 also set NAME VALUE, expect NAME VALUE, and hart with xlen 32 or 64, entries N, grain BYTES, bits N or smepmp yes or no",
+                "write NAME VALUE, reset or publish; with pmp 3 also set NAME VALUE, expect NAME VALUE, mark NAME, publish NAME, and hart with xlen 32 or 64, entries N, grain BYTES, bits N or smepmp yes or no",
             Refusal::BadName =>
                 "mseccfg, pmpcfg0, pmpcfg2, .. pmpcfg14, pmpaddr0 to pmpaddr63, or the register's number after 0x; with hart xlen 32 also mseccfgh and the odd pmpcfg",
             Refusal::OddCfg =>
@@ -165,11 +171,15 @@ impl Refusal {
                 "a path that can be opened and read; stdin is standard input, and a dash isn't",
             Refusal::Output => "an output that takes the whole answer",
             Refusal::LateHead => "hart and set before the first write, reset or publish",
-            Refusal::Twice => "each field of the hart once, and each register set once",
+            Refusal::Twice =>
+                "each field of the hart once, each register set once, and each moment named once",
             Refusal::BadEntries => "0 to 64 entries",
             Refusal::BadBits => "34 to 56 address bits, or 32 to 34 with hart xlen 32",
             Refusal::NotHeld => "a value that the register of this hart keeps",
             Refusal::BadGrain => "a grain of 4, 8, 16 and so on to 4096 bytes",
+            Refusal::BadMark =>
+                "a name of 1 to 64 bytes: a letter, then letters, digits, _ and ., and none of last, mml, mmwp and rlb",
+            Refusal::OpenMark => "mark between publications",
         }
     }
 
@@ -181,7 +191,7 @@ impl Refusal {
             Refusal::BadVersion =>
                 "make it the first line, in lower case and with no other word; save the script as UTF-8 without a byte-order mark, each line ended by LF",
             Refusal::BadLine =>
-                "write each CSR write as write NAME VALUE, without =; begin with pmp 3 for hart, set and expect; begin comments with #, on lines of their own",
+                "write each CSR write as write NAME VALUE, without =; begin with pmp 3 for hart, set, expect and mark; begin comments with #, on lines of their own",
             Refusal::BadName =>
                 "write it so, in lower case and without leading zeros; leave out writes to other registers",
             Refusal::OddCfg =>
@@ -212,6 +222,8 @@ impl Refusal {
             Refusal::NotHeld =>
                 "give the hart lines of the hart that had the value; clear the bits that no hart keeps, as 63 to 54 of a pmpaddr, which QEMU before 11 keeps",
             Refusal::BadGrain => "give the grain in bytes, not the manual's G",
+            Refusal::BadMark => "give the moment another name",
+            Refusal::OpenMark => "put it behind the publish, or name that, as by publish NAME",
         }
     }
 }

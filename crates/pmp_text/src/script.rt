@@ -24,6 +24,7 @@ mod words;
 
 use crate::event_log::EventLog;
 use crate::expectation::Expectation;
+use crate::mark::Mark;
 use crate::refusal::{Refusal, ScriptKind};
 use pmp_core::{BATCH_EVENTS, ENTRIES, Event, RegFile, Size};
 pub use reader::{MAX_SCRIPT, is_headed, read_script};
@@ -61,6 +62,7 @@ pub struct Script<'a> {
     /// How many events are published with each publication and those before it.
     ends: &'a [usize],
     expectations: &'a [Expectation],
+    marks: &'a [Mark],
 }
 
 impl<'a> Model for Script<'a> {
@@ -72,6 +74,7 @@ impl<'a> Model for Script<'a> {
       batches = cut_from 0 script.ends.now script.events.now;
       lines = cut_from 0 script.ends.now script.lines.now;
       expectations = script.expectations.now;
+      marks = script.marks.now;
     } };
 
     ghost invariant = { λ script. AreCut script.ends.now (length script.events.now) (length script.lines.now) };
@@ -122,6 +125,7 @@ impl<'a> Script<'a> {
           batches = cut_from 0 kept.ends kept.events;
           lines = cut_from 0 kept.ends kept.lines;
           expectations = kept.expectations;
+          marks = kept.marks;
         } }
     {
         Script {
@@ -131,6 +135,7 @@ impl<'a> Script<'a> {
             lines: log.lines(),
             ends: log.ends(),
             expectations: log.expectations(),
+            marks: log.marks(),
         }
     }
 
@@ -154,6 +159,13 @@ impl<'a> Script<'a> {
         ensures { result.now ≡ self.now.expectations }
     {
         self.expectations
+    }
+
+    /// The moments that have names, in the order of lines.
+    pub fn marks(&self) -> &[Mark]
+        ensures { result.now ≡ self.now.marks }
+    {
+        self.marks
     }
 
     /// How many publications there are.

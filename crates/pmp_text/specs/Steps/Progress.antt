@@ -17,10 +17,13 @@ use Rattle.pmp_text.specs.declared.script.head.HeadLine.{HeadLine}
 use Rattle.pmp_text.specs.declared.script.version.Version.{Version}
 use Rattle.pmp_text.specs.declared.script.version.Version.TheVariants.{Sized, Headed}
 use Rattle.pmp_text.specs.declared.expectation.Expectation.{Expectation}
+use Rattle.pmp_text.specs.declared.mark.Mark.{Mark}
+use Rattle.pmp_text.specs.declared.mark.Name.{Name}
 use Rattle.pmp_text.specs.Contents.{Publications, ScriptContents}
 use Rattle.pmp_text.specs.Heads.{event_flaw, is_same, profile_said}
 use Rattle.pmp_text.specs.Statements.{statement_of}
-use Rattle.pmp_text.specs.Scripts.{Line, for_head, head_fault}
+use Rattle.pmp_text.specs.Marks.{is_in}
+use Rattle.pmp_text.specs.Scripts.{Line, for_head, head_fault, mark_at, mark_fault, name_fault}
 use Rattle.pmp_text.specs.Flaws.{at_line, as_whole}
 
 -- the publications so far, the events of the open batch and their lines, and the line of the first of them
@@ -90,55 +93,50 @@ after_head head number says =
 
 -- ---- all
 
--- what was read, and how many events that is
+-- what was read, how many events and how many publications that is, and the moments that have names
 pub record Reading : Type 0 where
   pub progress : Progress
   pub head : HeadSoFar
   pub expectations : List Expectation
   pub events : ℕ
+  pub marks : List Mark
+  pub done : ℕ
 
 -- what is read in the end
 pub record Read : Type 0 where
   pub published : Publications
   pub head : List HeadLine
   pub expectations : List Expectation
+  pub marks : List Mark
 
 abbrev pub nothing_begun : Reading
-nothing_begun = record { progress = nothing_read; head = no_head; expectations = []; events = 0 }
+nothing_begun =
+    record { progress = nothing_read; head = no_head; expectations = []; events = 0; marks = []; done = 0 }
 
-abbrev pub with_publish : Reading → Reading
-with_publish so_far = record {
+abbrev pub with_publish : Reading → Option Name → Reading
+with_publish so_far name = record so_far {
   progress = published so_far.progress;
   head = over so_far.head;
-  expectations = so_far.expectations;
-  events = so_far.events;
+  marks = so_far.marks ++ mark_at name (so_far.done + 1);
+  done = so_far.done + 1;
 }
 
+abbrev pub with_mark : Reading → Name → Reading
+with_mark so_far name = record so_far { marks = so_far.marks ++ mark_at (Some name) so_far.done }
+
 abbrev pub with_progress : Reading → Result Progress ScriptFault → Result Reading ScriptFault
-with_progress so_far (Ok progress) = Ok (record {
-  progress = progress;
-  head = over so_far.head;
-  expectations = so_far.expectations;
-  events = so_far.events + 1;
-})
+with_progress so_far (Ok progress) =
+    Ok (record so_far { progress = progress; head = over so_far.head; events = so_far.events + 1 })
 with_progress so_far (Err fault) = Err fault
 
 abbrev pub with_head : Reading → Result HeadSoFar ScriptFault → Result Reading ScriptFault
-with_head so_far (Ok head) = Ok (record {
-  progress = so_far.progress;
-  head = head;
-  expectations = so_far.expectations;
-  events = so_far.events;
-})
+with_head so_far (Ok head) = Ok (record so_far { head = head })
 with_head so_far (Err fault) = Err fault
 
 abbrev pub with_expected : Reading → ℕ → Csr → ℕ → Reading
-with_expected so_far number register value = record {
-  progress = so_far.progress;
-  head = so_far.head;
+with_expected so_far number register value = record so_far {
   expectations = so_far.expectations
       ++ record { register = register; value = value; line = number; events = so_far.events } ∷ [];
-  events = so_far.events;
 }
 
 -- an event joins the open batch if it has no such flaw
@@ -149,7 +147,10 @@ after_event None so_far number event = with_progress so_far (with_event so_far.p
 -- what reading a line with this number makes of it, by what the line says
 abbrev pub after_statement : Version → Reading → ℕ → Result Statement Flaw → Result Reading ScriptFault
 after_statement version so_far number (Err flaw) = Err (at_line number flaw)
-after_statement version so_far number (Ok statement.Publish) = Ok (with_publish so_far)
+after_statement version so_far number (Ok (statement.Publish name)) =
+    unless number (name_fault (is_in so_far.marks) name) (with_publish so_far name)
+after_statement version so_far number (Ok (statement.Mark name)) =
+    unless number (mark_fault (length so_far.progress.batch) (is_in so_far.marks name)) (with_mark so_far name)
 after_statement version so_far number (Ok (statement.Event event)) =
     after_event (event_flaw version (profile_said so_far.head.lines).is_rv32 event) so_far number event
 after_statement version so_far number (Ok (statement.Head says)) =
@@ -170,6 +171,7 @@ read_in so_far = record {
   published = so_far.progress.published;
   head = so_far.head.lines;
   expectations = so_far.expectations;
+  marks = so_far.marks;
 }
 
 abbrev pub finished : Reading → Result Read ScriptFault
@@ -190,5 +192,6 @@ concluded (Sized size) (Ok read) = Ok (record {
   batches = read.published.batches;
   lines = read.published.lines;
   expectations = read.expectations;
+  marks = read.marks;
 })
-concluded Headed (Ok read) = for_head read.head read.expectations (Ok read.published)
+concluded Headed (Ok read) = for_head read.head read.expectations read.marks (Ok read.published)

@@ -40,6 +40,8 @@ reading_of kept reading = record {
   head = head_of reading.head;
   expectations = kept.expectations;
   events = length kept.events;
+  marks = kept.marks;
+  done = length kept.ends;
 }
 
 pub record IsReading (kept : Kept) (reading : ScriptReading) : Type 0 where

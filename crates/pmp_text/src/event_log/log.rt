@@ -3,28 +3,36 @@
 use crate::event_log::EventLog;
 use crate::event_log::store::Store;
 use crate::expectation::Expectation;
+use crate::mark::Mark;
 use arrayvec::ArrayVec;
 use pmp_core::Event;
 use std::alloc::{AllocError, Global};
 
 /// A store for each thing that is kept.
 #[derive(Drop)]
-pub struct Log<E, L, P, X> {
+pub struct Log<E, L, P, X, M> {
     events: E,
     lines: L,
     ends: P,
     expectations: X,
+    marks: M,
 }
 
 /// A log of events that grows.
-pub type GrowingLog = Log<Vec<Event>, Vec<u64>, Vec<usize>, Vec<Expectation>>;
+pub type GrowingLog = Log<Vec<Event>, Vec<u64>, Vec<usize>, Vec<Expectation>, Vec<Mark>>;
 
-/// A log of events that never asks for memory, for so many events, publications and expectations.
-pub type FixedLog<const EVENTS: usize, const PUBLICATIONS: usize, const EXPECTATIONS: usize> = Log<
+/// A log of events that never asks for memory, for so many events, publications, expectations and moments with names.
+pub type FixedLog<
+    const EVENTS: usize,
+    const PUBLICATIONS: usize,
+    const EXPECTATIONS: usize,
+    const MARKS: usize,
+> = Log<
     ArrayVec<Event, EVENTS>,
     ArrayVec<u64, EVENTS>,
     ArrayVec<usize, PUBLICATIONS>,
     ArrayVec<Expectation, EXPECTATIONS>,
+    ArrayVec<Mark, MARKS>,
 >;
 
 impl GrowingLog {
@@ -35,15 +43,17 @@ impl GrowingLog {
             lines: Vec::new(alloc),
             ends: Vec::new(alloc),
             expectations: Vec::new(alloc),
+            marks: Vec::new(alloc),
         }
     }
 }
 
-impl<const EVENTS: usize, const PUBLICATIONS: usize, const EXPECTATIONS: usize> FixedLog<
-    EVENTS,
-    PUBLICATIONS,
-    EXPECTATIONS,
-> {
+impl<
+    const EVENTS: usize,
+    const PUBLICATIONS: usize,
+    const EXPECTATIONS: usize,
+    const MARKS: usize,
+> FixedLog<EVENTS, PUBLICATIONS, EXPECTATIONS, MARKS> {
     /// An empty log.
     pub fn new() -> Self {
         Log {
@@ -51,17 +61,24 @@ impl<const EVENTS: usize, const PUBLICATIONS: usize, const EXPECTATIONS: usize> 
             lines: ArrayVec::new(),
             ends: ArrayVec::new(),
             expectations: ArrayVec::new(),
+            marks: ArrayVec::new(),
         }
     }
 }
 
-impl<E: Store<Event>, L: Store<u64>, P: Store<usize>, X: Store<Expectation>> EventLog
-    for Log<E, L, P, X> {
+impl<
+    E: Store<Event>,
+    L: Store<u64>,
+    P: Store<usize>,
+    X: Store<Expectation>,
+    M: Store<Mark>,
+> EventLog for Log<E, L, P, X, M> {
     ghost kept = { λ log. record {
       events = E.items log.events;
       lines = L.items log.lines;
       ends = P.items log.ends;
       expectations = X.items log.expectations;
+      marks = M.items log.marks;
     } };
 
     fn clear(&mut self) {
@@ -69,6 +86,7 @@ impl<E: Store<Event>, L: Store<u64>, P: Store<usize>, X: Store<Expectation>> Eve
         self.lines.keep(0);
         self.ends.keep(0);
         self.expectations.keep(0);
+        self.marks.keep(0);
     }
 
     fn push(&mut self, line: u64, event: Event) -> Result<(), AllocError> {
@@ -90,6 +108,10 @@ impl<E: Store<Event>, L: Store<u64>, P: Store<usize>, X: Store<Expectation>> Eve
         self.expectations.push(expectation)
     }
 
+    fn mark(&mut self, mark: Mark) -> Result<(), AllocError> {
+        self.marks.push(mark)
+    }
+
     fn events(&self) -> &[Event] {
         self.events.as_slice()
     }
@@ -104,5 +126,9 @@ impl<E: Store<Event>, L: Store<u64>, P: Store<usize>, X: Store<Expectation>> Eve
 
     fn expectations(&self) -> &[Expectation] {
         self.expectations.as_slice()
+    }
+
+    fn marks(&self) -> &[Mark] {
+        self.marks.as_slice()
     }
 }

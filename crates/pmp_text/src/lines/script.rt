@@ -69,7 +69,7 @@ fn gives_back(text: &[u8], file: &RegFile) -> bool
     requires { text.now ≡ script_text file.now }
     ensures { IsTrue result → GivesBack file.now text.now }
 {
-    let mut log = FixedLog::<1, 1, 1>::new();
+    let mut log = FixedLog::<1, 1, 1, 1>::new();
     let Ok(script) = read_script(&mut log, text) else {
         return false;
     };

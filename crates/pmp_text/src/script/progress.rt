@@ -1,6 +1,6 @@
 //! The batch that is open while a script is read.
 
-ghost use Rattle.std.specs.Prelude.{◌≡◌, Ok, OnOk};
+ghost use Rattle.std.specs.Prelude.{◌≡◌, Ok, OnOk, length};
 ghost use Rattle.pmp_text.specs.EventLogs.{nothing_kept, with_end, with_event as pushed};
 ghost use Rattle.pmp_text.specs.Outcomes.{Gives};
 ghost use Rattle.pmp_text.specs.Steps.Progress.{nothing_read, published, with_event};
@@ -46,6 +46,14 @@ impl OpenBatch {
         Ok(())
     }
 
+    /// How many events the open batch has.
+    pub fn count<L: EventLog>(&self, log: &L) -> usize
+        requires { IsOpen (L.kept log.now) self.now }
+        ensures { result ≡ length (progress_of (L.kept log.now) self.now).batch }
+    {
+        log.events().len() - self.published
+    }
+
     /// Adds an event to the open batch.
     pub fn add<L: EventLog>(
         &mut self,
@@ -59,7 +67,7 @@ impl OpenBatch {
         ensures added { Gives (λ _. progress_of (L.kept log.new) self.new) result
             (with_event (progress_of (L.kept log.old) self.old) line event) }
     {
-        if log.events().len() - self.published >= BATCH_EVENTS {
+        if self.count(log) >= BATCH_EVENTS {
             return Err(Refusal::BatchFull.whole().at_line(line));
         }
         log.push(line, event)?;

@@ -4,9 +4,10 @@ ghost use Rattle.std.specs.Prelude.{◌≡◌, Err, IfErr, IfOk, Ok};
 ghost use Rattle.pmp_text.specs.Heads.{is_same, same_register};
 ghost use Rattle.pmp_text.specs.Lines.{words};
 ghost use Rattle.pmp_text.specs.Statements.{assignment, statement_of, head_statement, two_of};
-ghost use Rattle.pmp_text.specs.Statements.{without_operands};
+ghost use Rattle.pmp_text.specs.Statements.{name_of, publish_statement, without_operands};
 
 use crate::flaw::Flaw;
+use crate::mark::Name;
 use crate::names::read_register;
 use crate::numbers::read_word_number;
 use crate::refusal::Refusal;
@@ -20,8 +21,10 @@ use pmp_core::{Csr, Event};
 pub enum Statement {
     /// The event joins the open batch.
     Event(Event),
-    /// The open batch becomes a publication, and an empty one is opened.
-    Publish,
+    /// The open batch becomes a publication, and an empty one is opened. The moment behind it may have a name.
+    Publish(Option<Name>),
+    /// The moment here has a name.
+    Mark(Name),
     /// A line of the head.
     Head(HeadStatement),
     /// The register has this value.
@@ -89,6 +92,29 @@ fn without_operands(statement: Statement, mut operands: Words) -> Result<Stateme
     }
 }
 
+/// A moment's name, if there is one, and no more.
+fn read_name(mut operands: Words) -> Result<Option<Name>, Flaw>
+    ensures { result ≡ name_of (words operands.entry.rest.now) }
+{
+    let Some(word) = operands.next() else {
+        return Ok(None);
+    };
+    match operands.next() {
+        Some(_) => Err(Refusal::BadLine.part(2)),
+        None => Ok(Some(Name::read(word).ok_or(Refusal::BadMark.part(1))?)),
+    }
+}
+
+/// What `publish` says.
+fn read_publish(version: Version, operands: Words) -> Result<Statement, Flaw>
+    ensures { result ≡ publish_statement version (words operands.entry.rest.now) }
+{
+    match version {
+        Version::Sized(_) => without_operands(Statement::Publish(None), operands),
+        Version::Headed => Ok(Statement::Publish(read_name(operands)?)),
+    }
+}
+
 /// What a line says that only version 3 has.
 fn read_head_statement(word: &[u8], operands: Words) -> Result<Statement, Flaw>
     ensures { result ≡ head_statement word.now (words operands.entry.rest.now) }
@@ -102,6 +128,9 @@ fn read_head_statement(word: &[u8], operands: Words) -> Result<Statement, Flaw>
     } else if word == b"expect".as_slice() {
         let (csr, value) = read_assignment(Version::Headed, operands)?;
         Ok(Statement::Expect(csr, value))
+    } else if word == b"mark".as_slice() {
+        let name = read_name(operands)?.ok_or(Refusal::BadLine.whole())?;
+        Ok(Statement::Mark(name))
     } else {
         Err(Refusal::BadLine.part(0))
     }
@@ -122,7 +151,7 @@ pub fn read_statement(version: Version, line: &[u8]) -> Result<Statement, Flaw>
     } else if word == b"reset".as_slice() {
         without_operands(Statement::Event(Event::Reset), words)
     } else if word == b"publish".as_slice() {
-        without_operands(Statement::Publish, words)
+        read_publish(version, words)
     } else {
         match version {
             Version::Sized(_) => Err(Refusal::BadLine.part(0)),

@@ -1,0 +1,96 @@
+//! The names that a script gives its moments.
+
+ghost use Rattle.std.specs.Prelude.{◌≡◌};
+ghost use Rattle.std.specs.List.{list_all};
+ghost use Rattle.pmp_text.specs.Marks.{begins_with_letter, is_letter, is_name, is_name_byte, is_taken, name_said, same_name};
+
+/// The most bytes of a name.
+pub const NAME_BYTES: usize = 64;
+
+/// A name: a letter, and letters, digits, `_` and `.` behind it, at most [`NAME_BYTES`] bytes in all.
+#[derive(Clone, Copy, Debug, PartialEq, Eq)]
+pub struct Name {
+    /// Zeros stand behind it.
+    bytes: [u8; NAME_BYTES],
+}
+
+/// A moment that a script names.
+#[derive(Clone, Copy, Debug, PartialEq, Eq)]
+pub struct Mark {
+    pub name: Name,
+    /// How many publications are done there.
+    pub done: u64,
+}
+
+impl Default for Mark {
+    fn default() -> Self {
+        let name = Name {
+            bytes: [0; NAME_BYTES],
+        };
+        Mark { name, done: 0 }
+    }
+}
+
+fn is_letter(byte: u8) -> bool
+    ensures { result ≡ is_letter byte }
+{
+    matches!(byte, b'A'..=b'Z' | b'a'..=b'z')
+}
+
+fn is_name_byte(byte: u8) -> bool
+    ensures { result ≡ is_name_byte byte }
+{
+    is_letter(byte) || matches!(byte, b'0'..=b'9' | b'_' | b'.')
+}
+
+/// Whether the word has a meaning of its own where a moment may be named.
+fn is_taken(word: &[u8]) -> bool
+    ensures { result ≡ is_taken word.now }
+{
+    word == b"last".as_slice()
+        || word == b"mml".as_slice()
+        || word == b"mmwp".as_slice()
+        || word == b"rlb".as_slice()
+}
+
+fn begins_with_letter(word: &[u8]) -> bool
+    ensures { result ≡ begins_with_letter word.now }
+{
+    match word {
+        [first, ..] => is_letter(*first),
+        [] => false,
+    }
+}
+
+fn are_name_bytes(word: &[u8]) -> bool
+    ensures { result ≡ list_all is_name_byte word.now }
+{
+    word.iter().all(|byte| is_name_byte(*byte))
+}
+
+fn is_name(word: &[u8]) -> bool
+    ensures { result ≡ is_name word.now }
+{
+    begins_with_letter(word) && are_name_bytes(word) && word.len() <= NAME_BYTES && !is_taken(word)
+}
+
+impl Name {
+    /// The name that a word is.
+    pub fn read(word: &[u8]) -> Option<Name>
+        ensures { result ≡ name_said word.now }
+    {
+        if !is_name(word) {
+            return None;
+        }
+        let mut bytes = [0; NAME_BYTES];
+        bytes[..word.len()].copy_from_slice(word);
+        Some(Name { bytes })
+    }
+
+    /// Whether they are the same.
+    pub fn is(&self, other: &Name) -> bool
+        ensures { result ≡ same_name self.now other.now }
+    {
+        self.bytes.as_slice() == other.bytes.as_slice()
+    }
+}
