@@ -3,7 +3,7 @@ use Rattle.std.proofs.Common.{◌≡◌, ℕ, ◌+◌, ◌≤◌, Bool, true, fa
 use Rattle.std.proofs.Common.{◌-◌, ◌∙◌, inl, inr, arith, length}
 use Rattle.std.proofs.lemmas.Bool.{cases_lt, false≢true}
 use Rattle.pmp_text.specs.declared.moments.Lasting.{Lasting}
-use Rattle.pmp_text.specs.declared.moments.Moments.{Moments}
+use Rattle.pmp_text.specs.Moments.{KnownMoments}
 use Rattle.pmp_text.specs.Contents.{ScriptContents}
 use Rattle.pmp_text.specs.Reports.{file_of_script}
 use Rattle.pmp_text.specs.Scripts.{is_headed}
@@ -100,9 +100,10 @@ module _ (script : ScriptContents) where
   names_once true (Some one) (Some other) is too = ap Some (all_once (length script.batches) one other is too)
 
 -- a script's moments are these
-pub one_moments : (text : _) (script : ScriptContents) (one other : Moments) → AreMoments text script one
+pub one_moments : (text : _) (script : ScriptContents) (one other : KnownMoments) → AreMoments text script one
     → AreMoments text script other → one ≡ other
 one_moments text script one other is too =
     let publications = is.publications ∙ sym too.publications in
     let names = names_once script (is_headed text) one.lasting other.lasting is.names too.names in
-    (λ i. record { publications = publications i; lasting = names i })
+    let marks = is.marks ∙ sym too.marks in
+    (λ i. record { publications = publications i; lasting = names i; marks = marks i })

@@ -7,7 +7,7 @@ use Rattle.std.specs.Option.{option_or}
 use Rattle.std.proofs.lemmas.List.{append-nil, flat_map_more, length-append, length-map, map-append, take_more}
 use Rattle.std.proofs.lemmas.List.Sums.{sum_by_push}
 use Rattle.pmp_text.specs.declared.lines.verdict.Verdict.{Verdict}
-use Rattle.pmp_text.specs.declared.moments.Moments.{Moments}
+use Rattle.pmp_text.specs.Moments.{KnownMoments}
 use Rattle.pmp_text.specs.declared.policy.PolicyRow.{PolicyRow}
 use Rattle.pmp_text.specs.declared.refusal.Refusal.{Refusal}
 use Rattle.pmp_text.specs.declared.refusal.Refusal.TheVariants as kinds
@@ -128,7 +128,7 @@ each_judged R (one ∷ judged) all = (
 )
 
 pub policy_says : (pace : Pace) (script policy : List ℕ) (contents : ScriptContents) (rows : List PolicyRow)
-    (judged : List Judged) (before after text : List ℕ) (summary : PolicySummary) (moments : Moments)
+    (judged : List Judged) (before after text : List ℕ) (summary : PolicySummary) (moments : KnownMoments)
     → script_meaning script ≡ Ok contents → AreMoments script contents moments
     → policy_meaning moments policy ≡ Ok (map policy_fields rows) → rows_of judged ≡ rows
     → All (λ one. IsVerdict pace contents one.row (told_of one)) judged → AreWritten judged before after summary
@@ -150,7 +150,7 @@ policy_says pace script policy contents rows judged before after text summary mo
 
 -- ---- why a policy has no verdicts
 
-module _ (pace : Pace) (script policy : List ℕ) (contents : ScriptContents) (moments : Moments)
+module _ (pace : Pace) (script policy : List ℕ) (contents : ScriptContents) (moments : KnownMoments)
     (means : script_meaning script ≡ Ok contents) (are : AreMoments script contents moments) (fault : TraceFault)
     (out : Option (List ℕ)) where
   abbrev Refused : AuditFault → Type 0

@@ -16,7 +16,7 @@ use Rattle.pmp_text.specs.declared.lines.verdict.Verdict.{Verdict}
 use Rattle.pmp_text.specs.declared.lines.verdict.Verdict.TheVariants.{Broken, Holds, Unmet}
 use Rattle.pmp_text.specs.declared.moments.Coming.{Coming}
 use Rattle.pmp_text.specs.declared.moments.Coming.TheVariants as coming
-use Rattle.pmp_text.specs.declared.moments.Moments.{Moments}
+use Rattle.pmp_text.specs.Moments.{KnownMoments}
 use Rattle.pmp_text.specs.declared.policy.Demand.{Demand}
 use Rattle.pmp_text.specs.declared.policy.Demand.TheVariants.{Never, Always, Held}
 use Rattle.pmp_text.specs.declared.policy.PolicyRow.{PolicyRow}
@@ -156,7 +156,7 @@ policy_summary rows verdicts = record {
 pub record PolicySays (pace : Pace) (script policy : List ℕ) (summary : PolicySummary) (text : List ℕ) : Type 0 where
   pub contents : ScriptContents
   pub script_means : script_meaning script ≡ Ok contents
-  pub moments : Moments
+  pub moments : KnownMoments
   pub moments_are : AreMoments script contents moments
   pub rows : List PolicyRow
   pub policy_means : policy_meaning moments policy ≡ Ok (map policy_fields rows)
@@ -188,7 +188,7 @@ VerdictRefuses script number fields _ = ⊥
 pub record IsFaultyPolicy (script policy : List ℕ) (fault : TraceFault) : Type 0 where
   pub contents : ScriptContents
   pub script_means : script_meaning script ≡ Ok contents
-  pub moments : Moments
+  pub moments : KnownMoments
   pub moments_are : AreMoments script contents moments
   pub policy_means : (policy_meaning moments policy ≡ Err fault) ⊎ (fault ≡ no_input_for_rows)
 

@@ -3,8 +3,8 @@ use Rattle.std.specs.Prelude.{◌≡◌, ℕ, ◌+◌, ◌≤◌, Bool, true, fa
 use Rattle.std.specs.Prelude.{if◌then◌else◌}
 use Rattle.pmp_core.specs.RegisterFile.{RegisterFile}
 use Rattle.pmp_text.specs.declared.moments.Lasting.{Lasting}
-use Rattle.pmp_text.specs.declared.moments.Moments.{Moments}
 use Rattle.pmp_text.specs.Contents.{ScriptContents}
+use Rattle.pmp_text.specs.Moments.{KnownMoments}
 use Rattle.pmp_text.specs.Reports.{file_of_script}
 use Rattle.pmp_text.specs.Scripts.{is_headed}
 
@@ -28,8 +28,9 @@ MayName true script (Some lasting) = AllLast script (length script.batches) last
 MayName false script lasting = lasting ≡ None
 
 -- the moments of the script that this text means
-pub record AreMoments (text : List ℕ) (script : ScriptContents) (moments : Moments) : Type 0 where
+pub record AreMoments (text : List ℕ) (script : ScriptContents) (moments : KnownMoments) : Type 0 where
   pub publications : moments.publications ≡ length script.batches
+  pub marks : moments.marks ≡ script.marks
   pub names : MayName (is_headed text) script moments.lasting
 
 -- from when on it holds once so many publications are done, where it held from then on before

@@ -61,7 +61,7 @@ pub fn check_policy<W: Write>(
 {
     let mut log = GrowingLog::new(alloc);
     let read = read_script(&mut log, script)?;
-    let rows = match read_policy(alloc, policy, moments_of(script, &read)) {
+    let rows = match read_policy(alloc, policy, &moments_of(script, &read)) {
         Ok(rows) => rows,
         Err(fault) => return Err(AuditFault::of_policy(fault)),
     };

@@ -2,7 +2,7 @@
 use Rattle.std.proofs.Common.{◌≡◌, ℕ, suc, ◌+◌, ◌≤◌, true, List, [], ◌∷◌, length, Option, Err, refl, ap, ◌∙◌}
 use Rattle.std.proofs.Common.{arith}
 use Rattle.std.specs.Prelude.{filter_map, option_map, option_and_then, slice_get}
-use Rattle.pmp_text.specs.declared.moments.Moments.{Moments}
+use Rattle.pmp_text.specs.Moments.{KnownMoments}
 use Rattle.pmp_text.specs.declared.trace.TraceFault.{TraceFault}
 use Rattle.pmp_text.specs.Faults.{IsLeastFault}
 use Rattle.pmp_text.specs.Policies.{first_policy_fault, is_policy_header, policy_meaning, policy_of_record, policy_in}
@@ -17,7 +17,7 @@ use Rattle.pmp_text.specs.Flaws.{at_row}
 abbrev Records : Type 0
 Records = List (List (List ℕ))
 
-module _ (moments : Moments) where
+module _ (moments : KnownMoments) where
   -- the fault of a row, the first of which has this number
   abbrev fault_from : (number : ℕ) → Records → ℕ → Option TraceFault
   fault_from number rows index = option_and_then {T = List (List ℕ)} {U = TraceFault}

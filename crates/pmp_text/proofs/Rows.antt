@@ -4,7 +4,7 @@ use Rattle.std.proofs.Common.{None, Result, Err, refl, sym, ap, ◌∙◌, appen
 use Rattle.std.specs.Prelude.{filter_map}
 use Rattle.std.proofs.lemmas.Bool.{cond-true, cond-false, lt-ltb, le-ltb}
 use Rattle.pmp_text.specs.declared.refusal.Refusal.TheVariants.{BadHeader, TooLong}
-use Rattle.pmp_text.specs.declared.moments.Moments.{Moments}
+use Rattle.pmp_text.specs.Moments.{KnownMoments}
 use Rattle.pmp_text.specs.declared.trace.TraceFault.{TraceFault}
 use Rattle.pmp_text.specs.Tables.{behind_header, fault_or_rows, records_of, within_limit}
 use Rattle.pmp_text.specs.Traces.{is_header, rows_meaning, trace_meaning}
@@ -15,13 +15,13 @@ use Rattle.pmp_text.specs.declared.trace.reader.TheConstants.{MAX_TRACE}
 use Rattle.pmp_text.specs.Flaws.{at_row, as_whole}
 
 -- what is meant where so many rows of a policy were read, which say this, and these records are left
-abbrev pub with_policy_read : (moments : Moments) → (count : ℕ) → List PolicyFields → List (List (List ℕ))
+abbrev pub with_policy_read : (moments : KnownMoments) → (count : ℕ) → List PolicyFields → List (List (List ℕ))
     → Result (List PolicyFields) TraceFault
 with_policy_read moments count rows left = fault_or_rows (first_policy_fault moments (count + 1) left)
     (rows ++ filter_map (policy_of_record moments) left)
 
 -- one row more of it is read
-pub one_policy_row : (moments : Moments) (count : ℕ) (rows : List PolicyFields) (row : PolicyFields)
+pub one_policy_row : (moments : KnownMoments) (count : ℕ) (rows : List PolicyFields) (row : PolicyFields)
     (fields : List (List ℕ)) (left : List (List (List ℕ))) → policy_in moments fields ≡ Ok row
     → policy_row_fault moments.publications (policy_in moments fields) ≡ None
     → with_policy_read moments count rows (fields ∷ left)
@@ -62,7 +62,7 @@ pub trace_is : (publications : ℕ) (text : List ℕ) → trace_meaning publicat
 unfolding trace_meaning
 trace_is publications text = refl
 
-pub policy_is : (moments : Moments) (text : List ℕ) → policy_meaning moments text
+pub policy_is : (moments : KnownMoments) (text : List ℕ) → policy_meaning moments text
     ≡ within_limit (behind_header is_policy_header (policy_rows_meaning moments)) text
 unfolding policy_meaning
 policy_is moments text = refl

@@ -27,6 +27,11 @@ abbrev pub of_part : {X Y : Type 0} → (index : ℕ) → (says : Option X) → 
 of_part index None next = Err (part index BadRow)
 of_part index (Some x) next = next x
 
+-- the same where the field says of itself how it is refused
+abbrev pub in_part : {X Y : Type 0} → (index : ℕ) → Result X Refusal → (X → Result Y Flaw) → Result Y Flaw
+in_part index (Err kind) next = Err (part index kind)
+in_part index (Ok x) next = next x
+
 -- one thing after another: the first flaw is the flaw
 abbrev pub and_then : {X Y : Type 0} → Result X Flaw → (X → Result Y Flaw) → Result Y Flaw
 and_then (Ok x) next = next x

@@ -1,28 +1,53 @@
 -- The moments of a script, each of them how many publications are done, as the words of a policy say them.
-use Rattle.std.specs.Prelude.{ℕ, ◌-◌, List, [], ◌∷◌, length, take, drop, Bool, true, false, ◌&&◌, ◌||◌, Option, Some, None}
-use Rattle.std.specs.Prelude.{option_map, nat_le, nat_lt, codes, bytes_eq, if◌then◌else◌}
+use Rattle.std.specs.Prelude.{ℕ, ◌-◌, List, [], ◌∷◌, length, take, drop, Bool, true, false, ◌&&◌, ◌||◌, Option, Some, None, Result, Ok, Err}
+use Rattle.std.specs.Prelude.{find, option_map, nat_le, nat_lt, codes, bytes_eq, if◌then◌else◌}
 use Rattle.pmp_text.specs.declared.moments.Asked.{Asked}
 use Rattle.pmp_text.specs.declared.moments.Coming.TheVariants as coming
 use Rattle.pmp_text.specs.declared.moments.Lasting.{Lasting}
 use Rattle.pmp_text.specs.declared.moments.Moment.{Moment}
 use Rattle.pmp_text.specs.declared.moments.Moment.TheVariants.{Named, Numbered}
-use Rattle.pmp_text.specs.declared.moments.Moments.{Moments}
+use Rattle.pmp_text.specs.declared.mark.Mark.{Mark}
+use Rattle.pmp_text.specs.declared.mark.Name.{Name}
+use Rattle.pmp_text.specs.declared.refusal.Refusal.{Refusal}
+use Rattle.pmp_text.specs.declared.refusal.Refusal.TheVariants.{BadRow, NoMoment}
+use Rattle.pmp_text.specs.Marks.{name_said, same_name}
 use Rattle.pmp_text.specs.Numbers.{word_number}
+
+-- how many publications a script has, from when on its bits of mseccfg hold to the end, where words may say that, and
+-- the moments that it names
+pub record KnownMoments : Type 0 where
+  pub publications : ℕ
+  pub lasting : Option Lasting
+  pub marks : List Mark
 
 -- so many before the last one, where there are as many
 abbrev pub back_from : (publications back : ℕ) → Option ℕ
 back_from publications back = if nat_le back publications then Some (publications - back) else None
 
--- what a word names: the last moment, one so many before it, or the first from which MML or MMWP is set, or RLB clear,
--- to the end (Smepmp, mseccfg); it may be one that never comes
-unfoldable pub place_named : (publications : ℕ) → Lasting → List ℕ → Option (Option ℕ)
-place_named publications lasting word =
-    if bytes_eq word (codes "last") then Some (Some publications)
-    else (if bytes_eq word (codes "mml") then Some lasting.mml
-    else (if bytes_eq word (codes "mmwp") then Some lasting.mmwp
-    else (if bytes_eq word (codes "rlb-clear") then Some lasting.rlb_clear
+-- the moment that the script gives this name
+abbrev pub done_at : List Mark → Name → Option ℕ
+done_at marks name = option_map (λ mark. mark.done) (find (λ mark. same_name name mark.name) marks)
+
+abbrev pub place_marked : List Mark → List ℕ → Result (Option ℕ) Refusal
+place_marked marks word = elim (name_said word) [
+  | Some name ↦ elim (done_at marks name) [ Some done ↦ Ok (Some done) | None ↦ Err NoMoment ]
+  | None ↦ Err BadRow
+]
+
+abbrev pub place_back : (publications : ℕ) → Option ℕ → Result (Option ℕ) Refusal
+place_back publications (Some back) = Ok (back_from publications back)
+place_back publications None = Err BadRow
+
+-- what a word names: the last moment, one so many before it, the first from which MML or MMWP is set, or RLB clear, to
+-- the end (Smepmp, mseccfg), or one that the script names; it may be one that never comes
+unfoldable pub place_named : KnownMoments → Lasting → List ℕ → Result (Option ℕ) Refusal
+place_named moments lasting word =
+    if bytes_eq word (codes "last") then Ok (Some moments.publications)
+    else (if bytes_eq word (codes "mml") then Ok lasting.mml
+    else (if bytes_eq word (codes "mmwp") then Ok lasting.mmwp
+    else (if bytes_eq word (codes "rlb-clear") then Ok lasting.rlb_clear
     else (if bytes_eq (take 5 word) (codes "last-")
-    then option_map (back_from publications) (word_number (drop 5 word)) else None))))
+    then place_back moments.publications (word_number (drop 5 word)) else place_marked moments.marks word))))
 
 -- the word ends with ` if-any`, and what stands before that
 abbrev pub is_waived : List ℕ → Bool
@@ -31,30 +56,33 @@ is_waived word = bytes_eq (drop (length word - 7) word) (codes " if-any")
 abbrev pub name_in : List ℕ → List ℕ
 name_in word = if is_waived word then take (length word - 7) word else word
 
+abbrev pub named_at : (waived : Bool) → Result (Option ℕ) Refusal → Result Moment Refusal
+named_at waived (Ok place) = Ok (Named place waived)
+named_at waived (Err kind) = Err kind
+
 -- what a word says that is no number, where words may name moments
-unfoldable pub moment_named : Moments → List ℕ → Option Moment
+unfoldable pub moment_named : KnownMoments → List ℕ → Result Moment Refusal
 moment_named moments word = elim moments.lasting [
-  | Some lasting ↦
-      option_map (λ place. Named place (is_waived word)) (place_named moments.publications lasting (name_in word))
-  | None ↦ None
+  | Some lasting ↦ named_at (is_waived word) (place_named moments lasting (name_in word))
+  | None ↦ Err BadRow
 ]
 
 -- the moment that a word says: a number, or what it names
-abbrev pub moment_said : Moments → List ℕ → Option Moment
-moment_said moments word = elim (word_number word) [ Some number ↦ Some (Numbered number) | None ↦ moment_named moments word ]
+abbrev pub moment_said : KnownMoments → List ℕ → Result Moment Refusal
+moment_said moments word = elim (word_number word) [ Some number ↦ Ok (Numbered number) | None ↦ moment_named moments word ]
 
 -- both are numbers, and the second is below the first
 abbrev pub is_backward : (from to : Moment) → Bool
 is_backward (Numbered from) (Numbered to) = nat_lt to from
 is_backward _ _ = false
 
-abbrev pub unless_backward : (from : Moment) → Option Moment → Option Moment
-unless_backward from (Some to) = if is_backward from to then None else Some to
-unless_backward from None = None
+abbrev pub unless_backward : (from : Moment) → Result Moment Refusal → Result Moment Refusal
+unless_backward from (Ok to) = if is_backward from to then Err BadRow else Ok to
+unless_backward from (Err kind) = Err kind
 
 -- the moment up to which a row asks: nothing stands for the last one
-abbrev pub to_said : Moments → (from : Moment) → List ℕ → Option Moment
-to_said moments from [] = Some (Named (Some moments.publications) false)
+abbrev pub to_said : KnownMoments → (from : Moment) → List ℕ → Result Moment Refusal
+to_said moments from [] = Ok (Named (Some moments.publications) false)
 to_said moments from (byte ∷ more) = unless_backward from (moment_said moments (byte ∷ more))
 
 abbrev pub place_of : Moment → Option ℕ

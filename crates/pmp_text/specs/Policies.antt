@@ -21,12 +21,11 @@ use Rattle.pmp_text.specs.declared.flaw.Flaw.{Flaw}
 use Rattle.pmp_text.specs.declared.refusal.Refusal.TheVariants.{BadRow, BadAfter, PastEnd}
 use Rattle.pmp_text.specs.declared.trace.TraceFault.{TraceFault}
 use Rattle.pmp_text.specs.declared.moments.Asked.{Asked}
-use Rattle.pmp_text.specs.declared.moments.Moments.{Moments}
 use Rattle.pmp_text.specs.AccessWords.{kind_named}
-use Rattle.pmp_text.specs.Moments.{asked_between, moment_said, to_said}
+use Rattle.pmp_text.specs.Moments.{KnownMoments, asked_between, moment_said, to_said}
 use Rattle.pmp_text.specs.Numbers.{is_bare, word_number}
 use Rattle.pmp_text.specs.Tables.{behind_header, fault_or_rows, within_limit}
-use Rattle.pmp_text.specs.Flaws.{and_then, at_row, of_part, part, as_whole}
+use Rattle.pmp_text.specs.Flaws.{and_then, at_row, in_part, of_part, part, as_whole}
 
 -- ---- words
 
@@ -127,9 +126,9 @@ policy_fields row = record {
 }
 
 -- what seven words say of moments: from which one to which
-unfoldable pub moments_said : Moments → SevenFields → Result Asked Flaw
+unfoldable pub moments_said : KnownMoments → SevenFields → Result Asked Flaw
 moments_said moments words =
-    of_part 0 (moment_said moments words.from) (λ from. of_part 1 (to_said moments from words.to) (λ to.
+    in_part 0 (moment_said moments words.from) (λ from. in_part 1 (to_said moments from words.to) (λ to.
     Ok (asked_between moments.publications from to)))
 
 -- of accesses: modes and kinds
@@ -144,7 +143,7 @@ bytes_said words =
     Ok (first, last)))
 
 -- all that they say, and the demand
-unfoldable pub policy_of_fields : Moments → SevenFields → Result PolicyFields Flaw
+unfoldable pub policy_of_fields : KnownMoments → SevenFields → Result PolicyFields Flaw
 policy_of_fields moments words =
     and_then (moments_said moments words) (λ asked. and_then (accesses_said words) (λ (modes, kinds).
     and_then (bytes_said words) (λ (first, last). of_part 6 (demand_named words.demand) (λ demand. Ok (record {
@@ -160,11 +159,11 @@ policy_of_fields moments words =
     })))))
 
 -- what a record says as a row, or what of it says nothing
-abbrev pub policy_in : Moments → List (List ℕ) → Result PolicyFields Flaw
+abbrev pub policy_in : KnownMoments → List (List ℕ) → Result PolicyFields Flaw
 policy_in moments fields =
     elim (seven_fields fields) [ Some words ↦ policy_of_fields moments words | None ↦ Err (as_whole BadRow) ]
 
-abbrev pub policy_of_record : Moments → List (List ℕ) → Option PolicyFields
+abbrev pub policy_of_record : KnownMoments → List (List ℕ) → Option PolicyFields
 policy_of_record moments fields = result_ok (policy_in moments fields)
 
 -- the fault of what a row says: more publications than there are, then a last byte that is none
@@ -188,17 +187,17 @@ policy_row_fault publications (Ok row) = policy_fields_fault publications row
 -- ---- all rows
 
 -- the fault of the first row that has one; the first row has this number
-abbrev pub first_policy_fault : Moments → (number : ℕ) → List (List (List ℕ)) → Option TraceFault
+abbrev pub first_policy_fault : KnownMoments → (number : ℕ) → List (List (List ℕ)) → Option TraceFault
 first_policy_fault moments number [] = None
 first_policy_fault moments number (row ∷ more) =
     option_or (option_map (at_row number) (policy_row_fault moments.publications (policy_in moments row)))
     (first_policy_fault moments (number + 1) more)
 
 -- the rows are numbered from 1
-abbrev pub policy_rows_meaning : Moments → List (List (List ℕ)) → Result (List PolicyFields) TraceFault
+abbrev pub policy_rows_meaning : KnownMoments → List (List (List ℕ)) → Result (List PolicyFields) TraceFault
 policy_rows_meaning moments rows =
     fault_or_rows (first_policy_fault moments 1 rows) (filter_map (policy_of_record moments) rows)
 
 -- what a text means as a policy beside a script with these moments
-unfoldable pub policy_meaning : Moments → List ℕ → Result (List PolicyFields) TraceFault
+unfoldable pub policy_meaning : KnownMoments → List ℕ → Result (List PolicyFields) TraceFault
 policy_meaning moments text = within_limit (behind_header is_policy_header (policy_rows_meaning moments)) text

@@ -7,7 +7,7 @@ use Rattle.pmp_text.specs.declared.refusal.Refusal.TheVariants.{BadLength, PastE
 use Rattle.pmp_text.specs.declared.refusal.Refusal.TheVariants.{OddCfg, BadNumber, BatchFull, Unpublished, TooLong}
 use Rattle.pmp_text.specs.declared.refusal.Refusal.TheVariants.{BadHeader, BadRow, BadAfter, Order, BadWord, Memory}
 use Rattle.pmp_text.specs.declared.refusal.Refusal.TheVariants.{NoPlace, Full, Moved, Input, Output}
-use Rattle.pmp_text.specs.declared.refusal.Refusal.TheVariants.{LateHead, Twice, BadEntries, BadBits, NotHeld, BadGrain, BadMark, OpenMark}
+use Rattle.pmp_text.specs.declared.refusal.Refusal.TheVariants.{LateHead, Twice, BadEntries, BadBits, NotHeld, BadGrain, BadMark, OpenMark, NoMoment}
 
 abbrev pub number_of : Refusal → ℕ
 number_of BadLength = 3
@@ -39,6 +39,7 @@ number_of NotHeld = 54
 number_of BadGrain = 55
 number_of BadMark = 56
 number_of OpenMark = 57
+number_of NoMoment = 58
 
 abbrev pub name_of : Refusal → List ℕ
 name_of BadLength = codes "BadLength"
@@ -70,6 +71,7 @@ name_of NotHeld = codes "NotHeld"
 name_of BadGrain = codes "BadGrain"
 name_of BadMark = codes "BadMark"
 name_of OpenMark = codes "OpenMark"
+name_of NoMoment = codes "NoMoment"
 
 -- the program's exit status: 3 where memory, input, output or a shared unit failed, and else 2
 abbrev pub status_of : Refusal → ℕ

@@ -1,10 +1,13 @@
 //! The moments of a script, as the words of a policy say them.
 
 ghost use Rattle.std.specs.Prelude.{◌≡◌, ◌≤◌};
-ghost use Rattle.pmp_text.specs.Moments.{asked_between, is_backward, moment_named, moment_said, place_named, to_said};
-ghost use Rattle.pmp_text.specs.Moments.{place_of, unasked, waives};
+ghost use Rattle.pmp_text.specs.Moments.{asked_between, done_at, is_backward, moment_named, moment_said, place_marked, place_named};
+ghost use Rattle.pmp_text.specs.Moments.{place_of, to_said, unasked, waives};
 
+use crate::mark::{Mark, Name};
 use crate::numbers::read_word_number;
+use crate::refusal::Refusal;
+use std::marker::Model;
 
 /// The first moment from which a thing holds to the end, where there is one. A moment is how many publications are
 /// done.
@@ -19,12 +22,26 @@ pub struct Lasting {
 }
 
 /// The moments of a script that words may say.
-#[derive(Clone, Copy, Debug, PartialEq, Eq)]
-pub struct Moments {
+#[derive(Drop)]
+pub struct Moments<'a> {
     /// How many publications the script has.
     pub publications: u64,
     /// What words may name in version 3. In versions 1 and 2 they are numbers.
     pub lasting: Option<Lasting>,
+    /// Those that the script names.
+    pub marks: &'a [Mark],
+}
+
+impl<'a> Model for Moments<'a> {
+    ghost use Rattle.pmp_text.specs.Moments.{KnownMoments};
+
+    ghost Value = { KnownMoments };
+
+    ghost view = { λ moments. record {
+      publications = moments.publications;
+      lasting = moments.lasting;
+      marks = moments.marks.now;
+    } };
 }
 
 /// The moment that a word says.
@@ -56,25 +73,12 @@ pub struct Asked {
     pub coming: Coming,
 }
 
-/// What a word names beside so many publications: a moment, or one that never comes.
-#[tactic(auto, unfolding(crate::specs::Moments::place_named))]
-fn place_named(publications: u64, lasting: &Lasting, word: &[u8]) -> Option<Option<u64>>
-    ensures { result ≡ place_named publications lasting.now word.now }
+/// How many publications are done at the moment that has the name.
+fn done_at(marks: &[Mark], name: &Name) -> Option<u64>
+    ensures { result ≡ done_at marks.now name.now }
 {
-    if word == b"last".as_slice() {
-        return Some(Some(publications));
-    }
-    if word == b"mml".as_slice() {
-        return Some(lasting.mml);
-    }
-    if word == b"mmwp".as_slice() {
-        return Some(lasting.mmwp);
-    }
-    if word == b"rlb-clear".as_slice() {
-        return Some(lasting.rlb_clear);
-    }
-    let back = read_word_number(word.strip_prefix(b"last-")?)?;
-    Some(publications.checked_sub(back))
+    let mark = marks.iter().find(|mark| name.is(&mark.name))?;
+    Some(mark.done)
 }
 
 /// What a row asks of whose moments don't come.
@@ -125,41 +129,80 @@ impl Moment {
     }
 }
 
-impl Moments {
+impl Moments<'_> {
+    /// The moment that the script gives this name.
+    fn marked(&self, word: &[u8]) -> Result<Option<u64>, Refusal>
+        ensures { result ≡ place_marked self.now.marks word.now }
+    {
+        let name = Name::read(word).ok_or(Refusal::BadRow)?;
+        let done = done_at(self.marks, &name).ok_or(Refusal::NoMoment)?;
+        Ok(Some(done))
+    }
+
+    /// What a word names: a moment, or one that never comes.
+    #[tactic(auto, unfolding(crate::specs::Moments::place_named))]
+    fn place(&self, lasting: &Lasting, word: &[u8]) -> Result<Option<u64>, Refusal>
+        ensures { result ≡ place_named self.now lasting.now word.now }
+    {
+        if word == b"last".as_slice() {
+            return Ok(Some(self.publications));
+        }
+        if word == b"mml".as_slice() {
+            return Ok(lasting.mml);
+        }
+        if word == b"mmwp".as_slice() {
+            return Ok(lasting.mmwp);
+        }
+        if word == b"rlb-clear".as_slice() {
+            return Ok(lasting.rlb_clear);
+        }
+        match word.strip_prefix(b"last-") {
+            Some(back) => {
+                let back = read_word_number(back).ok_or(Refusal::BadRow)?;
+                Ok(self.publications.checked_sub(back))
+            }
+            None => self.marked(word),
+        }
+    }
+
     /// What a word names where words may.
     #[tactic(auto, unfolding(crate::specs::Moments::moment_named))]
-    fn named(&self, word: &[u8]) -> Option<Moment>
+    fn named(&self, word: &[u8]) -> Result<Moment, Refusal>
         ensures { result ≡ moment_named self.now word.now }
     {
-        let lasting = self.lasting?;
+        let lasting = self.lasting.ok_or(Refusal::BadRow)?;
         let (word, is_waived) = match word.strip_suffix(b" if-any") {
             Some(word) => (word, true),
             None => (word, false),
         };
-        let place = place_named(self.publications, &lasting, word)?;
-        Some(Moment::Named(place, is_waived))
+        let place = self.place(&lasting, word)?;
+        Ok(Moment::Named(place, is_waived))
     }
 
-    /// The moment that a word says: a number, or in version 3 `last`, `last-N`, `mml`, `mmwp` or `rlb-clear`, with
-    /// ` if-any` behind it where it may never come.
-    pub fn read(&self, word: &[u8]) -> Option<Moment>
+    /// The moment that a word says: a number, or in version 3 `last`, `last-N`, `mml`, `mmwp`, `rlb-clear` or a name of
+    /// the script's, with ` if-any` behind it where it may never come. `BadRow` where it says none, and `NoMoment` where
+    /// the script has no such name.
+    pub fn read(&self, word: &[u8]) -> Result<Moment, Refusal>
         ensures { result ≡ moment_said self.now word.now }
     {
         match read_word_number(word) {
-            Some(number) => Some(Moment::Numbered(number)),
+            Some(number) => Ok(Moment::Numbered(number)),
             None => self.named(word),
         }
     }
 
     /// The moment up to which a row asks that begins with this one: the word's, or the last one where it is empty.
-    pub fn read_to(&self, from: Moment, word: &[u8]) -> Option<Moment>
+    pub fn read_to(&self, from: Moment, word: &[u8]) -> Result<Moment, Refusal>
         ensures { result ≡ to_said self.now from word.now }
     {
         if word.is_empty() {
-            return Some(Moment::Named(Some(self.publications), false));
+            return Ok(Moment::Named(Some(self.publications), false));
         }
         let to = self.read(word)?;
-        (!from.is_above(to)).then_some(to)
+        if from.is_above(to) {
+            return Err(Refusal::BadRow);
+        }
+        Ok(to)
     }
 
     /// What a row asks of that goes from one moment to the other.

@@ -69,6 +69,8 @@ pub enum Refusal {
     BadMark = 56,
     /// A `mark` stands behind an event and above its `publish`.
     OpenMark = 57,
+    /// A name that the script gives no moment.
+    NoMoment = 58,
 }
 
 /// Why a script is refused: 10 to 17, 40, and in version 3 those from 50 on.
@@ -120,6 +122,7 @@ impl Refusal {
             Refusal::BadGrain => "BadGrain",
             Refusal::BadMark => "BadMark",
             Refusal::OpenMark => "OpenMark",
+            Refusal::NoMoment => "NoMoment",
         }
     }
 
@@ -180,6 +183,7 @@ impl Refusal {
             Refusal::BadMark =>
                 "a name of 1 to 64 bytes: a letter, then letters, digits, _ and ., and none of last, mml, mmwp and rlb",
             Refusal::OpenMark => "mark between publications",
+            Refusal::NoMoment => "a name that mark or publish gives a moment of the script",
         }
     }
 
@@ -224,6 +228,8 @@ impl Refusal {
             Refusal::BadGrain => "give the grain in bytes, not the manual's G",
             Refusal::BadMark => "give the moment another name",
             Refusal::OpenMark => "put it behind the publish, or name that, as by publish NAME",
+            Refusal::NoMoment =>
+                "look for the script's mark lines, and for publish lines with a name",
         }
     }
 }

@@ -20,6 +20,9 @@ const PUBLICATIONS: usize = 1 << 12;
 /// The most that a script may expect of registers.
 const EXPECTATIONS: usize = 1 << 12;
 
+/// The most moments that a script may name.
+const MARKS: usize = 1 << 8;
+
 /// The status of an answer.
 pub const ANSWERED: u32 = 0;
 
@@ -27,7 +30,7 @@ pub const ANSWERED: u32 = 0;
 const OF_NEW: u32 = 256;
 
 /// The room of a script's events.
-pub type Log = FixedLog<EVENTS, PUBLICATIONS, EXPECTATIONS>;
+pub type Log = FixedLog<EVENTS, PUBLICATIONS, EXPECTATIONS, MARKS>;
 
 /// Makes an answer in its room, emptied before, and tells of it or of the refusal.
 macro_rules! tell {

@@ -44,7 +44,7 @@ fn lasting(script: &Script<'_>) -> Lasting
 }
 
 /// The moments of the script that the text means.
-pub fn moments_of(text: &[u8], script: &Script<'_>) -> Moments
+pub fn moments_of<'a>(text: &[u8], script: &'a Script<'_>) -> Moments<'a>
     requires { length text.now < 2 ^ 63 }
     ensures { AreMoments text.now script.now result }
 {
@@ -56,5 +56,6 @@ pub fn moments_of(text: &[u8], script: &Script<'_>) -> Moments
     Moments {
         publications: script.batches(),
         lasting,
+        marks: script.marks(),
     }
 }

@@ -16,11 +16,11 @@ use std::alloc::Global;
 fn read_rows(
     alloc: Global,
     records: &mut Records<'_>,
-    moments: Moments,
+    moments: &Moments<'_>,
 ) -> Result<Vec<PolicyRow>, TraceFault>
     ensures given { GivesRows (λ rows. map policy_fields rows.items) result
-        (policy_rows_meaning moments records.old.left) }
-    ensures within { IfOk result (λ rows. All (λ row. row.to ≤ moments.publications) rows.items) }
+        (policy_rows_meaning moments.now records.old.left) }
+    ensures within { IfOk result (λ rows. All (λ row. row.to ≤ moments.now.publications) rows.items) }
 {
     let mut rows = Vec::new(alloc);
     while records.read()? {
@@ -36,11 +36,11 @@ fn read_rows(
 fn read_records(
     alloc: Global,
     records: &mut Records<'_>,
-    moments: Moments,
+    moments: &Moments<'_>,
 ) -> Result<Vec<PolicyRow>, TraceFault>
     ensures given { GivesRows (λ rows. map policy_fields rows.items) result
-        (behind_header is_policy_header (policy_rows_meaning moments) records.old.left) }
-    ensures within { IfOk result (λ rows. All (λ row. row.to ≤ moments.publications) rows.items) }
+        (behind_header is_policy_header (policy_rows_meaning moments.now) records.old.left) }
+    ensures within { IfOk result (λ rows. All (λ row. row.to ≤ moments.now.publications) rows.items) }
 {
     if !records.read()? || !is_policy_header(records.fields()) {
         return Err(Refusal::BadHeader.whole().at_row(0));
@@ -54,10 +54,10 @@ fn read_records(
 pub fn read_policy(
     alloc: Global,
     text: &[u8],
-    moments: Moments,
+    moments: &Moments<'_>,
 ) -> Result<Vec<PolicyRow>, TraceFault>
-    ensures given { GivesRows (λ rows. map policy_fields rows.items) result (policy_meaning moments text.now) }
-    ensures within { IfOk result (λ rows. All (λ row. row.to ≤ moments.publications) rows.items) }
+    ensures given { GivesRows (λ rows. map policy_fields rows.items) result (policy_meaning moments.now text.now) }
+    ensures within { IfOk result (λ rows. All (λ row. row.to ≤ moments.now.publications) rows.items) }
 {
     if text.len() > MAX_TRACE {
         return Err(Refusal::TooLong.whole().at_row(0));

@@ -104,14 +104,12 @@ pub fn is_policy_header(fields: &ByteRecord) -> bool
 impl Words<'_> {
     /// From which moment to which they speak.
     #[tactic(auto, unfolding(crate::specs::Policies::moments_said))]
-    fn moments(self, moments: Moments) -> Result<Asked, Flaw>
-        ensures said { result ≡ moments_said moments (seen_seven self.entry) }
-        ensures forward { IfOk result (λ said. said.from ≤ moments.publications → said.from ≤ said.to) }
+    fn moments(self, moments: &Moments<'_>) -> Result<Asked, Flaw>
+        ensures said { result ≡ moments_said moments.now (seen_seven self.entry) }
+        ensures forward { IfOk result (λ said. said.from ≤ moments.now.publications → said.from ≤ said.to) }
     {
-        let from = moments.read(self.from).ok_or(Refusal::BadRow.part(0))?;
-        let to = moments
-            .read_to(from, self.to)
-            .ok_or(Refusal::BadRow.part(1))?;
+        let from = moments.read(self.from).map_err(|kind| kind.part(0))?;
+        let to = moments.read_to(from, self.to).map_err(|kind| kind.part(1))?;
         Ok(moments.between(from, to))
     }
 
@@ -140,9 +138,9 @@ impl Words<'_> {
 impl PolicyFields {
     /// What a record says as a row beside a script with these moments, or which field says nothing.
     #[tactic(auto, unfolding(crate::specs::Policies::policy_of_fields))]
-    pub fn read(fields: &ByteRecord, moments: Moments) -> Result<PolicyFields, Flaw>
-        ensures said { result ≡ policy_in moments (fields_of fields.now) }
-        ensures forward { IfOk result (λ row. row.from ≤ moments.publications → row.from ≤ row.to) }
+    pub fn read(fields: &ByteRecord, moments: &Moments<'_>) -> Result<PolicyFields, Flaw>
+        ensures said { result ≡ policy_in moments.now (fields_of fields.now) }
+        ensures forward { IfOk result (λ row. row.from ≤ moments.now.publications → row.from ≤ row.to) }
         ensures ordered { IfOk result (λ row. row.first ≤ row.last) }
     {
         let words = seven_fields(fields).ok_or(Refusal::BadRow.whole())?;
@@ -196,13 +194,13 @@ impl PolicyFields {
 }
 
 /// The row that a record says, beside a script with these moments.
-pub fn read_policy_row(fields: &ByteRecord, moments: Moments) -> Result<PolicyRow, Flaw>
+pub fn read_policy_row(fields: &ByteRecord, moments: &Moments<'_>) -> Result<PolicyRow, Flaw>
     ensures ok { IfOk result (λ row.
-        (policy_in moments (fields_of fields.now) ≡ Ok (policy_fields row))
-        × (policy_row_fault moments.publications (policy_in moments (fields_of fields.now)) ≡ None)) }
-    ensures within { IfOk result (λ row. row.to ≤ moments.publications) }
+        (policy_in moments.now (fields_of fields.now) ≡ Ok (policy_fields row))
+        × (policy_row_fault moments.now.publications (policy_in moments.now (fields_of fields.now)) ≡ None)) }
+    ensures within { IfOk result (λ row. row.to ≤ moments.now.publications) }
     ensures err { IfErr result (λ flaw.
-        policy_row_fault moments.publications (policy_in moments (fields_of fields.now)) ≡ Some flaw) }
+        policy_row_fault moments.now.publications (policy_in moments.now (fields_of fields.now)) ≡ Some flaw) }
 {
     PolicyFields::read(fields, moments)?.check(moments.publications)
 }

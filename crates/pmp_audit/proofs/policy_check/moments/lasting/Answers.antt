@@ -11,8 +11,7 @@ loop-done-preserved c =
     let stands : c.advance.new.self ≡ record { script = script; done = done + 1 } =
     rw c.loop-done.invariant.0 at c.advance.ensures in
     let file : c.file-in-loop-done.result.now ≡ file_of_script script (done + 1) =
-    c.file-in-loop-done.ensures ∙ ap file_at stands in
-    (
+    c.file-in-loop-done.ensures ∙ ap file_at stands in (
       stands,
       rw (c.lasting_with-lasting-in-loop-done.ensures, file)
           (all_more script done c.loop-done.lasting c.loop-done.invariant.1),

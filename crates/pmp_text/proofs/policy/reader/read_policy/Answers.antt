@@ -5,13 +5,13 @@ use Rattle.pmp_text.proofs.policy.reader.read_policy.Goals as goal
 
 pub returns-then-text-gt-MAX_TRACE-clause-given : goal.returns-then-text-gt-MAX_TRACE-clause-given
 returns-then-text-gt-MAX_TRACE-clause-given c =
-    rw (c.at_row.ensures, c.whole.ensures) (inl (policy_is c.args.moments c.args.text.now
-    ∙ long_text is_policy_header (policy_rows_meaning c.args.moments) c.args.text.now (omega arith)))
+    rw (c.at_row.ensures, c.whole.ensures) (inl (policy_is c.args.moments.now c.args.text.now
+    ∙ long_text is_policy_header (policy_rows_meaning c.args.moments.now) c.args.text.now (omega arith)))
 
 pub returns-clause-given : goal.returns-clause-given
 returns-clause-given c =
     rw (
-      policy_is c.args.moments c.args.text.now,
-      by_records is_policy_header (policy_rows_meaning c.args.moments) c.args.text.now (omega arith),
+      policy_is c.args.moments.now c.args.text.now,
+      by_records is_policy_header (policy_rows_meaning c.args.moments.now) c.args.text.now (omega arith),
       ← c.open.ensures,
     ) c.read_records.ensures.given

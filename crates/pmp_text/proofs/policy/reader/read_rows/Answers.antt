@@ -8,7 +8,7 @@ use Rattle.pmp_text.proofs.policy.reader.read_rows.Goals as goal
 pub loop-rows-preserved : goal.loop-rows-preserved
 loop-rows-preserved c =
     let found : c.in_ok-read.field-0 ≡ true = c.if-branch.true in
-    let moments = c.args.moments in
+    let moments = c.args.moments.now in
     let rows = c.loop-rows.rows.items in
     let row = c.in-Ok.row in
     let fields = c.read.new.self.fields in
