@@ -18,9 +18,10 @@ function sayRefusal({status, line}) {
 function sayAdvice({status}) {
     if (status === NO_ANSWER.status) return '';
     if (status !== MEMORY) return data.refusals[status].advice;
-    const {EVENTS, PUBLICATIONS, EXPECTATIONS, MAX_ANSWER} = data.limits;
+    const {EVENTS, PUBLICATIONS, EXPECTATIONS, MARKS, MAX_ANSWER} = data.limits;
     return `The page has room for ${counted(EVENTS, 'event')}, for ${counted(PUBLICATIONS, 'publication')}, of which `
         + `each single write is one where these are asked of, for ${counted(EXPECTATIONS, 'expectation')}, `
+        + `for ${counted(MARKS, 'mark')}, `
         + `and for an answer of ${counted(MAX_ANSWER, 'byte')}. The program has no such limits.`;
 }
 
