@@ -53,6 +53,8 @@ A line behind the first may be one of these too:
   set NAME VALUE     the register keeps VALUE before the first event
   expect NAME VALUE  the register reads VALUE here, behind the events above this
                      line; pmp writes has a row for it
+  mark MOMENT        the moment here, between two publications, has this name
+  publish MOMENT     as publish, and the moment behind it has this name
 
 `hart` and `set` lines are the head. They stand before the first `write`,
 `reset` or `publish`, in any order, each field of the hart once, and each
@@ -274,6 +276,8 @@ a policy outlives a change of the firmware:
   last-N       so many publications before it, a number
   mml or mmwp  the first one from which that bit of mseccfg is set to the end
   rlb-clear    the first one from which RLB is clear to the end
+  MOMENT       the one that the script names so; a name that it doesn't have is
+               refused (58)
 
 A row is unmet where such a moment never comes, or `to` comes before `from`. A
 name may end with a blank and `if-any`: then the row need not be met.
