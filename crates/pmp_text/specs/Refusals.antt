@@ -8,6 +8,7 @@ use Rattle.pmp_text.specs.declared.refusal.Refusal.TheVariants.{OddCfg, BadNumbe
 use Rattle.pmp_text.specs.declared.refusal.Refusal.TheVariants.{BadHeader, BadRow, BadAfter, Order, BadWord, Memory}
 use Rattle.pmp_text.specs.declared.refusal.Refusal.TheVariants.{NoPlace, Full, Moved, Input, Output}
 use Rattle.pmp_text.specs.declared.refusal.Refusal.TheVariants.{LateHead, Twice, BadEntries, BadBits, NotHeld, BadGrain}
+use Rattle.pmp_text.specs.declared.refusal.Refusal.TheVariants.{BadEvent, NoHart, BadFormat}
 
 abbrev pub number_of : Refusal → ℕ
 number_of BadLength = 3
@@ -37,6 +38,9 @@ number_of BadEntries = 52
 number_of BadBits = 53
 number_of NotHeld = 54
 number_of BadGrain = 55
+number_of BadEvent = 60
+number_of NoHart = 61
+number_of BadFormat = 62
 
 abbrev pub name_of : Refusal → List ℕ
 name_of BadLength = codes "BadLength"
@@ -66,6 +70,9 @@ name_of BadEntries = codes "BadEntries"
 name_of BadBits = codes "BadBits"
 name_of NotHeld = codes "NotHeld"
 name_of BadGrain = codes "BadGrain"
+name_of BadEvent = codes "BadEvent"
+name_of NoHart = codes "NoHart"
+name_of BadFormat = codes "BadFormat"
 
 -- the program's exit status: 3 where memory, input, output or a shared unit failed, and else 2
 abbrev pub status_of : Refusal → ℕ

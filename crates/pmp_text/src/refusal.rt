@@ -65,6 +65,12 @@ pub enum Refusal {
     NotHeld = 54,
     /// A grain that no hart has.
     BadGrain = 55,
+    /// A line of a log names a PMP register or one of its events in another form.
+    BadEvent = 60,
+    /// A log has no write, and no register, of the hart.
+    NoHart = 61,
+    /// A word that names no form of logs.
+    BadFormat = 62,
 }
 
 /// Why a script is refused: 10 to 17, 40, and in version 3 those from 50 on.
@@ -114,6 +120,9 @@ impl Refusal {
             Refusal::BadBits => "BadBits",
             Refusal::NotHeld => "NotHeld",
             Refusal::BadGrain => "BadGrain",
+            Refusal::BadEvent => "BadEvent",
+            Refusal::NoHart => "NoHart",
+            Refusal::BadFormat => "BadFormat",
         }
     }
 
@@ -170,6 +179,10 @@ impl Refusal {
             Refusal::BadBits => "34 to 56 address bits, or 32 to 34 with hart xlen 32",
             Refusal::NotHeld => "a value that the register of this hart keeps",
             Refusal::BadGrain => "a grain of 4, 8, 16 and so on to 4096 bytes",
+            Refusal::BadEvent =>
+                "each line that names a PMP register or one of its events in the form of its log: see pmp help import",
+            Refusal::NoHart => "a log with a write or a register of the hart",
+            Refusal::BadFormat => "qemu, gdb, openocd, spike or dump",
         }
     }
 
@@ -212,6 +225,11 @@ impl Refusal {
             Refusal::NotHeld =>
                 "give the hart lines of the hart that had the value; clear the bits that no hart keeps, as 63 to 54 of a pmpaddr, which QEMU before 11 keeps",
             Refusal::BadGrain => "give the grain in bytes, not the manual's G",
+            Refusal::BadEvent =>
+                "see whether the format is the log's; leave out a line that isn't a whole one of it",
+            Refusal::NoHart =>
+                "ask for another hart with --hart, or see whether the log has the events of PMP at all",
+            Refusal::BadFormat => "name the program that wrote the log, in lower case",
         }
     }
 }

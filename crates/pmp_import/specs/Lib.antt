@@ -1,0 +1,8 @@
+-- What a reader has to believe: what each line says, and which script a log gives.
+pub mod Said
+pub mod Qemu
+pub mod Formats
+pub mod Imported
+pub mod Imports
+-- The rest: the steps of a reading, which only private contracts cite.
+pub mod Steps

@@ -1,0 +1,16 @@
+//! Captures of real harts as scripts: QEMU's trace, what debuggers show of registers, and Spike's log of commits.
+#![tactic(auto)]
+
+mod fault;
+mod format;
+mod given;
+mod importer;
+mod lines;
+mod qemu;
+mod said;
+mod whole_log;
+
+pub use fault::ImportFault;
+pub use format::Format;
+pub use given::Given;
+pub use whole_log::{MOST_LINES, import};
