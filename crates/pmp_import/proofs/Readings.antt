@@ -5,7 +5,10 @@ use Rattle.pmp_import.specs.declared.fault.ImportFault.{ImportFault}
 use Rattle.pmp_import.specs.declared.given.Given.{Given}
 use Rattle.pmp_import.specs.declared.given.Walk.{Walk}
 use Rattle.pmp_import.specs.Imported.{imported_from, with_front}
-use Rattle.pmp_import.specs.Steps.{GoesOn, StopsAt}
+use Rattle.pmp_import.specs.declared.format.Format.{Format}
+use Rattle.pmp_import.specs.declared.survey.Survey.{Survey}
+use Rattle.pmp_import.specs.Steps.{FindsFault, FindsOn, GoesOn, StopsAt}
+use Rattle.pmp_import.specs.Surveys.{surveyed_from}
 
 pub with_both : (one other : List ℕ) (read : Result (List ℕ) ImportFault)
     → with_front one (with_front other read) ≡ with_front (one ++ other) read
@@ -51,3 +54,22 @@ pub stops_earlier : (given : Given) (walk : Walk) (lines others : List (List ℕ
 stops_earlier given walk lines others fault (inl memory) = inl memory
 stops_earlier given walk lines others fault (inr stops) =
     inr (λ more. ap (imported_from given walk) (append_assoc lines others more) ∙ stops (others ++ more))
+
+-- ---- the first reading
+
+module _ (format : Format) where
+  pub finds_none : (survey : Survey) → FindsOn format survey survey []
+  finds_none survey = record { finds_on = λ more. refl }
+
+  module _ {old mid : Survey} {lines : List (List ℕ)} (one : FindsOn format old mid lines) where
+    pub finds_further : {new : Survey} {others : List (List ℕ)} → FindsOn format mid new others
+        → FindsOn format old new (lines ++ others)
+    finds_further {others = others} other = record {
+      finds_on = λ more. ap (surveyed_from format old) (append_assoc lines others more) ∙ one.finds_on (others ++ more)
+          ∙ other.finds_on more;
+    }
+
+    pub fault_further : (others : List (List ℕ)) (fault : ImportFault) → FindsFault format mid others fault
+        → FindsFault format old (lines ++ others) fault
+    fault_further others fault stops = λ more.
+        ap (surveyed_from format old) (append_assoc lines others more) ∙ one.finds_on (others ++ more) ∙ stops more

@@ -1,7 +1,7 @@
 -- A log that is read, and its script written, piece by piece.
-use Rattle.std.proofs.Common.{◌≡◌, ℕ, ◌+◌, ◌-◌, ◌^◌, ◌≤◌, List, [], ◌∷◌, ◌++◌, length, unwrap_or, Option, Some, None, Result}
+use Rattle.std.proofs.Common.{◌≡◌, ℕ, ◌+◌, ◌-◌, ◌^◌, ◌≤◌, List, [], ◌∷◌, ◌++◌, length, Option, Result}
 use Rattle.std.proofs.Common.{Ok, Err, refl, sym, ap, ◌∙◌, subst, inl, inr, append_assoc, append-nil, arith}
-use Rattle.std.specs.Io.KnownBytes.{Appends, Consumes, IsAtEnd}
+use Rattle.std.specs.Io.KnownBytes.{Appends, Consumes}
 use Rattle.std.proofs.KnownBytes.{Appends-nil, Appends-trans, Consumes-nil, Consumes-trans}
 use Rattle.std.proofs.lemmas.List.{length-append}
 use Rattle.pmp_text.specs.declared.refusal.Refusal.{Refusal}
@@ -18,28 +18,8 @@ use Rattle.pmp_import.specs.Imported.{with_front}
 use Rattle.pmp_import.specs.Imports.{CantImport, IsImported, IsLog, Stops}
 use Rattle.pmp_import.specs.Imports.{no_input, no_memory, no_output, refused, too_long}
 use Rattle.pmp_import.specs.Steps.{EndsWith, GoesOn, StopsAt, StopsAtEnd}
+use Rattle.pmp_import.proofs.KnownLogs.{Bytes, is_last, is_taken, log_of, rest_of}
 use Rattle.pmp_import.proofs.Readings.{goes_further, goes_none, with_both}
-
-abbrev Bytes : Type 0
-Bytes = Option (List ℕ)
-
--- what is left, where that is known
-abbrev rest_of : Bytes → List ℕ
-rest_of left = unwrap_or left []
-
-log_of : (had left : Bytes) (bytes : List ℕ) → Consumes had left bytes → IsLog had (bytes ++ rest_of left)
-log_of None left bytes taken = tt
-log_of (Some those) None bytes taken = absurd taken
-log_of (Some those) (Some left) bytes taken = sym taken
-
-same_log : (had : Bytes) (one other : List ℕ) → one ≡ other → IsLog had one → IsLog had other
-same_log None one other same is = tt
-same_log (Some those) one other same is = sym same ∙ is
-
-none_left : (had left : Bytes) (bytes : List ℕ) → Consumes had left bytes → IsAtEnd left → IsLog had bytes
-none_left None left bytes taken ended = tt
-none_left (Some those) None bytes taken ended = absurd taken
-none_left (Some those) (Some left) bytes taken ended = sym (taken ∙ ap (λ (l : List ℕ). bytes ++ l) ended ∙ append-nil bytes)
 
 -- so many pieces were read, these bytes are held of what follows, and this text isn't written yet
 pub record Going (given : Given) (count : ℕ) (in_old in_new : Option (List ℕ)) (held : List ℕ)
@@ -92,7 +72,7 @@ module _ (given : Given) {walk : Walk} {done script : List ℕ} (whole : AreWhol
       ∙ ap (λ (front : List ℕ). with_front front (imported_from given walk (lines more))) (sym reads.appended)
 
   stops_in : (more : List ℕ) (piece tail : List (List ℕ)) (fault : ImportFault) → lines more ≡ piece ++ tail
-      → StopsAt given walk piece fault → Stops given (done ++ more) fault
+      → StopsAt given walk piece fault → Stops (imported given (lines (done ++ more))) (done ++ more) fault
   stops_in more piece tail fault are (inl memory) = rw memory no_memory
   stops_in more piece tail fault are (inr stop) = refused fault
       (imported_on more ∙ ap (with_front script) (ap (imported_from given walk) are ∙ stop tail))
@@ -107,14 +87,9 @@ module _ {given : Given} {count : ℕ} {in_old in_mid : Option (List ℕ)} {held
   abbrev log_taken : (in_new : Bytes) → (taken : List ℕ) → List ℕ
   log_taken in_new taken = going.done ++ ((held ++ taken) ++ rest_of in_new)
 
-  is_taken : (in_new : Bytes) (taken : List ℕ) → Consumes in_mid in_new taken → IsLog in_old (log_taken in_new taken)
-  is_taken in_new taken consumed =
-      same_log in_old ((going.done ++ held) ++ taken ++ rest_of in_new) (log_taken in_new taken)
-      (ap (λ (l : List ℕ). l ++ rest_of in_new) (append_assoc going.done held taken)
-      ∙ append_assoc going.done (held ++ taken) (rest_of in_new))
-      (log_of in_old in_new ((going.done ++ held) ++ taken) (Consumes-trans _ _ _ _ _ going.consumed consumed))
-
-  unread : (refusal : Refusal) → Stops given ((going.done ++ held) ++ rest_of in_mid) (at 0 refusal)
+  unread : (refusal : Refusal)
+      → Stops (imported given (lines ((going.done ++ held) ++ rest_of in_mid))) ((going.done ++ held) ++ rest_of in_mid)
+      (at 0 refusal)
       → CantImport given in_old out_old out_mid (at 0 refusal)
   unread refusal stop = record {
     log = (going.done ++ held) ++ rest_of in_mid;
@@ -165,7 +140,7 @@ module _ {given : Given} {count : ℕ} {in_old in_mid : Option (List ℕ)} {held
         → CantImport given in_old out_old out_mid fault
     stops_at fault stop = record {
       log = log_taken in_new cut.taken;
-      is_log = is_taken in_new cut.taken cut.consumed;
+      is_log = is_taken in_old in_mid in_new going.done held cut.taken going.consumed cut.consumed;
       stops = rw joined (stops_in given going.whole going.reads (piece ++ (left ++ rest_of in_new)) (lines piece)
           (lines (left ++ rest_of in_new)) fault (are_whole.apart (left ++ rest_of in_new)) stop);
       part = going.part;
@@ -176,7 +151,7 @@ module _ {given : Given} {count : ℕ} {in_old in_mid : Option (List ℕ)} {held
         → CantImport given in_old out_old out_new (at 0 Output)
     cant_write out_new front wrote = record {
       log = log_taken in_new cut.taken;
-      is_log = is_taken in_new cut.taken cut.consumed;
+      is_log = is_taken in_old in_mid in_new going.done held cut.taken going.consumed cut.consumed;
       stops = no_output;
       part = going.part ++ front;
       written = Appends-trans _ _ _ _ _ going.written wrote;
@@ -185,17 +160,14 @@ module _ {given : Given} {count : ℕ} {in_old in_mid : Option (List ℕ)} {held
   -- ---- the last lines
 
   module _ {in_new : Option (List ℕ)} (piece : List ℕ) (cut : IsLast MOST_LINES held in_mid in_new piece) where
-    is_last : IsLog in_old (going.done ++ piece)
-    is_last = none_left in_old in_new (going.done ++ piece)
-        (subst (Consumes in_old in_new) (append_assoc going.done held cut.taken
-        ∙ ap (λ (l : List ℕ). going.done ++ l) (sym cut.piece_is)) (Consumes-trans _ _ _ _ _ going.consumed cut.consumed))
-        cut.ended
+    last_log : IsLog in_old (going.done ++ piece)
+    last_log = rw cut.piece_is (is_last in_old in_mid in_new going.done held cut.taken going.consumed cut.consumed cut.ended)
 
     pub stops_at_last : (fault : ImportFault) → StopsAt given walk (lines piece) fault
         → CantImport given in_old out_old out_mid fault
     stops_at_last fault stop = record {
       log = going.done ++ piece;
-      is_log = is_last;
+      is_log = last_log;
       stops = stops_in given going.whole going.reads piece (lines piece) [] fault (sym (append-nil (lines piece))) stop;
       part = going.part;
       written = going.written;
@@ -211,14 +183,14 @@ module _ {given : Given} {count : ℕ} {in_old in_mid : Option (List ℕ)} {held
           → CantImport given in_old out_old out_mid fault
       stops_at_end fault (inl memory) = rw memory (record {
         log = going.done ++ piece;
-        is_log = is_last;
+        is_log = last_log;
         stops = no_memory;
         part = going.part;
         written = going.written;
       })
       stops_at_end fault (inr stop) = record {
         log = going.done ++ piece;
-        is_log = is_last;
+        is_log = last_log;
         stops = refused fault (all_lines
             ∙ ap (λ (read : Result (List ℕ) ImportFault). with_front going_script (with_front reads.text read)) stop);
         part = going.part;
@@ -229,7 +201,7 @@ module _ {given : Given} {count : ℕ} {in_old in_mid : Option (List ℕ)} {held
           → CantImport given in_old out_old out_new (at 0 Output)
       cant_write_last out_new front wrote = record {
         log = going.done ++ piece;
-        is_log = is_last;
+        is_log = last_log;
         stops = no_output;
         part = going.part ++ front;
         written = Appends-trans _ _ _ _ _ going.written wrote;
@@ -239,7 +211,7 @@ module _ {given : Given} {count : ℕ} {in_old in_mid : Option (List ℕ)} {held
           → Appends out_mid out_new after → IsImported given in_old out_old out_new
       ends_well {after = after} end wrote = record {
         log = going.done ++ piece;
-        is_log = is_last;
+        is_log = last_log;
         script = going.part ++ after;
         gives = all_lines
             ∙ ap (λ (read : Result (List ℕ) ImportFault). with_front going_script (with_front reads.text read)) end.ends
@@ -252,10 +224,10 @@ module _ {given : Given} {count : ℕ} {in_old in_mid : Option (List ℕ)} {held
   -- ---- no lines
 
   pub no_lines_more : (in_new : Option (List ℕ)) (refusal : Refusal) (left : List ℕ) → IsLineCut MOST_LINES held in_mid in_new left (Err refusal)
-      → CantImport given in_old out_old out_mid (stop_at walk refusal)
+      → CantImport given in_old out_old out_mid (stop_at walk.line refusal)
   no_lines_more in_new TooLong left cut = record {
     log = log_taken in_new cut.taken;
-    is_log = is_taken in_new cut.taken cut.consumed;
+    is_log = is_taken in_old in_mid in_new going.done held cut.taken going.consumed cut.consumed;
     stops = too_long (at walk.line TooLong) refl
         (inl (going.done, held ++ cut.taken, rest_of in_new, refl, cut.unended, cut.long));
     part = going.part;

@@ -84,6 +84,12 @@ is_write Read = false
 is_write Commit = true
 is_write Show = false
 
+abbrev pub is_read : How → Bool
+is_read Write = false
+is_read Read = true
+is_read Commit = false
+is_read Show = false
+
 -- what is written
 abbrev pub write_lines : Told → List ℕ
 write_lines told = if is_write told.how then value_line (codes "write") told.register told.value else []
@@ -141,7 +147,7 @@ abbrev pub behind_told : Given → Walk → Told → Walk
 behind_told given walk told = record (behind_line walk) {
   pending = if is_write told.how && not (ends given walk) then walk.pending + 1 else 0;
   is_used = true;
-  is_found = true;
+  is_found = walk.is_found || not (is_read told.how);
 }
 
 abbrev pub behind_said : Given → Walk → Said → Walk
@@ -174,9 +180,9 @@ abbrev pub at : (line : ℕ) → Refusal → ImportFault
 at line refusal = record { kind = refusal; line = line }
 
 -- an input gives no more lines: one that is too long is the next one
-abbrev pub stop_at : Walk → Refusal → ImportFault
-stop_at walk TooLong = at walk.line TooLong
-stop_at walk refusal = at 0 refusal
+abbrev pub stop_at : (line : ℕ) → Refusal → ImportFault
+stop_at line TooLong = at line TooLong
+stop_at line refusal = at 0 refusal
 
 abbrev pub with_front : (front : List ℕ) → Result (List ℕ) ImportFault → Result (List ℕ) ImportFault
 with_front front (Ok text) = Ok (front ++ text)

@@ -4,5 +4,6 @@ pub mod Qemu
 pub mod Formats
 pub mod Imported
 pub mod Imports
+pub mod Surveys
 -- The rest: the steps of a reading, which only private contracts cite.
 pub mod Steps

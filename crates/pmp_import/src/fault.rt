@@ -2,7 +2,7 @@
 
 ghost use Rattle.std.specs.Prelude.{◌≡◌};
 ghost use Rattle.pmp_text.specs.declared.refusal.Refusal.TheVariants.{Memory, Output};
-ghost use Rattle.pmp_import.specs.Imported.{at};
+ghost use Rattle.pmp_import.specs.Imported.{at, stop_at};
 
 use pmp_text::{OutputFault, Refusal};
 use std::alloc::AllocError;
@@ -20,6 +20,14 @@ impl ImportFault {
         ensures { result ≡ at line kind }
     {
         ImportFault { kind, line }
+    }
+
+    /// The fault of an input that gives no more lines, where this is the number of the next one.
+    pub(crate) fn stop(line: u64, refusal: Refusal) -> ImportFault
+        ensures { result ≡ stop_at line refusal }
+    {
+        let line = if refusal == Refusal::TooLong { line } else { 0 };
+        ImportFault::at(line, refusal)
     }
 }
 

@@ -33,7 +33,7 @@ pub struct Walk {
     pub pending: u64,
     /// Whether the hart has been used since the last reset.
     pub is_used: bool,
-    /// Whether a line told of the hart.
+    /// Whether a line told of a write or a value of the hart.
     pub is_found: bool,
     /// The hart whose registers are shown.
     pub shown: u64,
@@ -109,7 +109,7 @@ impl Walk {
         Walk {
             pending: if stays_open { self.pending + 1 } else { 0 },
             is_used: true,
-            is_found: true,
+            is_found: self.is_found || !told.how.is_read(),
             ..self.behind_line()
         }
     }

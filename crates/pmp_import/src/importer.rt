@@ -3,7 +3,7 @@
 ghost use Rattle.std.specs.Prelude.{◌≡◌, ◌⊎◌, ◌++◌, ◌∷◌, [], Err, List, ℕ, IfErr, IfOk, OnErr, OnOk, Ok};
 ghost use Rattle.pmp_text.specs.declared.refusal.Refusal.TheVariants.{Memory};
 ghost use Rattle.pmp_text.specs.Lines.{lines};
-ghost use Rattle.pmp_import.specs.Imported.{at, beginning, foreign, head_text, line_of, stop_at};
+ghost use Rattle.pmp_import.specs.Imported.{at, beginning, foreign, head_text, line_of};
 ghost use Rattle.pmp_import.specs.Steps.{EndsWith, GoesOn, StopsAt, StopsAtEnd};
 
 use crate::fault::ImportFault;
@@ -96,17 +96,6 @@ impl Importer {
             return Err(ImportFault::at(0, Refusal::NoHart));
         }
         Ok(append_line(out, publish_if(self.walk.is_open()))?)
-    }
-
-    /// The fault of an input that gives no more lines: a line that is too long is the next one.
-    pub fn stop(&self, refusal: Refusal) -> ImportFault
-        ensures { result ≡ stop_at self.now.walk refusal }
-    {
-        let line = match refusal {
-            Refusal::TooLong => self.walk.line,
-            _ => 0,
-        };
-        ImportFault::at(line, refusal)
     }
 }
 

@@ -6,11 +6,15 @@ mod format;
 mod given;
 mod importer;
 mod lines;
+mod options;
 mod qemu;
 mod said;
+mod survey;
 mod whole_log;
 
 pub use fault::ImportFault;
 pub use format::Format;
 pub use given::Given;
-pub use whole_log::{MOST_LINES, import};
+pub use options::Options;
+pub use survey::Survey;
+pub use whole_log::{MOST_LINES, import, survey_log};

@@ -1,7 +1,7 @@
 //! What a line of a log says.
 
 ghost use Rattle.std.specs.Prelude.{◌≡◌};
-ghost use Rattle.pmp_import.specs.Imported.{is_unset, is_write};
+ghost use Rattle.pmp_import.specs.Imported.{is_read, is_unset, is_write};
 ghost use Rattle.pmp_import.specs.Said.{hex_number, is_of_rv32, occurs};
 
 use memchr::memmem;
@@ -27,6 +27,13 @@ impl How {
         ensures { result ≡ is_write self }
     {
         matches!(self, How::Write | How::Commit)
+    }
+
+    /// Whether the register is only read.
+    pub fn is_read(self) -> bool
+        ensures { result ≡ is_read self }
+    {
+        matches!(self, How::Read)
     }
 }
 
