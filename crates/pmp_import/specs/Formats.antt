@@ -5,6 +5,8 @@ use Rattle.pmp_import.specs.declared.format.Format.{Format}
 use Rattle.pmp_import.specs.declared.format.Format.TheVariants.{Qemu, Gdb, OpenOcd, Spike, Dump}
 use Rattle.pmp_import.specs.declared.said.Said.{Said}
 use Rattle.pmp_import.specs.declared.said.Said.TheVariants.{Nothing}
+use Rattle.pmp_import.specs.declared.debuggers.Debugger.TheVariants as debugger
+use Rattle.pmp_import.specs.Debuggers.{debugger_said}
 use Rattle.pmp_import.specs.Qemu.{qemu_said}
 
 abbrev pub format_named : List ℕ → Option Format
@@ -25,4 +27,7 @@ source_text Dump = codes "a dump"
 -- what a line of such a log says, or why it is refused
 abbrev pub line_said : Format → List ℕ → Result Said Refusal
 line_said Qemu line = qemu_said line
-line_said _ line = Ok Nothing
+line_said Gdb line = debugger_said debugger.Gdb line
+line_said OpenOcd line = debugger_said debugger.OpenOcd line
+line_said Spike line = Ok Nothing
+line_said Dump line = debugger_said debugger.Dump line

@@ -1,6 +1,7 @@
 -- What a reader has to believe: what each line says, and which script a log gives.
 pub mod Said
 pub mod Qemu
+pub mod Debuggers
 pub mod Formats
 pub mod Imported
 pub mod Imports

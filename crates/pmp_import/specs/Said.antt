@@ -1,5 +1,5 @@
 -- What the lines of all logs have in common.
-use Rattle.std.specs.Prelude.{ℕ, ◌-◌, ◌%◌, List, length, take, drop, Bool, true, false, ◌==◌, Option, Some}
+use Rattle.std.specs.Prelude.{ℕ, ◌-◌, ◌%◌, List, length, take, drop, Bool, true, false, ◌||◌, ◌==◌, Option, Some}
 use Rattle.std.specs.Prelude.{None, is_some, codes, bytes_eq, if◌then◌else◌}
 use Rattle.memchr.specs.Find.{first_of, matches}
 use Rattle.pmp_core.specs.declared.csr.Csr.{Csr}
@@ -34,3 +34,7 @@ hex_number word = if bytes_eq (take 2 word) (codes "0x") then numeral 16 16 (dro
 -- the name stands somewhere in the line
 unfoldable pub occurs : (name line : List ℕ) → Bool
 occurs name line = is_some (first_of (matches line name 0))
+
+-- a register's name stands in the line
+unfoldable pub names_register : List ℕ → Bool
+names_register line = occurs (codes "pmpcfg") line || occurs (codes "pmpaddr") line || occurs (codes "mseccfg") line

@@ -3,6 +3,7 @@
 ghost use Rattle.std.specs.Prelude.{◌≡◌, Some};
 ghost use Rattle.pmp_import.specs.Formats.{format_named, line_said, source_text};
 
+use crate::debuggers::Debugger;
 use crate::qemu::read_qemu;
 use crate::said::Said;
 use pmp_text::Refusal;
@@ -49,7 +50,10 @@ impl Format {
     {
         match self {
             Format::Qemu => read_qemu(line),
-            _ => Ok(Said::Nothing),
+            Format::Gdb => Debugger::Gdb.read(line),
+            Format::OpenOcd => Debugger::OpenOcd.read(line),
+            Format::Spike => Ok(Said::Nothing),
+            Format::Dump => Debugger::Dump.read(line),
         }
     }
 }

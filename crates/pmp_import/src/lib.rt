@@ -1,6 +1,7 @@
 //! Captures of real harts as scripts: QEMU's trace, what debuggers show of registers, and Spike's log of commits.
 #![tactic(auto)]
 
+mod debuggers;
 mod fault;
 mod format;
 mod given;

@@ -2,7 +2,7 @@
 
 ghost use Rattle.std.specs.Prelude.{◌≡◌};
 ghost use Rattle.pmp_import.specs.Imported.{is_read, is_unset, is_write};
-ghost use Rattle.pmp_import.specs.Said.{hex_number, is_of_rv32, occurs};
+ghost use Rattle.pmp_import.specs.Said.{hex_number, is_of_rv32, names_register, occurs};
 
 use memchr::memmem;
 use pmp_core::Csr;
@@ -93,4 +93,12 @@ pub fn occurs(name: &[u8], line: &[u8]) -> bool
     ensures { result ≡ occurs name.now line.now }
 {
     memmem::find(line, name).is_some()
+}
+
+/// Whether a register's name stands in the line.
+#[tactic(auto, unfolding(crate::specs::Said::names_register))]
+pub fn names_register(line: &[u8]) -> bool
+    ensures { result ≡ names_register line.now }
+{
+    occurs(b"pmpcfg", line) || occurs(b"pmpaddr", line) || occurs(b"mseccfg", line)
 }
