@@ -28,7 +28,11 @@ csr_named is_rv32 name = if names_register name
 unfoldable pub shown : (is_of_32 : Bool) → Option Csr → (value : List ℕ) → Option Told
 shown is_of_32 csr value =
     and_then csr (λ register. and_then (hex_number value) (λ held. Some (record {
-      hart = None; how = Show; register = register; value = held; is_rv32 = is_of_32 || is_of_rv32 register;
+      hart = None;
+      how = Show;
+      register = register;
+      value = held;
+      is_rv32 = is_of_32 || is_of_rv32 register;
     })))
 
 -- digits, perhaps behind a minus

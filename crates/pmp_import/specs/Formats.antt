@@ -1,13 +1,13 @@
 -- The forms of logs.
-use Rattle.std.specs.Prelude.{List, ℕ, Option, Some, None, Result, Ok, codes, bytes_eq, if◌then◌else◌}
+use Rattle.std.specs.Prelude.{List, ℕ, Option, Some, None, Result, codes, bytes_eq, if◌then◌else◌}
 use Rattle.pmp_text.specs.declared.refusal.Refusal.{Refusal}
 use Rattle.pmp_import.specs.declared.format.Format.{Format}
 use Rattle.pmp_import.specs.declared.format.Format.TheVariants.{Qemu, Gdb, OpenOcd, Spike, Dump}
 use Rattle.pmp_import.specs.declared.said.Said.{Said}
-use Rattle.pmp_import.specs.declared.said.Said.TheVariants.{Nothing}
 use Rattle.pmp_import.specs.declared.debuggers.Debugger.TheVariants as debugger
 use Rattle.pmp_import.specs.Debuggers.{debugger_said}
 use Rattle.pmp_import.specs.Qemu.{qemu_said}
+use Rattle.pmp_import.specs.Spike.{spike_said}
 
 abbrev pub format_named : List ℕ → Option Format
 format_named word =
@@ -29,5 +29,5 @@ abbrev pub line_said : Format → List ℕ → Result Said Refusal
 line_said Qemu line = qemu_said line
 line_said Gdb line = debugger_said debugger.Gdb line
 line_said OpenOcd line = debugger_said debugger.OpenOcd line
-line_said Spike line = Ok Nothing
+line_said Spike line = spike_said line
 line_said Dump line = debugger_said debugger.Dump line

@@ -2,6 +2,7 @@
 pub mod Said
 pub mod Qemu
 pub mod Debuggers
+pub mod Spike
 pub mod Formats
 pub mod Imported
 pub mod Imports

@@ -84,7 +84,8 @@ fn shown(is_of_32: bool, register: Option<Csr>, value: &[u8]) -> Option<Told>
 fn is_decimal(word: &[u8]) -> bool
     ensures { result ≡ is_decimal word.now }
 {
-    word.iter().all(|byte| char::from(*byte).is_digit(10) || *byte == b'-')
+    word.iter()
+        .all(|byte| char::from(*byte).is_digit(10) || *byte == b'-')
 }
 
 #[tactic(auto, unfolding(crate::specs::Debuggers::gdb_shown))]

@@ -6,6 +6,7 @@ ghost use Rattle.pmp_import.specs.Formats.{format_named, line_said, source_text}
 use crate::debuggers::Debugger;
 use crate::qemu::read_qemu;
 use crate::said::Said;
+use crate::spike::read_spike;
 use pmp_text::Refusal;
 use std::fmt;
 
@@ -52,7 +53,7 @@ impl Format {
             Format::Qemu => read_qemu(line),
             Format::Gdb => Debugger::Gdb.read(line),
             Format::OpenOcd => Debugger::OpenOcd.read(line),
-            Format::Spike => Ok(Said::Nothing),
+            Format::Spike => read_spike(line),
             Format::Dump => Debugger::Dump.read(line),
         }
     }

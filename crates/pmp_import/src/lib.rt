@@ -10,6 +10,7 @@ mod lines;
 mod options;
 mod qemu;
 mod said;
+mod spike;
 mod survey;
 mod whole_log;
 
