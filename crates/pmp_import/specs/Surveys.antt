@@ -53,6 +53,7 @@ abbrev pub behind_found : Survey → (hart : ℕ) → Survey
 behind_found survey hart = record survey {
   hart = option_or survey.hart (Some hart);
   own = if unwrap_or survey.hart hart == hart then one_more survey.own else survey.own;
+  left = if unwrap_or survey.hart hart == hart then survey.left else one_more survey.left;
   writes = counted hart survey.writes;
 }
 
@@ -87,6 +88,7 @@ nothing_found hart = record {
   line = 1;
   hart = hart;
   own = 0;
+  left = 0;
   of_rv32 = None;
   wide = None;
   has_many = false;

@@ -24,6 +24,8 @@ pub struct Survey {
     pub hart: Option<u64>,
     /// How many writes and registers that are shown it has.
     pub own: u64,
+    /// How many the other harts have, which are left out.
+    pub left: u64,
     /// The first line that only RV32 has.
     pub of_rv32: Option<u64>,
     /// The first line with a value that RV32 doesn't have.
@@ -68,6 +70,7 @@ impl Survey {
             line: 1,
             hart,
             own: 0,
+            left: 0,
             of_rv32: None,
             wide: None,
             has_many: false,
@@ -109,6 +112,8 @@ impl Survey {
     {
         if self.hart.unwrap_or(hart) == hart {
             self.own = self.own.saturating_add(1);
+        } else {
+            self.left = self.left.saturating_add(1);
         }
         self.hart = self.hart.or(Some(hart));
         if hart < COUNTED as u64 {
