@@ -13,7 +13,7 @@ use std::alloc::Global;
 use std::io::{Read, Write};
 
 /// The most bytes of the lines that are read at a time, and so of a line.
-pub const MOST_LINES: usize = 64 * 1024;
+pub const MOST_LINES: usize = 1 << 16;
 
 /// What a log of any length has, where this hart is asked for.
 pub fn survey_log<R: Read>(
