@@ -160,19 +160,23 @@ behind_said given walk Nothing = behind_line walk
 -- ---- the whole
 
 -- a register that only the other XLEN has, or a value that is too large for this one
-abbrev pub foreign : (is_rv32 : Bool) → Said → Option Refusal
-foreign true (Register told) = if nat_le (2 ^ 32) told.value then Some BadNumber else None
-foreign false (Register told) = if told.is_rv32 then Some OddCfg else None
-foreign is_rv32 said = None
+abbrev pub foreign : (is_rv32 : Bool) → Told → Option Refusal
+foreign true told = if nat_le (2 ^ 32) told.value then Some BadNumber else None
+foreign false told = if told.is_rv32 then Some OddCfg else None
+
+-- the hart can't have what a line tells of it
+abbrev pub line_fault : Given → Walk → Said → Option Refusal
+line_fault given walk (Register told) = if is_of_hart given walk told then foreign given.is_rv32 told else None
+line_fault given walk _ = None
 
 abbrev pub unless : Option Refusal → Said → Result Said Refusal
 unless None said = Ok said
 unless (Some refusal) said = Err refusal
 
--- what a line says of such a hart
-abbrev pub line_of : Given → List ℕ → Result Said Refusal
-line_of given line = elim (line_said given.format line) [
-  | Ok said ↦ unless (foreign given.is_rv32 said) said
+-- what a line says
+abbrev pub line_of : Given → Walk → List ℕ → Result Said Refusal
+line_of given walk line = elim (line_said given.format line) [
+  | Ok said ↦ unless (line_fault given walk said) said
   | Err refusal ↦ Err refusal
 ]
 
@@ -191,7 +195,7 @@ with_front front (Err fault) = Err fault
 -- what the lines give that are left, or the first fault
 abbrev pub imported_from : Given → Walk → List (List ℕ) → Result (List ℕ) ImportFault
 imported_from given walk [] = if walk.is_found then Ok (publish_if (is_open walk)) else Err (at 0 NoHart)
-imported_from given walk (line ∷ more) = elim (line_of given line) [
+imported_from given walk (line ∷ more) = elim (line_of given walk line) [
   | Ok said ↦ with_front (said_text given walk said) (imported_from given (behind_said given walk said) more)
   | Err refusal ↦ Err (at walk.line refusal)
 ]

@@ -48,22 +48,32 @@ counted hart writes = if nat_lt hart COUNTED then slice_set writes hart (one_mor
 abbrev pub first_line : Option ℕ → (is_one : Bool) → (line : ℕ) → Option ℕ
 first_line first is_one line = option_or first (if is_one then Some line else None)
 
+-- whether the script is of this hart, as far as is known
+abbrev pub is_own : Survey → (hart : ℕ) → Bool
+is_own survey hart = unwrap_or survey.hart hart == hart
+
 -- behind a write, or a register that is shown: the first one's hart is that of the script, where none is asked for
 abbrev pub behind_found : Survey → (hart : ℕ) → Survey
 behind_found survey hart = record survey {
   hart = option_or survey.hart (Some hart);
-  own = if unwrap_or survey.hart hart == hart then one_more survey.own else survey.own;
-  left = if unwrap_or survey.hart hart == hart then survey.left else one_more survey.left;
+  own = if is_own survey hart then one_more survey.own else survey.own;
+  left = if is_own survey hart then survey.left else one_more survey.left;
   writes = counted hart survey.writes;
 }
 
--- behind a line that tells of a register
-abbrev pub behind_told : Survey → Told → Survey
-behind_told survey told = record (if is_read told.how then survey else behind_found survey (hart_of survey told)) {
+-- what a line tells of a register of the hart
+abbrev pub with_told : Survey → Told → Survey
+with_told survey told = record survey {
   of_rv32 = first_line survey.of_rv32 told.is_rv32 survey.line;
   wide = first_line survey.wide (nat_le (2 ^ 32) told.value) survey.line;
   has_many = survey.has_many || needs_many told;
 }
+
+-- behind a line that tells of a register
+abbrev pub behind_told : Survey → Told → Survey
+behind_told survey told =
+    let seen = if is_own survey (hart_of survey told) then with_told survey told else survey in
+    if is_read told.how then seen else behind_found seen (hart_of survey told)
 
 -- behind a line that says this, but for its number
 abbrev pub behind_said : Survey → Said → Survey

@@ -3,13 +3,13 @@
 ghost use Rattle.std.specs.Prelude.{◌≡◌, ◌⊎◌, ◌++◌, ◌∷◌, [], Err, List, ℕ, IfErr, IfOk, OnErr, OnOk, Ok};
 ghost use Rattle.pmp_text.specs.declared.refusal.Refusal.TheVariants.{Memory};
 ghost use Rattle.pmp_text.specs.Lines.{lines};
-ghost use Rattle.pmp_import.specs.Imported.{at, beginning, foreign, head_text, line_of};
+ghost use Rattle.pmp_import.specs.Imported.{at, beginning, foreign, head_text, line_fault, line_of};
 ghost use Rattle.pmp_import.specs.Steps.{EndsWith, GoesOn, StopsAt, StopsAtEnd};
 
 use crate::fault::ImportFault;
 use crate::given::{Given, Walk};
 use crate::lines::{Head, SaidLines, publish_if};
-use crate::said::Said;
+use crate::said::{Said, Told};
 use pmp_text::{Refusal, Sink, append_line, split_first_line};
 use std::alloc::AllocError;
 
@@ -54,11 +54,11 @@ impl Importer {
         Ok(())
     }
 
-    /// What a line says of the hart.
+    /// What a line says.
     fn read_line(&self, line: &[u8]) -> Result<Said, ImportFault>
-        ensures ok { IfOk result (λ said. line_of self.now.given line.now ≡ Ok said) }
+        ensures ok { IfOk result (λ said. line_of self.now.given self.now.walk line.now ≡ Ok said) }
         ensures err { IfErr result (λ fault. (refusal : Refusal) × (fault ≡ at self.now.walk.line refusal)
-            × (line_of self.now.given line.now ≡ Err refusal)) }
+            × (line_of self.now.given self.now.walk line.now ≡ Err refusal)) }
     {
         let number = self.walk.line;
         let said = self
@@ -66,9 +66,21 @@ impl Importer {
             .format
             .read(line)
             .map_err(|kind| ImportFault::at(number, kind))?;
-        match foreign(self.given.is_rv32, said) {
+        match self.line_fault(said) {
             Some(kind) => Err(ImportFault::at(number, kind)),
             None => Ok(said),
+        }
+    }
+
+    /// Why the hart can't have what a line tells of it.
+    fn line_fault(&self, said: Said) -> Option<Refusal>
+        ensures { result ≡ line_fault self.now.given self.now.walk said }
+    {
+        match said {
+            Said::Register(told) if self.given.is_of_hart(self.walk, told) => {
+                foreign(self.given.is_rv32, &told)
+            }
+            _ => None,
         }
     }
 
@@ -99,13 +111,15 @@ impl Importer {
     }
 }
 
-/// Why such a hart can't have what a line says.
-fn foreign(is_rv32: bool, said: Said) -> Option<Refusal>
-    ensures { result ≡ foreign is_rv32 said }
+/// Why a hart of this XLEN can't have what a line tells.
+fn foreign(is_rv32: bool, told: &Told) -> Option<Refusal>
+    ensures { result ≡ foreign is_rv32 told.now }
 {
-    match said {
-        Said::Register(told) if is_rv32 && told.value >= 1 << 32 => Some(Refusal::BadNumber),
-        Said::Register(told) if !is_rv32 && told.is_rv32 => Some(Refusal::OddCfg),
-        _ => None,
+    if is_rv32 && told.value >= 1 << 32 {
+        Some(Refusal::BadNumber)
+    } else if !is_rv32 && told.is_rv32 {
+        Some(Refusal::OddCfg)
+    } else {
+        None
     }
 }

@@ -59,8 +59,7 @@ fn needs_many(told: &Told) -> bool
 }
 
 impl Survey {
-    ghost use Rattle.pmp_import.specs.Surveys.{behind_found, behind_line, behind_said, behind_told, counted};
-    ghost use Rattle.pmp_import.specs.Surveys.{nothing_found};
+    ghost use Rattle.pmp_import.specs.Surveys.{behind_found, behind_line, behind_told, is_own, nothing_found, with_told};
 
     /// Before the first line, where this hart is asked for.
     pub fn new(hart: Option<u64>) -> Survey
@@ -98,19 +97,35 @@ impl Survey {
         ensures { self.new ≡ behind_told self.old told }
     {
         let hart = told.hart.unwrap_or(self.shown);
+        if self.is_own(hart) {
+            self.look_at(&told);
+        }
         if !told.how.is_read() {
             self.find(hart);
         }
+    }
+
+    /// Whether the script is of this hart, as far as is known.
+    fn is_own(&self, hart: u64) -> bool
+        ensures { result ≡ is_own self.now hart }
+    {
+        self.hart.unwrap_or(hart) == hart
+    }
+
+    /// Takes what a line tells of a register of the hart.
+    fn look_at(&mut self, told: &Told)
+        ensures { self.new ≡ with_told self.old told.now }
+    {
         self.of_rv32 = first_line(self.of_rv32, told.is_rv32, self.line);
         self.wide = first_line(self.wide, told.value >= 1 << 32, self.line);
-        self.has_many = self.has_many || needs_many(&told);
+        self.has_many = self.has_many || needs_many(told);
     }
 
     /// Counts a write, or a register that is shown.
     fn find(&mut self, hart: u64)
         ensures { self.new ≡ behind_found self.old hart }
     {
-        if self.hart.unwrap_or(hart) == hart {
+        if self.is_own(hart) {
             self.own = self.own.saturating_add(1);
         } else {
             self.left = self.left.saturating_add(1);
