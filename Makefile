@@ -81,7 +81,6 @@ test:
 	    checks/launcher \
 	    'release/documents --check' \
 	    'checks/documents $(PROGRAM)' \
-	    'checks/converters $(PROGRAM)' \
 	    checks/summing \
 	    'checks/hostile $(PROGRAM)' \
 	    'checks/machines $(PROGRAM)' \

@@ -1,7 +1,7 @@
 # Completion of pmp for bash.
 _pmp() {
     local word=${COMP_WORDS[COMP_CWORD]} before=${COMP_WORDS[COMP_CWORD - 1]} files= words=
-    local commands='check audit policy dump map picture entries writes diff'
+    local commands='check audit policy dump map picture entries writes diff import'
     if [ "$COMP_CWORD" = 1 ]; then
         COMPREPLY=($(compgen -W "$commands help --help --version" -- "$word"))
         return
@@ -14,13 +14,20 @@ _pmp() {
         map | picture | entries) words='--explain --after stdin'; files=yes ;;
         writes) words='--explain stdin'; files=yes ;;
         diff) words='--explain --old-after --new-after --only stdin'; files=yes ;;
+        import)
+            words='--explain --hart --xlen --entries --grain --address-bits --smepmp --bursts stdin'
+            if [ "$COMP_CWORD" = 2 ]; then words='qemu gdb openocd spike dump'; else files=yes; fi
+            ;;
         help) words="$commands script trace rows" ;;
     esac
     case $before in
         --expect) words='allow fault' files= ;;
         --only) words='more less' files= ;;
         --checkers) words='1 2 3 4 5 6 7 8' files= ;;
+        --xlen) words='32 64' files= ;;
+        --smepmp) words='yes no' files= ;;
         --after | --old-after | --new-after | --jobs | --first-row) words= files= ;;
+        --hart | --entries | --grain | --address-bits) words= files= ;;
     esac
     COMPREPLY=($(compgen -W "$words" -- "$word"))
     [ -z "$files" ] || COMPREPLY+=($(compgen -f -- "$word"))

@@ -1,5 +1,5 @@
 # Completion of pmp for fish.
-set -l commands check audit policy dump map picture entries writes diff
+set -l commands check audit policy dump map picture entries writes diff import
 complete -c pmp -n __fish_use_subcommand -f -l help -d 'tell of the commands'
 complete -c pmp -n __fish_use_subcommand -f -l version -d 'write the version'
 complete -c pmp -n __fish_use_subcommand -f -a check -d 'decide one access'
@@ -11,6 +11,7 @@ complete -c pmp -n __fish_use_subcommand -f -a picture -d 'draw which bytes each
 complete -c pmp -n __fish_use_subcommand -f -a entries -d 'write what each entry is and how it is locked'
 complete -c pmp -n __fish_use_subcommand -f -a writes -d 'write what each write changes'
 complete -c pmp -n __fish_use_subcommand -f -a diff -d 'write where two scripts differ'
+complete -c pmp -n __fish_use_subcommand -f -a import -d 'write a script of a log'
 complete -c pmp -n __fish_use_subcommand -f -a help -d 'tell of a command'
 complete -c pmp -n '__fish_seen_subcommand_from help' -f -a "$commands script trace rows"
 complete -c pmp -n "__fish_seen_subcommand_from $commands" -l explain -d 'explain a refusal'
@@ -31,3 +32,12 @@ complete -c pmp -n '__fish_seen_subcommand_from diff' -l old-after -x \
 complete -c pmp -n '__fish_seen_subcommand_from diff' -l new-after -x \
     -d 'take the first M publications of the new script'
 complete -c pmp -n '__fish_seen_subcommand_from diff' -l only -x -a 'more less' -d 'write the rows that change so'
+complete -c pmp -n '__fish_seen_subcommand_from import' -a 'qemu gdb openocd spike dump'
+complete -c pmp -n '__fish_seen_subcommand_from import' -l hart -x -d 'take the registers of hart N'
+complete -c pmp -n '__fish_seen_subcommand_from import' -l xlen -x -a '32 64' -d 'say XLEN'
+complete -c pmp -n '__fish_seen_subcommand_from import' -l entries -x -d 'say how many entries the hart has'
+complete -c pmp -n '__fish_seen_subcommand_from import' -l grain -x -d 'say its grain in bytes'
+complete -c pmp -n '__fish_seen_subcommand_from import' -l address-bits -x -d 'say how many bits an address has'
+complete -c pmp -n '__fish_seen_subcommand_from import' -l smepmp -x -a 'yes no' -d 'say whether it has Smepmp'
+complete -c pmp -n '__fish_seen_subcommand_from import' -l bursts \
+    -d 'make one publication of writes on lines side by side'

@@ -13,7 +13,7 @@ use Rattle.pmp_core.specs.RegisterFile.{RegisterFile}
 use Rattle.pmp_core.specs.RegisterWrite.{step}
 use Rattle.pmp_text.specs.Contents.{ScriptContents}
 use Rattle.pmp_text.specs.Effects.{effect_row}
-use Rattle.pmp_text.proofs.Words.{range_more}
+use Rattle.pmp_text.proofs.SpacedWords.{range_more}
 use Rattle.pmp_audit.specs.declared.write_list.EventSummary.{EventSummary}
 use Rattle.pmp_audit.specs.WriteList.{PlacedEvent, placed, events_of, file_before, rows_text, is_not_stored}
 use Rattle.pmp_audit.specs.WriteList.{event_summary}

@@ -2,7 +2,7 @@
 use Rattle.std.proofs.Common.{◌≡◌, ℕ, ◌+◌, List, ◌++◌, sym, ap, ◌∙◌}
 use Rattle.std.specs.List.{flat_map, range_with_len}
 use Rattle.std.proofs.lemmas.List.{flat_map_more}
-use Rattle.pmp_text.proofs.Words.{range_more}
+use Rattle.pmp_text.proofs.SpacedWords.{range_more}
 
 pub rows_grow : (row : ℕ → List ℕ) (before text longer : List ℕ) (count : ℕ)
     → longer ≡ text ++ row count → text ≡ before ++ flat_map row (range_with_len 0 count)

@@ -3,6 +3,7 @@ pub mod Bounds
 pub mod BrokenRows
 pub mod CutPieces
 pub mod CutTexts
+pub mod WholeLines
 pub mod WholeTraces
 pub mod Cuts
 pub mod Digits
@@ -34,4 +35,4 @@ pub mod SplitRecords
 pub mod Starts
 pub mod Transfers
 pub mod Versions
-pub mod Words
+pub mod SpacedWords

@@ -1,5 +1,6 @@
 -- Cutting what a reader gives into pieces.
 use Rattle.std.specs.Prelude.{◌≡◌, ℕ, ◌-◌, ◌<◌, ◌≤◌, List, [], ◌∷◌, ◌++◌, length, Bool, true, false, Option, Result}
+use Rattle.std.specs.List.{list_any}
 use Rattle.std.specs.Prelude.{Ok, Err, ⊤}
 use Rattle.std.specs.Io.KnownBytes.{Consumes, IsAtEnd}
 use Rattle.pmp_text.specs.declared.cutter.Cut.{Cut}
@@ -7,6 +8,7 @@ use Rattle.pmp_text.specs.declared.cutter.Cut.TheVariants.{Front, Last}
 use Rattle.pmp_text.specs.declared.refusal.Refusal.{Refusal}
 use Rattle.pmp_text.specs.declared.refusal.Refusal.TheVariants.{TooLong, Input, Memory}
 use Rattle.pmp_text.specs.LongTraces.{HasLongLine}
+use Rattle.pmp_text.specs.Lines.{is_line_feed}
 use Rattle.pmp_text.specs.Tables.{is_line_end}
 
 -- bytes were taken, behind which `limit` are held, or none is left
@@ -56,3 +58,31 @@ IsCut limit held old new left (Err TooLong) = IsUncut limit held old new
 IsCut limit held old new left (Err Input) = ⊤
 IsCut limit held old new left (Err Memory) = ⊤
 IsCut limit held old new left (Err _) = ⊥
+
+-- ---- lines by LF
+
+-- whole lines of at most `limit` bytes were cut off, in front of what is held now
+pub record AreLines (limit : ℕ) (held : List ℕ) (old new : Option (List ℕ)) (left piece : List ℕ) : Type 0 where
+  pub taken : List ℕ
+  pub consumed : Consumes old new taken
+  pub before : List ℕ
+  pub ends : piece ≡ before ++ 10 ∷ []
+  pub split : held ++ taken ≡ piece ++ left
+  pub within : length left ≤ limit
+  pub short : length piece ≤ limit
+
+-- so many bytes are held, and have no LF
+pub record IsLongLine (limit : ℕ) (held : List ℕ) (old new : Option (List ℕ)) : Type 0 where
+  pub taken : List ℕ
+  pub consumed : Consumes old new taken
+  pub long : limit ≤ length (held ++ taken)
+  pub unended : list_any is_line_feed (held ++ taken) ≡ false
+
+abbrev pub IsLineCut : (limit : ℕ) (held : List ℕ) (old new : Option (List ℕ)) (left : List ℕ)
+    → Result Cut Refusal → Type 0
+IsLineCut limit held old new left (Ok (Front piece)) = AreLines limit held old new left piece.items
+IsLineCut limit held old new left (Ok (Last piece)) = IsLast limit held old new piece.items
+IsLineCut limit held old new left (Err TooLong) = IsLongLine limit held old new
+IsLineCut limit held old new left (Err Input) = ⊤
+IsLineCut limit held old new left (Err Memory) = ⊤
+IsLineCut limit held old new left (Err _) = ⊥

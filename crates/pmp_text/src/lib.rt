@@ -21,22 +21,25 @@ mod sink;
 mod trace;
 
 pub use access_words::{read_kind, read_mode};
-pub use cutter::{Cut, cut_piece};
+pub use cutter::{Cut, cut_lines, cut_piece};
 pub use event_log::{EventLog, FixedLog, GrowingLog};
 pub use expectation::Expectation;
 pub use flaw::Flaw;
 pub use input::{MAX_LIMIT, read_bytes};
 pub use lines::{
-    Breach, Change, EventPlace, NoMemory, Only, Since, Verdict, write_change, write_effect,
-    write_entries, write_expected, write_picture, write_registers, write_row, write_runs,
-    write_script, write_verdict,
+    Breach, Change, EventPlace, NoMemory, Only, Since, Verdict, append_line, write_change,
+    write_effect, write_entries, write_expected, write_picture, write_registers, write_row,
+    write_runs, write_script, write_verdict,
 };
 pub use mark::{Mark, NAME_BYTES, Name};
 pub use moments::{Coming, Lasting, Moments};
-pub use numbers::{is_bare, read_word_number};
+pub use names::{RegisterName, read_plain_number, read_register, read_register_number};
+pub use numbers::{is_bare, read_numeral, read_word_number};
 pub use output::{OutputFault, write_out};
 pub use policy::{Demand, Kinds, Modes, PolicyFields, PolicyRow, read_policy};
 pub use refusal::{InputFault, Refusal, ScriptKind, TraceKind};
-pub use script::{MAX_SCRIPT, Script, ScriptFault, is_headed, read_script};
+pub use script::{
+    MAX_SCRIPT, Script, ScriptFault, Words, is_headed, read_script, split_first_line,
+};
 pub use sink::Sink;
 pub use trace::{MAX_TRACE, Place, Row, RowReader, TraceFault, read_trace};

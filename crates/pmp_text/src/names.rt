@@ -18,7 +18,7 @@ const MSECCFGH: u64 = 0x757;
 
 /// The number that the digits write in decimal without leading zeros, where it is at most `most`.
 #[tactic(auto, unfolding(crate::specs::Names::plain_number))]
-fn read_plain_number(digits: &[u8], most: u64) -> Option<u64>
+pub fn read_plain_number(digits: &[u8], most: u64) -> Option<u64>
     ensures number { result ≡ plain_number most digits.now }
     ensures limit { IfSome result (λ number. number ≤ most) }
 {
@@ -29,8 +29,9 @@ fn read_plain_number(digits: &[u8], most: u64) -> Option<u64>
     (number <= most).then_some(number)
 }
 
+/// The number of the register that a word names.
 #[tactic(auto, unfolding(crate::specs::Names::register_number))]
-fn read_register_number(word: &[u8]) -> Option<u64>
+pub fn read_register_number(word: &[u8]) -> Option<u64>
     ensures { result ≡ register_number word.now }
 {
     if word == b"mseccfg".as_slice() {

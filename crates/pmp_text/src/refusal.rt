@@ -71,6 +71,12 @@ pub enum Refusal {
     OpenMark = 57,
     /// A name that the script gives no moment.
     NoMoment = 58,
+    /// A line of a log names a PMP register or one of its events in another form.
+    BadEvent = 60,
+    /// A log has no write, and no register, of the hart.
+    NoHart = 61,
+    /// A word that names no form of logs.
+    BadFormat = 62,
 }
 
 /// Why a script is refused: 10 to 17, 40, and in version 3 those from 50 on.
@@ -123,6 +129,9 @@ impl Refusal {
             Refusal::BadMark => "BadMark",
             Refusal::OpenMark => "OpenMark",
             Refusal::NoMoment => "NoMoment",
+            Refusal::BadEvent => "BadEvent",
+            Refusal::NoHart => "NoHart",
+            Refusal::BadFormat => "BadFormat",
         }
     }
 
@@ -184,6 +193,10 @@ impl Refusal {
                 "a name of 1 to 64 bytes: a letter, then letters, digits, _ and ., and none of last, mml, mmwp and rlb",
             Refusal::OpenMark => "mark between publications",
             Refusal::NoMoment => "a name that mark or publish gives a moment of the script",
+            Refusal::BadEvent =>
+                "each line that names a PMP register or one of its events in the form of its log: see pmp help import",
+            Refusal::NoHart => "a log with a write or a register of the hart",
+            Refusal::BadFormat => "qemu, gdb, openocd, spike or dump",
         }
     }
 
@@ -230,6 +243,11 @@ impl Refusal {
             Refusal::OpenMark => "put it behind the publish, or name that, as by publish NAME",
             Refusal::NoMoment =>
                 "look for the script's mark lines, and for publish lines with a name",
+            Refusal::BadEvent =>
+                "see whether the format is the log's; leave out a line that isn't a whole one of it",
+            Refusal::NoHart =>
+                "ask for another hart with --hart, or see whether the log has the events of PMP at all",
+            Refusal::BadFormat => "name the program that wrote the log, in lower case",
         }
     }
 }

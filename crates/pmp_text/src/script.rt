@@ -26,10 +26,12 @@ use crate::event_log::EventLog;
 use crate::expectation::Expectation;
 use crate::mark::Mark;
 use crate::refusal::{Refusal, ScriptKind};
+pub use lines::split_first_line;
 use pmp_core::{BATCH_EVENTS, ENTRIES, Event, RegFile, Size};
 pub use reader::{MAX_SCRIPT, is_headed, read_script};
 use std::alloc::AllocError;
 use std::marker::Model;
+pub use words::Words;
 
 /// What is wrong with a script, and where.
 #[derive(Clone, Copy, Debug, PartialEq, Eq)]

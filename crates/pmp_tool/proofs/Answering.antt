@@ -10,7 +10,7 @@ use Rattle.pmp_tool.specs.declared.outcome.Outcome.{Outcome}
 use Rattle.pmp_tool.specs.declared.request.Request.{Request}
 use Rattle.pmp_tool.specs.Failures.{unaudited}
 use Rattle.pmp_tool.specs.Inputs.{AreBytesOf, GivesBytesOf, Inputs}
-use Rattle.pmp_tool.specs.Requests.{Declines, RequestFails, Stops}
+use Rattle.pmp_tool.specs.Requests.{Declines, RequestFails, StopsInTrace}
 
 -- a call's refusal is its failure
 pub declined : {A : Type 0} {Says : A → List ℕ → Type 0} {Refuses : AuditFault → Type 0}
@@ -19,7 +19,8 @@ pub declined : {A : Type 0} {Says : A → List ℕ → Type 0} {Refuses : AuditF
 declined fault refused = record { fault = fault; is = refl; refused = refused }
 
 pub stopped : {script trace : List ℕ} {first : ℕ} {before after : Option (List ℕ)} (fault : AuditFault)
-    → StopsLong PIECE script first trace before after fault → Stops before after script first trace (unaudited fault)
+    → StopsLong PIECE script first trace before after fault → StopsInTrace before after script first trace
+    (unaudited fault)
 stopped fault stops = record { fault = fault; is = refl; stops = stops }
 
 -- a failure for which what is asked for of a script gets no answer

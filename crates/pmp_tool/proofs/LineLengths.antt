@@ -9,12 +9,12 @@ use Rattle.pmp_text.specs.declared.refusal.Refusal.{Refusal}
 use Rattle.pmp_text.specs.declared.refusal.Refusal.TheVariants.{BadLength}
 use Rattle.pmp_tool.specs.FaultLines.{place_text, side_text}
 use Rattle.pmp_tool.specs.LineLengths.{IsNumbered, IsNumberedNote, LineFitsLaw, NoteFitsLaw}
-use Rattle.pmp_tool.specs.Notes.{noted_place}
+use Rattle.pmp_tool.specs.Notes.{note_text}
 use Rattle.pmp_tool.specs.declared.note.Note.{Note}
 use Rattle.pmp_tool.specs.declared.note.Note.TheVariants as note
 use Rattle.pmp_tool.specs.declared.fault_line.Place.{Place}
 use Rattle.pmp_tool.specs.declared.fault_line.Place.TheVariants.{Nowhere, Word, ScriptLine, TraceRow, PolicyRow}
-use Rattle.pmp_tool.specs.declared.fault_line.Place.TheVariants.{Script, LineOf}
+use Rattle.pmp_tool.specs.declared.fault_line.Place.TheVariants.{Script, LineOf, LogLine}
 
 -- a refusal's number has two digits, and its name eleven letters
 number_fits : (refusal : Refusal) → number_of refusal < 10 ^ 2
@@ -41,6 +41,7 @@ place_fits (PolicyRow fault) small = simp length-append (omega (arith, digits_fi
 place_fits (Script side) small = simp length-append (omega (arith, side_fits side))
 place_fits (LineOf side fault) small =
     simp length-append (omega (arith, side_fits side, digits_fit fault.line small))
+place_fits (LogLine fault) small = simp length-append (omega (arith, digits_fit fault.line small))
 
 pub line_fits : LineFitsLaw
 line_fits refusal place small =
@@ -48,10 +49,14 @@ line_fits refusal place small =
     (let small = number_fits refusal in omega arith) in
     simp length-append (omega (arith, digits, name_fits refusal, place_fits place small))
 
-noted_place_fits : (one : Note) → IsNumberedNote one → length (noted_place one) ≤ 31
-noted_place_fits note.Start small = omega arith
-noted_place_fits (note.TraceRow row) small = simp length-append (omega (arith, digits_fit row small))
-noted_place_fits (note.PolicyRow row) small = simp length-append (omega (arith, digits_fit row small))
+note_text_fits : (one : Note) → IsNumberedNote one → length (note_text one) ≤ 140
+note_text_fits note.Start small = omega arith
+note_text_fits (note.TraceRow row) small = simp length-append (omega (arith, digits_fit row small))
+note_text_fits (note.PolicyRow row) small = simp length-append (omega (arith, digits_fit row small))
+note_text_fits (note.Guessed hart entries left) small = simp length-append
+    (omega (arith, digits_fit hart small.0, digits_fit entries small.1, digits_fit left small.2))
+note_text_fits (note.Taken hart entries) small =
+    simp length-append (omega (arith, digits_fit hart small.0, digits_fit entries small.1))
 
 pub note_fits : NoteFitsLaw
-note_fits one small = simp length-append (omega (arith, noted_place_fits one small))
+note_fits one small = simp length-append (omega (arith, note_text_fits one small))

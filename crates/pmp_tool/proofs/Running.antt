@@ -14,16 +14,17 @@ use Rattle.pmp_audit.specs.declared.fault.AuditFault.TheVariants as audit
 use Rattle.pmp_tool.specs.declared.command.Command.{Command}
 use Rattle.pmp_tool.specs.declared.failure.Failure.{Failure}
 use Rattle.pmp_tool.specs.declared.outcome.Outcome.{Outcome}
+use Rattle.pmp_tool.specs.declared.request.Import.{Import}
 use Rattle.pmp_tool.specs.declared.request.LongAudit.{LongAudit}
 use Rattle.pmp_tool.specs.declared.request.Request.{Request}
 use Rattle.pmp_tool.specs.declared.request.Request.TheVariants as request
-use Rattle.pmp_tool.specs.CommandLines.{AsksForLongAudit, MayAskForText, WordsAskFor, pmp_app}
+use Rattle.pmp_tool.specs.CommandLines.{AsksForPieces, MayAskForText, WordsAskFor, pmp_app}
 use Rattle.pmp_tool.specs.Commands.{asked, task_of}
 use Rattle.pmp_tool.specs.Failures.{failure_status, unaudited, unparsed, unparsed_as}
 use Rattle.pmp_tool.specs.Inputs.{Inputs}
 use Rattle.pmp_tool.specs.Requests.{Declines, InputFails, RequestFails, taken, untaken}
 use Rattle.pmp_tool.specs.Runs.{CommandFails, Fails, TextFails}
-use Rattle.pmp_tool.specs.Runs.{no_room, no_output, refused_words, refused_word, no_memory, no_text, no_command}
+use Rattle.pmp_tool.specs.Runs.{no_script, of_script, no_room, no_output, refused_words, refused_word, no_memory, no_text, no_command}
 
 module _ (words : List Text) (scripts traces : Inputs) (before after : Option (List ℕ)) (error : Error)
     (has : HasKind (fault_of pmp_app words) error)
@@ -88,9 +89,10 @@ input_keeps : {CantBeTaken : Refusal → Type 0} {known : Option (List ℕ)} {si
 input_keeps (untaken fault cant keeps) rest = keeps
 input_keeps (taken bytes failure are fails) rest = rest bytes fails
 
--- the request is a long audit
+-- the request is a long audit or an import
 abbrev IsLong : Request → Type 0
-IsLong asked = (audit : LongAudit) × (asked ≡ request.LongAudit audit)
+IsLong asked = ((audit : LongAudit) × (asked ≡ request.LongAudit audit))
+    ⊎ ((import : Import) × (asked ≡ request.Import import))
 
 module _ (before after : Option (List ℕ)) (scripts traces : Inputs) where
   request_keeps : (script : List ℕ) (request : Request) (failure : Failure)
@@ -99,18 +101,19 @@ module _ (before after : Option (List ℕ)) (scripts traces : Inputs) where
   request_keeps script (request.Check check) failure fails two = inr (declines_keep fails two)
   request_keeps script (request.Audit audit) failure fails two =
       inr (input_keeps fails (λ trace fails. declines_keep fails two))
-  request_keeps script (request.LongAudit audit) failure fails two = inl (audit, refl)
+  request_keeps script (request.LongAudit audit) failure fails two = inl (inl (audit, refl))
   request_keeps script (request.Policy path pace) failure fails two =
       inr (input_keeps fails (λ policy fails. declines_keep fails two))
   request_keeps script (request.Show view count) failure fails two = inr (declines_keep fails two)
   request_keeps script request.Writes failure fails two = inr (declines_keep fails two)
   request_keeps script (request.Diff diff) failure fails two =
       inr (input_keeps fails (λ new fails. declines_keep fails two))
+  request_keeps script (request.Import import) failure fails two = inl (inr (import, refl))
 
   command_keeps : (command : Command) (failure : Failure) → CommandFails scripts traces command before after failure
       → failure_status failure ≡ 2 → IsLong command.request ⊎ Keeps before after
-  command_keeps command _ (untaken fault cant keeps) two = inr keeps
-  command_keeps command _ (taken script failure are fails) two =
+  command_keeps command _ (no_script fault cant keeps) two = inr keeps
+  command_keeps command _ (of_script script failure are fails) two =
       request_keeps script command.request failure fails two
 
 text_keeps : {before after : Option (List ℕ)} {failure : Failure} → TextFails before after failure
@@ -129,20 +132,28 @@ unanswered words scripts traces command before after asks (Err failure) fails = 
 -- a command of a long audit is what the words ask for
 long_or_kept : (words : List Text) (command : Command) (before after : Option (List ℕ))
     → WordsAskFor words (asked command) → IsLong command.request ⊎ Keeps before after
-    → AsksForLongAudit words ⊎ Keeps before after
-long_or_kept words command before after asks (inl (audit, is)) =
-    inl (record {
+    → AsksForPieces words ⊎ Keeps before after
+long_or_kept words command before after asks (inl (inr (import, is))) =
+    inl (inr (record {
+      script = command.script.now;
+      log = import.log.now;
+      format = import.format;
+      options = import.options;
+      task = (asks.0, asks.1 ∙ ap (λ asked. Ok (record { script = command.script.now; task = task_of asked })) is);
+    }))
+long_or_kept words command before after asks (inl (inl (audit, is))) =
+    inl (inl (record {
       script = command.script.now;
       trace = audit.trace.now;
       jobs = audit.jobs;
       first = audit.first;
       task = (asks.0, asks.1 ∙ ap (λ asked. Ok (record { script = command.script.now; task = task_of asked })) is);
-    })
+    }))
 long_or_kept words command before after asks (inr keeps) = inr keeps
 
 pub keeps_at_two : {words : List Text} {scripts traces : Inputs} {before after : Option (List ℕ)} {failure : Failure}
     → Fails words scripts traces before after failure → failure_status failure ≡ 2
-    → AsksForLongAudit words ⊎ Keeps before after
+    → AsksForPieces words ⊎ Keeps before after
 keeps_at_two (refused_words error refused keeps) two = inr keeps
 keeps_at_two (refused_word fault refused keeps) two = inr keeps
 keeps_at_two (no_memory keeps) two = inr keeps

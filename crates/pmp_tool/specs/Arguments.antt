@@ -8,7 +8,7 @@ use Rattle.pmp_tool.specs.declared.argument.Argument.{Argument}
 use Rattle.pmp_tool.specs.declared.argument.Argument.TheVariants as argument
 use Rattle.pmp_tool.specs.declared.command_name.CommandName.{CommandName}
 use Rattle.pmp_tool.specs.declared.command_name.CommandName.TheVariants.{Check, Audit, Policy, Dump, Map, Picture}
-use Rattle.pmp_tool.specs.declared.command_name.CommandName.TheVariants.{Entries, Writes, Diff}
+use Rattle.pmp_tool.specs.declared.command_name.CommandName.TheVariants.{Entries, Writes, Diff, Import}
 use Rattle.pmp_tool.specs.declared.jobs.TheConstants.{JOBS}
 
 -- a word that its command requires
@@ -51,6 +51,15 @@ rule_in argument.Only = option_rule (codes "only")
 rule_in argument.FirstRow = option_rule (codes "first-row")
 rule_in argument.Checkers = count_rule (codes "checkers") CHECKERS
 rule_in argument.Jobs = count_rule (codes "jobs") JOBS
+rule_in argument.Log = word_rule (codes "script")
+rule_in argument.Format = word_rule (codes "format")
+rule_in argument.Hart = option_rule (codes "hart")
+rule_in argument.Xlen = option_rule (codes "xlen")
+rule_in argument.Entries = option_rule (codes "entries")
+rule_in argument.Grain = option_rule (codes "grain")
+rule_in argument.AddressBits = option_rule (codes "address-bits")
+rule_in argument.Smepmp = option_rule (codes "smepmp")
+rule_in argument.Bursts = flag_rule (codes "bursts")
 
 -- the id by which clap knows it
 abbrev pub id_of : Argument → Text
@@ -58,7 +67,7 @@ id_of argument = (rule_in argument).id
 
 -- the commands, in the order of the help
 abbrev pub commands : List CommandName
-commands = Check ∷ Audit ∷ Policy ∷ Dump ∷ Map ∷ Picture ∷ Entries ∷ Writes ∷ Diff ∷ []
+commands = Check ∷ Audit ∷ Policy ∷ Dump ∷ Map ∷ Picture ∷ Entries ∷ Writes ∷ Diff ∷ Import ∷ []
 
 abbrev pub command_word : CommandName → Text
 command_word Check = codes "check"
@@ -70,6 +79,7 @@ command_word Picture = codes "picture"
 command_word Entries = codes "entries"
 command_word Writes = codes "writes"
 command_word Diff = codes "diff"
+command_word Import = codes "import"
 
 -- a command's arguments, in the order of the help
 abbrev pub arguments_of : CommandName → List Argument
@@ -87,3 +97,6 @@ arguments_of Entries = argument.Script ∷ argument.Explain ∷ argument.After �
 arguments_of Writes = argument.Script ∷ argument.Explain ∷ []
 arguments_of Diff =
     argument.Old ∷ argument.Explain ∷ argument.New ∷ argument.OldAfter ∷ argument.NewAfter ∷ argument.Only ∷ []
+arguments_of Import =
+    argument.Format ∷ argument.Explain ∷ argument.Log ∷ argument.Hart ∷ argument.Xlen ∷ argument.Entries ∷ argument.Grain
+    ∷ argument.AddressBits ∷ argument.Smepmp ∷ argument.Bursts ∷ []

@@ -3,11 +3,13 @@ use Rattle.std.specs.Prelude.{◌≡◌, ◌≢◌, ◌⊎◌, ℕ, List, [], Op
 use Rattle.clap.specs.Words.{App, IsAmong, Text, fault_of, kind_of, new_app, subcommand_of, with_rule, with_subcommand}
 use Rattle.clap.specs.declared.error.Error.{Error}
 use Rattle.clap.specs.declared.error.kind.ErrorKind.TheVariants.{DisplayHelp, DisplayVersion}
+use Rattle.pmp_import.specs.declared.format.Format.{Format}
+use Rattle.pmp_import.specs.declared.options.Options.{Options}
 use Rattle.pmp_tool.specs.declared.argument.Argument.{Argument}
 use Rattle.pmp_tool.specs.declared.command_name.CommandName.{CommandName}
 use Rattle.pmp_tool.specs.declared.fault_line.FaultLine.{FaultLine}
 use Rattle.pmp_tool.specs.Arguments.{arguments_of, command_word, commands, rule_in}
-use Rattle.pmp_tool.specs.Commands.{Asked, LongAudit, asked_of}
+use Rattle.pmp_tool.specs.Commands.{Asked, Import, LongAudit, asked_of}
 
 -- an argument more
 unfoldable pub with_argument : App → Argument → App
@@ -63,6 +65,18 @@ pub record AsksForLongAudit (words : List Text) : Type 0 where
   pub jobs : Option ℕ
   pub first : ℕ
   pub task : WordsAskFor words (record { script = script; task = LongAudit trace jobs first })
+
+-- the words ask for an import
+pub record AsksForImport (words : List Text) : Type 0 where
+  pub script : Text
+  pub log : Text
+  pub format : Format
+  pub options : Options
+  pub task : WordsAskFor words (record { script = script; task = Import log format options })
+
+-- the words ask for what is written piece by piece
+abbrev pub AsksForPieces : List Text → Type 0
+AsksForPieces words = AsksForLongAudit words ⊎ AsksForImport words
 
 -- clap takes the words, and one that it finds in them is refused
 abbrev pub WordsAreRefused : List Text → FaultLine → Type 0

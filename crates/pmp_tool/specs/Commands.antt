@@ -1,5 +1,5 @@
 -- What the matches of the command line ask for.
-use Rattle.std.specs.Prelude.{Bool, ℕ, ◌-◌, ◌^◌, List, ◌&&◌, ◌||◌, Option, Some, None, unwrap_or, ok_or, Result, Ok, Err}
+use Rattle.std.specs.Prelude.{Bool, true, ℕ, ◌-◌, ◌^◌, List, ◌&&◌, ◌||◌, Option, Some, None, unwrap_or, ok_or, option_map, Result, Ok, Err}
 use Rattle.std.specs.Prelude.{if◌then◌else◌, codes, find}
 use Rattle.std.specs.Str.{bytes_eq}
 use Rattle.clap.specs.Words.{Row, Text}
@@ -9,6 +9,9 @@ use Rattle.pmp_core.specs.declared.access.AccessFault.TheVariants as access
 use Rattle.pmp_core.specs.declared.access.Kind.{Kind}
 use Rattle.pmp_core.specs.declared.access.Mode.{Mode}
 use Rattle.pmp_core.specs.Access.{access_fault}
+use Rattle.pmp_import.specs.declared.format.Format.{Format}
+use Rattle.pmp_import.specs.declared.options.Options.{Options}
+use Rattle.pmp_import.specs.Formats.{format_named}
 use Rattle.pmp_text.specs.AccessWords.{kind_named, mode_named}
 use Rattle.pmp_text.specs.declared.lines.changes.Only.{Only}
 use Rattle.pmp_text.specs.Numbers.{word_number}
@@ -27,11 +30,12 @@ use Rattle.pmp_tool.specs.declared.request.Request.TheVariants as request
 use Rattle.pmp_tool.specs.declared.expected.Expected.{Expected}
 use Rattle.pmp_tool.specs.declared.expected.Expected.TheVariants.{Allow}
 use Rattle.pmp_tool.specs.declared.jobs.TheConstants.{JOBS}
-use Rattle.pmp_text.specs.declared.refusal.Refusal.TheVariants.{BadLength, BadWord, PastEnd}
+use Rattle.pmp_text.specs.declared.refusal.Refusal.TheVariants.{BadFormat, BadLength, BadWord, PastEnd}
 use Rattle.pmp_tool.specs.declared.fault_line.FaultLine.{FaultLine}
+use Rattle.pmp_tool.specs.declared.word.Xlen.{Xlen}
 use Rattle.pmp_tool.specs.Arguments.{command_word, commands}
 use Rattle.pmp_tool.specs.Words.{and_then, asked_in, count_in, expected_named, is_bare_word, is_set, is_used}
-use Rattle.pmp_tool.specs.Words.{needed_in, of_no_word, of_word, only_named}
+use Rattle.pmp_tool.specs.Words.{needed_in, of_no_word, of_word, only_named, smepmp_named, xlen_named}
 
 -- an access, in plain values
 pub record AccessTask : Type 0 where
@@ -49,6 +53,7 @@ pub data Task : Type 0 where
   Show : View → (after : Option ℕ) → Task
   Writes : Task
   Diff : (new : Text) (old_after new_after : Option ℕ) → Option Only → Task
+  Import : (log : Text) → Format → Options → Task
 
 abbrev pub access_task : Access → AccessTask
 access_task access = record { mode = access.mode; kind = access.kind; start = access.start; length = access.length }
@@ -61,6 +66,7 @@ task_of (request.Policy policy pace) = Policy policy.now pace
 task_of (request.Show view after) = Show view after
 task_of request.Writes = Writes
 task_of (request.Diff diff) = Diff diff.new.now diff.old_after diff.new_after diff.only
+task_of (request.Import log) = Import log.log.now log.format log.options
 
 -- a task, and the path of the script
 pub record Asked : Type 0 where
@@ -144,6 +150,39 @@ diff_in rows =
     and_then (asked_in word_number argument.NewAfter rows) (λ new_after.
     and_then (asked_in only_named argument.Only rows) (λ only. Ok (Diff new old_after new_after only)))))
 
+-- the form of a log
+abbrev pub format_in : List Row → Result Format FaultLine
+format_in rows = and_then (path_in argument.Format rows) (λ word.
+    ok_or (format_named word) (of_word argument.Format BadFormat))
+
+-- what is asked for of a hart whose XLEN and numbers are said
+abbrev pub options_with : (xlen : Option Xlen) (hart entries : Option ℕ) → List Row → Result Options FaultLine
+options_with xlen hart entries rows =
+    and_then (asked_in word_number argument.Grain rows) (λ grain.
+    and_then (asked_in word_number argument.AddressBits rows) (λ bits.
+    and_then (asked_in smepmp_named argument.Smepmp rows) (λ smepmp. Ok (record {
+      hart = hart;
+      is_rv32 = option_map (λ said. said.is_rv32) xlen;
+      entries = entries;
+      grain = grain;
+      bits = bits;
+      has_smepmp = unwrap_or (option_map (λ said. said.is_there) smepmp) true;
+      bursts = is_set argument.Bursts rows;
+    }))))
+
+abbrev pub options_in : List Row → Result Options FaultLine
+options_in rows =
+    and_then (asked_in word_number argument.Hart rows) (λ hart.
+    and_then (asked_in xlen_named argument.Xlen rows) (λ xlen.
+    and_then (asked_in word_number argument.Entries rows) (λ entries. options_with xlen hart entries rows)))
+
+-- the form is read before the log's place, and the options last
+abbrev pub import_in : List Row → Result Task FaultLine
+import_in rows =
+    and_then (format_in rows) (λ format.
+    and_then (path_in argument.Script rows) (λ log.
+    and_then (options_in rows) (λ options. Ok (Import log format options))))
+
 -- what a command's matches ask for
 abbrev pub task_in : CommandName → List Row → Result Task FaultLine
 task_in name.Check rows = check_in rows
@@ -155,6 +194,7 @@ task_in name.Picture rows = show_in Picture rows
 task_in name.Entries rows = show_in Entries rows
 task_in name.Writes rows = Ok Writes
 task_in name.Diff rows = diff_in rows
+task_in name.Import rows = import_in rows
 
 abbrev pub command_named : Text → Option CommandName
 command_named word = find (λ name. bytes_eq (command_word name) word) commands

@@ -11,7 +11,8 @@ use Rattle.pmp_text.specs.declared.refusal.Refusal.TheVariants.{Memory}
 use Rattle.pmp_audit.specs.Fault.{refusal_of}
 use Rattle.pmp_audit.specs.declared.fault.AuditFault.{AuditFault}
 use Rattle.pmp_audit.specs.declared.fault.Side.{Side}
-use Rattle.pmp_tool.specs.FaultLines.{line_text, place_of}
+use Rattle.pmp_import.specs.declared.fault.ImportFault.{ImportFault}
+use Rattle.pmp_tool.specs.FaultLines.{line_text, place_in_log, place_of}
 use Rattle.pmp_tool.specs.declared.failure.Failure.{Failure}
 use Rattle.pmp_tool.specs.declared.failure.Failure.TheVariants.{Words, Refused}
 use Rattle.pmp_tool.specs.declared.fault_line.Place.{Place}
@@ -43,6 +44,10 @@ unparsed error = unparsed_as (kind_of error) error
 -- an answer's fault, where it is
 abbrev pub unaudited : AuditFault → Failure
 unaudited fault = refused_at (refusal_of fault) (place_of fault)
+
+-- a log's fault, where it is
+abbrev pub unimported : ImportFault → Failure
+unimported fault = refused_at fault.kind (place_in_log fault)
 
 -- a refusal's text is a line; clap's texts are its own
 abbrev pub failure_text : Failure → Option (List ℕ)

@@ -6,9 +6,10 @@ use Rattle.pmp_audit.specs.declared.fault.AuditFault.{AuditFault}
 use Rattle.pmp_audit.specs.declared.fault.AuditFault.TheVariants as audit
 use Rattle.pmp_audit.specs.declared.fault.Side.{Side}
 use Rattle.pmp_audit.specs.declared.fault.Side.TheVariants.{Old, New}
+use Rattle.pmp_import.specs.declared.fault.ImportFault.{ImportFault}
 use Rattle.pmp_tool.specs.declared.fault_line.Place.{Place}
 use Rattle.pmp_tool.specs.declared.fault_line.Place.TheVariants.{Nowhere, Word, ScriptLine, TraceRow, PolicyRow}
-use Rattle.pmp_tool.specs.declared.fault_line.Place.TheVariants.{Script, LineOf}
+use Rattle.pmp_tool.specs.declared.fault_line.Place.TheVariants.{Script, LineOf, LogLine}
 
 -- where a fault of an answer is: line 0 stands for none, and so does row 0
 abbrev pub place_of : AuditFault → Place
@@ -18,6 +19,10 @@ place_of (audit.Policy fault) = if fault.row == 0 then Nowhere else PolicyRow fa
 place_of (audit.ScriptOf side fault) = if fault.line == 0 then Script side else LineOf side fault
 place_of (audit.BadAfterOf side) = Script side
 place_of _ = Nowhere
+
+-- and of an import
+abbrev pub place_in_log : ImportFault → Place
+place_in_log fault = if fault.line == 0 then Nowhere else LogLine fault
 
 abbrev pub side_text : Side → List ℕ
 side_text Old = codes "old"
@@ -32,6 +37,7 @@ place_text (TraceRow fault) = codes "trace row " ++ (decimal fault.row ++ codes 
 place_text (PolicyRow fault) = codes "policy row " ++ (decimal fault.row ++ codes ": ")
 place_text (Script side) = side_text side ++ codes ": "
 place_text (LineOf side fault) = side_text side ++ (codes " line " ++ (decimal fault.line ++ codes ": "))
+place_text (LogLine fault) = codes "log line " ++ (decimal fault.line ++ codes ": ")
 
 abbrev pub fault_text : Refusal → Place → List ℕ
 fault_text refusal place = codes "pmp: " ++ (place_text place ++ (codes "refused " ++ refusal_text refusal))

@@ -3,7 +3,7 @@ use Rattle.std.specs.Prelude.{◌<◌, ◌≤◌, ◌^◌, length, ⊤}
 use Rattle.pmp_text.specs.declared.refusal.Refusal.{Refusal}
 use Rattle.pmp_tool.specs.FaultLines.{line_text}
 use Rattle.pmp_tool.specs.declared.fault_line.Place.{Place}
-use Rattle.pmp_tool.specs.declared.fault_line.Place.TheVariants.{ScriptLine, TraceRow, PolicyRow, LineOf}
+use Rattle.pmp_tool.specs.declared.fault_line.Place.TheVariants.{ScriptLine, TraceRow, PolicyRow, LineOf, LogLine}
 use Rattle.pmp_tool.specs.declared.fault_line.TheConstants.{LONGEST_LINE}
 use Rattle.pmp_tool.specs.Notes.{note_line}
 use Rattle.pmp_tool.specs.declared.note.Note.{Note}
@@ -16,6 +16,7 @@ IsNumbered (ScriptLine fault) = fault.line < 2 ^ 64
 IsNumbered (TraceRow fault) = fault.row < 2 ^ 64
 IsNumbered (PolicyRow fault) = fault.row < 2 ^ 64
 IsNumbered (LineOf side fault) = fault.line < 2 ^ 64
+IsNumbered (LogLine fault) = fault.line < 2 ^ 64
 IsNumbered _ = ⊤
 
 -- the line of a refusal, with its LF, fits the room that the program has for it
@@ -26,6 +27,8 @@ abbrev pub IsNumberedNote : Note → Type 0
 IsNumberedNote note.Start = ⊤
 IsNumberedNote (note.TraceRow row) = row < 2 ^ 64
 IsNumberedNote (note.PolicyRow row) = row < 2 ^ 64
+IsNumberedNote (note.Guessed hart entries left) = (hart < 2 ^ 64) × (entries < 2 ^ 64) × (left < 2 ^ 64)
+IsNumberedNote (note.Taken hart entries) = (hart < 2 ^ 64) × (entries < 2 ^ 64)
 
 -- and so does a note's
 abbrev pub NoteFitsLaw : Type 0

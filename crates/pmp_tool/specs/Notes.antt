@@ -1,28 +1,37 @@
--- What the program notes beside an answer: an address of 14 digits without `0x`, which is read as decimal.
+-- What the program notes beside an answer: what an import has guessed, or an address of 14 digits without `0x`, which is
+-- read as decimal.
 use Rattle.std.specs.Prelude.{ℕ, List, ◌++◌, codes, decimal, Option, Some, None, option_map, if◌then◌else◌}
 use Rattle.std.specs.Io.KnownBytes.{Keeps}
 use Rattle.pmp_text.specs.Bytes.{AppendsBeginning}
 use Rattle.pmp_tool.specs.declared.note.Note.{Note}
-use Rattle.pmp_tool.specs.declared.note.Note.TheVariants.{Start, TraceRow, PolicyRow}
+use Rattle.pmp_tool.specs.declared.note.Note.TheVariants.{Start, TraceRow, PolicyRow, Guessed, Taken}
 use Rattle.pmp_tool.specs.declared.outcome.Outcome.{Outcome}
-use Rattle.pmp_tool.specs.declared.outcome.Outcome.TheVariants.{Decided, Audited, Judged}
+use Rattle.pmp_tool.specs.declared.outcome.Outcome.TheVariants.{Decided, Audited, Judged, Imported}
 
 -- the word START, or the first row
 abbrev pub note_of : Outcome → Option Note
 note_of (Decided decision check) = if check.is_bare then Some Start else None
 note_of (Audited summary) = option_map TraceRow summary.bare
 note_of (Judged summary) = option_map PolicyRow summary.bare
+note_of (Imported note) = Some note
 note_of _ = None
 
-abbrev pub noted_place : Note → List ℕ
-noted_place Start = codes "START"
-noted_place (TraceRow row) = codes "trace row " ++ decimal row
-noted_place (PolicyRow row) = codes "policy row " ++ decimal row
+-- an address that is read as decimal
+abbrev pub as_decimal : List ℕ
+as_decimal = codes ": 14 digits without 0x are read as decimal; write 0x before a hexadecimal address"
+
+abbrev pub note_text : Note → List ℕ
+note_text Start = codes "START" ++ as_decimal
+note_text (TraceRow row) = codes "trace row " ++ (decimal row ++ as_decimal)
+note_text (PolicyRow row) = codes "policy row " ++ (decimal row ++ as_decimal)
+note_text (Guessed hart entries left) = codes "hart " ++ (decimal hart ++ (codes ", " ++ (decimal entries
+    ++ (codes " entries; " ++ (decimal left ++ codes " writes of other harts are left out")))))
+note_text (Taken hart entries) = codes "hart " ++ (decimal hart ++ (codes ", " ++ (decimal entries
+    ++ codes " entries, since the log is read once")))
 
 -- with its LF
 abbrev pub note_line : Note → List ℕ
-note_line note = codes "pmp: note: " ++ (noted_place note
-    ++ codes ": 14 digits without 0x are read as decimal; write 0x before a hexadecimal address\n")
+note_line note = codes "pmp: note: " ++ (note_text note ++ codes "\n")
 
 -- known bytes grow by the note, or by a beginning of it; where there is none they stay
 abbrev pub NotesIt : Option Note → (before after : Option (List ℕ)) → Type 0

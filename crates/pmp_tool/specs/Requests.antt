@@ -1,6 +1,13 @@
 -- What is said of a request, and why one gets no answer.
-use Rattle.std.specs.Prelude.{◌≡◌, ℕ, List, Option, Some, None}
-use Rattle.std.specs.Io.KnownBytes.{Keeps}
+use Rattle.std.specs.Prelude.{◌≡◌, ℕ, List, Option, Some, None, Ok, Err, true, false, codes, bytes_eq}
+use Rattle.std.specs.Io.KnownBytes.{Appends, Keeps}
+use Rattle.pmp_import.specs.declared.fault.ImportFault.{ImportFault}
+use Rattle.pmp_import.specs.declared.given.Given.{Given}
+use Rattle.pmp_import.specs.declared.survey.Survey.{Survey}
+use Rattle.pmp_import.specs.Imported.{imported}
+use Rattle.pmp_import.specs.Imports.{Stops}
+use Rattle.pmp_import.specs.Surveys.{given_alone, given_for, surveyed}
+use Rattle.pmp_text.specs.Lines.{lines}
 use Rattle.pmp_text.specs.declared.refusal.Refusal.{Refusal}
 use Rattle.pmp_text.specs.declared.script.reader.TheConstants.{MAX_SCRIPT}
 use Rattle.pmp_text.specs.declared.trace.reader.TheConstants.{MAX_TRACE}
@@ -21,15 +28,59 @@ use Rattle.pmp_audit.specs.WriteList.{WritesRefuse, WritesSay}
 use Rattle.pmp_tool.specs.declared.failure.Failure.{Failure}
 use Rattle.pmp_tool.specs.declared.request.Request.{Request}
 use Rattle.pmp_tool.specs.declared.request.Request.TheVariants.{Check, Audit, LongAudit, Policy, Show, Writes, Diff}
+use Rattle.pmp_tool.specs.declared.request.Request.TheVariants.{Import as OfLog}
 use Rattle.pmp_tool.specs.declared.outcome.Outcome.{Outcome}
 use Rattle.pmp_tool.specs.declared.outcome.Outcome.TheVariants.{Decided, Audited, Judged, Listed, Replayed, Compared}
-use Rattle.pmp_tool.specs.Failures.{unaudited, unread}
+use Rattle.pmp_tool.specs.declared.outcome.Outcome.TheVariants.{Imported}
+use Rattle.pmp_tool.specs.declared.note.Note.{Note}
+use Rattle.pmp_tool.specs.declared.note.Note.TheVariants.{Guessed, Taken}
+use Rattle.pmp_tool.specs.declared.request.Import.{Import}
+use Rattle.pmp_tool.specs.Failures.{refused, unaudited, unimported, unread}
 use Rattle.pmp_tool.specs.Inputs.{AreBytesOf, CantBeOpened, CantBeRead, Inputs}
 
 -- which side the command's script is on, where there are two
 abbrev pub old_side : Request → Option Side
 old_side (Diff diff) = Some Old
 old_side _ = None
+
+-- ---- imports
+
+-- what is said of the hart, and what the note says of that: a log on standard input is read once, and any other one
+-- twice, first for what is guessed
+pub data IsGiven (known : Option (List ℕ)) (import : Import) : Given → Note → Type 0 where
+  once : (given : Given) → bytes_eq import.log.now (codes "stdin") ≡ true
+      → given ≡ given_alone import.format import.options
+      → IsGiven known import given (Taken given.hart given.entries)
+  twice : (given : Given) (seen : List ℕ) (survey : Survey) → bytes_eq import.log.now (codes "stdin") ≡ false
+      → AreBytesOf known seen → surveyed import.format import.options.hart (lines seen) ≡ Ok survey
+      → given_for import.format import.options survey ≡ Ok given
+      → IsGiven known import given (Guessed given.hart given.entries survey.left)
+
+-- the text is the script of the log
+pub record ImportSays (known : Option (List ℕ)) (import : Import) (note : Note) (text : List ℕ) : Type 0 where
+  pub given : Given
+  pub is_given : IsGiven known import given note
+  pub log : List ℕ
+  pub is_log : AreBytesOf known log
+  pub gives : imported given (lines log) ≡ Ok text
+
+-- why a log gives no script: nothing is written before it was found what is said of the hart
+pub data ImportFails (known : Option (List ℕ)) (import : Import) (before after : Option (List ℕ)) : Failure → Type 0
+  where
+    unopened : (fault : Refusal) → CantBeOpened fault → Keeps before after
+        → ImportFails known import before after (refused fault)
+    unsurveyed : (seen : List ℕ) (fault : ImportFault) → AreBytesOf known seen
+        → Stops (surveyed import.format import.options.hart (lines seen)) seen fault → Keeps before after
+        → ImportFails known import before after (unimported fault)
+    ungiven : (seen : List ℕ) (survey : Survey) (fault : ImportFault) → AreBytesOf known seen
+        → surveyed import.format import.options.hart (lines seen) ≡ Ok survey
+        → given_for import.format import.options survey ≡ Err fault → Keeps before after
+        → ImportFails known import before after (unimported fault)
+    unwritten : (given : Given) (note : Note) (log : List ℕ) (fault : ImportFault) → IsGiven known import given note
+        → AreBytesOf known log → Stops (imported given (lines log)) log fault
+        → (part : List ℕ) → Appends before after part → ImportFails known import before after (unimported fault)
+
+-- ---- answers
 
 -- which text goes with which outcome of a request of this script
 abbrev pub RequestSays : (scripts traces : Inputs) (script : List ℕ) → Request → Outcome → (text : List ℕ) → Type 0
@@ -46,6 +97,8 @@ RequestSays scripts traces script Writes (Replayed summary) text = WritesSay scr
 RequestSays scripts traces script (Diff diff) (Compared rows) text =
     (new : List ℕ) × AreBytesOf (scripts diff.new.now) new
     × DiffSays script diff.old_after new diff.new_after diff.only rows text
+RequestSays scripts traces script (OfLog import) (Imported note) text =
+    ImportSays (traces import.log.now) import note text
 RequestSays _ _ _ _ _ _ = ⊥
 
 -- which faults an audit is refused for; several checkers may lack a place
@@ -82,7 +135,7 @@ module _ (before after : Option (List ℕ)) where
   ScriptFails known = InputFails (CantBeRead MAX_SCRIPT known) known
 
   -- a long audit stops, maybe behind whole rows
-  pub record Stops (script : List ℕ) (first : ℕ) (trace : List ℕ) (failure : Failure) : Type 0 where
+  pub record StopsInTrace (script : List ℕ) (first : ℕ) (trace : List ℕ) (failure : Failure) : Type 0 where
     pub fault : AuditFault
     pub is : failure ≡ unaudited fault
     pub stops : StopsLong PIECE script first trace before after fault
@@ -96,7 +149,7 @@ module _ (before after : Option (List ℕ)) where
         TraceFails (traces audit.trace.now)
         (λ trace. Declines (AuditSays script trace) (AuditByRefuses audit.checkers script trace))
     RequestFails (LongAudit audit) =
-        InputFails CantBeOpened (traces audit.trace.now) None (Stops script audit.first)
+        InputFails CantBeOpened (traces audit.trace.now) None (StopsInTrace script audit.first)
     RequestFails (Policy path pace) =
         TraceFails (traces path.now) (λ policy. Declines (PolicySays pace script policy) (PolicyRefuses script policy))
     RequestFails (Show view after_done) = Declines (ViewSays view script after_done) (FileRefuses script after_done)
@@ -105,3 +158,4 @@ module _ (before after : Option (List ℕ)) where
         ScriptFails (scripts diff.new.now) (Some New)
         (λ new. Declines (DiffSays script diff.old_after new diff.new_after diff.only)
         (DiffRefuses script diff.old_after new diff.new_after))
+    RequestFails (OfLog import) = ImportFails (traces import.log.now) import before after

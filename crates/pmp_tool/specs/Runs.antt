@@ -1,5 +1,5 @@
 -- What a run of the program answers, and why it gives no answer.
-use Rattle.std.specs.Prelude.{ℕ, List, Option, ◌==◌, if◌then◌else◌}
+use Rattle.std.specs.Prelude.{ℕ, List, Option, ◌==◌, if◌then◌else◌, ⊤}
 use Rattle.std.specs.Io.KnownBytes.{Appends, Keeps}
 use Rattle.clap.specs.Words.{Text}
 use Rattle.clap.specs.declared.error.Error.{Error}
@@ -15,15 +15,25 @@ use Rattle.pmp_tool.specs.declared.fault_line.FaultLine.{FaultLine}
 use Rattle.pmp_tool.specs.CommandLines.{IsRefusedCommandLine, MayAskForText, WordsAskFor, WordsAreRefused}
 use Rattle.pmp_tool.specs.Commands.{asked}
 use Rattle.pmp_tool.specs.Expected.{is_met}
-use Rattle.pmp_tool.specs.Failures.{refused}
-use Rattle.pmp_tool.specs.Inputs.{AreBytesOf, Inputs}
-use Rattle.pmp_tool.specs.Requests.{RequestFails, RequestSays, ScriptFails, old_side}
+use Rattle.pmp_tool.specs.Failures.{refused, unread}
+use Rattle.pmp_tool.specs.Inputs.{AreBytesOf, CantBeRead, Inputs}
+use Rattle.pmp_tool.specs.Requests.{RequestFails, RequestSays, old_side}
+use Rattle.pmp_tool.specs.declared.request.Request.{Request}
+use Rattle.pmp_tool.specs.declared.request.Request.TheVariants.{Import as OfLog}
+use Rattle.pmp_audit.specs.declared.fault.Side.{Side}
+use Rattle.pmp_text.specs.declared.refusal.Refusal.{Refusal}
+use Rattle.pmp_text.specs.declared.script.reader.TheConstants.{MAX_SCRIPT}
+
+-- the bytes are those of the command's script; an import has none
+abbrev pub IsScriptOf : Request → (known : Option (List ℕ)) → List ℕ → Type 0
+IsScriptOf (OfLog import) known script = ⊤
+IsScriptOf _ known script = AreBytesOf known script
 
 -- the script of a command was read, and what the command asks for was written
 pub record CommandAnswers (scripts traces : Inputs) (command : Command) (before after : Option (List ℕ))
     (outcome : Outcome) : Type 0 where
   pub script : List ℕ
-  pub read : AreBytesOf (scripts command.script.now) script
+  pub read : IsScriptOf command.request (scripts command.script.now) script
   pub written : IsWritten (RequestSays scripts traces script command.request) before after outcome
 
 -- what the words ask for was written: help or the version, or the answer to a command
@@ -32,10 +42,18 @@ Answers words scripts traces before after Told = MayAskForText words × ((text :
 Answers words scripts traces before after outcome =
     (command : Command) × WordsAskFor words (asked command) × CommandAnswers scripts traces command before after outcome
 
+-- a script can't be read, of two scripts the one on a side, or what is done with it fails
+pub data IsUnscripted (before after : Option (List ℕ)) (known : Option (List ℕ)) (side : Option Side) (request : Request)
+    (Fails : List ℕ → Failure → Type 0) : Failure → Type 0 where
+  no_script : (fault : Refusal) → CantBeRead MAX_SCRIPT known fault → Keeps before after
+      → IsUnscripted before after known side request Fails (unread fault side)
+  of_script : (script : List ℕ) (failure : Failure) → IsScriptOf request known script → Fails script failure
+      → IsUnscripted before after known side request Fails failure
+
 -- why a command gets no answer: its script can't be read, or what it asks for of the script fails
 abbrev pub CommandFails : (scripts traces : Inputs) → Command → (before after : Option (List ℕ)) → Failure → Type 0
 CommandFails scripts traces command before after =
-    ScriptFails before after (scripts command.script.now) (old_side command.request)
+    IsUnscripted before after (scripts command.script.now) (old_side command.request) command.request
     (λ script. RequestFails before after scripts traces script command.request)
 
 -- why a text of help, or the version, isn't written wholly

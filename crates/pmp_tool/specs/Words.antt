@@ -1,5 +1,5 @@
 -- What the words of the command line say that clap found.
-use Rattle.std.specs.Prelude.{ℕ, List, Bool, false, ◌&&◌, nat_le, Option, Some, None, is_some, Result, Ok}
+use Rattle.std.specs.Prelude.{ℕ, List, Bool, true, false, ◌&&◌, nat_le, Option, Some, None, is_some, Result, Ok}
 use Rattle.std.specs.Prelude.{Err, codes, if◌then◌else◌}
 use Rattle.std.specs.Option.{ok_or, option_map_or}
 use Rattle.std.specs.Str.{bytes_eq}
@@ -14,6 +14,8 @@ use Rattle.pmp_tool.specs.declared.fault_line.Place.TheVariants.{Nowhere, Word}
 use Rattle.pmp_text.specs.declared.refusal.Refusal.{Refusal}
 use Rattle.pmp_text.specs.declared.refusal.Refusal.TheVariants.{BadWord}
 use Rattle.pmp_tool.specs.declared.fault_line.FaultLine.{FaultLine}
+use Rattle.pmp_tool.specs.declared.word.Smepmp.{Smepmp}
+use Rattle.pmp_tool.specs.declared.word.Xlen.{Xlen}
 use Rattle.pmp_tool.specs.Arguments.{id_of}
 
 -- the answer that a word names
@@ -27,6 +29,18 @@ abbrev pub only_named : Text → Option Only
 only_named word =
     if bytes_eq word (codes "more") then Some More
     else (if bytes_eq word (codes "less") then Some Less else None)
+
+-- the XLEN that a word names
+abbrev pub xlen_named : Text → Option Xlen
+xlen_named word =
+    if bytes_eq word (codes "32") then Some (record { is_rv32 = true })
+    else (if bytes_eq word (codes "64") then Some (record { is_rv32 = false }) else None)
+
+-- that there is Smepmp, or none
+abbrev pub smepmp_named : Text → Option Smepmp
+smepmp_named word =
+    if bytes_eq word (codes "yes") then Some (record { is_there = true })
+    else (if bytes_eq word (codes "no") then Some (record { is_there = false }) else None)
 
 -- a refusal of no single word
 abbrev pub of_no_word : Refusal → FaultLine

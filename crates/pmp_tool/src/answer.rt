@@ -1,22 +1,24 @@
 //! What the program answers a command.
 
-ghost use Rattle.std.specs.Prelude.{◌≡◌, IfOk, IfErr};
+ghost use Rattle.std.specs.Prelude.{◌≡◌, IfOk, IfErr, List, ℕ, Option};
 ghost use Rattle.pmp_tool.specs.Inputs.{AreBytesOf};
 ghost use Rattle.pmp_audit.specs.Answers.{IsWritten};
-ghost use Rattle.pmp_tool.specs.Requests.{IsUnread, RequestFails, RequestSays, old_side};
-ghost use Rattle.pmp_tool.specs.Runs.{CommandAnswers, CommandFails};
+ghost use Rattle.pmp_tool.specs.Requests.{ImportFails, IsGiven, IsUnread, RequestFails, RequestSays, old_side};
+ghost use Rattle.pmp_tool.specs.Runs.{CommandAnswers, CommandFails, IsScriptOf};
 ghost use Rattle.pmp_tool.specs.declared.request.Request.TheVariants as request;
 
 use crate::command::Command;
 use crate::failure::Failure;
 use crate::inputs::Inputs;
 use crate::jobs::processors;
+use crate::note::Note;
 use crate::outcome::Outcome;
-use crate::request::{Audit, Diff, LongAudit, Request};
+use crate::request::{Audit, Diff, Import, LongAudit, Request};
 use pmp_audit::{
     OpenGate, PIECE, Pace, Side, audit, audit_long, audit_shared, check, check_policy, diff, show,
     writes,
 };
+use pmp_import::{Given, import, survey_log};
 use std::alloc::Global;
 use std::io::Write;
 use std::sync::Wait;
@@ -35,7 +37,7 @@ pub fn answer<R: Threads + Wait + Sync, I: Inputs, O: Write>(
     ensures err { IfErr result (CommandFails (I.scripts inputs.old) (I.traces inputs.old) command.entry
         (O.contents out.old) (O.contents out.new)) }
 {
-    let script = script_at(inputs, command.script, old_side(command.request))?;
+    let script = script_of(alloc, inputs, command)?;
     answer_request(rt, alloc, &script, command.request, inputs, out)
 }
 
@@ -67,6 +69,7 @@ fn answer_request<R: Threads + Wait + Sync, I: Inputs, O: Write>(
         }
         Request::Writes => Ok(Outcome::Replayed(writes(alloc, script, out)?)),
         Request::Diff(asked) => answer_diff(alloc, script, asked, inputs, out),
+        Request::Import(asked) => answer_import(alloc, asked, inputs, out),
     }
 }
 
@@ -147,6 +150,64 @@ fn answer_diff<I: Inputs, O: Write>(
     let (old_after, new_after) = (asked.old_after, asked.new_after);
     let rows = diff(alloc, script, old_after, &new, new_after, asked.only, out)?;
     Ok(Outcome::Compared(rows))
+}
+
+/// Writes the script of a log.
+fn answer_import<I: Inputs, O: Write>(
+    alloc: Global,
+    asked: Import<'_>,
+    inputs: &mut I,
+    out: &mut O,
+) -> Result<Outcome, Failure>
+    ensures ok { (script : List ℕ) → IfOk result (IsWritten (RequestSays (I.scripts inputs.old) (I.traces inputs.old)
+        script (request.Import asked.entry)) (O.contents out.old) (O.contents out.new)) }
+    ensures err { (script : List ℕ) → IfErr result (RequestFails (O.contents out.old) (O.contents out.new)
+        (I.scripts inputs.old) (I.traces inputs.old) script (request.Import asked.entry)) }
+{
+    let (given, note) = given_of(alloc, asked, inputs)?;
+    let mut log = inputs.open_trace(asked.log)?;
+    import(alloc, given, &mut log, out)?;
+    Ok(Outcome::Imported(note))
+}
+
+/// What is said of the hart, and what the note says of that.
+fn given_of<I: Inputs>(
+    alloc: Global,
+    asked: Import<'_>,
+    inputs: &mut I,
+) -> Result<(Given, Note), Failure>
+    ensures ok { IfOk result (λ both. IsGiven (I.traces inputs.old asked.entry.log.now) asked.entry both.0 both.1) }
+    ensures err { (out : Option (List ℕ)) → IfErr result (ImportFails (I.traces inputs.old asked.entry.log.now)
+        asked.entry out out) }
+    ensures traces { I.traces inputs.new ≡ I.traces inputs.old }
+{
+    if asked.log == "stdin" {
+        let given = asked.options.alone(asked.format);
+        return Ok((given, Note::Taken(given.hart, given.entries)));
+    }
+    let mut log = inputs.open_trace(asked.log)?;
+    let survey = survey_log(alloc, asked.format, asked.options.hart, &mut log)?;
+    let given = asked.options.with(asked.format, &survey)?;
+    Ok((given, Note::Guessed(given.hart, given.entries, survey.left)))
+}
+
+/// The bytes of a command's script, of which an import has none.
+fn script_of<I: Inputs>(
+    alloc: Global,
+    inputs: &mut I,
+    command: Command<'_>,
+) -> Result<Vec<u8>, Failure>
+    ensures read { IfOk result (λ bytes. IsScriptOf command.entry.request (I.scripts inputs.old command.entry.script.now)
+        bytes.items) }
+    ensures unread { IfErr result (IsUnread (I.scripts inputs.old command.entry.script.now)
+        (old_side command.entry.request)) }
+    ensures scripts { I.scripts inputs.new ≡ I.scripts inputs.old }
+    ensures traces { I.traces inputs.new ≡ I.traces inputs.old }
+{
+    if let Request::Import(_) = command.request {
+        return Ok(Vec::new(alloc));
+    }
+    script_at(inputs, command.script, old_side(command.request))
 }
 
 /// Which side the command's script is on, where there are two.

@@ -37,6 +37,16 @@ pub enum Argument {
     FirstRow,
     Checkers,
     Jobs,
+    /// The log of an import.
+    Log,
+    Format,
+    Hart,
+    Xlen,
+    Entries,
+    Grain,
+    AddressBits,
+    Smepmp,
+    Bursts,
 }
 
 impl Argument {
@@ -47,7 +57,7 @@ impl Argument {
     {
         use Argument::*;
         match self {
-            Script | Old => "script",
+            Script | Old | Log => "script",
             New => "new",
             Trace => "trace",
             Policy => "policy",
@@ -67,6 +77,14 @@ impl Argument {
             FirstRow => "first-row",
             Checkers => "checkers",
             Jobs => "jobs",
+            Format => "format",
+            Hart => "hart",
+            Xlen => "xlen",
+            Entries => "entries",
+            Grain => "grain",
+            AddressBits => "address-bits",
+            Smepmp => "smepmp",
+            Bursts => "bursts",
         }
     }
 
@@ -83,8 +101,12 @@ impl Argument {
             Kind => "KIND",
             Start => "START",
             Length => "LENGTH",
-            Explain | Long | EachWrite | AsScript => "",
-            After | OldAfter | FirstRow | Jobs => "N",
+            Explain | Long | EachWrite | AsScript | Bursts => "",
+            After | OldAfter | FirstRow | Jobs | Hart | Xlen | Entries | AddressBits => "N",
+            Grain => "BYTES",
+            Smepmp => "ANSWER",
+            Format => "FORMAT",
+            Log => "LOG",
             NewAfter => "M",
             Expect => "ANSWER",
             Only => "CHANGE",
@@ -117,6 +139,15 @@ impl Argument {
             FirstRow => help::FIRST_ROW,
             Checkers => help::CHECKERS,
             Jobs => help::JOBS,
+            Log => help::LOG,
+            Format => help::FORMAT,
+            Hart => help::HART,
+            Xlen => help::XLEN,
+            Entries => help::HART_ENTRIES,
+            Grain => help::GRAIN,
+            AddressBits => help::ADDRESS_BITS,
+            Smepmp => help::SMEPMP,
+            Bursts => help::BURSTS,
         }
     }
 
@@ -129,12 +160,23 @@ impl Argument {
         use Argument::*;
         let (id, name, help) = (self.id(), self.name(), self.help());
         match self {
-            Explain | Long | EachWrite => flag(alloc, id, help),
+            Explain | Long | EachWrite | Bursts => flag(alloc, id, help),
             AsScript => flag(alloc, id, help).long("script"),
-            After | OldAfter | NewAfter | Expect | Only | FirstRow => option(alloc, id, name, help),
+            After
+            | OldAfter
+            | NewAfter
+            | Expect
+            | Only
+            | FirstRow
+            | Hart
+            | Xlen
+            | Entries
+            | Grain
+            | AddressBits
+            | Smepmp => option(alloc, id, name, help),
             Checkers => count(alloc, id, name, CHECKERS, help),
             Jobs => count(alloc, id, name, JOBS, help),
-            Script | Old | New | Trace | Policy | Mode | Kind | Start | Length => {
+            Script | Old | New | Trace | Policy | Mode | Kind | Start | Length | Log | Format => {
                 word(alloc, id, name, help)
             }
         }
@@ -150,6 +192,8 @@ impl Argument {
             Argument::FirstRow => "a number from 1 on",
             Argument::Checkers => "a number from 1 to 8",
             Argument::Jobs => "a number from 1 to 64",
+            Argument::Xlen => "32 or 64",
+            Argument::Smepmp => "yes or no",
             _ => "a number",
         }
     }

@@ -3,20 +3,22 @@
 ghost use Rattle.std.specs.Prelude.{◌≡◌, option_map};
 ghost use Rattle.clap.specs.Words.{found_of, rows_of, subcommand_rows_of};
 ghost use Rattle.pmp_tool.specs.Commands.{access_in, access_task, asked, asked_of, audit_in, check_in, command_named};
-ghost use Rattle.pmp_tool.specs.Commands.{diff_in, long_audit_in, path_in, policy_in, second_in, show_in, task_in};
+ghost use Rattle.pmp_tool.specs.Commands.{diff_in, format_in, import_in, long_audit_in, options_in, options_with};
+ghost use Rattle.pmp_tool.specs.Commands.{path_in, policy_in, second_in, show_in, task_in};
 ghost use Rattle.pmp_tool.specs.Commands.{task_of, whole_audit_in};
 ghost use Rattle.pmp_tool.specs.Words.{result_map};
 
 use crate::argument::Argument;
 use crate::command_name::CommandName;
 use crate::expected::Expected;
-use crate::fault_line::FaultLine;
+use crate::fault_line::{FaultLine, Place};
 use crate::jobs::JOBS;
-use crate::request::{Audit, Check, Diff, LongAudit, Request};
-use crate::word::{asked, count, is_bare_word, is_set, is_used, needed, word};
+use crate::request::{Audit, Check, Diff, Import, LongAudit, Request};
+use crate::word::{Smepmp, Xlen, asked, count, is_bare_word, is_set, is_used, needed, word};
 use clap::ArgMatches;
 use pmp_audit::{Pace, View};
 use pmp_core::Access;
+use pmp_import::{Format, Options};
 use pmp_share::CHECKERS;
 use pmp_text::Refusal;
 
@@ -72,6 +74,7 @@ fn read_request<'a>(name: CommandName, words: &ArgMatches<'a>) -> Result<Request
         CommandName::Entries => read_show(View::Entries, words),
         CommandName::Writes => Ok(Request::Writes),
         CommandName::Diff => read_diff(words),
+        CommandName::Import => read_import(words),
     }
 }
 
@@ -184,5 +187,63 @@ fn read_diff<'a>(words: &ArgMatches<'a>) -> Result<Request<'a>, FaultLine>
         old_after,
         new_after,
         only,
+    }))
+}
+
+fn read_format(words: &ArgMatches) -> Result<Format, FaultLine>
+    ensures { result ≡ format_in (rows_of (found_of words.now)) }
+{
+    let word = path(words, Argument::Format)?;
+    match Format::named(word.as_bytes()) {
+        Some(format) => Ok(format),
+        None => Err(FaultLine {
+            refusal: Refusal::BadFormat,
+            place: Place::Word(Argument::Format),
+        }),
+    }
+}
+
+/// What is asked for of a hart of this XLEN and these numbers.
+fn read_options_with(
+    words: &ArgMatches,
+    xlen: Option<Xlen>,
+    hart: Option<u64>,
+    entries: Option<u64>,
+) -> Result<Options, FaultLine>
+    ensures { result ≡ options_with xlen hart entries (rows_of (found_of words.now)) }
+{
+    let grain = asked(words, Argument::Grain)?;
+    let bits = asked(words, Argument::AddressBits)?;
+    let smepmp = asked::<Smepmp>(words, Argument::Smepmp)?;
+    Ok(Options {
+        hart,
+        is_rv32: xlen.map(|said| said.is_rv32),
+        entries,
+        grain,
+        bits,
+        has_smepmp: smepmp.map(|said| said.is_there).unwrap_or(true),
+        bursts: is_set(words, Argument::Bursts),
+    })
+}
+
+fn read_options(words: &ArgMatches) -> Result<Options, FaultLine>
+    ensures { result ≡ options_in (rows_of (found_of words.now)) }
+{
+    let hart = asked(words, Argument::Hart)?;
+    let xlen = asked::<Xlen>(words, Argument::Xlen)?;
+    let entries = asked(words, Argument::Entries)?;
+    read_options_with(words, xlen, hart, entries)
+}
+
+fn read_import<'a>(words: &ArgMatches<'a>) -> Result<Request<'a>, FaultLine>
+    ensures { result_map task_of result ≡ import_in (rows_of (found_of words.now)) }
+{
+    let format = read_format(words)?;
+    let log = path(words, Argument::Script)?;
+    let options = read_options(words)?;
+    Ok(Request::Import(Import {
+        log,
+        format,
+        options,
     }))
 }

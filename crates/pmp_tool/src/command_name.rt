@@ -18,11 +18,12 @@ pub enum CommandName {
     Entries,
     Writes,
     Diff,
+    Import,
 }
 
 impl CommandName {
     /// All commands, in the order of the help.
-    pub const ALL: [CommandName; 9] = [
+    pub const ALL: [CommandName; 10] = [
         CommandName::Check,
         CommandName::Audit,
         CommandName::Policy,
@@ -32,6 +33,7 @@ impl CommandName {
         CommandName::Entries,
         CommandName::Writes,
         CommandName::Diff,
+        CommandName::Import,
     ];
 
     /// The word that names it.
@@ -48,6 +50,7 @@ impl CommandName {
             CommandName::Entries => "entries",
             CommandName::Writes => "writes",
             CommandName::Diff => "diff",
+            CommandName::Import => "import",
         }
     }
 
@@ -63,6 +66,7 @@ impl CommandName {
             CommandName::Entries => help::ENTRIES,
             CommandName::Writes => help::WRITES,
             CommandName::Diff => help::DIFF,
+            CommandName::Import => help::IMPORT,
         }
     }
 
@@ -78,6 +82,7 @@ impl CommandName {
             CommandName::Entries => topics::MORE_OF_ENTRIES,
             CommandName::Writes => topics::MORE_OF_WRITES,
             CommandName::Diff => topics::MORE_OF_DIFF,
+            CommandName::Import => topics::MORE_OF_IMPORT,
         }
     }
 
@@ -96,6 +101,18 @@ impl CommandName {
             CommandName::Entries => &[Script, Explain, After],
             CommandName::Writes => &[Script, Explain],
             CommandName::Diff => &[Old, Explain, New, OldAfter, NewAfter, Only],
+            CommandName::Import => &[
+                Format,
+                Explain,
+                Log,
+                Hart,
+                Xlen,
+                Entries,
+                Grain,
+                AddressBits,
+                Smepmp,
+                Bursts,
+            ],
         }
     }
 }

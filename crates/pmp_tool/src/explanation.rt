@@ -194,6 +194,7 @@ fn input_of<'a>(line: &FaultLine, kept: &'a Kept) -> Option<&'a KeptInput> {
             .inputs()
             .last(),
         (Place::Nowhere, Refusal::BadAfter) => kept.inputs().first(),
+        (Place::Nowhere, Refusal::NoHart) | (Place::LogLine(_), _) => kept.inputs().last(),
         (Place::Nowhere | Place::Word(_), _) => None,
         _ => kept.inputs().get(1),
     }

@@ -3,12 +3,13 @@
 ghost use Rattle.std.specs.Prelude.{◌≡◌, ◌≤◌, IfSome, OnOk};
 ghost use Rattle.std.specs.Io.KnownBytes.{Appends};
 ghost use Rattle.pmp_text.specs.declared.refusal.Refusal.TheVariants.{Memory, Output};
-ghost use Rattle.pmp_tool.specs.Failures.{Tells, failure_status, failure_text, refused, unaudited, unparsed, unread};
+ghost use Rattle.pmp_tool.specs.Failures.{Tells, failure_status, failure_text, refused, unaudited, unimported, unparsed, unread};
 ghost use Rattle.pmp_tool.specs.declared.failure.Failure.TheVariants.{Refused};
 
 use crate::fault_line::{FaultLine, Place};
 use clap::error::ErrorKind;
 use pmp_audit::{AuditFault, Side};
+use pmp_import::ImportFault;
 use pmp_text::{InputFault, OutputFault, Refusal};
 use std::alloc::AllocError;
 use std::io::Write;
@@ -100,6 +101,17 @@ impl From<OutputFault> for Failure {
 
     fn from(_: OutputFault) -> Failure {
         Failure::from(Refusal::Output)
+    }
+}
+
+impl From<ImportFault> for Failure {
+    ghost from_gives = { λ fault failure. failure ≡ unimported fault };
+
+    fn from(fault: ImportFault) -> Failure {
+        Failure::Refused(FaultLine {
+            refusal: fault.kind,
+            place: Place::of_log(fault),
+        })
     }
 }
 

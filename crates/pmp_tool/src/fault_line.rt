@@ -3,7 +3,7 @@
 ghost use Rattle.std.specs.Prelude.{◌≡◌, Some, OnOk, OnErr};
 ghost use Rattle.std.specs.Io.KnownBytes.{Appends};
 ghost use Rattle.pmp_text.specs.Bytes.{AppendsBeginning};
-ghost use Rattle.pmp_tool.specs.FaultLines.{fault_text, line_text, place_of, place_text, side_text};
+ghost use Rattle.pmp_tool.specs.FaultLines.{fault_text, line_text, place_in_log, place_of, place_text, side_text};
 ghost use Rattle.pmp_tool.specs.LineLengths.{LineFitsLaw};
 ghost use Rattle.pmp_tool.specs.Commands.{access_line};
 ghost use Rattle.pmp_tool.specs.declared.fault_line.Place.TheVariants.{Nowhere};
@@ -12,6 +12,7 @@ use crate::argument::Argument;
 use arrayvec::ArrayString;
 use pmp_audit::{AuditFault, Side};
 use pmp_core::AccessFault;
+use pmp_import::ImportFault;
 use pmp_text::{OutputFault, Refusal, ScriptFault, TraceFault, write_out};
 use std::fmt;
 use std::fmt::Write as TextWrite;
@@ -34,6 +35,8 @@ pub enum Place {
     Script(Side),
     /// In a line of one of two scripts, from 1.
     LineOf(Side, ScriptFault),
+    /// In a line of the log, from 1.
+    LogLine(ImportFault),
 }
 
 impl Place {
@@ -48,6 +51,17 @@ impl Place {
             AuditFault::ScriptOf(side, fault) if fault.line > 0 => Place::LineOf(side, fault),
             AuditFault::ScriptOf(side, _) | AuditFault::BadAfterOf(side) => Place::Script(side),
             _ => Place::Nowhere,
+        }
+    }
+
+    /// Where this fault of an import is.
+    pub fn of_log(fault: ImportFault) -> Place
+        ensures { result ≡ place_in_log fault }
+    {
+        if fault.line > 0 {
+            Place::LogLine(fault)
+        } else {
+            Place::Nowhere
         }
     }
 }
@@ -73,6 +87,7 @@ impl fmt::Display for Place {
             Place::PolicyRow(fault) => write!(f, "policy row {}: ", fault.row),
             Place::Script(side) => write!(f, "{}: ", side_word(side)),
             Place::LineOf(side, fault) => write!(f, "{} line {}: ", side_word(side), fault.line),
+            Place::LogLine(fault) => write!(f, "log line {}: ", fault.line),
         }
     }
 }

@@ -91,3 +91,32 @@ pub const JOBS: &str =
 
 pub const FIRST_ROW: &str =
     "Gives a long trace's first row the number N, from 1 on, and those behind it the next ones; 1 without this option";
+
+pub const IMPORT: &str =
+    "Writes a script of version 3 of what a simulator or a debugger has logged";
+
+pub const FORMAT: &str = "The form of the log: qemu, gdb, openocd, spike or dump";
+
+pub const LOG: &str =
+    "The path of the log, of any length, which is read twice, or stdin, which is read once: then the hart is as the \
+    options say, or hart 0 of RV64 with 16 entries";
+
+pub const HART: &str =
+    "Takes the registers of hart N; those of the first one that writes without this option";
+
+pub const XLEN: &str =
+    "Says that XLEN is N, 32 or 64; it is 32 where the log shows so without this option";
+
+pub const HART_ENTRIES: &str =
+    "Says that the hart has N entries; it has 16 without this option, or 64 where one behind them has a value";
+
+pub const GRAIN: &str =
+    "Says that the hart has a grain of so many bytes; it has 4 without this option";
+
+pub const ADDRESS_BITS: &str =
+    "Says that a physical address has N bits; it has 56 without this option, or 34 on RV32";
+
+pub const SMEPMP: &str = "Says whether the hart has Smepmp, yes or no; it has without this option";
+
+pub const BURSTS: &str =
+    "Makes one publication of writes on lines side by side, of at most 64; each has its own without this option";

@@ -23,7 +23,7 @@ pub trait Inputs {
     /// The bytes of the script at a path, where it is known what they are.
     ghost scripts: { Self → List ℕ → Option (List ℕ) } = { λ _ _. None };
 
-    /// The bytes of the trace or the policy at a path, where it is known what they are.
+    /// The bytes of the trace, the policy or the log at a path, where it is known what they are.
     ghost traces: { Self → List ℕ → Option (List ℕ) } = { λ _ _. None };
 
     /// The bytes of the script at this path.
@@ -38,10 +38,12 @@ pub trait Inputs {
         ensures read { IfOk result (λ bytes. AreBytesOf (traces self.old path.now) bytes.items) }
         ensures unread { IfErr result (CantBeRead MAX_TRACE (traces self.old path.now)) };
 
-    /// A reader of the trace at this path, of which no byte is read yet.
+    /// A reader of the trace or the log at this path, of which no byte is read yet.
     fn open_trace(&mut self, path: &str) -> Result<Self::Trace, InputFault>
         ensures opened { IfOk result (λ reader. GivesBytesOf (traces self.old path.now) (Self.Trace.remaining reader)) }
-        ensures unopened { IfErr result CantBeOpened };
+        ensures unopened { IfErr result CantBeOpened }
+        ensures scripts { scripts self.new ≡ scripts self.old }
+        ensures traces { traces self.new ≡ traces self.old };
 
     /// What is kept of the inputs so far.
     fn kept(&self) -> &Kept;

@@ -1,10 +1,10 @@
-//! The line that tells, beside an answer, of an address that may not be what its writer meant.
+//! The line that tells, beside an answer, of what was guessed, or of an address that may not be what its writer meant.
 
 ghost use Rattle.std.specs.Prelude.{Some, OnErr, OnOk};
 ghost use Rattle.std.specs.Io.KnownBytes.{Appends};
 ghost use Rattle.pmp_text.specs.Bytes.{AppendsBeginning};
 ghost use Rattle.pmp_tool.specs.LineLengths.{NoteFitsLaw};
-ghost use Rattle.pmp_tool.specs.Notes.{Notes, note_line, noted_place};
+ghost use Rattle.pmp_tool.specs.Notes.{Notes, note_line, note_text};
 
 use crate::outcome::Outcome;
 use arrayvec::ArrayString;
@@ -13,7 +13,8 @@ use std::fmt;
 use std::fmt::Write as TextWrite;
 use std::io::Write;
 
-/// Where an address has 14 digits and no `0x`, as rows write one in hexadecimal: it is read as decimal.
+/// What an import has guessed, or where an address has 14 digits and no `0x`, as rows write one in hexadecimal: it is
+/// read as decimal.
 #[derive(Clone, Copy)]
 pub enum Note {
     /// The word START.
@@ -22,14 +23,18 @@ pub enum Note {
     TraceRow(u64),
     /// A row of the policy, from 1, the first one.
     PolicyRow(u64),
+    /// The hart of a log that was read twice, how many entries it has, and how many writes other harts have.
+    Guessed(u64, u64, u64),
+    /// The hart of a log that was read once, and how many entries it has.
+    Taken(u64, u64),
 }
 
 /// What the note says of it.
 const AS_DECIMAL: &str =
     "14 digits without 0x are read as decimal; write 0x before a hexadecimal address";
 
-/// The bytes of the longest note: its number has 20 digits.
-const LONGEST_NOTE: usize = 124;
+/// More bytes than a note has: a number has 20 digits.
+const LONGEST_NOTE: usize = 160;
 
 fn law_note_fits()
     ensures { NoteFitsLaw }
@@ -51,20 +56,30 @@ impl Note {
     {
         law_note_fits();
         let mut line = ArrayString::<LONGEST_NOTE>::new();
-        writeln!(line, "pmp: note: {self}: {AS_DECIMAL}").map_err(|_| OutputFault)?;
+        writeln!(line, "pmp: note: {self}").map_err(|_| OutputFault)?;
         write_out(writer, line.as_str().as_bytes())
     }
 }
 
-/// Where it is.
+/// What it says.
 impl fmt::Display for Note {
-    ghost output = { λ note. Some (noted_place note) };
+    ghost output = { λ note. Some (note_text note) };
 
     fn fmt<W: fmt::Write>(&self, f: &mut fmt::Formatter<W>) -> fmt::Result {
         match *self {
-            Note::Start => write!(f, "START"),
-            Note::TraceRow(row) => write!(f, "trace row {row}"),
-            Note::PolicyRow(row) => write!(f, "policy row {row}"),
+            Note::Start => write!(f, "START: {AS_DECIMAL}"),
+            Note::TraceRow(row) => write!(f, "trace row {row}: {AS_DECIMAL}"),
+            Note::PolicyRow(row) => write!(f, "policy row {row}: {AS_DECIMAL}"),
+            Note::Guessed(hart, entries, left) => write!(
+                f,
+                "hart {hart}, {entries} entries; {left} writes of other harts are left out"
+            ),
+            Note::Taken(hart, entries) => {
+                write!(
+                    f,
+                    "hart {hart}, {entries} entries, since the log is read once"
+                )
+            }
         }
     }
 }

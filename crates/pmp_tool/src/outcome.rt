@@ -33,6 +33,8 @@ pub enum Outcome {
     Replayed(WriteSummary),
     /// So many rows were written, of where two register files differ.
     Compared(u64),
+    /// A script was written of a log; the note says what was guessed.
+    Imported(Note),
     /// A text of help or the version was written.
     Told,
 }
@@ -60,6 +62,7 @@ impl Outcome {
             Outcome::Decided(_, asked) if asked.is_bare => Some(Note::Start),
             Outcome::Audited(summary) => Some(Note::TraceRow(summary.bare?)),
             Outcome::Judged(summary) => Some(Note::PolicyRow(summary.bare?)),
+            Outcome::Imported(note) => Some(note),
             _ => None,
         }
     }

@@ -6,6 +6,7 @@ ghost use Rattle.pmp_share.specs.declared.opening.TheConstants.{CHECKERS};
 use crate::expected::Expected;
 use pmp_audit::{Pace, View};
 use pmp_core::Access;
+use pmp_import::{Format, Options};
 use pmp_share::CHECKERS;
 use pmp_text::Only;
 
@@ -41,6 +42,15 @@ pub struct LongAudit<'a> {
     pub first: u64,
 }
 
+/// A script of what a simulator or a debugger has logged.
+#[derive(Clone, Copy)]
+pub struct Import<'a> {
+    /// The path of the log.
+    pub log: &'a str,
+    pub format: Format,
+    pub options: Options,
+}
+
 /// A comparison with a new script.
 #[derive(Clone, Copy)]
 pub struct Diff<'a> {
@@ -66,4 +76,5 @@ pub enum Request<'a> {
     Show(View, Option<u64>),
     Writes,
     Diff(Diff<'a>),
+    Import(Import<'a>),
 }

@@ -2,7 +2,7 @@
 
 ghost use Rattle.std.specs.Prelude.{◌≡◌, ◌⊎◌, ℕ, ◌≤◌, List, map, IfOk, IfErr, string_bytes};
 ghost use Rattle.std.specs.Io.KnownBytes.{Appends, Keeps};
-ghost use Rattle.pmp_tool.specs.CommandLines.{AsksForLongAudit};
+ghost use Rattle.pmp_tool.specs.CommandLines.{AsksForPieces};
 ghost use Rattle.pmp_tool.specs.Explanations.{TellsAndExplains};
 ghost use Rattle.pmp_tool.specs.Failures.{failure_status};
 ghost use Rattle.pmp_tool.specs.Notes.{Notes};
@@ -57,8 +57,8 @@ pub fn run_tool<R: Threads + Wait + Sync, I: Inputs, O: Write, E: Write>(
         (O.contents out.old) (O.contents out.new) failure
         × TellsAndExplains (map string_bytes words.now) failure (E.contents err.old) (E.contents err.new) }
 
-    // A long audit may be refused behind rows that it wrote; nothing else may.
-    ensures untouched { result ≡ 2 → AsksForLongAudit (map string_bytes words.now)
+    // A long audit may be refused behind rows that it wrote, and an import behind lines; nothing else may.
+    ensures untouched { result ≡ 2 → AsksForPieces (map string_bytes words.now)
         ⊎ Keeps (O.contents out.old) (O.contents out.new) }
 {
     match run(rt, alloc, words, inputs, out) {

@@ -154,6 +154,15 @@ the modes do, whoever owns the bytes, from the lowest address on.
 
   00000000000000,00000000000007,rwx,---,rwx,rw-,more
 
+`pmp import` writes a script of version 3 of a log: what the hart is, and behind
+a comment with the number of the log's line what the line says.
+
+  pmp 3
+  # from QEMU's trace, hart 0
+  # line 1
+  write pmpcfg0 0x18
+  publish
+
 `pmp help script`, `pmp help trace` and `pmp help rows` tell of formats, and
 `pmp help COMMAND` of a command, its words and what it writes. docs/FORMATS.md
 describes all of it byte by byte, and has every refusal by its number.";
@@ -554,6 +563,47 @@ Example:
   printf 'pmp 1\\nwrite pmpcfg0 0x1b\\npublish\\n' > new.pmp
   echo 'pmp 1' | pmp diff stdin new.pmp
   It answers 00000000000000,00000000000007,rwx,---,rwx,rw-,more
+
+docs/FORMATS.md describes all of it byte by byte, and has every refusal by its
+number.";
+
+pub const MORE_OF_IMPORT: &str = "\
+A number is 1 to 20 decimal digits, or `0x` and 1 to 16 hexadecimal digits, and
+is below 2^64. Without `0x` it is decimal, whatever its digits.
+
+`pmp import` writes a script of version 3 of a log: what the hart is, and behind
+a comment with the number of the log's line what the line says.
+  qemu     pmpcfg_csr_write hart 0: write reg0, val: 0x18, the same with read,
+           and those of pmpaddr with addr0 and of mseccfg, perhaps behind a
+           process and a time; resettable_reset_..
+  gdb      pmpcfg0 0x18 24, as info registers answers, and Thread 2 (Thread 1.2
+           (CPU#1 .., as thread apply all does
+  openocd  pmpcfg0 (/64): 0x0000000000000018, as reg answers
+  spike    core   0: 3 0x0000000080000008 (0x3a0312f3) c928_pmpcfg0
+           0x0000000000000018, as --log-commits writes
+  dump     pmpcfg0 0x0000000000000018, as pmp dump writes
+
+A write is a `write`, and a publication of its own, but with `--bursts`. A read
+is an `expect`, and so is behind a write of Spike's log the value that the
+register has then. Lines of resets side by side are one `reset`, but before the
+first line of the hart. A register that a debugger shows is a `set`, but for
+zero. Bits 63 to 54 of a `pmpaddr`, which QEMU before 11 keeps, are left out of
+`set` and `expect`, as a comment says.
+
+A file is read twice. The script is of the hart that writes first, or is shown
+first, and has 64 entries where a register of one behind the 16th has a value,
+XLEN 32 where a line is one of RV32, and else the defaults of a script. Options
+say another hart. Standard input is read once, and then options or the defaults
+say it. A line on standard error tells of that.
+
+Exit status:
+  0  the answer is written
+  2  no answer: the words or an input are at fault
+  3  no answer: memory, an input, the output or a checker failed
+
+Example:
+  echo 'pmpcfg_csr_write hart 0: write reg0, val: 0x18' | pmp import qemu stdin
+  It answers pmp 3
 
 docs/FORMATS.md describes all of it byte by byte, and has every refusal by its
 number.";

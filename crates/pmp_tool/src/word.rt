@@ -6,7 +6,7 @@ ghost use Rattle.pmp_core.specs.declared.access.Kind.{Kind};
 ghost use Rattle.pmp_core.specs.declared.access.Mode.{Mode};
 ghost use Rattle.pmp_text.specs.AccessWords.{kind_named, mode_named};
 ghost use Rattle.pmp_text.specs.Numbers.{word_number};
-ghost use Rattle.pmp_tool.specs.Words.{expected_named, only_named};
+ghost use Rattle.pmp_tool.specs.Words.{expected_named, only_named, smepmp_named, xlen_named};
 ghost use Rattle.pmp_tool.specs.Words.{asked_in, bad_word, count_in, is_bare_word, is_set, is_used, needed_in};
 ghost use Rattle.pmp_tool.specs.Words.{word_in};
 
@@ -83,6 +83,45 @@ impl Form for Only {
         match word {
             "more" => Some(Only::More),
             "less" => Some(Only::Less),
+            _ => None,
+        }
+    }
+}
+
+/// What a word says of XLEN.
+#[derive(Clone, Copy)]
+pub struct Xlen {
+    /// Whether it is 32, and not 64.
+    pub is_rv32: bool,
+}
+
+impl Form for Xlen {
+    ghost named = { xlen_named };
+
+    /// `32` or `64`.
+    fn read(word: &str) -> Option<Xlen> {
+        match word {
+            "32" => Some(Xlen { is_rv32: true }),
+            "64" => Some(Xlen { is_rv32: false }),
+            _ => None,
+        }
+    }
+}
+
+/// What a word says of Smepmp.
+#[derive(Clone, Copy)]
+pub struct Smepmp {
+    pub is_there: bool,
+}
+
+impl Form for Smepmp {
+    ghost named = { smepmp_named };
+
+    /// `yes` or `no`.
+    fn read(word: &str) -> Option<Smepmp> {
+        match word {
+            "yes" => Some(Smepmp { is_there: true }),
+            "no" => Some(Smepmp { is_there: false }),
             _ => None,
         }
     }

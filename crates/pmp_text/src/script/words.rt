@@ -54,6 +54,13 @@ impl<'a> Words<'a> {
     {
         Words { rest: line }
     }
+
+    /// The rest of the line, which the words are of.
+    pub fn rest(&self) -> &'a [u8]
+        ensures { result.now ≡ self.now.rest.now }
+    {
+        self.rest
+    }
 }
 
 impl<'a> Iterator for Words<'a> {

@@ -53,3 +53,9 @@ returns-in-Diff-clause-ok g c = rw c.in-Diff.is c.answer_diff.ensures.ok
 
 pub returns-in-Diff-clause-err : goal.returns-in-Diff-clause-err
 returns-in-Diff-clause-err g c = rw c.in-Diff.is c.answer_diff.ensures.err
+
+pub returns-in-Import-clause-ok : goal.returns-in-Import-clause-ok
+returns-in-Import-clause-ok g c = rw c.in-Import.is (c.answer_import.ensures.ok c.args.script.now)
+
+pub returns-in-Import-clause-err : goal.returns-in-Import-clause-err
+returns-in-Import-clause-err g c = rw c.in-Import.is (c.answer_import.ensures.err c.args.script.now)

@@ -1,6 +1,6 @@
 use Rattle.std.proofs.Common.{rules, sym, ◌∙◌}
 use Rattle.std.specs.List.{range_with_len}
-use Rattle.pmp_text.proofs.Words.{range_more, passed_more, not_passed}
+use Rattle.pmp_text.proofs.SpacedWords.{range_more, passed_more, not_passed}
 use Rattle.pmp_text.proofs.lines.effects.EntriesDisplay.fmt.Goals as goal
 use Rattle.pmp_text.proofs.lines.effects.EntriesDisplay.fmt.Goals.{
   then-has_reason+in_ok-write,

@@ -1,7 +1,7 @@
 use Rattle.std.proofs.Common.{decimal}
 use Rattle.std.specs.List.{range_with_len}
 use Rattle.pmp_core.specs.WriteReasons.{has_reason}
-use Rattle.pmp_text.proofs.Words.{HasPassed}
+use Rattle.pmp_text.proofs.SpacedWords.{HasPassed}
 use Rattle.pmp_text.proofs.lines.effects.EntriesDisplay.fmt.Given as goal
 
 -- the numbers of those entries so far that turn the value away are written

@@ -2,7 +2,7 @@ use Rattle.std.proofs.Common.{rules, sym, take, ◌∙◌}
 use Rattle.std.proofs.lemmas.List.{take_more}
 use Rattle.pmp_core.specs.declared.write_reasons.WriteReason.TheVariants.{Absent}
 use Rattle.pmp_core.specs.WriteReasons.{all_reasons}
-use Rattle.pmp_text.proofs.Words.{passed_more, not_passed}
+use Rattle.pmp_text.proofs.SpacedWords.{passed_more, not_passed}
 use Rattle.pmp_text.proofs.lines.effects.ReasonsDisplay.fmt.Goals as goal
 use Rattle.pmp_text.proofs.lines.effects.ReasonsDisplay.fmt.Goals.{
   then-is_reason+in_ok-write,

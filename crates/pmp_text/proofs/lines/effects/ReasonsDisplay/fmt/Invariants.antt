@@ -1,7 +1,7 @@
 use Rattle.std.proofs.Common.{take}
 use Rattle.pmp_core.specs.WriteReasons.{is_reason, all_reasons}
 use Rattle.pmp_text.specs.Effects.{reason_text}
-use Rattle.pmp_text.proofs.Words.{HasPassed}
+use Rattle.pmp_text.proofs.SpacedWords.{HasPassed}
 use Rattle.pmp_text.proofs.lines.effects.ReasonsDisplay.fmt.Given as goal
 
 -- the words of those reasons so far that apply are written

@@ -1,0 +1,4 @@
+pub mod KnownLogs
+pub mod Readings
+pub mod WholeLogs
+pub mod WholeSurveys

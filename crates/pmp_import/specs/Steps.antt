@@ -1,0 +1,43 @@
+-- A reading's steps, which only private contracts cite.
+use Rattle.std.specs.Prelude.{◌≡◌, ◌⊎◌, ℕ, List, [], ◌++◌, Ok, Err}
+use Rattle.pmp_text.specs.declared.refusal.Refusal.TheVariants.{Memory}
+use Rattle.pmp_import.specs.declared.fault.ImportFault.{ImportFault}
+use Rattle.pmp_import.specs.declared.format.Format.{Format}
+use Rattle.pmp_import.specs.declared.given.Given.{Given}
+use Rattle.pmp_import.specs.declared.given.Walk.{Walk}
+use Rattle.pmp_import.specs.declared.survey.Survey.{Survey}
+use Rattle.pmp_import.specs.Imported.{at, imported_from, with_front}
+use Rattle.pmp_import.specs.Surveys.{surveyed_from}
+
+-- these lines were taken, and their text was appended
+pub record GoesOn (given : Given) (old new : Walk) (lines : List (List ℕ)) (before after : List ℕ) : Type 0 where
+  pub text : List ℕ
+  pub appended : after ≡ before ++ text
+  pub goes_on : (more : List (List ℕ)) → imported_from given old (lines ++ more)
+      ≡ with_front text (imported_from given new more)
+
+-- one of these lines is at fault, or there is no memory
+abbrev pub StopsAt : (given : Given) → (walk : Walk) → (lines : List (List ℕ)) → ImportFault → Type 0
+StopsAt given walk lines fault = (fault ≡ at 0 Memory)
+    ⊎ ((more : List (List ℕ)) → imported_from given walk (lines ++ more) ≡ Err fault)
+
+-- no line is left
+pub record EndsWith (given : Given) (walk : Walk) (before after : List ℕ) : Type 0 where
+  pub text : List ℕ
+  pub appended : after ≡ before ++ text
+  pub ends : imported_from given walk [] ≡ Ok text
+
+-- no line told of the hart, or there is no memory
+abbrev pub StopsAtEnd : (given : Given) → (walk : Walk) → ImportFault → Type 0
+StopsAtEnd given walk fault = (fault ≡ at 0 Memory) ⊎ (imported_from given walk [] ≡ Err fault)
+
+-- ---- the first reading
+
+-- these lines were looked at
+pub record FindsOn (format : Format) (old new : Survey) (lines : List (List ℕ)) : Type 0 where
+  pub finds_on : (more : List (List ℕ)) → surveyed_from format old (lines ++ more) ≡ surveyed_from format new more
+
+-- one of these lines is at fault
+abbrev pub FindsFault : (format : Format) → Survey → (lines : List (List ℕ)) → ImportFault → Type 0
+FindsFault format survey lines fault =
+    (more : List (List ℕ)) → surveyed_from format survey (lines ++ more) ≡ Err fault

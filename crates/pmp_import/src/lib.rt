@@ -1,0 +1,22 @@
+//! Captures of real harts as scripts: QEMU's trace, what debuggers show of registers, and Spike's log of commits.
+#![tactic(auto)]
+
+mod debuggers;
+mod fault;
+mod format;
+mod given;
+mod importer;
+mod lines;
+mod options;
+mod qemu;
+mod said;
+mod spike;
+mod survey;
+mod whole_log;
+
+pub use fault::ImportFault;
+pub use format::Format;
+pub use given::Given;
+pub use options::Options;
+pub use survey::Survey;
+pub use whole_log::{MOST_LINES, import, survey_log};
