@@ -162,6 +162,7 @@ a comment with the number of the log's line what the line says.
   # line 1
   write pmpcfg0 0x18
   publish
+  pmp: note: hart 0, 16 entries, since the log is read once
 
 `pmp help script`, `pmp help trace` and `pmp help rows` tell of formats, and
 `pmp help COMMAND` of a command, its words and what it writes. docs/FORMATS.md
