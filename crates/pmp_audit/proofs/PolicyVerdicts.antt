@@ -1,11 +1,11 @@
 -- The verdicts on a policy's rows, one after another.
-use Rattle.std.proofs.Common.{◌≡◌, ℕ, ◌+◌, ◌<◌, ◌≤◌, cond, List, [], ◌∷◌, ◌++◌, length, map, None, Ok, Option, Some}
+use Rattle.std.proofs.Common.{◌≡◌, ℕ, ◌+◌, ◌<◌, cond, List, [], ◌∷◌, ◌++◌, length, map, None, Ok, Option, Some}
 use Rattle.std.proofs.Common.{get_or, suc, take, sym, ap, ◌∙◌, append_assoc, arith}
 use Rattle.std.specs.Prelude.{All, count_by, is_some}
 use Rattle.std.specs.List.{AllZip, enumerate_from, flat_map, position_from}
 use Rattle.std.specs.Option.{option_or}
 use Rattle.std.proofs.lemmas.List.{append-nil, flat_map_more, length-append, length-map, map-append, take_more}
-use Rattle.std.proofs.lemmas.List.Sums.{count_by-le-length, sum_by_push}
+use Rattle.std.proofs.lemmas.List.Sums.{sum_by_push}
 use Rattle.pmp_text.specs.declared.lines.verdict.Breach.{Breach}
 use Rattle.pmp_text.specs.declared.policy.PolicyRow.{PolicyRow}
 use Rattle.pmp_text.specs.Contents.{ScriptContents}

@@ -1,3 +1,7 @@
+use Rattle.std.proofs.KnownBytes.{Keeps-refl}
+use Rattle.std.proofs.lemmas.Result.{err_from_is_err_and}
+use Rattle.pmp_audit.proofs.FaultyInputs.{policy_refused, script_refused}
+use Rattle.std.proofs.lemmas.Result.{IfOk-from_err}
 use Rattle.std.proofs.Common.{◌≡◌, ◌∙◌, List, ap, arith, length, map, Ok}
 use Rattle.std.proofs.lemmas.List.{take_at}
 use Rattle.pmp_text.specs.Policies.{policy_fields, policy_meaning}
@@ -42,3 +46,42 @@ returns-clause-err g c =
     (says g (goal.at.returns-clause-err g c).After-write_answer)
     (PolicyRefuses c.args.script.now c.args.policy.now) (λ never. never) tt _
     c.write_answer.ensures.err
+
+pub returns-in_err-script-clause-ok : goal.returns-in_err-script-clause-ok
+returns-in_err-script-clause-ok g c = IfOk-from_err _ _ c.from_residual.ensures.0
+
+pub returns-in_err-judged-clause-ok : goal.returns-in_err-judged-clause-ok
+returns-in_err-judged-clause-ok g c = IfOk-from_err _ _ c.from_residual-in_err-judged.ensures.0
+
+pub returns-in_err-summary-clause-ok : goal.returns-in_err-summary-clause-ok
+returns-in_err-summary-clause-ok g c = IfOk-from_err _ _ c.from_residual-in_err-summary.ensures.0
+
+pub returns-in_err-script-clause-err : goal.returns-in_err-script-clause-err
+returns-in_err-script-clause-err g c =
+    let p = err_from_is_err_and c.from_residual.result c.from_residual.ensures.1 in
+    rw (p.1, p.2) (script_refused (PolicySays c.args.pace c.args.script.now c.args.policy.now) _
+    (PolicyRefuses c.args.script.now c.args.policy.now) c.in_err-script.field-0.0 c.in_err-script.ensures)
+
+pub returns-in-Err-clause-err : goal.returns-in-Err-clause-err
+returns-in-Err-clause-err g c =
+    let script = c.in_ok-script.script in
+    rw c.of_policy.ensures (policy_refused (PolicySays c.args.pace c.args.script.now c.args.policy.now) _
+    (PolicyRefuses c.args.script.now c.args.policy.now) c.in-Err.fault _
+    (λ why. record { contents = script; script_means = c.in_ok-script.ensures; policy_means = why })
+    (rw c.batches.ensures at c.in-Err.ensures.given))
+
+pub unjudged-requires : goal.unjudged-requires
+unjudged-requires g c = rw (c.deref.ensures.value, ← c.batches.ensures) c.in-Ok.ensures.within
+
+pub returns-in_err-judged-clause-err : goal.returns-in_err-judged-clause-err
+returns-in_err-judged-clause-err g c =
+    let p = err_from_is_err_and c.from_residual-in_err-judged.result c.from_residual-in_err-judged.ensures.1 in
+    rw (p.1, p.2) (Keeps-refl _)
+
+pub judge-requires : goal.judge-requires
+judge-requires g c = rw c.deref_mut.ensures.value c.in_ok-judged.ensures.judged
+
+pub returns-in_err-summary-clause-err : goal.returns-in_err-summary-clause-err
+returns-in_err-summary-clause-err g c =
+    let p = err_from_is_err_and c.from_residual-in_err-summary.result c.from_residual-in_err-summary.ensures.1 in
+    rw (p.1, p.2) (Keeps-refl _)
