@@ -18,6 +18,7 @@ pub mod PieceRows
 pub mod PieceTexts
 pub mod Reports
 pub mod Stopping
+pub mod FaultyInputs
 pub mod WrittenAnswers
 pub mod WrittenEvents
 pub mod PolicyAnswers

@@ -2,13 +2,10 @@
 use Rattle.std.proofs.Common.{◌≡◌, ℕ, ◌+◌, ◌-◌, ◌≤◌, false, cond, List, [], ◌∷◌, ◌++◌, Result, Err, Ok}
 use Rattle.std.proofs.Common.{length, map, Option, Some, None, refl, sym, ap, ◌∙◌}
 use Rattle.std.proofs.Common.{arith}
-use Rattle.std.specs.Prelude.{filter_map, not, option_map}
-use Rattle.std.specs.List.{AllZip, position_from}
+use Rattle.std.specs.Prelude.{filter_map, option_map}
+use Rattle.std.specs.List.{position_from}
 use Rattle.std.specs.Option.{option_or}
-use Rattle.std.proofs.lemmas.List.{length-map, map-append}
-use Rattle.std.proofs.lemmas.List.Sums.{count_by-le-length, sum_by-append}
 use Rattle.std.proofs.lemmas.Slice.Zip.{AllZip-long}
-use Rattle.pmp_core.specs.declared.decision.Decision.{Decision}
 use Rattle.pmp_text.specs.declared.trace.Row.{Row}
 use Rattle.pmp_text.specs.declared.trace.TraceFault.{TraceFault}
 use Rattle.pmp_text.specs.declared.flaw.Flaw.{Flaw}
@@ -19,7 +16,7 @@ use Rattle.pmp_text.specs.LongTraces.{Records, beginning, first_fault_at, piece_
 use Rattle.pmp_text.specs.LongTraces.{is_bare_record, row_records}
 use Rattle.pmp_text.specs.Flaws.{at_row}
 use Rattle.pmp_text.specs.Traces.{after_of, first_bare, first_row_fault, is_header, row_fault, row_fields, row_of_record, row_in}
-use Rattle.pmp_text.proofs.PieceFaults.{behind, in_turn, places_in_turn, rows_in_two}
+use Rattle.pmp_text.proofs.PieceFaults.{behind, in_turn, places_in_turn}
 use Rattle.pmp_audit.specs.declared.standing.Standing.{Standing}
 use Rattle.pmp_audit.specs.LongAudit.{IsFrontReport}
 use Rattle.pmp_audit.specs.LongPieces.{IsPieceText}

@@ -1,26 +1,18 @@
 -- Reports with numbers from any one on, one behind the other.
-use Rattle.std.proofs.Common.{◌≡◌, ℕ, zero, suc, get_or, ◌+◌, ◌^◌, ◌<◌, ◌≤◌, cond, List, [], ◌∷◌, ◌++◌}
-use Rattle.std.proofs.Common.{length, refl, sym, ap, Result, Err}
+use Rattle.std.proofs.Common.{◌≡◌, ℕ, zero, suc, get_or, ◌+◌, ◌<◌, cond, List, [], ◌∷◌, ◌++◌}
+use Rattle.std.proofs.Common.{length, refl, sym, ap}
 use Rattle.std.proofs.Common.{◌∙◌, append_assoc, append-nil, arith}
-use Rattle.std.proofs.Common.{Option, Ok}
-use Rattle.std.specs.Prelude.{filter_map, not}
-use Rattle.std.proofs.lemmas.List.{length-map}
-use Rattle.std.proofs.lemmas.List.Sums.{count_by-le-length}
+use Rattle.std.proofs.Common.{Option}
 use Rattle.std.proofs.lemmas.Slice.Zip.{AllZip-long, all_zipped_more}
 use Rattle.std.specs.Io.KnownBytes.{Appends}
 use Rattle.std.proofs.KnownBytes.{Keeps-refl}
 use Rattle.pmp_core.specs.declared.decision.Decision.{Decision}
 use Rattle.pmp_text.specs.declared.trace.Row.{Row}
-use Rattle.pmp_text.specs.declared.trace.TraceFault.{TraceFault}
-use Rattle.pmp_text.specs.declared.flaw.Flaw.{Flaw}
-use Rattle.pmp_text.specs.declared.trace.rows.Place.{Place}
-use Rattle.pmp_text.specs.declared.trace.row_fields.RowFields.{RowFields}
 use Rattle.pmp_text.specs.Bytes.{AppendsBeginning}
 use Rattle.pmp_text.specs.Contents.{ScriptContents}
-use Rattle.pmp_text.specs.LongTraces.{Records, piece_fault, place_behind, report_text_from, row_records}
-use Rattle.pmp_text.specs.Traces.{row_fields, row_of_record, row_in}
+use Rattle.pmp_text.specs.LongTraces.{Records, report_text_from}
 use Rattle.pmp_text.specs.Reports.{AreDecided, report_row}
-use Rattle.pmp_audit.specs.LongPieces.{IsPieceReported, IsPieceText, IsPieceWritten, PieceFails, PieceStops}
+use Rattle.pmp_audit.specs.LongPieces.{IsPieceReported, IsPieceWritten, PieceFails, PieceStops}
 use Rattle.pmp_audit.specs.Report.{IsListed}
 use Rattle.pmp_audit.specs.declared.fault.AuditFault.{AuditFault}
 use Rattle.pmp_audit.specs.declared.fault.AuditFault.TheVariants.{Trace, Memory}

@@ -1,21 +1,16 @@
 -- The steps of a long audit, from piece to piece.
-use Rattle.std.proofs.Common.{◌≡◌, ℕ, ◌+◌, ◌≤◌, Bool, true, false, List, [], ◌∷◌, ◌++◌}
-use Rattle.std.proofs.Common.{length, unwrap_or, Option, Some, None, Ok, Err, refl, sym, ap, ◌∙◌}
+use Rattle.std.proofs.Common.{◌≡◌, ℕ, ◌+◌, ◌≤◌, List, [], ◌∷◌, ◌++◌}
+use Rattle.std.proofs.Common.{length, unwrap_or, Option, Some, None, Ok, refl, sym, ap, ◌∙◌}
 use Rattle.std.proofs.Common.{append_assoc, arith}
-use Rattle.std.specs.Prelude.{IfSome, cond, filter_map}
+use Rattle.std.specs.Prelude.{IfSome}
 use Rattle.std.specs.Io.KnownBytes.{Appends, Consumes, IsAtEnd}
 use Rattle.std.proofs.KnownBytes.{Appends-nil, Appends-trans, Consumes-nil, Consumes-trans}
 use Rattle.std.proofs.lemmas.List.{length-append}
 use Rattle.pmp_text.specs.Contents.{ScriptContents}
 use Rattle.pmp_text.specs.Cutting.{IsFront}
-use Rattle.pmp_text.specs.LongTraces.{Records, beginning, has_begun, long_meaning, long_rows_meaning, piece_fault}
-use Rattle.pmp_text.specs.LongTraces.{row_records}
+use Rattle.pmp_text.specs.LongTraces.{Records, beginning, piece_fault}
 use Rattle.pmp_text.specs.Scripts.{script_meaning}
-use Rattle.pmp_text.specs.Tables.{fault_or_rows, records_of}
-use Rattle.pmp_text.specs.Flaws.{at_row, as_whole}
-use Rattle.pmp_text.specs.Traces.{first_row_fault, is_header, row_of_record}
-use Rattle.pmp_text.specs.declared.trace.TraceFault.{TraceFault}
-use Rattle.pmp_text.specs.declared.refusal.Refusal.TheVariants.{BadHeader}
+use Rattle.pmp_text.specs.Tables.{records_of}
 use Rattle.pmp_text.proofs.PieceFaults as pieces
 use Rattle.pmp_audit.specs.declared.standing.Standing.{Standing}
 use Rattle.pmp_audit.specs.LongAudit.{IsFrontOf}

@@ -1,8 +1,8 @@
 -- The report of a piece, one row after another.
-use Rattle.std.proofs.Common.{◌≡◌, ◌⊎◌, ℕ, zero, suc, ◌+◌, ◌^◌, ◌<◌, ◌≤◌, Bool, true, false, cond, List, [], ◌∷◌}
+use Rattle.std.proofs.Common.{◌≡◌, ◌⊎◌, ℕ, ◌+◌, ◌^◌, ◌≤◌, Bool, true, false, cond, List, [], ◌∷◌}
 use Rattle.std.proofs.Common.{◌++◌, length, Option, Some, None, Ok, refl, sym, ap, ◌∙◌, inl, inr, append_assoc}
 use Rattle.std.proofs.Common.{append-nil, arith}
-use Rattle.std.specs.Prelude.{filter_map}
+use Rattle.std.specs.Prelude.{IfErr, IfOk, Result, Err, filter_map}
 use Rattle.std.specs.Option.{option_or}
 use Rattle.std.proofs.lemmas.List.{length-append}
 use Rattle.pmp_core.specs.declared.decision.Decision.{Decision}
@@ -21,29 +21,25 @@ use Rattle.pmp_text.specs.Traces.{first_row_fault, row_fault, row_fields, row_in
 use Rattle.pmp_text.proofs.LeastRows.{least_of, rows_in_order}
 use Rattle.pmp_text.proofs.PieceFaults.{in_turn, places_in_turn}
 use Rattle.pmp_text.proofs.WholeTraces.{fewer_rows}
+use Rattle.pmp_audit.specs.declared.fault.AuditFault.{AuditFault}
+use Rattle.pmp_audit.specs.declared.fault.AuditFault.TheVariants.{Trace, Memory}
 use Rattle.pmp_audit.specs.declared.piece.PieceReport.{PieceReport}
 use Rattle.pmp_audit.specs.declared.standing.Standing.{Standing}
 use Rattle.pmp_audit.specs.Fault.{fault_of_trace, trace_fault_as}
 use Rattle.pmp_audit.specs.LongParts.{items_of}
 use Rattle.pmp_audit.specs.LongPieces.{IsPieceReported, IsPieceText, PieceFails}
-use Rattle.pmp_audit.specs.Report.{refused_count}
 use Rattle.pmp_audit.proofs.PieceTexts.{few_refused, joined_texts}
 use Rattle.pmp_audit.proofs.Reports.{Decides, refused-push}
 
--- where the first row of a piece stands
-abbrev pub behind_header : Standing → Records → Standing
-behind_header standing records =
-    record standing { place = record standing.place { begun = has_begun standing.place.begun records } }
-
--- some rows of a piece are reported, and these are left
+-- some rows that stand there are reported, and these are left
 pub record Reported (script : ScriptContents) (standing : Standing) (records : Records) (left : RowsLeft) (faults : ℕ)
     (text : List ℕ) : Type 0 where
   pub done : Records
-  pub all : row_records standing.place.begun records ≡ done ++ left.records
+  pub all : records ≡ done ++ left.records
   pub here : ℕ
-  pub says : IsPieceText script done (behind_header standing records) here text
+  pub says : IsPieceText script done standing here text
   pub counted : faults ≡ standing.faults + here
-  pub place : left.place ≡ place_behind (behind_header standing records).place done
+  pub place : left.place ≡ place_behind standing.place done
   pub same : left.publications ≡ length script.batches
 
 -- ---- why a piece isn't reported
@@ -63,38 +59,20 @@ module _ (script : ScriptContents) (records : Records) (standing : Standing) (fa
   piece_fails (inr (inr (inl input))) = rw input (inr (inl refl))
   piece_fails (inr (inr (inr (long, many)))) = rw long (inr (inr (refl, many)))
 
--- ---- the header
-
-rows_as_left : (begun : Bool) (records : Records)
-    → row_records (has_begun begun records) (row_records begun records) ≡ row_records begun records
-rows_as_left true records = refl
-rows_as_left false [] = refl
-rows_as_left false (header ∷ rows) = refl
-
-module _ (publications : ℕ) (last : Option ℕ) (next : ℕ) where
-  fault_as_left : (begun : Bool) (records : Records)
-      → first_fault_at publications (has_begun begun records) last next (row_records begun records)
-      ≡ first_row_fault publications last next (row_records begun records)
-  fault_as_left true records = refl
-  fault_as_left false [] = refl
-  fault_as_left false (header ∷ rows) = refl
-
-place_as_left : (begun : Bool) (last : Option ℕ) (next : ℕ) (bare : Option ℕ) (records : Records)
-    → place_behind (record { begun = has_begun begun records; last = last; next = next; bare = bare })
-    (row_records begun records)
-    ≡ place_behind (record { begun = begun; last = last; next = next; bare = bare }) records
-place_as_left true last next bare records = refl
-place_as_left false last next bare [] = refl
-place_as_left false last next bare (header ∷ rows) = refl
+-- ---- no row is left where no header was read
 
 has_header : (begun : Bool) (records front : Records) (fields : List (List ℕ)) (behind : Records)
-    → row_records begun records ≡ front ++ fields ∷ behind → has_begun begun records ≡ true
-has_header true records front fields behind e = refl
-has_header false (header ∷ rows) front fields behind e = refl
-has_header false [] front fields behind e =
-    let none = ap (λ (l : Records). length l) e in
+    → (begun ≡ false → records ≡ []) → records ≡ front ++ fields ∷ behind → begun ≡ true
+has_header true records front fields behind header e = refl
+has_header false records front fields behind header e =
+    let none = ap (λ (l : Records). length l) (sym (header refl) ∙ e) in
     let some = length-append front (fields ∷ behind) in
     absurd (omega arith)
+
+no_header : (begun : Bool) (records : Records) → (begun ≡ false → records ≡ [])
+    → length (row_records begun records) ≡ length records
+no_header true records header = refl
+no_header false records header = rw (header refl) refl
 
 -- ---- before the first row
 
@@ -124,17 +102,13 @@ none_said : (begun : Bool) → [] ≡ filter_map row_of_record (row_records begu
 none_said true = refl
 none_said false = refl
 
-pub none_reported : (script : ScriptContents) (standing : Standing) (records : Records) (left : RowsLeft)
-    → left ≡ record {
-      records = row_records standing.place.begun records;
-      publications = length script.batches;
-      place = (behind_header standing records).place;
-    } → Reported script standing records left standing.faults []
+pub none_reported : (script : ScriptContents) (standing : Standing) (left : RowsLeft) → left.place ≡ standing.place
+    → left.publications ≡ length script.batches → Reported script standing left.records left standing.faults []
 unfolding report_text_from
-none_reported script standing records left is =
-    let start = (behind_header standing records).place in record {
+none_reported script standing left here same =
+    let start = standing.place in record {
       done = [];
-      all = ap (λ (l : RowsLeft). l.records) (sym is);
+      all = refl;
       here = 0;
       says = record {
         fine = no_fault (length script.batches) start.last start.next start.begun;
@@ -146,8 +120,8 @@ none_reported script standing records left is =
         counted = refl;
       };
       counted = omega arith;
-      place = ap (λ (l : RowsLeft). l.place) is ∙ at_start start.begun start.last start.next start.bare;
-      same = ap (λ (l : RowsLeft). l.publications) is;
+      place = here ∙ at_start start.begun start.last start.next start.bare;
+      same = same;
     }
 
 -- ---- one row more
@@ -157,12 +131,13 @@ row_place : (place : Place) (fields : List (List ℕ)) (row : Row) → place.beg
 row_place place fields row begun said = rw (begun, is_bare_record, said) refl
 
 module _ {script : ScriptContents} {standing : Standing} {records : Records} {left : RowsLeft} {faults : ℕ}
-    {text : List ℕ} (so_far : Reported script standing records left faults text) where
+    {text : List ℕ} (so_far : Reported script standing records left faults text)
+    (header : standing.place.begun ≡ false → records ≡ []) where
   -- no more are refused than there are rows
   pub few : standing.faults ≤ standing.place.next → faults ≤ left.place.next
   few within =
-      let here = few_refused script so_far.done (behind_header standing records) so_far.here text so_far.says in
-      let next : left.place.next ≡ (place_behind (behind_header standing records).place so_far.done).next =
+      let here = few_refused script so_far.done standing so_far.here text so_far.says in
+      let next : left.place.next ≡ (place_behind standing.place so_far.done).next =
       ap (λ (p : Place). p.next) so_far.place in
       let counted = so_far.counted in
       omega arith
@@ -170,13 +145,9 @@ module _ {script : ScriptContents} {standing : Standing} {records : Records} {le
   begun_before : (fields : List (List ℕ)) (behind : Records) → left.records ≡ fields ∷ behind
       → left.place.begun ≡ true
   begun_before fields behind e =
-      let header = has_header standing.place.begun records so_far.done fields behind
+      let first = has_header standing.place.begun records so_far.done fields behind header
       (so_far.all ∙ ap (λ (l : Records). so_far.done ++ l) e) in
-      ap (λ (p : Place). p.begun) so_far.place ∙ by (has_begun standing.place.begun records) header
-    where
-      by : (begun : Bool) → begun ≡ true → has_begun begun so_far.done ≡ true
-      by true e = refl
-      by false e = absurd cc
+      ap (λ (p : Place). p.begun) so_far.place ∙ ap (λ (b : Bool). has_begun b so_far.done) first
 
   module _ {row : Row} {after : RowsLeft} (is : IsNextRow left row after) where
     fault_here : row_fault (length script.batches) left.place.last (row_in is.fields) ≡ None
@@ -203,7 +174,7 @@ module _ {script : ScriptContents} {standing : Standing} {records : Records} {le
         → more ≡ faults + cond decision.allowed 0 1 → Reported script standing records after more written
     unfolding report_text_from
     one_row decision written more by_bytes written_is more_is =
-        let start = behind_header standing records in
+        let start = standing.place in
         let mid : Standing = record { place = left.place; faults = 0 } in
         let own = cond decision.allowed 0 1 in
         let line = report_row left.place.next row.access decision in
@@ -216,20 +187,20 @@ module _ {script : ScriptContents} {standing : Standing} {records : Records} {le
           report = sym (append-nil line);
           counted = let pushed = refused-push [] decision in omega arith;
         } in
-        let meets : left.place ≡ record (place_behind start.place so_far.done) { bare = left.place.bare } =
-        so_far.place ∙ ap (λ (bare : Option ℕ). record (place_behind start.place so_far.done) { bare = bare })
+        let meets : left.place ≡ record (place_behind start so_far.done) { bare = left.place.bare } =
+        so_far.place ∙ ap (λ (bare : Option ℕ). record (place_behind start so_far.done) { bare = bare })
         (sym (ap (λ (p : Place). p.bare) so_far.place)) in
         record {
           done = so_far.done ++ is.fields ∷ [];
           all = so_far.all ∙ ap (λ (l : Records). so_far.done ++ l) is.next
               ∙ sym (append_assoc so_far.done (is.fields ∷ []) after.records);
           here = so_far.here + own;
-          says = rw written_is (joined_texts script so_far.done start so_far.here text so_far.says (is.fields ∷ []) mid
-              meets own line one);
+          says = rw written_is (joined_texts script so_far.done standing so_far.here text so_far.says (is.fields ∷ [])
+              mid meets own line one);
           counted = let counted = so_far.counted in omega arith;
           place = is.place ∙ row_place left.place is.fields row begun is.said
               ∙ ap (λ (p : Place). place_behind p (is.fields ∷ [])) so_far.place
-              ∙ sym (places_in_turn start.place so_far.done (is.fields ∷ []));
+              ∙ sym (places_in_turn start so_far.done (is.fields ∷ []));
           same = is.publications ∙ so_far.same;
         }
 
@@ -244,63 +215,127 @@ module _ {script : ScriptContents} {standing : Standing} {records : Records} {le
   rows_alone false (fields ∷ behind) header =
       let absent : false ≡ true = header fields behind refl in absurd cc
 
-  module _ (opened : piece_fault (length script.batches) standing.place records
-      ≡ first_row_fault (length script.batches) standing.place.last standing.place.next
-      (row_records standing.place.begun records))
-    where
-      fault_left : piece_fault (length script.batches) standing.place records
-          ≡ first_row_fault (length script.batches) left.place.last left.place.next left.records
-      fault_left =
-          let publications = length script.batches in
-          let start = (behind_header standing records).place in
-          opened
-          ∙ sym (fault_as_left publications start.last start.next standing.place.begun records)
-          ∙ ap (piece_fault publications start) so_far.all
-          ∙ in_turn publications start.last start.next start.begun so_far.done left.records
-          ∙ ap (λ (x : Option TraceFault). option_or x
-          (piece_fault publications (place_behind start so_far.done) left.records)) so_far.says.fine
-          ∙ ap (λ (p : Place). piece_fault publications p left.records) (sym so_far.place)
-          ∙ rows_alone left.place.begun left.records begun_before
+  fault_left : piece_fault (length script.batches) standing.place records
+      ≡ first_row_fault (length script.batches) left.place.last left.place.next left.records
+  fault_left =
+      let publications = length script.batches in
+      let start = standing.place in
+      ap (piece_fault publications start) so_far.all
+      ∙ in_turn publications start.last start.next start.begun so_far.done left.records
+      ∙ ap (λ (x : Option TraceFault). option_or x
+      (piece_fault publications (place_behind start so_far.done) left.records)) so_far.says.fine
+      ∙ ap (λ (p : Place). piece_fault publications p left.records) (sym so_far.place)
+      ∙ rows_alone left.place.begun left.records begun_before
 
-      pub all_reported : (report : PieceReport) → left.records ≡ [] → items_of report.texts.items ≡ text
-          → report.behind ≡ record { place = left.place; faults = faults }
-          → IsPieceReported script records standing report
-      all_reported report none texts behind =
-          let start = (behind_header standing records).place in
-          let done : row_records standing.place.begun records ≡ so_far.done =
-          so_far.all ∙ ap (λ (l : Records). so_far.done ++ l) none ∙ append-nil so_far.done in
+  pub all_reported : (report : PieceReport) → left.records ≡ [] → items_of report.texts.items ≡ text
+      → report.behind ≡ record { place = left.place; faults = faults }
+      → IsPieceReported script records standing report
+  all_reported report none texts behind =
+      let done : so_far.done ≡ records =
+      sym (append-nil so_far.done) ∙ ap (λ (l : Records). so_far.done ++ l) (sym none) ∙ sym so_far.all in
+      record {
+        faults = so_far.here;
+        says = rw (texts, ← done) so_far.says;
+        place = ap (λ (s : Standing). s.place) behind ∙ so_far.place ∙ ap (place_behind standing.place) done;
+        refused = ap (λ (s : Standing). s.faults) behind ∙ so_far.counted;
+      }
+
+  pub row_fails : (fault : TraceFault)
+      → (first_row_fault left.publications left.place.last left.place.next left.records ≡ Some fault)
+      ⊎ (fault ≡ no_memory_for_rows) ⊎ (fault ≡ no_input_for_rows)
+      ⊎ ((fault ≡ too_long_for_rows) × (2 ^ 64 ≤ left.place.next + length left.records))
+      → PieceFails script records standing (fault_of_trace fault)
+  row_fails fault (inl e) = piece_fails script records standing fault (inl (fault_left ∙ rw so_far.same at e))
+  row_fails fault (inr (inl memory)) = piece_fails script records standing fault (inr (inl memory))
+  row_fails fault (inr (inr (inl input))) = piece_fails script records standing fault (inr (inr (inl input)))
+  row_fails fault (inr (inr (inr (long, many)))) =
+      let next : left.place.next ≡ (place_behind standing.place so_far.done).next =
+      ap (λ (p : Place). p.next) so_far.place in
+      let fewer = fewer_rows standing.place.begun so_far.done in
+      let all = ap (λ (l : Records). length l) so_far.all in
+      let both = length-append so_far.done left.records in
+      let rows = no_header standing.place.begun records header in
+      piece_fails script records standing fault (inr (inr (inr (long, omega arith))))
+
+-- ---- the header
+
+rows_as_left : (begun : Bool) (records : Records)
+    → row_records (has_begun begun records) (row_records begun records) ≡ row_records begun records
+rows_as_left true records = refl
+rows_as_left false [] = refl
+rows_as_left false (header ∷ rows) = refl
+
+fault_as_left : (publications : ℕ) (last : Option ℕ) (next : ℕ) (begun : Bool) (records : Records)
+    → first_fault_at publications (has_begun begun records) last next (row_records begun records)
+    ≡ first_row_fault publications last next (row_records begun records)
+fault_as_left publications last next true records = refl
+fault_as_left publications last next false [] = refl
+fault_as_left publications last next false (header ∷ rows) = refl
+
+place_as_left : (begun : Bool) (last : Option ℕ) (next : ℕ) (bare : Option ℕ) (records : Records)
+    → place_behind (record { begun = has_begun begun records; last = last; next = next; bare = bare })
+    (row_records begun records)
+    ≡ place_behind (record { begun = begun; last = last; next = next; bare = bare }) records
+place_as_left true last next bare records = refl
+place_as_left false last next bare [] = refl
+place_as_left false last next bare (header ∷ rows) = refl
+
+pub none_without_header : (begun : Bool) (records : Records) → has_begun begun records ≡ false
+    → row_records begun records ≡ []
+none_without_header true records e = absurd cc
+none_without_header false [] e = refl
+none_without_header false (header ∷ rows) e = absurd cc
+
+-- the records of a piece, and its rows behind the header
+module _ (script : ScriptContents) (standing : Standing) (records : Records) where
+  abbrev pub rows : Records
+  rows = row_records standing.place.begun records
+
+  abbrev pub behind : Standing
+  behind = record standing { place = record standing.place { begun = has_begun standing.place.begun records } }
+
+  module _ (opened : piece_fault (length script.batches) standing.place records
+      ≡ first_row_fault (length script.batches) standing.place.last standing.place.next rows)
+    where
+      same_fault : piece_fault (length script.batches) standing.place records
+          ≡ piece_fault (length script.batches) behind.place rows
+      same_fault = opened ∙ sym (fault_as_left (length script.batches) standing.place.last standing.place.next
+          standing.place.begun records)
+
+      same_place : place_behind behind.place rows ≡ place_behind standing.place records
+      same_place = place_as_left standing.place.begun standing.place.last standing.place.next standing.place.bare
+          records
+
+      pub with_header : (answer : Result PieceReport AuditFault) → IfOk answer (IsPieceReported script rows behind)
+          → IfOk answer (IsPieceReported script records standing)
+      with_header (Err fault) reported = reported
+      with_header (Ok report) reported =
+          let says = reported.says in
           record {
-            faults = so_far.here;
+            faults = reported.faults;
             says = record {
-              fine = fault_left
-                  ∙ ap (first_row_fault (length script.batches) left.place.last left.place.next) none;
-              rows = so_far.says.rows;
-              decisions = so_far.says.decisions;
-              said = so_far.says.said
-                  ∙ ap (λ (l : Records). filter_map row_of_record (row_records start.begun l)) (sym done)
-                  ∙ ap (filter_map row_of_record) (rows_as_left standing.place.begun records);
-              decided = so_far.says.decided;
-              report = texts ∙ so_far.says.report;
-              counted = so_far.says.counted;
+              fine = same_fault ∙ says.fine;
+              rows = says.rows;
+              decisions = says.decisions;
+              said = says.said ∙ ap (filter_map row_of_record) (rows_as_left standing.place.begun records);
+              decided = says.decided;
+              report = says.report;
+              counted = says.counted;
             };
-            place = ap (λ (s : Standing). s.place) behind ∙ so_far.place ∙ ap (place_behind start) (sym done)
-                ∙ place_as_left standing.place.begun start.last start.next start.bare records;
-            refused = ap (λ (s : Standing). s.faults) behind ∙ so_far.counted;
+            place = reported.place ∙ same_place;
+            refused = reported.refused;
           }
 
-      pub row_fails : (fault : TraceFault)
-          → (first_row_fault left.publications left.place.last left.place.next left.records ≡ Some fault)
-          ⊎ (fault ≡ no_memory_for_rows) ⊎ (fault ≡ no_input_for_rows)
-          ⊎ ((fault ≡ too_long_for_rows) × (2 ^ 64 ≤ left.place.next + length left.records))
-          → PieceFails script records standing (fault_of_trace fault)
-      row_fails fault (inl e) = piece_fails script records standing fault (inl (fault_left ∙ rw so_far.same at e))
-      row_fails fault (inr (inl memory)) = piece_fails script records standing fault (inr (inl memory))
-      row_fails fault (inr (inr (inl input))) = piece_fails script records standing fault (inr (inr (inl input)))
-      row_fails fault (inr (inr (inr (long, many)))) =
-          let start = (behind_header standing records).place in
-          let next : left.place.next ≡ (place_behind start so_far.done).next =
-          ap (λ (p : Place). p.next) so_far.place in
-          let fewer = fewer_rows start.begun so_far.done in
-          let all = ap (λ (l : Records). length l) so_far.all in
-          let both = length-append so_far.done left.records in
-          piece_fails script records standing fault (inr (inr (inr (long, omega arith))))
+      fails_so : (fault : AuditFault) → PieceFails script rows behind fault → PieceFails script records standing fault
+      fails_so (Trace fault) (inl e) = inl (same_fault ∙ e)
+      fails_so (Trace fault) (inr (inl input)) = inr (inl input)
+      fails_so (Trace fault) (inr (inr (long, many))) =
+          let next = ap (λ (p : Place). p.next) same_place in
+          inr (inr (long, omega arith))
+      fails_so Memory why = tt
+      fails_so fault why = absurd why
+
+      pub fails_with_header : (answer : Result PieceReport AuditFault) → IfErr answer (PieceFails script rows behind)
+          → IfErr answer (PieceFails script records standing)
+      fails_with_header (Ok report) why = why
+      fails_with_header (Err fault) why = fails_so fault why

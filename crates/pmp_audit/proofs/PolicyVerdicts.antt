@@ -1,5 +1,5 @@
 -- The verdicts on a policy's rows, one after another.
-use Rattle.std.proofs.Common.{◌≡◌, ℕ, ◌+◌, ◌<◌, cond, List, [], ◌∷◌, ◌++◌, length, map, None, Ok, Err, Option, Some, ◌⊎◌, inl, inr}
+use Rattle.std.proofs.Common.{◌≡◌, ℕ, ◌+◌, ◌<◌, cond, List, [], ◌∷◌, ◌++◌, length, map, None, Ok, Option, Some}
 use Rattle.std.proofs.Common.{get_or, suc, take, sym, ap, ◌∙◌, append_assoc, arith}
 use Rattle.std.specs.Prelude.{All, count_by}
 use Rattle.std.specs.List.{AllZip, enumerate_from, flat_map, position_from}
@@ -9,13 +9,6 @@ use Rattle.std.proofs.lemmas.List.Sums.{sum_by_push}
 use Rattle.pmp_text.specs.declared.lines.verdict.Verdict.{Verdict}
 use Rattle.pmp_text.specs.Moments.{KnownMoments}
 use Rattle.pmp_text.specs.declared.policy.PolicyRow.{PolicyRow}
-use Rattle.pmp_text.specs.declared.refusal.Refusal.{Refusal}
-use Rattle.pmp_text.specs.declared.refusal.Refusal.TheVariants as kinds
-use Rattle.pmp_text.specs.declared.trace.TraceFault.{TraceFault}
-use Rattle.pmp_text.specs.Outcomes.{no_input_for_rows, no_memory_for_rows}
-use Rattle.pmp_audit.specs.declared.fault.AuditFault.{AuditFault}
-use Rattle.pmp_audit.specs.Answers.{IsRefused}
-use Rattle.pmp_audit.specs.Fault.{fault_of_policy, policy_fault_as}
 use Rattle.pmp_text.specs.Contents.{ScriptContents}
 use Rattle.pmp_text.specs.Policies.{policy_fields, policy_meaning}
 use Rattle.pmp_text.specs.Scripts.{script_meaning}
@@ -24,9 +17,8 @@ use Rattle.pmp_text.proofs.Numbered.{enumerate_from-push}
 use Rattle.pmp_text.proofs.PieceFaults.{position_apart}
 use Rattle.pmp_audit.specs.declared.policy_check.PolicySummary.{PolicySummary}
 use Rattle.pmp_audit.specs.declared.policy_check.steps.Pace.{Pace}
-use Rattle.pmp_audit.specs.PolicyCheck.{IsFaultyPolicy, IsVerdict, PolicyRefuses, PolicySays, policy_summary, verdicts_text}
+use Rattle.pmp_audit.specs.PolicyCheck.{IsVerdict, PolicySays, policy_summary, verdicts_text}
 use Rattle.pmp_audit.specs.declared.policy_check.sweep.Judged.{Judged}
-use Rattle.std.proofs.KnownBytes.{Keeps-refl}
 use Rattle.pmp_audit.specs.PolicyMoments.{AreMoments}
 use Rattle.pmp_audit.specs.PolicyRows.{AreWritten}
 use Rattle.pmp_audit.specs.PolicySweep.{rows_of, told_of, verdicts_of}
@@ -147,31 +139,3 @@ policy_says pace script policy contents rows judged before after text summary mo
       text_is = whole ∙ written.text_is ∙ ap (λ front. front ++ verdicts_text (verdicts_of judged)) empty;
       counted = written.counted;
     }
-
--- ---- why a policy has no verdicts
-
-module _ (pace : Pace) (script policy : List ℕ) (contents : ScriptContents) (moments : KnownMoments)
-    (means : script_meaning script ≡ Ok contents) (are : AreMoments script contents moments) (fault : TraceFault)
-    (out : Option (List ℕ)) where
-  abbrev Refused : AuditFault → Type 0
-  Refused = IsRefused (PolicySays pace script policy) out out (PolicyRefuses script policy)
-
-  faulty : (policy_meaning moments policy ≡ Err fault) ⊎ (fault ≡ no_input_for_rows)
-      → IsFaultyPolicy script policy fault
-  faulty why = record {
-    contents = contents;
-    script_means = means;
-    moments = moments;
-    moments_are = are;
-    policy_means = why;
-  }
-
-  by_kind : (kind : Refusal) → policy_meaning moments policy ≡ Err fault → Refused (policy_fault_as kind fault)
-  by_kind kinds.Memory e = Keeps-refl out
-  by_kind kind e = (faulty (inl e), Keeps-refl out)
-
-  pub policy_fails : (policy_meaning moments policy ≡ Err fault) ⊎ (fault ≡ no_memory_for_rows)
-      ⊎ (fault ≡ no_input_for_rows) → Refused (fault_of_policy fault)
-  policy_fails (inl e) = by_kind fault.kind e
-  policy_fails (inr (inl memory)) = rw memory (Keeps-refl out)
-  policy_fails (inr (inr input)) = rw (ap fault_of_policy input) (rw input at (faulty (inr input)), Keeps-refl out)

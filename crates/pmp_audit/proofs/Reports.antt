@@ -11,7 +11,6 @@ use Rattle.pmp_text.specs.Contents.{ScriptContents}
 use Rattle.pmp_text.specs.LongTraces.{report_text_from}
 use Rattle.pmp_text.specs.Reports.{file_of_script, report_text}
 use Rattle.pmp_text.specs.Scripts.{script_meaning}
-use Rattle.pmp_text.specs.TraceFaults.{IsInOrder, afters}
 use Rattle.pmp_text.specs.Traces.{first_bare, trace_meaning}
 use Rattle.pmp_text.specs.Traces.{row_fields}
 use Rattle.pmp_audit.specs.declared.trace_audit.Summary.{Summary}

@@ -1,13 +1,11 @@
 -- A trace that is audited as one piece.
-use Rattle.std.proofs.Common.{◌≡◌, ◌⊎◌, ℕ, ◌-◌, ◌<◌, ◌≤◌, true, false, List, [], length, Option, None, Ok, Err}
-use Rattle.std.proofs.Common.{refl, sym, ap, ◌∙◌, inl, inr, arith}
-use Rattle.std.specs.Io.KnownBytes.{Appends, Keeps}
+use Rattle.std.proofs.Common.{◌≡◌, ℕ, ◌-◌, ◌<◌, ◌≤◌, true, false, List, [], length, Option, None, Ok, Err}
+use Rattle.std.proofs.Common.{refl, sym, ap, ◌∙◌, inl, inr}
 use Rattle.std.proofs.KnownBytes.{Keeps-refl}
 use Rattle.pmp_text.specs.declared.refusal.Refusal.TheVariants.{BadHeader, TooLong}
 use Rattle.pmp_text.specs.declared.trace.TraceFault.{TraceFault}
 use Rattle.pmp_text.specs.declared.trace.reader.TheConstants.{MAX_TRACE}
 use Rattle.pmp_text.specs.declared.trace.rows.Place.{Place}
-use Rattle.pmp_text.specs.Bytes.{AppendsBeginning}
 use Rattle.pmp_text.specs.Contents.{ScriptContents}
 use Rattle.pmp_text.specs.Flaws.{as_whole, at_row}
 use Rattle.pmp_text.specs.LongTraces.{beginning, piece_fault, report_text_from}
@@ -18,7 +16,7 @@ use Rattle.pmp_text.specs.Traces.{is_header, rows_meaning, trace_meaning}
 use Rattle.pmp_text.proofs.Rows.{long_text, trace_is}
 use Rattle.pmp_text.proofs.WholeTraces.{few_rows, found, meaning_is, without_header}
 use Rattle.pmp_audit.specs.declared.fault.AuditFault.{AuditFault}
-use Rattle.pmp_audit.specs.declared.fault.AuditFault.TheVariants.{Trace, Memory, Output}
+use Rattle.pmp_audit.specs.declared.fault.AuditFault.TheVariants.{Trace, Memory}
 use Rattle.pmp_audit.specs.declared.piece.PieceReport.{PieceReport}
 use Rattle.pmp_audit.specs.declared.standing.Standing.{Standing}
 use Rattle.pmp_audit.specs.declared.trace_audit.Summary.{Summary}

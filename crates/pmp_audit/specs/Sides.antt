@@ -1,5 +1,5 @@
 -- The faults of one of two scripts, while they are read.
-use Rattle.std.specs.Prelude.{◌≡◌, ℕ, List, Option}
+use Rattle.std.specs.Prelude.{ℕ, List, Option}
 use Rattle.pmp_audit.specs.declared.fault.AuditFault.{AuditFault}
 use Rattle.pmp_audit.specs.declared.fault.AuditFault.TheVariants.{Script, BadAfter, ScriptOf, BadAfterOf}
 use Rattle.pmp_audit.specs.declared.fault.Side.{Side}

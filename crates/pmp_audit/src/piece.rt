@@ -1,6 +1,6 @@
 //! The report of a piece of a trace, each row decided as soon as it is read.
 
-ghost use Rattle.std.specs.Prelude.{◌≤◌, IfErr, IfOk};
+ghost use Rattle.std.specs.Prelude.{◌≡◌, ◌≤◌, [], IfErr, IfOk, false, length};
 ghost use Rattle.pmp_text.specs.Tables.{records_of};
 ghost use Rattle.pmp_audit.specs.LongPieces.{IsPieceReported, PieceFails};
 
@@ -18,22 +18,26 @@ pub struct PieceReport {
     pub behind: Standing,
 }
 
-/// Reads a piece where it stands, and decides its rows. Beside the report only one record takes memory.
-pub fn report_piece(
+/// Decides the rows that are left where they stand, each as soon as it is read.
+fn report_rows(
     alloc: Global,
     script: &Script,
-    text: &[u8],
+    rows: &mut RowReader<'_>,
     standing: Standing,
 ) -> Result<PieceReport, AuditFault>
-    requires { standing.faults ≤ standing.place.next }
-    ensures ok { IfOk result (IsPieceReported script.now (records_of text.now) standing) }
-    ensures err { IfErr result (PieceFails script.now (records_of text.now) standing) }
+    requires publications { rows.old.publications ≡ length script.now.batches }
+    requires place { rows.old.place ≡ standing.place }
+    requires header { standing.place.begun ≡ false → rows.old.records ≡ [] }
+    requires faults { standing.faults ≤ standing.place.next }
+    ensures ok { IfOk result (IsPieceReported script.now rows.old.records standing) }
+    ensures err { IfErr result (PieceFails script.now rows.old.records standing) }
 {
-    let mut rows = RowReader::open(alloc, text, script.batches(), standing.place)?;
     let mut replay = Replay::new(script);
     let mut report = Vec::new(alloc);
-    let mut faults = standing.faults;
-    let mut place = rows.place();
+    let Standing {
+        mut place,
+        mut faults,
+    } = standing;
     while let Some(row) = rows.next()? {
         replay.advance(row.after);
         let decision = replay.decide(&row.access);
@@ -46,4 +50,23 @@ pub fn report_piece(
         texts,
         behind: Standing { place, faults },
     })
+}
+
+/// Reads a piece where it stands, and decides its rows. Beside the report only one record takes memory.
+pub fn report_piece(
+    alloc: Global,
+    script: &Script,
+    text: &[u8],
+    standing: Standing,
+) -> Result<PieceReport, AuditFault>
+    requires { standing.faults ≤ standing.place.next }
+    ensures ok { IfOk result (IsPieceReported script.now (records_of text.now) standing) }
+    ensures err { IfErr result (PieceFails script.now (records_of text.now) standing) }
+{
+    let mut rows = RowReader::open(alloc, text, script.batches(), standing.place)?;
+    let behind_header = Standing {
+        place: rows.place(),
+        ..standing
+    };
+    report_rows(alloc, script, &mut rows, behind_header)
 }

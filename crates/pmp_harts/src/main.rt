@@ -16,7 +16,7 @@ use pmp_share::{Batch, Checker, NoticeReceiver, NoticeSender, Publisher, ShareFa
 use std::alloc::Global;
 use std::process::ExitCode;
 use std::sync::{Arc, Wait};
-use std::thread::Threads;
+use std::thread::{JoinHandle, Threads};
 use std::{io, thread};
 
 /// Entries 0 and 1 have two pages each, and the first domain may use those of entry 0.
@@ -85,15 +85,28 @@ fn run_harts<R: Threads + Wait + Copy + Send + 'static>(
 {
     let (sender, receiver) = publisher.notice_ring(alloc, 1)?;
     let fence = Arc::new(alloc, Fence::new())?;
-    let (runtime, theirs) = (*rt, Arc::try_clone(&fence)?);
-    let hart = move || -> Result<(Answers, Answers), ShareFault>
-        requires { receiver.unit ≡ one.unit }
-    { run_one(&runtime, alloc, one, receiver, &theirs) };
-    let thread = thread::spawn(rt, hart).map_err(|_| ShareFault::NoPlace)?;
+    let thread = start_one(rt, alloc, one, receiver, &fence)?;
     let zero = run_zero(rt, alloc, zero, publisher, sender, &fence);
     let one = thread.join(rt);
     let (zero, (one, before)) = (zero?, one?);
     Ok((zero, one, before))
+}
+
+/// Gives hart 1 a thread.
+fn start_one<R: Threads + Wait + Copy + Send + 'static>(
+    rt: &R,
+    alloc: Global,
+    checker: Checker,
+    notices: NoticeReceiver,
+    fence: &Arc<Fence, Global>,
+) -> Result<JoinHandle<Result<(Answers, Answers), ShareFault>>, ShareFault>
+    requires { notices.unit ≡ checker.unit }
+{
+    let (runtime, fence) = (*rt, Arc::try_clone(fence)?);
+    let hart = move || -> Result<(Answers, Answers), ShareFault>
+        requires { notices.unit ≡ checker.unit }
+    { run_one(&runtime, alloc, checker, notices, &fence) };
+    thread::spawn(rt, hart).map_err(|_| ShareFault::NoPlace)
 }
 
 /// Publishes these writes in one step and shows it, sends hart 1 a notice, and waits at a remote fence: it ends no
@@ -151,26 +164,40 @@ fn run_one<R: Wait>(
 {
     let mut hart = Hart::new(checker);
     let (mut walked, mut before) = (Vec::new(alloc), Vec::new(alloc));
+    follow(rt, &mut hart, &mut notices, fence, &mut walked, &mut before)?;
+    Ok((walked, before))
+}
+
+fn follow<R: Wait>(
+    rt: &R,
+    hart: &mut Hart,
+    notices: &mut NoticeReceiver,
+    fence: &Fence,
+    walked: &mut Answers,
+    before: &mut Answers,
+) -> Result<(), ShareFault>
+    requires { notices.old.unit ≡ hart.old.unit }
+{
     let mut looked = 0;
     for _ in rt.forever() {
         let is_last = notices.is_abandoned();
         let shown = fence.shown();
         if shown > looked {
-            before.push(load(&mut hart, BEFORE)?)?;
-            before.push(load(&mut hart, BEFORE)?)?;
+            before.push(load(hart, BEFORE)?)?;
+            before.push(load(hart, BEFORE)?)?;
             looked = shown;
             fence.look(shown);
         }
         if let Some(notice) = notices.receive() {
             let learnt = hart.learn(notice);
-            walk(&mut hart, &mut walked)?;
+            walk(hart, walked)?;
             fence.acknowledge(learnt);
         } else if is_last {
             break;
         }
         thread::yield_now();
     }
-    Ok((walked, before))
+    Ok(())
 }
 
 /// Loads eight bytes in user mode.

@@ -75,6 +75,31 @@ fn publish_writes<R: Clock + Wait>(
     Ok(since.each(rt, MOST_PUBLICATIONS))
 }
 
+/// Gives each checker a thread on which it makes the calls.
+fn send_all<R: Clock + Threads + Wait + Copy + Send + 'static>(
+    rt: &R,
+    alloc: Global,
+    checkers: Vec<Checker>,
+    call: Call,
+) -> Result<Crew, Failure> {
+    let count = checkers.len();
+    let mut crew = Crew::new(alloc, Meeting::new(count.wrapping_add(1), count, 0))?;
+    for checker in checkers {
+        crew.send(rt, checker, Duty::Calls(call))?;
+    }
+    Ok(crew)
+}
+
+/// The longest time of a call on these threads.
+fn longest<R: Threads>(rt: &R, crew: Crew) -> Result<u64, Failure> {
+    let mut time = 0;
+    for done in crew.join(rt)? {
+        done.outcome?;
+        time = done.time.max(time);
+    }
+    Ok(time)
+}
+
 fn time_crowd_of<R: Clock + Threads + Wait + Copy + Send + 'static>(
     rt: &R,
     alloc: Global,
@@ -84,23 +109,14 @@ fn time_crowd_of<R: Clock + Threads + Wait + Copy + Send + 'static>(
     publishes: bool,
 ) -> Result<Times, Failure> {
     publish_regions(rt, publisher)?;
-    let count = checkers.len();
-    let mut crew = Crew::new(alloc, Meeting::new(count.wrapping_add(1), count, 0))?;
-    for checker in checkers {
-        crew.send(rt, checker, Duty::Calls(call))?;
-    }
+    let crew = send_all(rt, alloc, checkers, call)?;
     crew.meeting.wait(rt);
     let publication = if publishes {
         publish_writes(rt, publisher, &crew.meeting)?
     } else {
         u64::MAX
     };
-    let mut time = 0;
-    for done in crew.join(rt)? {
-        done.outcome?;
-        time = done.time.max(time);
-    }
-    Ok((time, publication))
+    Ok((longest(rt, crew)?, publication))
 }
 
 /// The times of a call by each of one to eight checkers at once, and of a publication meanwhile, if there are any.
@@ -135,7 +151,7 @@ fn print_time<R: Print>(rt: &R, threads: u8, what: &str, tenths: u64) -> Result<
     Ok(())
 }
 
-pub fn bench<R: Clock + Threads + Wait + Print + Copy + Send + 'static>(
+fn bench_calls<R: Clock + Threads + Wait + Print + Copy + Send + 'static>(
     rt: &R,
     alloc: Global,
 ) -> Result<(), Failure> {
@@ -143,15 +159,35 @@ pub fn bench<R: Clock + Threads + Wait + Print + Copy + Send + 'static>(
         let (time, _) = least(|| time_crowd(rt, alloc, 1, call, false))?;
         print_time(rt, 1, what, time)?;
     }
+    Ok(())
+}
+
+fn bench_publisher<R: Clock + Wait + Print>(rt: &R, alloc: Global) -> Result<(), Failure> {
     let (publication, notice) = least(|| time_publisher(rt, alloc))?;
     print_time(rt, 1, "a publication", publication)?;
-    print_time(rt, 1, "tell and learn", notice)?;
+    print_time(rt, 1, "tell and learn", notice)
+}
+
+fn bench_crowd<R: Clock + Threads + Wait + Print + Copy + Send + 'static>(
+    rt: &R,
+    alloc: Global,
+    checkers: u8,
+) -> Result<(), Failure> {
+    let (quiet, _) = least(|| time_crowd(rt, alloc, checkers, Call::Decision, false))?;
+    print_time(rt, checkers, "a decision", quiet)?;
+    let (busy, publication) = least(|| time_crowd(rt, alloc, checkers, Call::Decision, true))?;
+    print_time(rt, checkers, "a decision while it publishes", busy)?;
+    print_time(rt, checkers, "a publication meanwhile", publication)
+}
+
+pub fn bench<R: Clock + Threads + Wait + Print + Copy + Send + 'static>(
+    rt: &R,
+    alloc: Global,
+) -> Result<(), Failure> {
+    bench_calls(rt, alloc)?;
+    bench_publisher(rt, alloc)?;
     for checkers in 1..=4 {
-        let (quiet, _) = least(|| time_crowd(rt, alloc, checkers, Call::Decision, false))?;
-        print_time(rt, checkers, "a decision", quiet)?;
-        let (busy, publication) = least(|| time_crowd(rt, alloc, checkers, Call::Decision, true))?;
-        print_time(rt, checkers, "a decision while it publishes", busy)?;
-        print_time(rt, checkers, "a publication meanwhile", publication)?;
+        bench_crowd(rt, alloc, checkers)?;
     }
     Ok(())
 }

@@ -11,7 +11,7 @@ use crate::soak::Tally;
 use crate::source::Source;
 use crate::time::Moment;
 use pmp_core::Event;
-use pmp_share::{Batch, CHECKERS, Checker, Publisher, start_from};
+use pmp_share::{Batch, CHECKERS, Checker, Publisher, ShareFault, start_from};
 use std::alloc::Global;
 use std::sync::Wait;
 use std::thread::Threads;
@@ -32,21 +32,13 @@ struct Round {
 }
 
 /// Has each checker learn what is published.
-fn tell_all(
-    alloc: Global,
-    publisher: &mut Publisher,
-    mut checkers: Vec<Checker>,
-) -> Result<Vec<Checker>, Failure>
-    requires { All (λ checker. checker.unit ≡ publisher.old.unit) checkers.items }
+fn tell_all(publisher: &mut Publisher, checkers: &mut [Checker]) -> Result<(), ShareFault>
+    requires { All (λ checker. checker.unit ≡ publisher.old.unit) checkers.old }
 {
-    let mut told = Vec::new(alloc);
-    for _ in 0..checkers.len() {
-        if let Some(mut checker) = checkers.pop() {
-            checker.learn(publisher.tell()?);
-            told.push(checker)?;
-        }
+    for seat in 0..checkers.len() {
+        checkers[seat].learn(publisher.tell()?);
     }
-    Ok(told)
+    Ok(())
 }
 
 impl Round {
@@ -104,8 +96,36 @@ impl Round {
         Ok(checkers)
     }
 
-    /// Publishes while the checkers are asked freely, and then once for each question. Those that come back copy what is
-    /// published.
+    /// Publishes while checkers are asked freely, and then once for each question.
+    fn publish_all<R: Clock + Wait>(
+        &mut self,
+        rt: &R,
+        publisher: &mut Publisher,
+        meeting: &Meeting,
+    ) -> Result<(), Failure> {
+        for _ in 0..PUBLICATIONS {
+            meeting.show(self.publish(rt, publisher)?);
+        }
+        meeting.leave();
+        for _ in Question::ALL {
+            meeting.wait(rt);
+            meeting.show(self.publish(rt, publisher)?);
+            meeting.wait(rt);
+        }
+        Ok(())
+    }
+
+    /// Each checker copies what is published.
+    fn compare_copies(&self, checkers: &mut [Checker]) -> Result<(), Failure> {
+        for seat in 0..checkers.len() {
+            if !self.published.is_in(&checkers[seat].copy_journal()?) {
+                return Err(Failure::Answer);
+            }
+        }
+        Ok(())
+    }
+
+    /// Publishes while the checkers are asked, and compares what those copy that come back.
     fn stretch<R: Clock + Threads + Wait + Copy + Send + 'static>(
         &mut self,
         rt: &R,
@@ -114,21 +134,9 @@ impl Round {
         leaving: usize,
     ) -> Result<Vec<Checker>, Failure> {
         let crew = self.send_out(rt, publisher, checkers, leaving)?;
-        for _ in 0..PUBLICATIONS {
-            crew.meeting.show(self.publish(rt, publisher)?);
-        }
-        crew.meeting.leave();
-        for _ in Question::ALL {
-            crew.meeting.wait(rt);
-            crew.meeting.show(self.publish(rt, publisher)?);
-            crew.meeting.wait(rt);
-        }
+        self.publish_all(rt, publisher, &crew.meeting)?;
         let mut checkers = self.come_back(rt, crew)?;
-        for checker in checkers.iter_mut() {
-            if !self.published.is_in(&checker.copy_journal()?) {
-                return Err(Failure::Answer);
-            }
-        }
+        self.compare_copies(&mut checkers)?;
         Ok(checkers)
     }
 
@@ -143,7 +151,8 @@ impl Round {
         requires { All (λ checker. checker.unit ≡ publisher.old.unit) checkers.items }
     {
         self.publish(rt, publisher)?;
-        let mut checkers = tell_all(self.alloc, publisher, checkers)?;
+        let mut checkers = checkers;
+        tell_all(publisher, &mut checkers)?;
         for stretch in 0..STRETCHES {
             let leaving = usize::from(stretch + 2 == STRETCHES);
             checkers = self.stretch(rt, publisher, checkers, leaving)?;

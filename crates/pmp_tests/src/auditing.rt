@@ -1,8 +1,10 @@
 //! An audit by several workers, which pass a gate.
 
-use pmp_audit::{Gate, Summary, audit_shared};
+use pmp_audit::{AuditFault, Gate, Summary, audit_shared};
 use std::alloc::{AllocError, Global};
+use std::sync::Wait;
 use std::sync::atomic::{AtomicBool, AtomicU64, Ordering};
+use std::thread::Threads;
 
 /// Two publications: entry 0 reads a page, then entry 1 does in its place.
 const SCRIPT: &[u8] = b"pmp 1\nwrite pmpaddr0 0x200001ff\nwrite pmpcfg0 0x19\npublish\n\
@@ -32,6 +34,16 @@ struct Meeting {
 }
 
 impl Meeting {
+    fn new() -> Meeting {
+        Meeting {
+            calls: zero(),
+            rows: zero(),
+            last: zeros(),
+            is_wrong: AtomicBool::new(false),
+            missed: AtomicBool::new(false),
+        }
+    }
+
     /// Whether it is the worker's turn, no row before was this one, and the worker's last one is less.
     fn is_next(&self, worker: u8, row: u64) -> bool {
         let first = if row < SECOND { 1 } else { SECOND };
@@ -66,6 +78,19 @@ fn zero() -> AtomicU64 {
     AtomicU64::new(0)
 }
 
+fn zeros() -> [AtomicU64; 8] {
+    [
+        zero(),
+        zero(),
+        zero(),
+        zero(),
+        zero(),
+        zero(),
+        zero(),
+        zero(),
+    ]
+}
+
 /// So many rows, of which the first ask for no publication, and the others for two.
 fn trace_of(alloc: Global, first: u64, rows: u64) -> Result<Vec<u8>, AllocError> {
     let mut trace = Vec::new(alloc);
@@ -81,48 +106,35 @@ fn trace_of(alloc: Global, first: u64, rows: u64) -> Result<Vec<u8>, AllocError>
     Ok(trace)
 }
 
+/// Eight workers audit the rows, of which so many ask for no publication.
+fn audit_by_workers<R: Threads + Wait + Sync, G: Gate + Sync>(
+    rt: &R,
+    alloc: Global,
+    gate: &G,
+    first: u64,
+) -> Result<Summary, AuditFault> {
+    let trace = trace_of(alloc, first, ROWS)?;
+    let mut report = Vec::new(alloc);
+    audit_shared(rt, alloc, gate, 8, SCRIPT, trace.as_slice(), &mut report)
+}
+
+/// All rows were decided, and so many of them refused.
+fn with_faults(faults: u64) -> Result<Summary, AuditFault> {
+    Ok(Summary {
+        rows: ROWS,
+        faults,
+        bare: None,
+    })
+}
+
 /// Each row passes the gate once, by the worker whose turn it is, before that worker's next row, in both rounds. A body
 /// that runs its workers one after another, or fewer of them, is refused here: the first waits for the others in vain.
 /// So is one that passes the gate twice with a row, or not at all, or by another worker, or out of order.
 #[test]
 fn workers_overlap(rt: HostRuntime) {
-    let gate = Meeting {
-        calls: zero(),
-        rows: zero(),
-        last: [
-            zero(),
-            zero(),
-            zero(),
-            zero(),
-            zero(),
-            zero(),
-            zero(),
-            zero(),
-        ],
-        is_wrong: AtomicBool::new(false),
-        missed: AtomicBool::new(false),
-    };
-    let trace = trace_of(rt.alloc(), SECOND - 1, ROWS)
-        .ok()
-        .expect(&rt, "memory");
-    let mut report = Vec::new(rt.alloc());
-    let answer = audit_shared(
-        &rt,
-        rt.alloc(),
-        &gate,
-        8,
-        SCRIPT,
-        trace.as_slice(),
-        &mut report,
-    );
-    assert!(rt;
-        answer
-            == Ok(Summary {
-                rows: 31,
-                faults: 11,
-                bare: None,
-            })
-    );
+    let gate = Meeting::new();
+    let answer = audit_by_workers(&rt, rt.alloc(), &gate, SECOND - 1);
+    assert!(rt; answer == with_faults(11));
     assert!(rt;
         !gate.missed.load(Ordering::SeqCst),
         "a worker waited in vain"
@@ -164,25 +176,8 @@ fn workers_take_turns(rt: HostRuntime) {
         last: zero(),
         is_wrong: AtomicBool::new(false),
     };
-    let trace = trace_of(rt.alloc(), ROWS, ROWS).ok().expect(&rt, "memory");
-    let mut report = Vec::new(rt.alloc());
-    let answer = audit_shared(
-        &rt,
-        rt.alloc(),
-        &gate,
-        8,
-        SCRIPT,
-        trace.as_slice(),
-        &mut report,
-    );
-    assert!(rt;
-        answer
-            == Ok(Summary {
-                rows: 31,
-                faults: 31,
-                bare: None,
-            })
-    );
+    let answer = audit_by_workers(&rt, rt.alloc(), &gate, ROWS);
+    assert!(rt; answer == with_faults(31));
     assert!(rt; !gate.is_wrong.load(Ordering::SeqCst), "out of turn");
     assert!(rt; gate.calls.load(Ordering::SeqCst) == ROWS);
 }

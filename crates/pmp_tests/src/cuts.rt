@@ -1,7 +1,9 @@
 //! A long audit of a trace that is cut at every limit.
 
-use pmp_audit::{AuditFault, audit, audit_long};
+use pmp_audit::{AuditFault, Summary, audit, audit_long};
 use pmp_text::{Refusal, TraceFault};
+use std::alloc::Global;
+use std::thread::Threads;
 
 /// One publication: entry 0 lets all modes read a page.
 const SCRIPT: &[u8] = b"pmp 1\nwrite pmpaddr0 0x200001ff\nwrite pmpcfg0 0x19\npublish\n";
@@ -26,6 +28,25 @@ const LONG_LINE: AuditFault = AuditFault::Trace(TraceFault {
     field: None,
 });
 
+/// What an audit answers and writes that takes pieces of at most so many bytes, and so many of them at a time.
+fn audit_by_pieces<R: Threads + Sync>(
+    rt: &R,
+    alloc: Global,
+    jobs: usize,
+    limit: usize,
+    trace: &[u8],
+) -> (Result<Summary, AuditFault>, Vec<u8>) {
+    let mut reader = trace;
+    let mut report = Vec::new(alloc);
+    let answer = audit_long(rt, alloc, jobs, SCRIPT, 1, limit, &mut reader, &mut report);
+    (answer, report)
+}
+
+/// Whether these are whole rows of that report, from its first one on.
+fn are_rows_of(rows: &[u8], report: &[u8]) -> bool {
+    report.starts_with(rows) && (rows.is_empty() || rows.ends_with(b"\n"))
+}
+
 /// Wherever pieces end, and on however many the audit works at a time, it answers as an audit of the whole trace does,
 /// or the pieces are too short for a line: then whole rows of that answer were written.
 #[test]
@@ -34,21 +55,9 @@ fn cuts_show_nowhere(rt: HostRuntime) {
     let wanted = audit(rt.alloc(), SCRIPT, TRACE, &mut whole);
     for limit in 1..TRACE.len() + 3 {
         for jobs in [1, 3] {
-            let mut reader = TRACE;
-            let mut report = Vec::new(rt.alloc());
-            let answer = audit_long(
-                &rt,
-                rt.alloc(),
-                jobs,
-                SCRIPT,
-                1,
-                limit,
-                &mut reader,
-                &mut report,
-            );
+            let (answer, report) = audit_by_pieces(&rt, rt.alloc(), jobs, limit, TRACE);
             if limit < ROOM && answer == Err(LONG_LINE) {
-                assert!(rt; whole.starts_with(&report));
-                assert!(rt; report.is_empty() || report.ends_with(b"\n"));
+                assert!(rt; are_rows_of(&report, &whole));
             } else {
                 assert!(rt; answer == wanted && report == whole);
             }
@@ -70,21 +79,9 @@ fn order_goes_over_cuts(rt: HostRuntime) {
     assert!(rt; sound.is_ok());
     for limit in ROOM..FALLING.len() + 3 {
         for jobs in [1, 3] {
-            let mut reader = FALLING;
-            let mut report = Vec::new(rt.alloc());
-            let answer = audit_long(
-                &rt,
-                rt.alloc(),
-                jobs,
-                SCRIPT,
-                1,
-                limit,
-                &mut reader,
-                &mut report,
-            );
+            let (answer, report) = audit_by_pieces(&rt, rt.alloc(), jobs, limit, FALLING);
             assert!(rt; answer == Err(order));
-            assert!(rt; whole.starts_with(&report));
-            assert!(rt; report.is_empty() || report.ends_with(b"\n"));
+            assert!(rt; are_rows_of(&report, &whole));
         }
     }
 }

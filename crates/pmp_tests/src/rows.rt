@@ -4,9 +4,9 @@ use pmp_core::*;
 use pmp_text::{Since, write_entries, write_row};
 use std::test::Fail;
 
-/// The numbers have twenty digits, and the last entry of sixty-four is frozen and has every byte.
+/// Its number has twenty digits.
 #[test]
-fn the_longest_rows_have_room(rt: HostRuntime) -> Result<(), Fail> {
+fn the_longest_report_row_has_room(rt: HostRuntime) -> Result<(), Fail> {
     let mut out = Vec::new(rt.alloc());
     let access = Access::new(Mode::U, Kind::Store, 0, 4)?;
     let decision = Decision {
@@ -15,6 +15,13 @@ fn the_longest_rows_have_room(rt: HostRuntime) -> Result<(), Fail> {
     };
     write_row(&mut out, u64::MAX, &access, &decision)?;
     assert!(rt; out.as_slice() == b"18446744073709551615,fault,7,split,63\n".as_slice());
+    Ok(())
+}
+
+/// Its numbers have twenty digits, and the last entry of sixty-four is frozen and has every byte.
+#[test]
+fn the_longest_entry_row_has_room(rt: HostRuntime) -> Result<(), Fail> {
+    let mut out = Vec::new(rt.alloc());
     let mut file = RegFile::reset_of(Size::SixtyFour);
     file.step(Event::Write(Csr::Addr(63), u64::MAX));
     file.step(Event::Write(Csr::Cfg(14), 0x9f << 56));

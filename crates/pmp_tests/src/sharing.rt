@@ -41,7 +41,7 @@ fn learnt_batches_are_decided_in_whole(rt: HostRuntime) {
     unit.inform(&rt, Seat::Second);
     unit.look(&rt, Seat::Second, by_entry(1), 4);
     unit.look(&rt, Seat::First, by_entry(1), 4);
-    unit.end(&rt);
+    unit.close(&rt);
 }
 
 /// A checker that looked at nothing but what it learnt would answer in 0 and in 2 events.
@@ -54,7 +54,7 @@ fn a_checker_looks_without_a_notice(rt: HostRuntime) {
     unit.publish(&rt, &ENTRY_ONE, 4);
     unit.look(&rt, Seat::First, by_entry(1), 4);
     unit.look(&rt, Seat::Second, by_entry(1), 4);
-    unit.end(&rt);
+    unit.close(&rt);
 }
 
 #[test]
@@ -68,7 +68,7 @@ fn submitted_batches_are_withdrawn_unseen(rt: HostRuntime) {
     unit.assert_lens(&rt, 2, 0);
     unit.publish(&rt, &[], 2);
     unit.look(&rt, Seat::First, by_entry(0), 2);
-    unit.end(&rt);
+    unit.close(&rt);
 }
 
 /// Another unit, which is published to beside the first.
@@ -79,7 +79,7 @@ fn publish_beside<R: Wait + Abort>(rt: &R, alloc: Global, first: &mut Unit) {
     other.publish(rt, &ENTRY_ONE, 4);
     first.look(rt, Seat::First, by_entry(0), 2);
     other.look(rt, Seat::First, by_entry(1), 4);
-    other.end(rt);
+    other.close(rt);
 }
 
 #[test]
@@ -88,5 +88,5 @@ fn units_beside_each_other_stay_apart(rt: HostRuntime) {
     unit.publish(&rt, &ENTRY_ZERO, 2);
     publish_beside(&rt, rt.alloc(), &mut unit);
     unit.look(&rt, Seat::First, by_entry(0), 2);
-    unit.end(&rt);
+    unit.close(&rt);
 }

@@ -1,6 +1,6 @@
 -- The first fault of records, part by part.
-use Rattle.std.proofs.Common.{◌≡◌, ℕ, suc, ◌+◌, Bool, true, false, cond, List, [], ◌∷◌, ◌++◌, length, map, Option, Some}
-use Rattle.std.proofs.Common.{None, Ok, Err, IfOk, Result, refl, sym, ap, ◌∙◌, inl, inr, arith}
+use Rattle.std.proofs.Common.{◌≡◌, ℕ, suc, ◌+◌, Bool, true, false, cond, List, [], ◌∷◌, ◌++◌, length, Option, Some}
+use Rattle.std.proofs.Common.{None, refl, sym, ap, ◌∙◌, inl, inr, arith}
 use Rattle.std.specs.Prelude.{filter_map, option_map}
 use Rattle.std.specs.List.{position_from}
 use Rattle.std.specs.Option.{option_or}
@@ -13,7 +13,7 @@ use Rattle.pmp_text.specs.LongTraces.{Records, first_fault_at, has_begun, is_bar
 use Rattle.pmp_text.specs.Tables.{is_line_end}
 use Rattle.pmp_text.specs.LongTraces.{piece_fault, place_behind, row_records}
 use Rattle.pmp_text.specs.Tables.{records_of}
-use Rattle.pmp_text.specs.Traces.{after_of, first_row_fault, is_header, row_fault, row_fields, row_of_record, row_in}
+use Rattle.pmp_text.specs.Traces.{after_of, first_row_fault, is_header, row_fault, row_of_record, row_in}
 use Rattle.pmp_text.proofs.BrokenRows.{no_row, no_header}
 use Rattle.pmp_text.proofs.CutTexts.{IsApart, cut_in_two}
 use Rattle.pmp_text.specs.Tables.{is_broken}

@@ -8,7 +8,6 @@ use Rattle.csv.specs.Machine.{next_record}
 use Rattle.csv.specs.Reading.{default_config, records, strip_bom}
 use Rattle.csv.specs.Writing.{default_writer, fields_text, is_blank, needs_quotes, row_text}
 use Rattle.csv.proofs.RoundTrip.{read-write-many}
-use Rattle.pmp_text.specs.Steps.Records.{records_behind}
 use Rattle.pmp_text.specs.Tables.{is_broken, is_line_end, records_of}
 use Rattle.pmp_text.specs.Steps.Views.{five_words}
 use Rattle.pmp_text.specs.Traces.{FiveFields, five_fields, is_header, row_in, row_of_fields}

@@ -1,6 +1,6 @@
 -- A piece of a trace that is the whole of it.
-use Rattle.std.proofs.Common.{◌≡◌, ◌⊎◌, ℕ, ◌+◌, ◌^◌, ◌≤◌, Bool, true, false, cond, List, [], ◌∷◌, ◌++◌, length, map}
-use Rattle.std.proofs.Common.{Option, Some, None, Result, Ok, Err, refl, sym, ap, ◌∙◌, inl, inr, arith, append_assoc}
+use Rattle.std.proofs.Common.{◌≡◌, ◌⊎◌, ℕ, ◌+◌, ◌^◌, ◌<◌, ◌≤◌, Bool, true, false, cond, List, [], ◌∷◌, ◌++◌, length, map}
+use Rattle.std.proofs.Common.{Option, Some, None, Ok, Err, refl, sym, ap, ◌∙◌, inl, inr, arith, append_assoc}
 use Rattle.std.proofs.Common.{append-nil}
 use Rattle.std.proofs.lemmas.List.{map-append}
 use Rattle.std.specs.Prelude.{filter_map}
@@ -64,6 +64,15 @@ pub record ReadSoFar (publications first : ℕ) (all : Records) (rows : List Row
   pub said : filter_map row_of_record all ≡ map row_fields rows ++ filter_map row_of_record left.records
   pub count : first + length all ≡ left.place.next + length left.records
 
+pub none_read : (left : RowsLeft) → left.place.last ≡ None
+    → ReadSoFar left.publications left.place.next left.records [] left
+none_read left first = record {
+  same = refl;
+  fault = ap (λ (last : Option ℕ). first_row_fault left.publications last left.place.next left.records) (sym first);
+  said = refl;
+  count = refl;
+}
+
 pub one_row_more : (publications first : ℕ) (all : Records) (rows : List Row) (before after : RowsLeft) (row : Row)
     → ReadSoFar publications first all rows before → IsNextRow before row after
     → ReadSoFar publications first all (rows ++ row ∷ []) after
@@ -90,6 +99,47 @@ one_row_more publications first all rows before after row read is =
           let count = read.count in
           omega arith;
     }
+
+-- the rows are read to their end, or to a fault
+module _ (publications first : ℕ) (all : Records) (numbered : first + length all < 2 ^ 64) (rows : List Row)
+    (left : RowsLeft) (read : ReadSoFar publications first all rows left) where
+  pub with_rows : left.records ≡ [] → long_rows_meaning publications first all ≡ Ok (map row_fields rows)
+  with_rows none =
+      let fine = read.fault ∙ ap (first_row_fault publications left.place.last left.place.next) none in
+      let said = read.said ∙ ap (λ (l : Records). map row_fields rows ++ filter_map row_of_record l) none
+      ∙ append-nil (map row_fields rows) in
+      ap (λ (f : Option TraceFault). fault_or_rows f (filter_map row_of_record all)) fine ∙ ap Ok said
+
+  pub not_read : (fault : TraceFault)
+      → (first_row_fault left.publications left.place.last left.place.next left.records ≡ Some fault)
+      ⊎ (fault ≡ no_memory_for_rows) ⊎ (fault ≡ no_input_for_rows)
+      ⊎ ((fault ≡ too_long_for_rows) × (2 ^ 64 ≤ left.place.next + length left.records))
+      → (long_rows_meaning publications first all ≡ Err fault) ⊎ (fault ≡ no_memory_for_rows)
+      ⊎ (fault ≡ no_input_for_rows)
+  not_read fault (inl e) =
+      let found = read.fault ∙ rw read.same at e in
+      inl (ap (λ (f : Option TraceFault). fault_or_rows f (filter_map row_of_record all)) found)
+  not_read fault (inr (inl memory)) = inr (inl memory)
+  not_read fault (inr (inr (inl input))) = inr (inr input)
+  not_read fault (inr (inr (inr (long, many)))) =
+      let count = read.count in
+      absurd (omega arith)
+
+-- the rows behind a header mean what the records do
+behind_is : (publications first : ℕ) (records : Records) → has_begun false records ≡ true
+    → piece_fault publications (beginning first) records
+    ≡ first_row_fault publications None first (row_records false records)
+    → long_meaning publications first records ≡ long_rows_meaning publications first (row_records false records)
+behind_is publications first [] begun opened = absurd cc
+behind_is publications first (header ∷ rows) begun opened = by (is_header header) opened
+  where
+    by : (named : Bool)
+        → cond named (first_row_fault publications None first rows) (Some (at_row 0 (as_whole BadHeader)))
+        ≡ first_row_fault publications None first rows
+        → cond named (long_rows_meaning publications first rows) (Err (at_row 0 (as_whole BadHeader)))
+        ≡ long_rows_meaning publications first rows
+    by true e = refl
+    by false e = ap (λ (f : Option TraceFault). fault_or_rows f (filter_map row_of_record rows)) e
 
 module _ (publications : ℕ) (text : List ℕ) (short : length text ≤ MAX_TRACE) where
   pub meaning_is : trace_meaning publications text ≡ long_meaning publications 1 (records_of text)
@@ -123,29 +173,7 @@ module _ (publications : ℕ) (text : List ℕ) (short : length text ≤ MAX_TRA
       let limit = short in
       omega arith
 
-  -- the header was read, and these rows
-  module _ (opened : piece_fault publications (beginning 1) all
-      ≡ first_row_fault publications None 1 rows_behind_header) (rows : List Row) (left : RowsLeft)
-      (read : ReadSoFar publications 1 rows_behind_header rows left)
-    where
-      pub with_rows : has_begun false all ≡ true → left.records ≡ []
-          → trace_meaning publications text ≡ Ok (map row_fields rows)
-      with_rows begun none =
-          let fine = opened ∙ read.fault
-          ∙ ap (first_row_fault publications left.place.last left.place.next) none in
-          let said = read.said ∙ ap (λ (l : Records). map row_fields rows ++ filter_map row_of_record l) none
-          ∙ append-nil (map row_fields rows) in
-          meaning_is ∙ fine_records publications 1 all fine begun ∙ ap Ok said
-
-      pub not_read : (fault : TraceFault)
-          → (first_row_fault left.publications left.place.last left.place.next left.records ≡ Some fault)
-          ⊎ (fault ≡ no_memory_for_rows) ⊎ (fault ≡ no_input_for_rows)
-          ⊎ ((fault ≡ too_long_for_rows) × (2 ^ 64 ≤ left.place.next + length left.records))
-          → (trace_meaning publications text ≡ Err fault) ⊎ (fault ≡ no_memory_for_rows)
-          ⊎ (fault ≡ no_input_for_rows)
-      not_read fault (inl e) = inl (found fault (opened ∙ read.fault ∙ rw read.same at e))
-      not_read fault (inr (inl memory)) = inr (inl memory)
-      not_read fault (inr (inr (inl input))) = inr (inr input)
-      not_read fault (inr (inr (inr (long, many)))) =
-          let count = read.count in
-          absurd (few_rows (omega arith))
+  pub behind_header : has_begun false all ≡ true
+      → piece_fault publications (beginning 1) all ≡ first_row_fault publications None 1 rows_behind_header
+      → trace_meaning publications text ≡ long_rows_meaning publications 1 rows_behind_header
+  behind_header begun opened = meaning_is ∙ behind_is publications 1 all begun opened

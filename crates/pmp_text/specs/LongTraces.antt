@@ -1,7 +1,7 @@
 -- What a trace of any length means, what a piece of it means where it stands, and how both are reported.
-use Rattle.std.specs.Prelude.{◌≡◌, ◌⊎◌, ℕ, ◌+◌, ◌^◌, ◌<◌, ◌≤◌, List, [], ◌∷◌, ◌++◌, length, map, filter_map, Bool}
+use Rattle.std.specs.Prelude.{◌≡◌, ℕ, ◌+◌, ◌≤◌, List, [], ◌∷◌, ◌++◌, length, map, filter_map, Bool}
 use Rattle.std.specs.Prelude.{true, false}
-use Rattle.std.specs.Prelude.{Option, Some, None, Result, Ok, Err, if◌then◌else◌}
+use Rattle.std.specs.Prelude.{Option, Some, None, Result, Ok, if◌then◌else◌}
 use Rattle.std.specs.List.{zip, enumerate_from, flat_map, list_any, position_from}
 use Rattle.std.specs.Option.{option_or}
 use Rattle.pmp_core.specs.declared.decision.Decision.{Decision}
@@ -11,7 +11,6 @@ use Rattle.pmp_text.specs.declared.refusal.Refusal.TheVariants.{BadHeader, TooLo
 use Rattle.pmp_text.specs.declared.trace.rows.Place.{Place}
 use Rattle.pmp_text.specs.declared.trace.row_fields.RowFields.{RowFields}
 use Rattle.pmp_text.specs.Contents.{ScriptContents}
-use Rattle.pmp_text.specs.Outcomes.{no_input_for_rows, no_memory_for_rows}
 use Rattle.pmp_text.specs.Reports.{AreDecided, report_row}
 use Rattle.pmp_text.specs.Tables.{behind_header, fault_or_rows, is_line_end}
 use Rattle.pmp_text.specs.Traces.{after_of, first_row_fault, is_header, row_fields, row_of_record}

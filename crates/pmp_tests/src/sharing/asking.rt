@@ -51,5 +51,5 @@ fn workers_told_alike_decide_alike(rt: HostRuntime) {
     unit.publish(&rt, &ENTRY_ZERO, 2);
     unit.assert_both_answer(&rt, &[], 2, Ok(by_entry(0)));
     unit.assert_both_answer(&rt, &ENTRY_ONE, 4, Err(Moved { seen: 4 }));
-    unit.end(&rt);
+    unit.close(&rt);
 }

@@ -1,8 +1,8 @@
 //! Guards, which end publishers where they are dropped.
 
-use super::unit::{by_entry, look, page_load, publish, submit};
+use super::unit::{by_entry, look, page_load, publish, submit, unit_of_one};
 use super::{ENTRY_ONE, ENTRY_ZERO};
-use pmp_share::{Checker, PublisherGuard, ShareFault, start};
+use pmp_share::{Checker, PublisherGuard, ShareFault};
 use std::alloc::Global;
 use std::process::Abort;
 use std::sync::atomic::{AtomicU64, Ordering};
@@ -13,8 +13,7 @@ use std::thread::Threads;
 /// The checker answers what it knew.
 #[test]
 fn a_dropped_guard_ends_its_publisher(rt: HostRuntime) {
-    let (mut publisher, mut checkers) = start(&rt, rt.alloc(), 1).expect(&rt, "memory");
-    let mut checker = checkers.pop().expect(&rt, "a checker");
+    let (mut publisher, mut checker) = unit_of_one(&rt, rt.alloc());
     publish(&rt, &mut publisher, &ENTRY_ZERO, 2);
     look(&rt, &mut checker, by_entry(0), 2);
     drop(PublisherGuard::new(rt, publisher));
@@ -42,8 +41,7 @@ fn drop_while_asked<R: Threads + Wait + Abort + Copy + Drop + Send + 'static>(
     rt: &R,
     alloc: Global,
 ) {
-    let (mut publisher, mut checkers) = start(rt, alloc, 1).expect(rt, "memory");
-    let checker = checkers.pop().expect(rt, "a checker");
+    let (mut publisher, checker) = unit_of_one(rt, alloc);
     publish(rt, &mut publisher, &ENTRY_ZERO, 2);
     submit(rt, &mut publisher, &ENTRY_ONE);
     let stage = Arc::new(alloc, AtomicU64::new(0)).expect(rt, "memory");

@@ -1,12 +1,13 @@
 //! How much a unit holds.
 
 ghost use Rattle.std.specs.Prelude.{◌≤◌};
+ghost use Rattle.pmp_core.specs.declared.event.TheConstants.{BATCH_EVENTS};
 ghost use Rattle.pmp_share.specs.declared.opening.TheConstants.{CHECKERS};
 
 use super::ENTRY_ZERO;
-use super::unit::{by_entry, look, publish, tell};
+use super::unit::{by_entry, end, look, publish, tell, unit_of_one};
 use pmp_core::{BATCH_EVENTS, Csr, Event};
-use pmp_share::{Batch, CHECKERS, Checker, HISTORY_LIMIT, Publisher, ShareFault, start};
+use pmp_share::{Batch, CHECKERS, HISTORY_LIMIT, Publisher, ShareFault, start};
 use std::alloc::Global;
 use std::process::Abort;
 use std::sync::Wait;
@@ -21,10 +22,17 @@ fn submit_all(rt: &impl Abort, publisher: &mut Publisher, batch: &Batch, times: 
     }
 }
 
-fn unit_of_one<R: Wait + Abort>(rt: &R, alloc: Global) -> (Publisher, Checker) {
-    let (publisher, mut checkers) = start(rt, alloc, 1).expect(rt, "memory");
-    let checker = checkers.pop().expect(rt, "a checker");
-    (publisher, checker)
+/// A batch of so many events.
+fn batch_of(rt: &impl Abort, count: usize) -> Batch
+    requires { count ≤ BATCH_EVENTS }
+{
+    let events = [Event::Write(Csr::Addr(0), 1); BATCH_EVENTS];
+    Batch::of(&events[..count]).expect(rt, "room")
+}
+
+#[test]
+fn a_batch_holds_so_many_events(rt: HostRuntime) {
+    assert!(rt; Batch::of(&[Event::Write(Csr::Addr(0), 1); 65]).is_err());
 }
 
 /// The last 64 events join in batches of one and of 63. A unit that takes one event too many is refused here, and so is
@@ -32,11 +40,9 @@ fn unit_of_one<R: Wait + Abort>(rt: &R, alloc: Global) -> (Publisher, Checker) {
 #[test]
 fn a_unit_holds_so_many_events(rt: HostRuntime) {
     let (mut publisher, _checker) = unit_of_one(&rt, rt.alloc());
-    let event = Event::Write(Csr::Addr(0), 1);
-    let full = Batch::of(&[event; BATCH_EVENTS]).expect(&rt, "room");
-    let most = Batch::of(&[event; 63]).expect(&rt, "room");
-    let one = Batch::of(&[event]).expect(&rt, "room");
-    assert!(rt; Batch::of(&[event; 65]).is_err());
+    let full = batch_of(&rt, BATCH_EVENTS);
+    let most = batch_of(&rt, 63);
+    let one = batch_of(&rt, 1);
     submit_all(&rt, &mut publisher, &full, 8192);
     assert!(rt; publisher.publish(&rt) == Ok(524_288));
     submit_all(&rt, &mut publisher, &full, 8191);
@@ -49,7 +55,7 @@ fn a_unit_holds_so_many_events(rt: HostRuntime) {
     assert!(rt; publisher.pending_len() == 0);
     publish(&rt, &mut publisher, &[], 1_048_576);
     assert!(rt; tell(&rt, &mut publisher).len() == 1_048_576);
-    publisher.end(&rt);
+    end(&rt, publisher);
 }
 
 #[test]
@@ -62,7 +68,7 @@ fn a_unit_holds_so_many_batches(rt: HostRuntime) {
     assert!(rt; publisher.publish(&rt) == Ok(2));
     assert!(rt; publisher.submit(&none) == Err(ShareFault::Full));
     look(&rt, &mut checker, by_entry(0), 2);
-    publisher.end(&rt);
+    end(&rt, publisher);
 }
 
 /// With so many checkers, gives as many notices as there are places left, and no more. A place is free again once its
@@ -85,7 +91,7 @@ fn use_all_places<R: Wait + Abort>(rt: &R, alloc: Global, count: u8)
     publish(rt, &mut publisher, &ENTRY_ZERO, 2);
     drop(notices);
     assert!(rt; tell(rt, &mut publisher).len() == 2);
-    publisher.end(rt);
+    end(rt, publisher);
 }
 
 /// A unit is refused here that has a place more or fewer, or keeps the place of a notice that was dropped.

@@ -1,6 +1,6 @@
 //! Counts, registers and the rights of ranges, which look as decisions do.
 
-use super::unit::{publish, submit};
+use super::unit::{end, publish, submit};
 use super::{ENTRY_ONE, ENTRY_ZERO};
 use pmp_core::{Csr, Mode, Perms};
 use pmp_share::{Checker, Publisher, start};
@@ -27,7 +27,7 @@ fn a_count_looks_without_a_notice(rt: HostRuntime) {
     publish(&rt, &mut publisher, &ENTRY_ONE, 4);
     assert!(rt; first.read(Csr::Cfg(0)) == (0x1900, 4));
     assert!(rt; second.count() == 4);
-    publisher.end(&rt);
+    end(&rt, publisher);
     assert!(rt; first.count() == 4);
 }
 
@@ -39,7 +39,7 @@ fn firmware_reads_what_is_pending(rt: HostRuntime) {
     assert!(rt; first.read(Csr::Cfg(0)) == (0x19, 2));
     publisher.withdraw();
     assert!(rt; publisher.read(Csr::Cfg(0)) == 0x19);
-    publisher.end(&rt);
+    end(&rt, publisher);
 }
 
 /// Of the range of two pages entry 0 has the first alone. After the end the register file is asked.
@@ -49,7 +49,7 @@ fn a_range_has_the_rights_of_its_owner(rt: HostRuntime) {
     assert!(rt; first.rights(Mode::U, 0x80000000, 0x1000) == (Some(Perms::R), 2));
     assert!(rt; first.rights(Mode::U, 0x80000000, 0x2000) == (None, 2));
     assert!(rt; first.rights(Mode::U, 0x80001000, 0x1000) == (Some(Perms::NONE), 2));
-    publisher.end(&rt);
+    end(&rt, publisher);
     assert!(rt; first.rights(Mode::M, 0x80000fff, 1) == (Some(Perms::RWX), 2));
     assert!(rt; first.rights(Mode::M, 0x80000fff, 2) == (None, 2));
 }

@@ -3,7 +3,7 @@
 ghost use Rattle.std.specs.Prelude.{◌≡◌};
 
 use super::ENTRY_ZERO;
-use super::unit::{BY_NO_ENTRY, look, publish, tell};
+use super::unit::{BY_NO_ENTRY, look, publish, tell, unit_of_one};
 use pmp_core::Event;
 use pmp_share::{Checker, Journal, Notice, NoticeReceiver, NoticeSender, PublisherGuard, start};
 use std::process::Abort;
@@ -92,8 +92,7 @@ fn run_firmware<R: Wait + Abort + Drop>(rt: &R, guard: PublisherGuard<R>) -> Jou
 /// A checker that never looked knows nothing then.
 #[test]
 fn a_publisher_ends_on_its_thread(rt: HostRuntime) {
-    let (publisher, mut checkers) = start(&rt, rt.alloc(), 1).expect(&rt, "memory");
-    let mut checker = checkers.pop().expect(&rt, "a checker");
+    let (publisher, mut checker) = unit_of_one(&rt, rt.alloc());
     let guard = PublisherGuard::new(rt, publisher);
     let thread = thread::spawn(&rt, move || run_firmware(&rt, guard));
     let journal = thread.ok().expect(&rt, "a thread").join(&rt);

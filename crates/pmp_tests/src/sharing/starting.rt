@@ -2,7 +2,7 @@
 
 ghost use Rattle.std.specs.Prelude.{◌≡◌};
 
-use super::unit::{BY_NO_ENTRY, by_entry, look, publish, tell};
+use super::unit::{BY_NO_ENTRY, by_entry, end, look, publish, tell};
 use super::{ENTRY_ONE, ENTRY_ZERO};
 use pmp_core::{Csr, Event, RegFile, SavedRegisters, Size};
 use pmp_share::{Checker, Publisher, start_from};
@@ -20,13 +20,19 @@ fn unit_from<R: Wait + Abort>(
     (publisher, checker)
 }
 
+/// The last file of a unit that has ended, in which entry 0 reads the page.
+fn last_file<R: Wait + Abort>(rt: &R, alloc: Global) -> RegFile {
+    let (mut publisher, _) = unit_from(rt, alloc, &RegFile::reset().save());
+    publish(rt, &mut publisher, &ENTRY_ZERO, 2);
+    let last = tell(rt, &mut publisher).file();
+    assert!(rt; publisher.end(rt).events() == ENTRY_ZERO.as_slice());
+    last
+}
+
 /// A unit that has ended goes on in another, whose events are counted anew. A reset goes to the file of reset.
 #[test]
 fn an_ended_unit_goes_on_from_its_last_file(rt: HostRuntime) {
-    let (mut publisher, _) = unit_from(&rt, rt.alloc(), &RegFile::reset().save());
-    publish(&rt, &mut publisher, &ENTRY_ZERO, 2);
-    let last = tell(&rt, &mut publisher).file();
-    assert!(rt; publisher.end(&rt).events() == ENTRY_ZERO.as_slice());
+    let last = last_file(&rt, rt.alloc());
     let (mut publisher, mut checker) = unit_from(&rt, rt.alloc(), &last.save());
     look(&rt, &mut checker, by_entry(0), 0);
     publish(&rt, &mut publisher, &ENTRY_ONE, 2);
@@ -46,6 +52,6 @@ fn a_snapshot_comes_back(rt: HostRuntime) {
     assert!(rt; publisher.read(Csr::Cfg(14)) == 0x1900000000000000);
     assert!(rt; checker.read(Csr::Addr(63)) == (0x200001ff, 0));
     look(&rt, &mut checker, by_entry(63), 0);
-    publisher.end(&rt);
+    end(&rt, publisher);
     look(&rt, &mut checker, by_entry(63), 0);
 }

@@ -6,7 +6,9 @@ ghost use Rattle.pmp_share.specs.Known.{known};
 
 use super::asking::ask_both;
 use pmp_core::{Access, Cause, Decision, Event, Kind, Mode, Size};
-use pmp_share::{Batch, Checker, GROUP_ACCESSES, Journal, Moved, Notice, Publisher, start_of};
+use pmp_share::{
+    Batch, Checker, GROUP_ACCESSES, Journal, Moved, Notice, Publisher, start, start_of,
+};
 use std::alloc::Global;
 use std::process::Abort;
 use std::sync::Wait;
@@ -42,6 +44,18 @@ pub fn publish<R: Wait + Abort>(rt: &R, publisher: &mut Publisher, events: &[Eve
 {
     submit(rt, publisher, events);
     assert!(rt; publisher.publish(rt) == Ok(count));
+}
+
+/// Ends the publisher, and drops what it published.
+pub fn end<R: Wait>(rt: &R, publisher: Publisher) {
+    publisher.end(rt);
+}
+
+/// A publisher and one checker.
+pub fn unit_of_one<R: Wait + Abort>(rt: &R, alloc: Global) -> (Publisher, Checker) {
+    let (publisher, mut checkers) = start(rt, alloc, 1).expect(rt, "memory");
+    let checker = checkers.pop().expect(rt, "a checker");
+    (publisher, checker)
 }
 
 pub fn tell(rt: &impl Abort, publisher: &mut Publisher) -> Notice
@@ -183,6 +197,11 @@ impl Unit {
     pub fn assert_journal(&mut self, rt: &impl Abort, events: &[Event], ends: &[u64]) {
         let journal = self.first.copy_journal().expect(rt, "memory");
         assert!(rt; journal.events() == events && journal.ends() == ends);
+    }
+
+    /// Ends the publisher, and drops what is left.
+    pub fn close<R: Wait + Abort>(self, rt: &R) {
+        self.end(rt);
     }
 
     /// Ends the publisher.

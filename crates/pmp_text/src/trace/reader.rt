@@ -1,6 +1,7 @@
 //! Reading a trace whole: its rows, or its first fault.
 
-ghost use Rattle.std.specs.Prelude.{IfOk, map};
+ghost use Rattle.std.specs.Prelude.{◌≡◌, ◌+◌, ◌^◌, ◌<◌, IfOk, None, length, map};
+ghost use Rattle.pmp_text.specs.LongTraces.{long_rows_meaning};
 ghost use Rattle.pmp_text.specs.Outcomes.{GivesRows};
 ghost use Rattle.pmp_text.specs.TraceFaults.{IsInOrder, afters};
 ghost use Rattle.pmp_text.specs.Traces.{row_fields, trace_meaning};
@@ -13,6 +14,20 @@ use std::alloc::Global;
 /// The most bytes of a trace.
 pub const MAX_TRACE: usize = 1 << 24;
 
+/// The rows that are left, of which the first is the first of a trace, else the first fault.
+fn read_rows(alloc: Global, left: &mut RowReader<'_>) -> Result<Vec<Row>, TraceFault>
+    requires first { left.old.place.last ≡ None }
+    requires numbered { left.old.place.next + length left.old.records < 2 ^ 64 }
+    ensures { GivesRows (λ rows. map row_fields rows.items) result
+        (long_rows_meaning left.old.publications left.old.place.next left.old.records) }
+{
+    let mut rows = Vec::new(alloc);
+    while let Some(row) = left.next()? {
+        rows.push(row)?;
+    }
+    Ok(rows)
+}
+
 /// The rows of the trace that a text describes, beside a script with so many publications, else its first fault. The
 /// time is linear in the text, and only the rows and one record take memory: where they can't grow, `Memory` is
 /// answered in place of any fault further on.
@@ -24,12 +39,9 @@ pub fn read_trace(alloc: Global, text: &[u8], publications: u64) -> Result<Vec<R
         return Err(Refusal::TooLong.whole().at_row(0));
     }
     let mut left = RowReader::open(alloc, text, publications, Place::beginning(1))?;
-    if !left.place().begun {
-        return Err(Refusal::BadHeader.whole().at_row(0));
+    if left.place().begun {
+        read_rows(alloc, &mut left)
+    } else {
+        Err(Refusal::BadHeader.whole().at_row(0))
     }
-    let mut rows = Vec::new(alloc);
-    while let Some(row) = left.next()? {
-        rows.push(row)?;
-    }
-    Ok(rows)
 }

@@ -1,3 +1,7 @@
+use Rattle.std.proofs.KnownBytes.{Keeps-refl}
+use Rattle.std.proofs.lemmas.List.{length-map}
+use Rattle.pmp_audit.proofs.FaultyInputs.{script_refused, trace_refused}
+use Rattle.std.proofs.lemmas.Result.{IfOk-from_err}
 use Rattle.std.proofs.Common.{◌≡◌, ◌∙◌, length, map, ap, sym, subst, Ok}
 use Rattle.std.proofs.lemmas.Result.{err_from_is_err_and}
 use Rattle.pmp_text.specs.Traces.{row_fields, trace_meaning}
@@ -57,3 +61,40 @@ returns-in_err-decisions-clause-err g c =
     let p = err_from_is_err_and c.from_residual-in_err-decisions.result c.from_residual-in_err-decisions.ensures.1 in
     rw (p.1, p.2) (refused_so (AuditSays c.args.script.now c.args.trace.now) _ c.args.script.now c.args.trace.now
     inputs c.in_err-decisions.field-0.0 (rw c.deref.ensures.value at c.in_err-decisions.ensures.refused))
+
+pub returns-in_err-script-clause-ok : goal.returns-in_err-script-clause-ok
+returns-in_err-script-clause-ok g c = IfOk-from_err _ _ c.from_residual.ensures.0
+
+pub returns-in_err-rows-clause-ok : goal.returns-in_err-rows-clause-ok
+returns-in_err-rows-clause-ok g c = IfOk-from_err _ _ c.from_residual-in_err-rows.ensures.0
+
+pub returns-in_err-decisions-clause-ok : goal.returns-in_err-decisions-clause-ok
+returns-in_err-decisions-clause-ok g c = IfOk-from_err _ _ c.from_residual-in_err-decisions.ensures.0
+
+pub returns-in_err-faults-clause-ok : goal.returns-in_err-faults-clause-ok
+returns-in_err-faults-clause-ok g c = IfOk-from_err _ _ c.from_residual-in_err-faults.ensures.0
+
+pub returns-in_err-script-clause-err : goal.returns-in_err-script-clause-err
+returns-in_err-script-clause-err g c =
+    let p = err_from_is_err_and c.from_residual.result c.from_residual.ensures.1 in
+    rw (p.1, p.2) (script_refused (AuditSays c.args.script.now c.args.trace.now) _
+    (SharedAuditRefuses c.args.script.now c.args.trace.now) c.in_err-script.field-0.0 c.in_err-script.ensures)
+
+pub returns-in_err-rows-clause-err : goal.returns-in_err-rows-clause-err
+returns-in_err-rows-clause-err g c =
+    let p = err_from_is_err_and c.from_residual-in_err-rows.result c.from_residual-in_err-rows.ensures.1 in
+    let script = c.in_ok-script.script in
+    rw (p.1, p.2) (trace_refused (AuditSays c.args.script.now c.args.trace.now) _
+    (SharedAuditRefuses c.args.script.now c.args.trace.now) c.in_err-rows.field-0.0 _
+    (λ why. record { contents = script; script_means = c.in_ok-script.ensures; trace_means = why })
+    (rw c.batches.ensures at c.in_err-rows.ensures.given))
+
+pub returns-in_err-faults-clause-err : goal.returns-in_err-faults-clause-err
+returns-in_err-faults-clause-err g c =
+    let p = err_from_is_err_and c.from_residual-in_err-faults.result c.from_residual-in_err-faults.ensures.1 in
+    rw (p.1, p.2) (Keeps-refl _)
+
+pub list_decisions-requires : goal.list_decisions-requires
+list_decisions-requires g c =
+    rw (c.deref-3.ensures.value, c.deref-2.ensures.value, c.in_ok-decisions.ensures.decided, c.deref.ensures.value)
+    (length-map _ _)

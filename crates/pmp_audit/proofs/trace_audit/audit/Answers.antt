@@ -1,4 +1,4 @@
-use Rattle.std.proofs.Common.{◌≡◌, rules, arith, Err, Ok}
+use Rattle.std.proofs.Common.{arith}
 use Rattle.std.proofs.lemmas.Result.{err_from_is_err_and}
 use Rattle.pmp_audit.specs.LongParts.{items_of}
 use Rattle.pmp_audit.proofs.WholeAudits.{fails, no_header, says, too_long}

@@ -1,3 +1,4 @@
+use Rattle.std.proofs.Common.{rules}
 use Rattle.std.proofs.Common.{rules, ◌≡◌, length, take, ap, ◌∙◌, arith}
 use Rattle.pmp_audit.specs.Replay.{file_at}
 use Rattle.pmp_audit.proofs.EntriesSince.{same_entries}
@@ -10,3 +11,12 @@ write_entries-requires g c =
     (c.file-in-Entries.ensures ∙ ap file_at c.since_of-replay.ensures.position) in
     let places : length c.since_of-replay.result.1 ≡ 64 = search rules in
     omega (arith, few, c.requires.legal.profile.few, places)
+
+pub returns-in-Picture-clause-ok : goal.returns-in-Picture-clause-ok
+returns-in-Picture-clause-ok g c = search rules
+
+pub returns-in-Script-clause-ok : goal.returns-in-Script-clause-ok
+returns-in-Script-clause-ok g c = search rules
+
+pub returns-in-Entries-clause-ok : goal.returns-in-Entries-clause-ok
+returns-in-Entries-clause-ok g c = search rules

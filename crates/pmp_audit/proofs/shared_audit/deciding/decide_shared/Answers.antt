@@ -1,3 +1,4 @@
+use Rattle.std.proofs.Common.{rules}
 use Rattle.std.proofs.Common.{◌≡◌, ◌∙◌, ◌<◌, ℕ, List, get_or, length, map, replicate, ap, refl, arith}
 use Rattle.std.proofs.lemmas.List.{get_or-replicate, length-replicate}
 use Rattle.std.proofs.lemmas.Result.{err_from_is_err_and}
@@ -34,3 +35,17 @@ returns-in_err-publisher-clause-refused g c =
 pub decide_rows-decided-requires-clause-same_unit : goal.decide_rows-decided-requires-clause-same_unit
 decide_rows-decided-requires-clause-same_unit g c κs lived =
     alike (λ checker. checker.unit) _ _ _ c.in_ok-publisher.ensures.started.seated
+
+pub returns-in_err-publisher-clause-decided : goal.returns-in_err-publisher-clause-decided
+returns-in_err-publisher-clause-decided g c =
+    let p = err_from_is_err_and c.from_residual.result c.from_residual.ensures.1 in
+    rw p.1 tt
+
+pub returns-clause-decided : goal.returns-clause-decided
+returns-clause-decided g c = c.decide_rows-decided.ensures.decided
+
+pub returns-clause-refused : goal.returns-clause-refused
+returns-clause-refused g c = c.decide_rows-decided.ensures.refused
+
+pub decide_rows-decided-requires-clause-base : goal.decide_rows-decided-requires-clause-base
+decide_rows-decided-requires-clause-base g c κs lived = search rules

@@ -1,3 +1,5 @@
+use Rattle.std.proofs.lemmas.Result.{err_from_is_err_and}
+use Rattle.std.proofs.lemmas.Result.{IfOk-from_err}
 use Rattle.std.proofs.Common.{◌≡◌, ◌+◌, arith, inl, inr, length, rules}
 use Rattle.std.proofs.lemmas.List.{length-map}
 use Rattle.pmp_share.specs.Batches.{file_from}
@@ -46,3 +48,58 @@ returns-in_err-all-clause-refused g c =
       | inr memory ↦ rw memory tt
     ] in
     search rules
+
+pub returns-in_err-jobs-clause-checkers : goal.returns-in_err-jobs-clause-checkers
+returns-in_err-jobs-clause-checkers g c = IfOk-from_err _ _ c.from_residual.ensures.0
+
+pub returns-in_err-results-clause-checkers : goal.returns-in_err-results-clause-checkers
+returns-in_err-results-clause-checkers g c = IfOk-from_err _ _ c.from_residual-in_err-results.ensures.0
+
+pub returns-in_err-all-clause-checkers : goal.returns-in_err-all-clause-checkers
+returns-in_err-all-clause-checkers g c = IfOk-from_err _ _ c.from_residual-in_err-all.ensures.0
+
+pub returns-in_err-merge-clause-checkers : goal.returns-in_err-merge-clause-checkers
+returns-in_err-merge-clause-checkers g c = IfOk-from_err _ _ c.from_residual-in_err-merge.ensures.0
+
+pub returns-in_err-checkers_of-clause-checkers : goal.returns-in_err-checkers_of-clause-checkers
+returns-in_err-checkers_of-clause-checkers g c = IfOk-from_err _ _ c.from_residual-in_err-checkers_of.ensures.0
+
+pub returns-in_err-jobs-clause-decided : goal.returns-in_err-jobs-clause-decided
+returns-in_err-jobs-clause-decided g c =
+    let p = err_from_is_err_and c.from_residual.result c.from_residual.ensures.1 in
+    rw p.1 tt
+
+pub returns-in_err-results-clause-decided : goal.returns-in_err-results-clause-decided
+returns-in_err-results-clause-decided g c =
+    let p = err_from_is_err_and c.from_residual-in_err-results.result c.from_residual-in_err-results.ensures.1 in
+    rw p.1 tt
+
+pub returns-in_err-results-clause-refused : goal.returns-in_err-results-clause-refused
+returns-in_err-results-clause-refused g c =
+    let p = err_from_is_err_and c.from_residual-in_err-results.result c.from_residual-in_err-results.ensures.1 in
+    rw (p.1, p.2) tt
+
+pub returns-in_err-all-clause-decided : goal.returns-in_err-all-clause-decided
+returns-in_err-all-clause-decided g c =
+    let p = err_from_is_err_and c.from_residual-in_err-all.result c.from_residual-in_err-all.ensures.1 in
+    rw p.1 tt
+
+pub returns-in_err-merge-clause-decided : goal.returns-in_err-merge-clause-decided
+returns-in_err-merge-clause-decided g c =
+    let p = err_from_is_err_and c.from_residual-in_err-merge.result c.from_residual-in_err-merge.ensures.1 in
+    rw p.1 tt
+
+pub returns-in_err-merge-clause-refused : goal.returns-in_err-merge-clause-refused
+returns-in_err-merge-clause-refused g c =
+    let p = err_from_is_err_and c.from_residual-in_err-merge.result c.from_residual-in_err-merge.ensures.1 in
+    rw (p.1, p.2) tt
+
+pub returns-in_err-checkers_of-clause-decided : goal.returns-in_err-checkers_of-clause-decided
+returns-in_err-checkers_of-clause-decided g c =
+    let p = err_from_is_err_and c.from_residual-in_err-checkers_of.result c.from_residual-in_err-checkers_of.ensures.1 in
+    rw p.1 tt
+
+pub returns-in_err-checkers_of-clause-refused : goal.returns-in_err-checkers_of-clause-refused
+returns-in_err-checkers_of-clause-refused g c =
+    let p = err_from_is_err_and c.from_residual-in_err-checkers_of.result c.from_residual-in_err-checkers_of.ensures.1 in
+    rw (p.1, p.2) tt

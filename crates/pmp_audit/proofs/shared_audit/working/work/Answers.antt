@@ -1,3 +1,4 @@
+use Rattle.std.proofs.Common.{rules}
 use Rattle.std.proofs.Common.{◌≡◌, ◌∙◌, ◌+◌, ◌<◌, ℕ, List, Some, ap, sym, length, arith, get_or}
 use Rattle.std.specs.Prelude.{slice_get}
 use Rattle.std.specs.List.{enumerate_from}
@@ -61,3 +62,6 @@ returns-clause-done g c =
           count c.loop-turn.decisions.items (rw last at c.loop-turn.invariant.dealt)
           (rw many c.count-turn-end.ensures));
     }
+
+pub loop-turn-init : goal.loop-turn-init
+loop-turn-init g c = search rules

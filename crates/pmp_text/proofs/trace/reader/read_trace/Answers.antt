@@ -1,12 +1,14 @@
-use Rattle.std.proofs.Common.{◌≡◌, Bool, true, false, Ok, refl, inl, sym, ap, ◌∙◌, arith}
-use Rattle.std.specs.Prelude.{not}
+use Rattle.std.proofs.Common.{◌∙◌, ℕ, List, Result, Ok, Err, Vec, Global, map, refl, inl, sym, ap, arith}
+use Rattle.std.specs.Prelude.{IfOk}
 use Rattle.std.proofs.lemmas.Result.{err_from_is_err_and}
-use Rattle.pmp_text.specs.LongTraces.{row_records}
-use Rattle.pmp_text.specs.Tables.{records_of}
-use Rattle.pmp_text.specs.Traces.{is_header, rows_meaning}
+use Rattle.pmp_text.specs.declared.trace.Row.{Row}
+use Rattle.pmp_text.specs.declared.trace.TraceFault.{TraceFault}
+use Rattle.pmp_text.specs.Outcomes.{GivesRows}
+use Rattle.pmp_text.specs.TraceFaults.{IsInOrder, afters}
+use Rattle.pmp_text.specs.Traces.{is_header, row_fields, rows_meaning, trace_meaning}
 use Rattle.pmp_text.proofs.LeastRows.{trace_in_order}
 use Rattle.pmp_text.proofs.Rows.{long_text, trace_is}
-use Rattle.pmp_text.proofs.WholeTraces.{not_opened, not_read, one_row_more, with_rows, without_header}
+use Rattle.pmp_text.proofs.WholeTraces.{behind_header, few_rows, not_opened, without_header}
 use Rattle.pmp_text.proofs.trace.reader.read_trace.Goals as goal
 
 pub returns-then-text-gt-MAX_TRACE-clause-given : goal.returns-then-text-gt-MAX_TRACE-clause-given
@@ -20,47 +22,35 @@ returns-in_err-left-clause-given c =
     rw (p.1, p.2) (not_opened c.args.publications c.args.text.now (omega arith) c.in_err-left.field-0.0
     (rw c.beginning.ensures at c.in_err-left.ensures.err))
 
-is_true : (begun : Bool) → not begun ≡ false → begun ≡ true
-is_true true e = refl
-is_true false e = absurd cc
+pub read_rows-requires-clause-first : goal.read_rows-requires-clause-first
+read_rows-requires-clause-first c = rw (c.in_ok-left.ensures.rows, c.beginning.ensures) refl
 
-is_false : (begun : Bool) → not begun ≡ true → begun ≡ false
-is_false true e = absurd cc
-is_false false e = refl
+pub read_rows-requires-clause-numbered : goal.read_rows-requires-clause-numbered
+read_rows-requires-clause-numbered c =
+    let few = few_rows c.args.publications c.args.text.now (omega arith) in
+    rw (c.in_ok-left.ensures.rows, c.beginning.ensures) (omega (arith, few))
 
-pub returns-then-not-place-clause-given : goal.returns-then-not-place-clause-given
-returns-then-not-place-clause-given c =
-    let rows = rw c.beginning.ensures at c.in_ok-left.ensures.rows in
-    let begun = sym (ap (λ r. r.place.begun) rows) ∙ is_false _ (rw c.place.ensures at c.if-not-place.true) in
-    rw (c.at_row-then-not-place.ensures, c.whole-then-not-place.ensures)
-    (inl (without_header c.args.publications c.args.text.now (omega arith) begun))
-
-pub loop-rows-init : goal.loop-rows-init
-loop-rows-init c =
-    rw (c.in_ok-left.ensures.rows, c.beginning.ensures, c.new-rows.ensures.items)
-    (record { same = refl; fault = refl; said = refl; count = refl })
-
-pub returns-in_err-row-clause-given : goal.returns-in_err-row-clause-given
-returns-in_err-row-clause-given c =
-    let p = err_from_is_err_and c.from_residual-in_err-row.result c.from_residual-in_err-row.ensures.1 in
+pub returns-then-place-clause-given : goal.returns-then-place-clause-given
+returns-then-place-clause-given c =
     let rows = rw c.beginning.ensures at c.in_ok-left.ensures.rows in
     let opened = rw (c.beginning.ensures, rows) at c.in_ok-left.ensures.fault in
-    rw (p.1, p.2) (not_read c.args.publications c.args.text.now (omega arith) opened c.loop-rows.rows.items
-    c.loop-rows.left c.loop-rows.invariant c.in_err-row.field-0.0 c.in_err-row.ensures.err)
+    let begun = sym (ap (λ r. r.place.begun) rows) ∙ (rw c.place.ensures at c.if-place.true) in
+    rw (behind_header c.args.publications c.args.text.now (omega arith) begun opened)
+    (rw rows at c.read_rows.ensures)
 
-pub loop-rows-preserved : goal.loop-rows-preserved
-loop-rows-preserved c =
-    rw c.in_ok-push.ensures.items (one_row_more c.args.publications 1
-    (row_records false (records_of c.args.text.now)) c.loop-rows.rows.items c.loop-rows.left c.next.new.self
-    c.in-Some.row c.loop-rows.invariant (rw c.in-Some.is at c.in_ok-row.ensures.row))
+in_order : (publications : ℕ) (text : List ℕ) (answer : Result (Vec Row Global) TraceFault)
+    → GivesRows (λ rows. map row_fields rows.items) answer (trace_meaning publications text)
+    → IfOk answer (λ rows. IsInOrder publications 0 (afters (map row_fields rows.items)))
+in_order publications text (Ok rows) given = trace_in_order publications _ text given
+in_order publications text (Err fault) given = tt
+
+pub returns-then-place-clause-ordered : goal.returns-then-place-clause-ordered
+returns-then-place-clause-ordered c =
+    in_order c.args.publications c.args.text.now c.read_rows.result (returns-then-place-clause-given c)
 
 pub returns-clause-given : goal.returns-clause-given
 returns-clause-given c =
     let rows = rw c.beginning.ensures at c.in_ok-left.ensures.rows in
-    let opened = rw (c.beginning.ensures, rows) at c.in_ok-left.ensures.fault in
-    let begun = sym (ap (λ r. r.place.begun) rows) ∙ is_true _ (rw c.place.ensures at c.if-not-place.false) in
-    with_rows c.args.publications c.args.text.now (omega arith) opened c.loop-rows.rows.items c.loop-rows.left
-    c.loop-rows.invariant begun (c.in_ok-row.ensures.end (ap Ok c.in_default.is)).0
-
-pub returns-clause-ordered : goal.returns-clause-ordered
-returns-clause-ordered c = trace_in_order c.args.publications _ c.args.text.now (returns-clause-given c)
+    let begun = sym (ap (λ r. r.place.begun) rows) ∙ (rw c.place.ensures at c.if-place.false) in
+    rw (c.at_row-else-place.ensures, c.whole-else-place.ensures)
+    (inl (without_header c.args.publications c.args.text.now (omega arith) begun))

@@ -3,7 +3,7 @@ use denote.Param.Send.{sendable}
 use Rattle.pmp_share.proofs.Crossing.{checker_send}
 use Rattle.pmp_share.proofs.RingCrossing.{receiver_send}
 use Rattle.pmp_harts.proofs.Crossing.{answer_send, fence_send, fence_sync}
-use Rattle.pmp_harts.proofs.run_harts.Goals as goal
+use Rattle.pmp_harts.proofs.start_one.Goals as goal
 
 pub spawn-requires-send-F : goal.spawn-requires-send-F
 spawn-requires-send-F g c κs within = search (checker_send, receiver_send, fence_send, fence_sync, crosses, sendable) depth 20
