@@ -6,6 +6,7 @@ mod fault;
 mod format;
 mod given;
 mod importer;
+pub mod laws;
 mod lines;
 mod options;
 mod qemu;
