@@ -24,7 +24,8 @@ use Rattle.pmp_text.specs.Policies.{policy_fields}
 use Rattle.pmp_audit.specs.Laws.{OnePolicyAnswerLaw}
 use Rattle.pmp_audit.specs.PolicyCheck.{IsBroken, IsFirstBreach, IsFirstIn, IsFirstNotHeld, IsFirstOf, IsFirstOfAll}
 use Rattle.pmp_audit.specs.PolicyCheck.{IsFirstRun, IsNotHeld}
-use Rattle.pmp_audit.specs.PolicyCheck.{IsBreachOf, IsVerdict, IsVerdictBy, IsVerdictOn, policy_summary, state_after, step_count, verdicts_text}
+use Rattle.pmp_audit.specs.PolicyCheck.{IsBreachOf, IsVerdict, IsVerdictBy, IsVerdictOn, policy_summary, state_after}
+use Rattle.pmp_audit.specs.PolicyCheck.{step_count, verdicts_text}
 use Rattle.pmp_audit.proofs.Lists.{one_list}
 use Rattle.pmp_audit.proofs.PolicyMoments.{one_moments}
 

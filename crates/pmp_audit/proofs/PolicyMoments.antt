@@ -51,8 +51,10 @@ module _ (holds : ℕ → Bool) where
 
   lasts_once : (last : ℕ) (one other : Option ℕ) → LastsFrom holds last one → LastsFrom holds last other → one ≡ other
   lasts_once last None None is too = refl
-  lasts_once last None (Some first) is (inside, all, fresh) = absurd (false≢true (sym is ∙ all last inside (omega arith)))
-  lasts_once last (Some first) None (inside, all, fresh) too = absurd (false≢true (sym too ∙ all last inside (omega arith)))
+  lasts_once last None (Some first) is (inside, all, fresh) =
+      absurd (false≢true (sym is ∙ all last inside (omega arith)))
+  lasts_once last (Some first) None (inside, all, fresh) too =
+      absurd (false≢true (sym too ∙ all last inside (omega arith)))
   lasts_once last (Some one) (Some other) is too =
       let here = not_before last one other is too in
       let there = not_before last other one too is in

@@ -17,7 +17,8 @@ use Rattle.pmp_text.specs.declared.policy.Demand.{Demand}
 use Rattle.pmp_text.specs.declared.policy.Demand.TheVariants.{Never, Always, Held}
 use Rattle.pmp_text.specs.declared.policy.PolicyRow.{PolicyRow}
 use Rattle.pmp_audit.specs.PolicyCheck.{IsBroken, IsFirstBreach, IsFirstIn, IsFirstNotHeld, IsFirstOf}
-use Rattle.pmp_audit.specs.PolicyCheck.{IsBreachOf, IsNotHeld, IsVerdict, IsVerdictBy, IsVerdictOn, state_after, step_count}
+use Rattle.pmp_audit.specs.PolicyCheck.{IsBreachOf, IsNotHeld, IsVerdict, IsVerdictBy, IsVerdictOn, state_after}
+use Rattle.pmp_audit.specs.PolicyCheck.{step_count}
 use Rattle.pmp_text.specs.Contents.{ScriptContents}
 use Rattle.pmp_audit.specs.declared.policy_check.steps.Pace.{Pace}
 use Rattle.pmp_audit.specs.declared.policy_check.steps.State.{State}

@@ -21,7 +21,8 @@ use Rattle.pmp_text.specs.Scripts.{Line, numbered_from, counts, significant_from
 use Rattle.pmp_text.specs.Marks.{is_in}
 use Rattle.pmp_text.specs.Scripts.{head_fault, mark_fault, marks_from, name_fault, script_meaning}
 use Rattle.pmp_text.specs.Steps.Progress.{Progress, longer, published, HeadSoFar, says_in, longer_head, unless, Reading}
-use Rattle.pmp_text.specs.Steps.Progress.{Read, nothing_begun, with_publish, with_progress, with_head, with_expected, with_mark}
+use Rattle.pmp_text.specs.Steps.Progress.{Read, nothing_begun, with_publish, with_progress, with_head, with_expected}
+use Rattle.pmp_text.specs.Steps.Progress.{with_mark}
 use Rattle.pmp_text.specs.Steps.Progress.{after_event, after_statement, all_published, read_in, resumed}
 use Rattle.pmp_text.specs.declared.script.version.Version.{Version}
 use Rattle.pmp_text.specs.Sizes.{script_size}
@@ -88,7 +89,8 @@ module _ (version : Version) (more : List Line) (bounded : IsBounded version mor
       let m = read_published so_far.progress in omega arith
   with_publication (Some fault) name e = absurd cc
 
-  with_name : (fault : Option Flaw) (name : Name) → on version more (unless number fault (with_mark so_far name)) ≡ Ok all
+  with_name : (fault : Option Flaw) (name : Name)
+      → on version more (unless number fault (with_mark so_far name)) ≡ Ok all
       → script_size all.published.batches ≤ suc (read so_far.progress) + length more
   with_name None name e = let n = bounded (with_mark so_far name) all e in omega arith
   with_name (Some fault) name e = absurd cc

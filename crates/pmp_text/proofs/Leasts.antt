@@ -8,8 +8,10 @@ use Rattle.std.proofs.lemmas.List.{append-nil, reverse-append}
 use Rattle.pmp_text.specs.declared.script.version.Version.{Version}
 use Rattle.pmp_text.specs.declared.script.version.Version.TheVariants.{Sized, Headed}
 use Rattle.pmp_text.specs.declared.script.ScriptFault.{ScriptFault}
-use Rattle.pmp_text.specs.Scripts.{Line, line_fault, first_fault, fault_or_publications, first_unpublished, version_flaw}
-use Rattle.pmp_text.specs.Scripts.{publications, version_named, for_unit, for_head, head_lines, expected_from, marks_from}
+use Rattle.pmp_text.specs.Scripts.{Line, line_fault, first_fault, fault_or_publications, first_unpublished}
+use Rattle.pmp_text.specs.Scripts.{version_flaw}
+use Rattle.pmp_text.specs.Scripts.{publications, version_named, for_unit, for_head, head_lines, expected_from}
+use Rattle.pmp_text.specs.Scripts.{marks_from}
 use Rattle.pmp_text.specs.Scripts.{meaning_behind, lines_meaning}
 use Rattle.pmp_text.specs.Scripts.{significant_lines, script_meaning}
 use Rattle.pmp_text.specs.Faults.{fault_at, IsLeastFault}

@@ -10,6 +10,7 @@ pub mod Digits
 pub mod EntryRows
 pub mod EventLines
 pub mod Fields
+pub mod Known
 pub mod LeastFaults
 pub mod LeastPolicyRows
 pub mod LeastRows

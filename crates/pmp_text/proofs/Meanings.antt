@@ -29,7 +29,8 @@ use Rattle.pmp_text.specs.Steps.Progress.{resumed}
 use Rattle.pmp_text.specs.Steps.Progress.{concluded}
 use Rattle.pmp_text.specs.declared.script.reader.TheConstants.{MAX_SCRIPT}
 use Rattle.pmp_text.proofs.NoExpectations.{expects_nothing, names_nothing}
-use Rattle.pmp_text.proofs.Resumed.{Knows, meant_from-nothing, read_of, reading_means}
+use Rattle.pmp_text.proofs.Known.{Knows}
+use Rattle.pmp_text.proofs.Resumed.{meant_from-nothing, read_of, reading_means}
 use Rattle.pmp_text.specs.Flaws.{at_line, part, as_whole}
 
 -- ---- from the version line on

@@ -1,11 +1,10 @@
 -- Reading one line more, and so all of them, gives what is meant by the lines.
 use Rattle.std.proofs.Common.{◌≡◌, ℕ, ◌+◌, Bool, true, false, cond, ltb, List, [], ◌∷◌, ◌++◌, length}
 use Rattle.std.proofs.Common.{Option, Some, None, Result, Ok, Err, refl, sym, ap, ◌∙◌, append_assoc}
-use Rattle.std.specs.Prelude.{option_map, ◌||◌}
+use Rattle.std.specs.Prelude.{option_map}
 use Rattle.std.specs.Option.{option_or}
 use Rattle.std.specs.List.{cons_option, onto_first}
-use Rattle.std.proofs.lemmas.List.Folds.{list_any-append}
-use Rattle.std.proofs.lemmas.List.{append-nil, length-append}
+use Rattle.std.proofs.lemmas.List.{append-nil}
 use Rattle.pmp_core.specs.declared.event.Event.{Event}
 use Rattle.pmp_core.specs.declared.event.TheConstants.{BATCH_EVENTS}
 use Rattle.pmp_text.specs.declared.flaw.Flaw.{Flaw}
@@ -17,28 +16,27 @@ use Rattle.pmp_text.specs.declared.expectation.Expectation.{Expectation}
 use Rattle.pmp_text.specs.declared.mark.Mark.{Mark}
 use Rattle.pmp_text.specs.declared.mark.Name.{Name}
 use Rattle.pmp_text.specs.declared.script.statement.HeadStatement.{HeadStatement}
-use Rattle.pmp_text.specs.declared.script.statement.HeadStatement.TheVariants.{Hart, Set}
-use Rattle.pmp_text.specs.declared.script.hart_field.HartField.TheVariants.{Xlen, Entries, Grain, Bits, Smepmp}
-use Rattle.pmp_core.specs.declared.hart.Profile.{Profile}
-use Rattle.std.proofs.lemmas.List.Sums.{fold-append}
 use Rattle.pmp_text.specs.declared.script.head.HeadLine.{HeadLine}
 use Rattle.pmp_text.specs.declared.script.version.Version.{Version}
 use Rattle.pmp_text.specs.Contents.{Publications}
 use Rattle.pmp_core.specs.declared.csr.Csr.{Csr}
-use Rattle.pmp_text.specs.Heads.{event_flaw, is_same, profile_said, rv32_with, unsaid_hart, with_statement}
+use Rattle.pmp_text.specs.Heads.{event_flaw, profile_said}
 use Rattle.pmp_text.specs.Statements.{statement_of}
-use Rattle.pmp_text.specs.Scripts.{Line, counted, ends_head, says_same, open_events, is_over, is_said}
-use Rattle.pmp_text.specs.Scripts.{event_fault, head_fault, is_rv32, rv32_behind, statement_fault, fault_behind, line_fault, first_fault, event_of}
-use Rattle.pmp_text.specs.Marks.{is_in, same_name}
+use Rattle.pmp_text.specs.Scripts.{Line, open_events, is_over, is_said}
+use Rattle.pmp_text.specs.Scripts.{event_fault, head_fault, is_rv32, statement_fault, fault_behind, line_fault}
+use Rattle.pmp_text.specs.Scripts.{first_fault, event_of}
+use Rattle.pmp_text.specs.Marks.{is_in}
 use Rattle.pmp_text.specs.Scripts.{event_in, head_line_in, head_lines, expected_by, expected_from}
-use Rattle.pmp_text.specs.Scripts.{is_marked, mark_at, mark_fault, marks_by, marks_from, name_fault, names_same}
+use Rattle.pmp_text.specs.Scripts.{is_marked, mark_fault, marks_by, marks_from, name_fault}
 use Rattle.pmp_text.specs.Scripts.{publishes, fault_or_publications}
 use Rattle.pmp_text.specs.Scripts.{version_above}
 use Rattle.pmp_text.specs.Scripts.{publications, first_unpublished}
 use Rattle.pmp_text.specs.Steps.Progress.{Progress, longer, published, over, says_in}
 use Rattle.pmp_text.specs.Steps.Progress.{longer_head, unless, Reading, Read, nothing_begun, with_publish}
 use Rattle.pmp_text.specs.Steps.Progress.{after_event, with_event, with_progress}
-use Rattle.pmp_text.specs.Steps.Progress.{with_head, with_expected, with_mark, after_statement, all_published, read_in, resumed}
+use Rattle.pmp_text.specs.Steps.Progress.{with_head, with_expected, with_mark, after_statement, all_published}
+use Rattle.pmp_text.specs.Steps.Progress.{read_in, resumed}
+use Rattle.pmp_text.proofs.Known.{Knows, knows_event, knows_expected, knows_head, knows_mark, knows_publish}
 use Rattle.pmp_text.proofs.Published.{all_from, all_from-event, all_from-nothing, all_from-passed, all_from-published}
 use Rattle.pmp_text.proofs.Published.{pieces_of, same_publications, since_from, since_from-event, since_from-nothing}
 use Rattle.pmp_text.proofs.Published.{since_from-passed, since_from-published, some_piece}
@@ -84,21 +82,11 @@ module _ (version : Version) where
       (since_from-nothing version (pieces_of version lines))
       (same_read _ _ _ _ _ _ _ _ (all_from-nothing version (pieces_of version lines)) refl refl refl)
 
-  -- ---- what is known of the lines before
-
-  -- the machine knows of the lines before, which stand the nearest first
-  pub record Knows (so_far : Reading) (before : List Line) : Type 0 where
-    pub xlen : (profile_said so_far.head.lines).is_rv32 ≡ is_rv32 version before
-    pub count : length so_far.progress.batch ≡ open_events version before
-    pub over : so_far.head.is_over ≡ is_over version before
-    pub said : (says : HeadStatement) → says_in so_far.head.lines says ≡ is_said version before says
-    pub marked : (name : Name) → is_in so_far.marks name ≡ is_marked version before name
-
   -- ---- one line more
 
   -- reading this line and then the rest, against what is meant by them
   module _ (so_far : Reading) (last : Line) (front : List Line) (above : version_above (last ∷ front) ≡ version)
-      (knows : Knows so_far (last ∷ front)) (line : Line) (more : List Line) where
+      (knows : Knows version so_far (last ∷ front)) (line : Line) (more : List Line) where
     abbrev reads : Result Reading ScriptFault → Result Read ScriptFault
     reads step = elim step [ Ok next ↦ resumed version next more | Err fault ↦ Err fault ]
 
@@ -212,7 +200,8 @@ module _ (version : Version) where
 
     mark_agrees : (name : Name) → statement_of version line.words ≡ Ok (statement.Mark name)
         → resumed version (with_mark so_far name) more ≡ meant_from (with_mark so_far name) (line ∷ last ∷ front) more
-        → reads (after_statement version so_far line.number (Ok (statement.Mark name))) ≡ means (Ok (statement.Mark name))
+        → reads (after_statement version so_far line.number (Ok (statement.Mark name)))
+        ≡ means (Ok (statement.Mark name))
     mark_agrees name says same =
         by_fault (with_mark so_far name) false (mark_fault (length so_far.progress.batch) (is_in so_far.marks name))
         (passes (with_mark so_far name) refl (ap event_in says)
@@ -235,7 +224,8 @@ module _ (version : Version) where
 
       head_agrees : statement_of version line.words ≡ Ok (statement.Head says)
           → resumed version next_head more ≡ meant_from next_head (line ∷ last ∷ front) more
-          → reads (after_statement version so_far line.number (Ok (statement.Head says))) ≡ means (Ok (statement.Head says))
+          → reads (after_statement version so_far line.number (Ok (statement.Head says)))
+          ≡ means (Ok (statement.Head says))
       head_agrees is same =
           by_head (head_fault so_far.head.is_over (says_in so_far.head.lines says) says)
           (λ _. passes next_head refl (ap event_in is)
@@ -298,126 +288,12 @@ module _ (version : Version) where
           (event_fault (event_flaw version narrow event) (open_events version (last ∷ front)))) later)
           (line ∷ more) (cut false)) knows.xlen
 
-  -- ---- what is known behind one line more
-
-  module _ (so_far : Reading) (front : List Line) (knows : Knows so_far front) (line : Line) where
-    counted_as : (says : Result Statement Flaw) → statement_of version line.words ≡ says
-        → counted says (open_events version front) ≡ open_events version (line ∷ front)
-    counted_as says e = sym (ap (λ (r : Result Statement Flaw). counted r (open_events version front)) e)
-
-    over_as : (says : Result Statement Flaw) → statement_of version line.words ≡ says
-        → (ends_head says || is_over version front) ≡ is_over version (line ∷ front)
-    over_as says e = sym (ap (λ (r : Result Statement Flaw). ends_head r || is_over version front) e)
-
-    said_as : (here : HeadStatement) (says : Result Statement Flaw) → statement_of version line.words ≡ says
-        → (says_same here says || is_said version front here) ≡ is_said version (line ∷ front) here
-    said_as here says e = sym (ap (λ (r : Result Statement Flaw).
-        says_same here r || is_said version front here) e)
-
-    xlen_as : (says : Result Statement Flaw) → statement_of version line.words ≡ says
-        → rv32_behind says (is_rv32 version front) ≡ is_rv32 version (line ∷ front)
-    xlen_as says e = sym (ap (λ (r : Result Statement Flaw). rv32_behind r (is_rv32 version front)) e)
-
-    marked_as : (name : Name) (says : Result Statement Flaw) → statement_of version line.words ≡ says
-        → (names_same name says || is_marked version front name) ≡ is_marked version (line ∷ front) name
-    marked_as name says e = sym (ap (λ (r : Result Statement Flaw).
-        names_same name r || is_marked version front name) e)
-
-    said_too : (a b : Bool) → (a || (b || false)) ≡ (b || a)
-    said_too true true = refl
-    said_too true false = refl
-    said_too false true = refl
-    said_too false false = refl
-
-    -- the marks so far, and one more
-    marked_too : (name other : Name) (done : ℕ)
-        → is_in (so_far.marks ++ mark_at (Some other) done) name ≡ (same_name name other || is_marked version front name)
-    marked_too name other done = list_any-append (λ mark. same_name name mark.name) so_far.marks _
-        ∙ said_too (is_in so_far.marks name) (same_name name other)
-        ∙ ap (λ (b : Bool). same_name name other || b) (knows.marked name)
-
-    marked_behind : (name : Name) (given : Option Name) (done : ℕ)
-        → statement_of version line.words ≡ Ok (statement.Publish given)
-        → is_in (so_far.marks ++ mark_at given done) name ≡ is_marked version (line ∷ front) name
-    marked_behind name None done e =
-        ap (λ (m : List Mark). is_in m name) (append-nil so_far.marks) ∙ knows.marked name ∙ marked_as name _ e
-    marked_behind name (Some other) done e = marked_too name other done ∙ marked_as name _ e
-
-    knows_publish : (name : Option Name) → statement_of version line.words ≡ Ok (statement.Publish name)
-        → Knows (with_publish so_far name) (line ∷ front)
-    knows_publish name e = record {
-      xlen = knows.xlen ∙ xlen_as _ e;
-      count = counted_as _ e;
-      over = over_as _ e;
-      said = λ here. knows.said here ∙ said_as here _ e;
-      marked = λ here. marked_behind here name (so_far.done + 1) e;
-    }
-
-    knows_mark : (name : Name) → statement_of version line.words ≡ Ok (statement.Mark name)
-        → Knows (with_mark so_far name) (line ∷ front)
-    knows_mark name e = record {
-      xlen = knows.xlen ∙ xlen_as _ e;
-      count = knows.count ∙ counted_as _ e;
-      over = knows.over ∙ over_as _ e;
-      said = λ here. knows.said here ∙ said_as here _ e;
-      marked = λ here. marked_too here name so_far.done ∙ marked_as here _ e;
-    }
-
-    knows_event : (event : Event) → statement_of version line.words ≡ Ok (statement.Event event)
-        → Knows (record so_far {
-          progress = longer so_far.progress line.number event;
-          head = over so_far.head;
-          events = so_far.events + 1;
-        }) (line ∷ front)
-    knows_event event e = record {
-      xlen = knows.xlen ∙ xlen_as _ e;
-      count = length-append so_far.progress.batch (event ∷ []) ∙ ap (λ (n : ℕ). n + 1) knows.count ∙ counted_as _ e;
-      over = over_as _ e;
-      said = λ here. knows.said here ∙ said_as here _ e;
-      marked = λ here. knows.marked here ∙ marked_as here _ e;
-    }
-
-    knows_expected : (register : Csr) (value : ℕ)
-        → statement_of version line.words ≡ Ok (statement.Expect register value)
-        → Knows (with_expected so_far line.number register value) (line ∷ front)
-    knows_expected register value e = record {
-      xlen = knows.xlen ∙ xlen_as _ e;
-      count = knows.count ∙ counted_as _ e;
-      over = knows.over ∙ over_as _ e;
-      said = λ here. knows.said here ∙ said_as here _ e;
-      marked = λ here. knows.marked here ∙ marked_as here _ e;
-    }
-
-    rv32_said : (said : Profile) (says : HeadStatement)
-        → (with_statement said says).is_rv32 ≡ rv32_with says said.is_rv32
-    rv32_said said (Hart (Xlen is)) = refl
-    rv32_said said (Hart (Entries n)) = refl
-    rv32_said said (Hart (Grain n)) = refl
-    rv32_said said (Hart (Bits n)) = refl
-    rv32_said said (Hart (Smepmp has)) = refl
-    rv32_said said (Set register value) = refl
-
-    knows_head : (says : HeadStatement) → statement_of version line.words ≡ Ok (statement.Head says)
-        → Knows (record so_far { head = longer_head so_far.head line.number says }) (line ∷ front)
-    knows_head says e = record {
-      xlen = ap (λ (said : Profile). said.is_rv32)
-          (fold-append (λ said it. with_statement said it.statement) unsaid_hart so_far.head.lines _)
-          ∙ rv32_said (profile_said so_far.head.lines) says
-          ∙ ap (rv32_with says) knows.xlen ∙ xlen_as _ e;
-      count = knows.count ∙ counted_as _ e;
-      over = knows.over ∙ over_as _ e;
-      said = λ here. list_any-append (λ it. is_same here it.statement) so_far.head.lines _
-          ∙ said_too (says_in so_far.head.lines here) (is_same here says)
-          ∙ ap (λ (b : Bool). is_same here says || b) (knows.said here) ∙ said_as here _ e;
-      marked = λ here. knows.marked here ∙ marked_as here _ e;
-    }
-
   -- ---- all lines
 
   -- reading these lines gives what is meant by them, whatever was read before
   abbrev HoldsOf : List Line → Type 0
   HoldsOf lines = (so_far : Reading) (last : Line) (front : List Line) → version_above (last ∷ front) ≡ version
-      → Knows so_far (last ∷ front) → resumed version so_far lines ≡ meant_from so_far (last ∷ front) lines
+      → Knows version so_far (last ∷ front) → resumed version so_far lines ≡ meant_from so_far (last ∷ front) lines
 
   by_saying : (says : Result Statement Flaw) (line : Line) (more : List Line)
       → statement_of version line.words ≡ says → HoldsOf more → HoldsOf (line ∷ more)
@@ -427,26 +303,27 @@ module _ (version : Version) where
       agree so_far last front above knows line more (Ok (statement.Publish name)) says
       (publish_agrees so_far last front above knows line more name says
       (same (with_publish so_far name) line (last ∷ front) above
-      (knows_publish so_far (last ∷ front) knows line name says)))
+      (knows_publish version so_far (last ∷ front) knows line name says)))
   by_saying (Ok (statement.Mark name)) line more says same so_far last front above knows =
       agree so_far last front above knows line more (Ok (statement.Mark name)) says
       (mark_agrees so_far last front above knows line more name says
-      (same (with_mark so_far name) line (last ∷ front) above (knows_mark so_far (last ∷ front) knows line name says)))
+      (same (with_mark so_far name) line (last ∷ front) above
+      (knows_mark version so_far (last ∷ front) knows line name says)))
   by_saying (Ok (statement.Event event)) line more says same so_far last front above knows =
       agree so_far last front above knows line more (Ok (statement.Event event)) says
       (event_agrees so_far last front above knows line more event says
       (λ room. same (next_one so_far last front above knows line more event) line (last ∷ front) above
-      (knows_event so_far (last ∷ front) knows line event says)))
+      (knows_event version so_far (last ∷ front) knows line event says)))
   by_saying (Ok (statement.Head here)) line more says same so_far last front above knows =
       agree so_far last front above knows line more (Ok (statement.Head here)) says
       (head_agrees so_far last front above knows line more here says
       (same (next_head so_far last front above knows line more here) line (last ∷ front) above
-      (knows_head so_far (last ∷ front) knows line here says)))
+      (knows_head version so_far (last ∷ front) knows line here says)))
   by_saying (Ok (statement.Expect register value)) line more says same so_far last front above knows =
       agree so_far last front above knows line more (Ok (statement.Expect register value)) says
       (expected_agrees so_far last front above knows line more register value says
       (same (with_expected so_far line.number register value) line (last ∷ front) above
-      (knows_expected so_far (last ∷ front) knows line register value says)))
+      (knows_expected version so_far (last ∷ front) knows line register value says)))
 
   nothing_left : (so_far : Reading) (since : Option ℕ)
       → all_published since (read_in so_far) ≡ fault_or_publications None (option_or since None)

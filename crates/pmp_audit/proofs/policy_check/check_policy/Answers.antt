@@ -32,8 +32,8 @@ says g c =
     let left : c.deref-2.result.now ≡ judged = c.deref-2.ensures.value
     ∙ take_at judged _ c.in_ok-judged.judged.len long in
     policy_says c.args.pace c.args.script.now c.args.policy.now script rows judged _ _ c.deref-3.result.now
-    c.in_ok-summary.summary c.moments_of.result c.in_ok-read.ensures c.moments_of.ensures policy_means same c.judge.ensures.judged
-    (rw left at c.in_ok-summary.ensures) c.new-text.ensures.items c.deref-3.ensures.value
+    c.in_ok-summary.summary c.moments_of.result c.in_ok-read.ensures c.moments_of.ensures policy_means same
+    c.judge.ensures.judged (rw left at c.in_ok-summary.ensures) c.new-text.ensures.items c.deref-3.ensures.value
 
 pub returns-clause-ok : goal.returns-clause-ok
 returns-clause-ok g c =

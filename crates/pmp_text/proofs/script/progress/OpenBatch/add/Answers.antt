@@ -1,4 +1,4 @@
-use Rattle.std.proofs.Common.{List, [], ◌∷◌, ◌<◌, Some, Ok, drop, length, sym, ap, ◌∙◌, arith}
+use Rattle.std.proofs.Common.{[], ◌∷◌, ◌<◌, Some, Ok, drop, length, sym, ap, ◌∙◌, arith}
 use Rattle.std.proofs.lemmas.Bool.{cond-true, lt-ltb}
 use Rattle.std.proofs.lemmas.List.{drop-append-le}
 use Rattle.pmp_core.specs.declared.event.TheConstants.{BATCH_EVENTS}
@@ -13,7 +13,8 @@ returns-clause-added g c =
     let kept = g.L.EventLog.kept c.args.log.now in
     let published = c.args.self.now.published in
     let pushed = c.in_ok-push.ensures.ok in
-    let room : length (drop published kept.events) < BATCH_EVENTS = omega (arith, c.if-count-ge-BATCH_EVENTS.false, c.count.ensures) in
+    let room : length (drop published kept.events) < BATCH_EVENTS =
+    omega (arith, c.if-count-ge-BATCH_EVENTS.false, c.count.ensures) in
     let batches = sym ((λ i. cut_from 0 (pushed i).ends (pushed i).events)
     ∙ same_pieces kept.events (c.args.event ∷ []) 0 kept.ends is.ascending (omega (arith, is.last, is.inside))) in
     let numbers = sym ((λ i. cut_from 0 (pushed i).ends (pushed i).lines)
