@@ -6,7 +6,7 @@ use Rattle.pmp_text.specs.declared.moments.Lasting.{Lasting}
 use Rattle.pmp_text.specs.Moments.{KnownMoments}
 use Rattle.pmp_text.specs.Contents.{ScriptContents}
 use Rattle.pmp_text.specs.Reports.{file_of_script}
-use Rattle.pmp_text.specs.Scripts.{is_headed}
+use Rattle.pmp_text.specs.ScriptLines.{is_headed}
 use Rattle.pmp_audit.specs.PolicyMoments.{AllLast, AreMoments, LastsFrom, MayName, lasting_with, since}
 
 module _ (holds : ℕ → Bool) where

@@ -6,7 +6,7 @@ use Rattle.pmp_text.specs.declared.moments.Lasting.{Lasting}
 use Rattle.pmp_text.specs.Contents.{ScriptContents}
 use Rattle.pmp_text.specs.Moments.{KnownMoments}
 use Rattle.pmp_text.specs.Reports.{file_of_script}
-use Rattle.pmp_text.specs.Scripts.{is_headed}
+use Rattle.pmp_text.specs.ScriptLines.{is_headed}
 
 -- it holds from this moment to the last one, and in none right before; or it doesn't hold in the last one
 abbrev pub LastsFrom : (holds : ℕ → Bool) → (last : ℕ) → Option ℕ → Type 0

@@ -3,7 +3,10 @@ use Rattle.std.proofs.Common.{◌≡◌, ℕ, suc, List, [], ◌∷◌, length, 
 use Rattle.std.specs.Prelude.{filter_map}
 use Rattle.pmp_core.specs.declared.event.Event.{Event}
 use Rattle.pmp_text.specs.Contents.{Publications}
-use Rattle.pmp_text.specs.Scripts.{Line, event_of, event_line_of, first_fault, first_unpublished, publications}
+use Rattle.pmp_text.specs.Longhand.{in_longhand}
+use Rattle.pmp_text.specs.ScriptLines.{Line}
+use Rattle.pmp_text.specs.ScriptFaults.{first_fault}
+use Rattle.pmp_text.specs.ScriptEvents.{event_line_of, event_of, first_unpublished, publications}
 use Rattle.pmp_text.specs.declared.script.version.Version.{Version}
 use Rattle.pmp_text.specs.Sizes.{EventLinesLaw}
 use Rattle.pmp_text.proofs.MadeScripts.{faultless, is_read, published_in}
@@ -32,6 +35,7 @@ module _ (version : Version) where
 pub event_lines : EventLinesLaw
 event_lines text script e =
     let it = is_read text script e in
-    let all = faultless (first_fault (it.first ∷ []) it.more) (first_unpublished it.version it.more)
-    (publications it.version it.more) (published_in script) it.made.published in
+    let more = in_longhand it.version it.more in
+    let all = faultless (first_fault (it.first ∷ []) more) (first_unpublished it.version more)
+    (publications it.version more) (published_in script) it.made.published in
     subst (λ (p : Publications). SameLengths p.batches p.lines) all.2 (in_pieces it.version _)

@@ -1,7 +1,8 @@
 -- What is known of the lines before, line by line.
-use Rattle.std.proofs.Common.{◌≡◌, ℕ, ◌+◌, Bool, true, false, List, [], ◌∷◌, ◌++◌, length}
+use Rattle.std.proofs.Common.{◌≡◌, ℕ, suc, ◌+◌, Bool, true, false, cond, List, [], ◌∷◌, ◌++◌, length, arith}
 use Rattle.std.proofs.Common.{Option, Some, None, Result, Ok, refl, sym, ap, ◌∙◌}
-use Rattle.std.specs.Prelude.{◌||◌}
+use Rattle.std.specs.Prelude.{◌||◌, filter, filter_map}
+use Rattle.std.specs.List.{cons_option}
 use Rattle.std.proofs.lemmas.List.Folds.{list_any-append}
 use Rattle.std.proofs.lemmas.List.{append-nil, length-append}
 use Rattle.pmp_core.specs.declared.event.Event.{Event}
@@ -18,12 +19,16 @@ use Rattle.std.proofs.lemmas.List.Sums.{fold-append}
 use Rattle.pmp_text.specs.declared.script.version.Version.{Version}
 use Rattle.pmp_core.specs.declared.csr.Csr.{Csr}
 use Rattle.pmp_text.specs.Heads.{is_same, profile_said, rv32_with, unsaid_hart, with_statement}
-use Rattle.pmp_text.specs.Statements.{statement_of}
-use Rattle.pmp_text.specs.Scripts.{Line, counted, ends_head, says_same, open_events, is_over, is_said}
-use Rattle.pmp_text.specs.Scripts.{is_rv32, rv32_behind}
+use Rattle.pmp_text.specs.ScriptLines.{said_by}
+use Rattle.pmp_text.specs.ScriptEvents.{event_in, event_of, is_publish, publishes}
+use Rattle.pmp_text.specs.ScriptFaults.{all_events, all_publications}
+use Rattle.pmp_text.specs.ScriptLines.{Line}
+use Rattle.pmp_text.specs.ScriptFaults.{counted, ends_head, says_same, open_events, is_over, is_said}
+use Rattle.pmp_text.specs.ScriptFaults.{is_rv32, rv32_behind}
 use Rattle.pmp_text.specs.Marks.{is_in, same_name}
-use Rattle.pmp_text.specs.Scripts.{is_marked, mark_at, names_same}
-use Rattle.pmp_text.specs.Steps.Progress.{longer, over, says_in}
+use Rattle.pmp_text.specs.ScriptFaults.{is_marked, names_same}
+use Rattle.pmp_text.specs.ScriptEvents.{mark_at}
+use Rattle.pmp_text.specs.Steps.Progress.{over, says_in, with_event}
 use Rattle.pmp_text.specs.Steps.Progress.{longer_head, Reading, with_publish}
 use Rattle.pmp_text.specs.Steps.Progress.{with_expected, with_mark}
 
@@ -35,31 +40,47 @@ module _ (version : Version) where
     pub over : so_far.head.is_over ≡ is_over version before
     pub said : (says : HeadStatement) → says_in so_far.head.lines says ≡ is_said version before says
     pub marked : (name : Name) → is_in so_far.marks name ≡ is_marked version before name
+    pub events : so_far.events ≡ all_events version before
+    pub publications : so_far.done ≡ all_publications version before
 
   -- ---- what is known behind one line more
 
   module _ (so_far : Reading) (front : List Line) (knows : Knows so_far front) (line : Line) where
-    counted_as : (says : Result Statement Flaw) → statement_of version line.words ≡ says
+    counted_as : (says : Result Statement Flaw) → said_by version line ≡ says
         → counted says (open_events version front) ≡ open_events version (line ∷ front)
     counted_as says e = sym (ap (λ (r : Result Statement Flaw). counted r (open_events version front)) e)
 
-    over_as : (says : Result Statement Flaw) → statement_of version line.words ≡ says
+    over_as : (says : Result Statement Flaw) → said_by version line ≡ says
         → (ends_head says || is_over version front) ≡ is_over version (line ∷ front)
     over_as says e = sym (ap (λ (r : Result Statement Flaw). ends_head r || is_over version front) e)
 
-    said_as : (here : HeadStatement) (says : Result Statement Flaw) → statement_of version line.words ≡ says
+    said_as : (here : HeadStatement) (says : Result Statement Flaw) → said_by version line ≡ says
         → (says_same here says || is_said version front here) ≡ is_said version (line ∷ front) here
     said_as here says e = sym (ap (λ (r : Result Statement Flaw).
         says_same here r || is_said version front here) e)
 
-    xlen_as : (says : Result Statement Flaw) → statement_of version line.words ≡ says
+    xlen_as : (says : Result Statement Flaw) → said_by version line ≡ says
         → rv32_behind says (is_rv32 version front) ≡ is_rv32 version (line ∷ front)
     xlen_as says e = sym (ap (λ (r : Result Statement Flaw). rv32_behind r (is_rv32 version front)) e)
 
-    marked_as : (name : Name) (says : Result Statement Flaw) → statement_of version line.words ≡ says
+    marked_as : (name : Name) (says : Result Statement Flaw) → said_by version line ≡ says
         → (names_same name says || is_marked version front name) ≡ is_marked version (line ∷ front) name
     marked_as name says e = sym (ap (λ (r : Result Statement Flaw).
         names_same name r || is_marked version front name) e)
+
+    events_as : (says : Result Statement Flaw) → said_by version line ≡ says
+        → length (cons_option (event_in says) (filter_map (event_of version) front)) ≡ all_events version (line ∷ front)
+    events_as says e = sym (ap (λ (r : Result Statement Flaw).
+        length (cons_option (event_in r) (filter_map (event_of version) front))) e)
+
+    publications_as : (says : Result Statement Flaw) → said_by version line ≡ says
+        → length (cond (publishes says) (line ∷ filter (is_publish version) front) (filter (is_publish version) front))
+        ≡ all_publications version (line ∷ front)
+    publications_as says e = sym (ap (λ (r : Result Statement Flaw). length (cond (publishes r)
+        (line ∷ filter (is_publish version) front) (filter (is_publish version) front))) e)
+
+    one_more : (n : ℕ) → n + 1 ≡ suc n
+    one_more n = omega arith
 
     said_too : (a b : Bool) → (a || (b || false)) ≡ (b || a)
     said_too true true = refl
@@ -75,13 +96,13 @@ module _ (version : Version) where
         ∙ ap (λ (b : Bool). same_name name other || b) (knows.marked name)
 
     marked_behind : (name : Name) (given : Option Name) (done : ℕ)
-        → statement_of version line.words ≡ Ok (statement.Publish given)
+        → said_by version line ≡ Ok (statement.Publish given)
         → is_in (so_far.marks ++ mark_at given done) name ≡ is_marked version (line ∷ front) name
     marked_behind name None done e =
         ap (λ (m : List Mark). is_in m name) (append-nil so_far.marks) ∙ knows.marked name ∙ marked_as name _ e
     marked_behind name (Some other) done e = marked_too name other done ∙ marked_as name _ e
 
-    pub knows_publish : (name : Option Name) → statement_of version line.words ≡ Ok (statement.Publish name)
+    pub knows_publish : (name : Option Name) → said_by version line ≡ Ok (statement.Publish name)
         → Knows (with_publish so_far name) (line ∷ front)
     knows_publish name e = record {
       xlen = knows.xlen ∙ xlen_as _ e;
@@ -89,9 +110,11 @@ module _ (version : Version) where
       over = over_as _ e;
       said = λ here. knows.said here ∙ said_as here _ e;
       marked = λ here. marked_behind here name (so_far.done + 1) e;
+      events = knows.events ∙ events_as _ e;
+      publications = ap (λ (n : ℕ). n + 1) knows.publications ∙ one_more _ ∙ publications_as _ e;
     }
 
-    pub knows_mark : (name : Name) → statement_of version line.words ≡ Ok (statement.Mark name)
+    pub knows_mark : (name : Name) → said_by version line ≡ Ok (statement.Mark name)
         → Knows (with_mark so_far name) (line ∷ front)
     knows_mark name e = record {
       xlen = knows.xlen ∙ xlen_as _ e;
@@ -99,24 +122,24 @@ module _ (version : Version) where
       over = knows.over ∙ over_as _ e;
       said = λ here. knows.said here ∙ said_as here _ e;
       marked = λ here. marked_too here name so_far.done ∙ marked_as here _ e;
+      events = knows.events ∙ events_as _ e;
+      publications = knows.publications ∙ publications_as _ e;
     }
 
-    pub knows_event : (event : Event) → statement_of version line.words ≡ Ok (statement.Event event)
-        → Knows (record so_far {
-          progress = longer so_far.progress line.number event;
-          head = over so_far.head;
-          events = so_far.events + 1;
-        }) (line ∷ front)
+    pub knows_event : (event : Event) → said_by version line ≡ Ok (statement.Event event)
+        → Knows (with_event so_far line.number event) (line ∷ front)
     knows_event event e = record {
       xlen = knows.xlen ∙ xlen_as _ e;
       count = length-append so_far.progress.batch (event ∷ []) ∙ ap (λ (n : ℕ). n + 1) knows.count ∙ counted_as _ e;
       over = over_as _ e;
       said = λ here. knows.said here ∙ said_as here _ e;
       marked = λ here. knows.marked here ∙ marked_as here _ e;
+      events = ap (λ (n : ℕ). n + 1) knows.events ∙ one_more _ ∙ events_as _ e;
+      publications = knows.publications ∙ publications_as _ e;
     }
 
     pub knows_expected : (register : Csr) (value : ℕ)
-        → statement_of version line.words ≡ Ok (statement.Expect register value)
+        → said_by version line ≡ Ok (statement.Expect register value)
         → Knows (with_expected so_far line.number register value) (line ∷ front)
     knows_expected register value e = record {
       xlen = knows.xlen ∙ xlen_as _ e;
@@ -124,6 +147,8 @@ module _ (version : Version) where
       over = knows.over ∙ over_as _ e;
       said = λ here. knows.said here ∙ said_as here _ e;
       marked = λ here. knows.marked here ∙ marked_as here _ e;
+      events = knows.events ∙ events_as _ e;
+      publications = knows.publications ∙ publications_as _ e;
     }
 
     rv32_said : (said : Profile) (says : HeadStatement)
@@ -135,7 +160,7 @@ module _ (version : Version) where
     rv32_said said (Hart (Smepmp has)) = refl
     rv32_said said (Set register value) = refl
 
-    pub knows_head : (says : HeadStatement) → statement_of version line.words ≡ Ok (statement.Head says)
+    pub knows_head : (says : HeadStatement) → said_by version line ≡ Ok (statement.Head says)
         → Knows (record so_far { head = longer_head so_far.head line.number says }) (line ∷ front)
     knows_head says e = record {
       xlen = ap (λ (said : Profile). said.is_rv32)
@@ -148,4 +173,6 @@ module _ (version : Version) where
           ∙ said_too (says_in so_far.head.lines here) (is_same here says)
           ∙ ap (λ (b : Bool). is_same here says || b) (knows.said here) ∙ said_as here _ e;
       marked = λ here. knows.marked here ∙ marked_as here _ e;
+      events = knows.events ∙ events_as _ e;
+      publications = knows.publications ∙ publications_as _ e;
     }

@@ -8,14 +8,13 @@ use Rattle.std.proofs.lemmas.List.{append-nil, reverse-append}
 use Rattle.pmp_text.specs.declared.script.version.Version.{Version}
 use Rattle.pmp_text.specs.declared.script.version.Version.TheVariants.{Sized, Headed}
 use Rattle.pmp_text.specs.declared.script.ScriptFault.{ScriptFault}
-use Rattle.pmp_text.specs.Scripts.{Line, line_fault, first_fault, fault_or_publications, first_unpublished}
-use Rattle.pmp_text.specs.Scripts.{version_flaw}
-use Rattle.pmp_text.specs.Scripts.{publications, version_named, for_unit, for_head, head_lines, expected_from}
-use Rattle.pmp_text.specs.Scripts.{marks_from}
-use Rattle.pmp_text.specs.Scripts.{meaning_behind, lines_meaning}
-use Rattle.pmp_text.specs.Scripts.{significant_lines, script_meaning}
+use Rattle.pmp_text.specs.Longhand.{meant_lines}
+use Rattle.pmp_text.specs.ScriptLines.{Line, version_flaw, version_named}
+use Rattle.pmp_text.specs.ScriptFaults.{first_fault, line_fault}
+use Rattle.pmp_text.specs.ScriptEvents.{expected_from, first_unpublished, head_lines, marks_from, publications}
+use Rattle.pmp_text.specs.Scripts.{fault_or_publications, for_head, for_unit, lines_meaning, meaning_behind, most_bytes}
+use Rattle.pmp_text.specs.Scripts.{script_meaning}
 use Rattle.pmp_text.specs.Faults.{fault_at, IsLeastFault}
-use Rattle.pmp_text.specs.declared.script.reader.TheConstants.{MAX_SCRIPT}
 use Rattle.pmp_text.proofs.LeastFaults.{Judges, judged_here, judged_as, the_first}
 use Rattle.pmp_text.proofs.Meanings.{by_lines}
 use Rattle.pmp_text.specs.Flaws.{at_line}
@@ -76,9 +75,9 @@ refused : (lines : List Line) (fault : ScriptFault) → first_fault [] lines ≡
 refused [] fault e = absurd cc
 refused (version ∷ more) fault e = refused_behind (version_named version.words) version more fault e
 
-pub least_is_answered : (text : List ℕ) (fault : ScriptFault) → length text ≤ MAX_SCRIPT
-    → IsLeastFault (fault_at (significant_lines text)) fault → script_meaning text ≡ Err fault
+pub least_is_answered : (text : List ℕ) (fault : ScriptFault) → length text ≤ most_bytes text
+    → IsLeastFault (fault_at (meant_lines text)) fault → script_meaning text ≡ Err fault
 least_is_answered text fault short least =
-    by_lines text short ∙ refused (significant_lines text) fault
-    (the_first (fault_at (significant_lines text)) (first_fault [] (significant_lines text)) fault
-    (first_is_least (significant_lines text)) least)
+    by_lines text short ∙ refused (meant_lines text) fault
+    (the_first (fault_at (meant_lines text)) (first_fault [] (meant_lines text)) fault
+    (first_is_least (meant_lines text)) least)

@@ -16,6 +16,7 @@ pub mod LeastPolicyRows
 pub mod LeastRows
 pub mod Leasts
 pub mod Lefts
+pub mod Longhands
 pub mod LineCuts
 pub mod MadeScripts
 pub mod Meanings

@@ -5,7 +5,6 @@ use Rattle.std.proofs.Common.{inl, inr}
 use Rattle.std.proofs.lemmas.Bool.{cases_lt}
 use Rattle.pmp_core.specs.declared.size.Size.{Size}
 use Rattle.pmp_text.specs.declared.script.ScriptFault.{ScriptFault}
-use Rattle.pmp_text.specs.declared.script.reader.TheConstants.{MAX_SCRIPT}
 use Rattle.pmp_text.specs.declared.script.version.Version.{Version}
 use Rattle.pmp_text.specs.declared.script.version.Version.TheVariants.{Sized, Headed}
 use Rattle.pmp_text.specs.Contents.{Publications, ScriptContents}
@@ -13,9 +12,11 @@ use Rattle.pmp_core.specs.RegisterFile.{RegisterFile}
 use Rattle.pmp_text.specs.declared.expectation.Expectation.{Expectation}
 use Rattle.pmp_text.specs.declared.mark.Mark.{Mark}
 use Rattle.pmp_text.specs.Heads.{bits_fault, fault_on, size_for, start_said}
-use Rattle.pmp_text.specs.Scripts.{Line, expected_from, fault_or_publications, for_head}
-use Rattle.pmp_text.specs.Scripts.{for_unit, head_lines, lines_meaning, marks_from, meaning_behind}
-use Rattle.pmp_text.specs.Scripts.{published_behind, script_meaning, significant_lines, version_named}
+use Rattle.pmp_text.specs.Longhand.{in_longhand, lines_in_longhand, meant_behind}
+use Rattle.pmp_text.specs.ScriptLines.{Line, significant_lines, version_named}
+use Rattle.pmp_text.specs.ScriptEvents.{expected_from, head_lines, marks_from}
+use Rattle.pmp_text.specs.Scripts.{fault_or_publications, for_head, for_unit, lines_meaning, meaning_behind, most_bytes}
+use Rattle.pmp_text.specs.Scripts.{published_behind, script_meaning}
 use Rattle.pmp_text.specs.Versions.{HasNoHead}
 use Rattle.pmp_text.proofs.Meanings.{by_lines, long_script}
 
@@ -99,18 +100,20 @@ module _ (first : Line) (more : List Line) (script : ScriptContents) where
 
 -- it isn't too long, and its first significant line names a version
 pub record IsRead (text : List ℕ) (script : ScriptContents) : Type 0 where
-  pub short : length text ≤ MAX_SCRIPT
+  pub short : length text ≤ most_bytes text
   pub first : Line
   pub more : List Line
   pub lines : significant_lines text ≡ first ∷ more
   pub version : Version
   pub named : version_named first.words ≡ Some version
-  pub made : IsMade first more version script
+  pub made : IsMade first (in_longhand version more) version script
 
-module _ (text : List ℕ) (script : ScriptContents) (short : length text ≤ MAX_SCRIPT) where
+module _ (text : List ℕ) (script : ScriptContents) (short : length text ≤ most_bytes text) where
   by_version : (first : Line) (more : List Line) → significant_lines text ≡ first ∷ more → (version : Option Version)
-      → version_named first.words ≡ version → meaning_behind first more version ≡ Ok script → IsRead text script
-  by_version first more lines None named e = absurd cc
+      → version_named first.words ≡ version → lines_meaning (meant_behind first more version) ≡ Ok script
+      → IsRead text script
+  by_version first more lines None named e =
+      let refused = sym e ∙ ap (meaning_behind first more) named in absurd cc
   by_version first more lines (Some version) named e = record {
     short = short;
     first = first;
@@ -118,15 +121,17 @@ module _ (text : List ℕ) (script : ScriptContents) (short : length text ≤ MA
     lines = lines;
     version = version;
     named = named;
-    made = behind_version first more script version e;
+    made = behind_version first (in_longhand version more) script version
+        (sym (ap (meaning_behind first (in_longhand version more)) named) ∙ e);
   }
 
-  of_lines : (ls : List Line) → significant_lines text ≡ ls → lines_meaning ls ≡ Ok script → IsRead text script
+  of_lines : (ls : List Line) → significant_lines text ≡ ls → lines_meaning (lines_in_longhand ls) ≡ Ok script
+      → IsRead text script
   of_lines [] lines e = absurd cc
   of_lines (first ∷ more) lines e = by_version first more lines (version_named first.words) refl e
 
 pub is_read : (text : List ℕ) (script : ScriptContents) → script_meaning text ≡ Ok script → IsRead text script
-is_read text script e = elim (cases_lt MAX_SCRIPT (length text)) [
+is_read text script e = elim (cases_lt (most_bytes text) (length text)) [
   | inl long ↦ let refused = sym e ∙ long_script text long in absurd cc
   | inr short ↦ of_lines text script short (significant_lines text) refl (sym (by_lines text short) ∙ e)
 ]

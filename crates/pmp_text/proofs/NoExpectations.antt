@@ -14,8 +14,8 @@ use Rattle.pmp_core.specs.declared.csr.Csr.{Csr}
 use Rattle.pmp_core.specs.declared.event.Event.TheVariants.{Write, Reset}
 use Rattle.pmp_text.specs.Statements.{assignment, statement_of, without_operands, write_statement}
 use Rattle.pmp_text.specs.Flaws.{part}
-use Rattle.pmp_text.specs.Scripts.{Line}
-use Rattle.pmp_text.specs.Scripts.{expected_by, expected_from, marks_by, marks_from}
+use Rattle.pmp_text.specs.ScriptLines.{Line, said_by}
+use Rattle.pmp_text.specs.ScriptEvents.{expected_by, expected_from, marks_by, marks_from}
 
 abbrev ExpectsNone : Result Statement Flaw → Type 0
 ExpectsNone (Ok (statement.Expect register value)) = ⊥
@@ -51,6 +51,10 @@ expects_none size (word ∷ operands) = by_word (bytes_eq word (codes "write")) 
     (by_word (bytes_eq word (codes "publish")) (without_operands (statement.Publish None) operands)
     (Err (part 0 BadLine)) (by_operands (statement.Publish None) operands tt) tt))
 
+line_expects_none : (size : Size) (line : Line) → ExpectsNone (said_by (Sized size) line)
+unfolding said_by
+line_expects_none size line = expects_none size line.words
+
 none_by : (events number : ℕ) (says : Result Statement Flaw) (rest : ℕ → List Expectation) → ExpectsNone says
     → ((events : ℕ) → rest events ≡ []) → expected_by events number says rest ≡ []
 none_by events number (Ok (statement.Event event)) rest none same = same (events + 1)
@@ -63,8 +67,8 @@ none_by events number (Err kind) rest none same = same events
 pub expects_nothing : (size : Size) (lines : List Line) (events : ℕ) → expected_from (Sized size) events lines ≡ []
 expects_nothing size [] events = refl
 expects_nothing size (line ∷ more) events =
-    none_by events line.number (statement_of (Sized size) line.words) (λ n. expected_from (Sized size) n more)
-    (expects_none size line.words) (expects_nothing size more)
+    none_by events line.number (said_by (Sized size) line) (λ n. expected_from (Sized size) n more)
+    (line_expects_none size line) (expects_nothing size more)
 
 unnamed_by : (done : ℕ) (says : Result Statement Flaw) (rest : ℕ → List Mark) → ExpectsNone says
     → ((done : ℕ) → rest done ≡ []) → marks_by done says rest ≡ []
@@ -79,5 +83,5 @@ unnamed_by done (Err kind) rest none same = same done
 pub names_nothing : (size : Size) (lines : List Line) (done : ℕ) → marks_from (Sized size) done lines ≡ []
 names_nothing size [] done = refl
 names_nothing size (line ∷ more) done =
-    unnamed_by done (statement_of (Sized size) line.words) (λ n. marks_from (Sized size) n more)
-    (expects_none size line.words) (names_nothing size more)
+    unnamed_by done (said_by (Sized size) line) (λ n. marks_from (Sized size) n more)
+    (line_expects_none size line) (names_nothing size more)

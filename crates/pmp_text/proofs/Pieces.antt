@@ -64,7 +64,7 @@ module _ {X : Type 0} (items : List X) where
       ap (λ (more : List (List X)). slice_range items before end ∷ more) (take-cut_from k end ends)
 
   -- the pieces, and what stands behind the last one
-  joined-cut_from : (before : ℕ) (ends : List ℕ) → AreEnds before ends
+  pub joined-cut_from : (before : ℕ) (ends : List ℕ) → AreEnds before ends
       → flat_map (λ piece. piece) (cut_from before ends items) ++ drop (last_end before ends) items ≡ drop before items
   joined-cut_from before [] are = refl
   joined-cut_from before (end ∷ ends) are =

@@ -10,11 +10,8 @@ use Rattle.pmp_core.specs.declared.event.Event.{Event}
 use Rattle.pmp_text.specs.declared.script.statement.Statement.TheVariants as statement
 use Rattle.pmp_text.specs.declared.script.version.Version.{Version}
 use Rattle.pmp_text.specs.Contents.{Publications}
-use Rattle.pmp_text.specs.Statements.{statement_of}
-use Rattle.pmp_text.specs.Scripts.{Line}
-use Rattle.pmp_text.specs.Scripts.{event_of}
-use Rattle.pmp_text.specs.Scripts.{event_in, event_line_of}
-use Rattle.pmp_text.specs.Scripts.{is_publish, but_last, last_piece}
+use Rattle.pmp_text.specs.ScriptLines.{Line, said_by}
+use Rattle.pmp_text.specs.ScriptEvents.{but_last, event_in, event_line_of, event_of, is_publish, last_piece}
 use Rattle.pmp_text.specs.Steps.Progress.{Progress, longer, nothing_read, published}
 
 -- ---- what pieces publish
@@ -92,7 +89,7 @@ module _ (version : Version) where
   since_from-published since (next ∷ more) some = refl
 
   -- a line comes first that adds an event
-  module _ (line : Line) (event : Event) (says : statement_of version line.words ≡ Ok (statement.Event event)) where
+  module _ (line : Line) (event : Event) (says : said_by version line ≡ Ok (statement.Event event)) where
     adds_event : event_of version line ≡ Some event
     adds_event = ap event_in says
 
@@ -163,7 +160,7 @@ module _ (version : Version) where
       (published_from-published (event_line_of version) so_far.published.lines so_far.lines pieces some)
 
   pub all_from-event : (so_far : Progress) (line : Line) (event : Event)
-      → statement_of version line.words ≡ Ok (statement.Event event) → (pieces : List (List Line))
+      → said_by version line ≡ Ok (statement.Event event) → (pieces : List (List Line))
       → all_from so_far (onto_first line pieces) ≡ all_from (longer so_far line.number event) pieces
   all_from-event so_far line event says pieces = same_publications _ _ _ _
       (ap (λ (all : List (List Event)). so_far.published.batches ++ all)

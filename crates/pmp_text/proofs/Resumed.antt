@@ -1,14 +1,12 @@
 -- Reading one line more, and so all of them, gives what is meant by the lines.
-use Rattle.std.proofs.Common.{◌≡◌, ℕ, ◌+◌, Bool, true, false, cond, ltb, List, [], ◌∷◌, ◌++◌, length}
+use Rattle.std.proofs.Common.{◌≡◌, ℕ, ◌+◌, Bool, true, false, cond, List, [], ◌∷◌, ◌++◌, length}
 use Rattle.std.proofs.Common.{Option, Some, None, Result, Ok, Err, refl, sym, ap, ◌∙◌, append_assoc}
 use Rattle.std.specs.Prelude.{option_map}
 use Rattle.std.specs.Option.{option_or}
 use Rattle.std.specs.List.{cons_option, onto_first}
 use Rattle.std.proofs.lemmas.List.{append-nil}
 use Rattle.pmp_core.specs.declared.event.Event.{Event}
-use Rattle.pmp_core.specs.declared.event.TheConstants.{BATCH_EVENTS}
 use Rattle.pmp_text.specs.declared.flaw.Flaw.{Flaw}
-use Rattle.pmp_text.specs.declared.refusal.Refusal.TheVariants.{BatchFull}
 use Rattle.pmp_text.specs.declared.script.ScriptFault.{ScriptFault}
 use Rattle.pmp_text.specs.declared.script.statement.Statement.{Statement}
 use Rattle.pmp_text.specs.declared.script.statement.Statement.TheVariants as statement
@@ -21,19 +19,16 @@ use Rattle.pmp_text.specs.declared.script.version.Version.{Version}
 use Rattle.pmp_text.specs.Contents.{Publications}
 use Rattle.pmp_core.specs.declared.csr.Csr.{Csr}
 use Rattle.pmp_text.specs.Heads.{event_flaw, profile_said}
-use Rattle.pmp_text.specs.Statements.{statement_of}
-use Rattle.pmp_text.specs.Scripts.{Line, open_events, is_over, is_said}
-use Rattle.pmp_text.specs.Scripts.{event_fault, head_fault, is_rv32, statement_fault, fault_behind, line_fault}
-use Rattle.pmp_text.specs.Scripts.{first_fault, event_of}
 use Rattle.pmp_text.specs.Marks.{is_in}
-use Rattle.pmp_text.specs.Scripts.{event_in, head_line_in, head_lines, expected_by, expected_from}
-use Rattle.pmp_text.specs.Scripts.{is_marked, mark_fault, marks_by, marks_from, name_fault}
-use Rattle.pmp_text.specs.Scripts.{publishes, fault_or_publications}
-use Rattle.pmp_text.specs.Scripts.{version_above}
-use Rattle.pmp_text.specs.Scripts.{publications, first_unpublished}
-use Rattle.pmp_text.specs.Steps.Progress.{Progress, longer, published, over, says_in}
+use Rattle.pmp_text.specs.ScriptLines.{Line, said_by, version_above}
+use Rattle.pmp_text.specs.ScriptFaults.{all_publications, behind, event_fault, fault_behind, first_fault, head_fault}
+use Rattle.pmp_text.specs.ScriptFaults.{is_marked, line_fault, mark_fault, publish_fault, statement_fault}
+use Rattle.pmp_text.specs.ScriptEvents.{event_in, event_of, expected_by, expected_from, first_unpublished, head_line_in}
+use Rattle.pmp_text.specs.ScriptEvents.{head_lines, marks_by, marks_from, publications, publishes}
+use Rattle.pmp_text.specs.Scripts.{fault_or_publications}
+use Rattle.pmp_text.specs.Steps.Progress.{Progress, published, says_in}
 use Rattle.pmp_text.specs.Steps.Progress.{longer_head, unless, Reading, Read, nothing_begun, with_publish}
-use Rattle.pmp_text.specs.Steps.Progress.{after_event, with_event, with_progress}
+use Rattle.pmp_text.specs.Steps.Progress.{with_event}
 use Rattle.pmp_text.specs.Steps.Progress.{with_head, with_expected, with_mark, after_statement, all_published}
 use Rattle.pmp_text.specs.Steps.Progress.{read_in, resumed}
 use Rattle.pmp_text.proofs.Known.{Knows, knows_event, knows_expected, knows_head, knows_mark, knows_publish}
@@ -99,40 +94,38 @@ module _ (version : Version) where
     cut publish = cond publish ([] ∷ pieces_of version more) (onto_first line (pieces_of version more))
 
     abbrev faulty : Result Statement Flaw → Option Flaw
-    faulty says = statement_fault (event_flaw version (is_rv32 version (last ∷ front)))
-        (open_events version (last ∷ front)) (is_over version (last ∷ front))
-        (is_said version (last ∷ front)) (is_marked version (last ∷ front)) says
+    faulty says = statement_fault (behind version (last ∷ front)) says
 
     abbrev means : Result Statement Flaw → Result Read ScriptFault
     means says = meant_by so_far (option_or (option_map (at_line line.number) (faulty says)) later)
         (line ∷ more) (cut (publishes says))
 
     -- the line's own fault
-    own : line_fault (last ∷ front) line ≡ faulty (statement_of version line.words)
+    own : line_fault (last ∷ front) line ≡ faulty (said_by version line)
     own = ap (λ (v : Version). fault_behind v (last ∷ front) line) above
 
-    agree : (says : Result Statement Flaw) → statement_of version line.words ≡ says
+    agree : (says : Result Statement Flaw) → said_by version line ≡ says
         → reads (after_statement version so_far line.number says) ≡ means says
         → resumed version so_far (line ∷ more) ≡ meant_from so_far (last ∷ front) (line ∷ more)
     agree says e same = ap (λ (r : Result Statement Flaw). reads (after_statement version so_far line.number r)) e ∙ same
         ∙ sym (ap means e)
         ∙ sym (ap (λ (f : Option Flaw). meant_by so_far (option_or (option_map (at_line line.number) f) later)
-        (line ∷ more) (cut (publishes (statement_of version line.words)))) own)
+        (line ∷ more) (cut (publishes (said_by version line)))) own)
 
     -- what the line adds to the head and to what is expected
-    head_here : (says : Result Statement Flaw) → statement_of version line.words ≡ says
+    head_here : (says : Result Statement Flaw) → said_by version line ≡ says
         → head_lines version (line ∷ more)
         ≡ cons_option (head_line_in line.number says) (head_lines version more)
     head_here says e = ap (λ (r : Result Statement Flaw).
         cons_option (head_line_in line.number r) (head_lines version more)) e
 
-    expected_here : (says : Result Statement Flaw) → statement_of version line.words ≡ says
+    expected_here : (says : Result Statement Flaw) → said_by version line ≡ says
         → expected_from version so_far.events (line ∷ more)
         ≡ expected_by so_far.events line.number says (λ events. expected_from version events more)
     expected_here says e = ap (λ (r : Result Statement Flaw).
         expected_by so_far.events line.number r (λ events. expected_from version events more)) e
 
-    marks_here : (says : Result Statement Flaw) → statement_of version line.words ≡ says
+    marks_here : (says : Result Statement Flaw) → said_by version line ≡ says
         → marks_from version so_far.done (line ∷ more)
         ≡ marks_by so_far.done says (λ done. marks_from version done more)
     marks_here says e = ap (λ (r : Result Statement Flaw).
@@ -146,18 +139,18 @@ module _ (version : Version) where
     by_fault next publish None same = same
     by_fault next publish (Some fault) same = refl
 
-    name_known : (name : Option Name)
-        → name_fault (is_in so_far.marks) name ≡ name_fault (is_marked version (last ∷ front)) name
-    name_known None = refl
-    name_known (Some name) = ap (λ (is : Bool). name_fault (λ _. is) (Some name)) (knows.marked name)
+    publish_known : (name : Option Name) → publish_fault (is_in so_far.marks) name so_far.done
+        ≡ publish_fault (is_marked version (last ∷ front)) name (all_publications version (last ∷ front))
+    publish_known None = ap (λ (n : ℕ). publish_fault (λ _. false) None n) knows.publications
+    publish_known (Some name) = λ i. publish_fault (λ _. knows.marked name i) (Some name) (knows.publications i)
 
-    publish_agrees : (name : Option Name) → statement_of version line.words ≡ Ok (statement.Publish name)
+    publish_agrees : (name : Option Name) → said_by version line ≡ Ok (statement.Publish name)
         → resumed version (with_publish so_far name) more
         ≡ meant_from (with_publish so_far name) (line ∷ last ∷ front) more
         → reads (after_statement version so_far line.number (Ok (statement.Publish name)))
         ≡ means (Ok (statement.Publish name))
     publish_agrees name says same =
-        by_fault (with_publish so_far name) true (name_fault (is_in so_far.marks) name)
+        by_fault (with_publish so_far name) true (publish_fault (is_in so_far.marks) name so_far.done)
         (same ∙ same_meant later _ _ _ _
         (sym (since_from-published version so_far.progress.since (pieces_of version more) (some_piece version more)))
         (same_read _ _ _ _ _ _ _ _
@@ -166,7 +159,7 @@ module _ (version : Version) where
         (ap (λ (e : List Expectation). so_far.expectations ++ e) (sym (expected_here _ says)))
         (append_assoc so_far.marks _ _ ∙ ap (λ (m : List Mark). so_far.marks ++ m) (sym (marks_here _ says)))))
         ∙ ap (λ (fault : Option Flaw). meant_by so_far (option_or (option_map (at_line line.number) fault) later)
-        (line ∷ more) (cut true)) (name_known name)
+        (line ∷ more) (cut true)) (publish_known name)
 
     -- a line of the head, or one that is expected: the pieces are as without it
     passes : (next : Reading) → next.progress ≡ so_far.progress → event_of version line ≡ None
@@ -186,7 +179,7 @@ module _ (version : Version) where
         heads expected marks)
 
     expected_agrees : (register : Csr) (value : ℕ)
-        → statement_of version line.words ≡ Ok (statement.Expect register value)
+        → said_by version line ≡ Ok (statement.Expect register value)
         → resumed version (with_expected so_far line.number register value) more
         ≡ meant_from (with_expected so_far line.number register value) (line ∷ last ∷ front) more
         → resumed version (with_expected so_far line.number register value) more
@@ -198,7 +191,7 @@ module _ (version : Version) where
         ∙ ap (λ (e : List Expectation). so_far.expectations ++ e) (sym (expected_here _ says)))
         (ap (λ (m : List Mark). so_far.marks ++ m) (sym (marks_here _ says))) same
 
-    mark_agrees : (name : Name) → statement_of version line.words ≡ Ok (statement.Mark name)
+    mark_agrees : (name : Name) → said_by version line ≡ Ok (statement.Mark name)
         → resumed version (with_mark so_far name) more ≡ meant_from (with_mark so_far name) (line ∷ last ∷ front) more
         → reads (after_statement version so_far line.number (Ok (statement.Mark name)))
         ≡ means (Ok (statement.Mark name))
@@ -222,7 +215,7 @@ module _ (version : Version) where
       by_head None same = same refl
       by_head (Some fault) same = refl
 
-      head_agrees : statement_of version line.words ≡ Ok (statement.Head says)
+      head_agrees : said_by version line ≡ Ok (statement.Head says)
           → resumed version next_head more ≡ meant_from next_head (line ∷ last ∷ front) more
           → reads (after_statement version so_far line.number (Ok (statement.Head says)))
           ≡ means (Ok (statement.Head says))
@@ -236,57 +229,26 @@ module _ (version : Version) where
           ∙ (λ i. meant_by so_far (option_or (option_map (at_line line.number)
           (head_fault (knows.over i) (knows.said says i) says)) later) (line ∷ more) (cut false))
 
-    module _ (event : Event) where
-      abbrev next_one : Reading
-      next_one = record so_far {
-        progress = longer so_far.progress line.number event;
-        head = over so_far.head;
-        events = so_far.events + 1;
-      }
-
-      -- the fault of the event itself, by whether the open batch has room for it
-      abbrev own_fault : (room : Bool) → Option ScriptFault
-      own_fault room = option_map (at_line line.number) (cond room None (Some (as_whole BatchFull)))
-
-      by_room : (room : Bool)
-          → (room ≡ true → resumed version next_one more ≡ meant_by so_far later (line ∷ more) (cut false))
-          → reads (with_progress so_far
-          (cond room (Ok (longer so_far.progress line.number event)) (Err (at_line line.number (as_whole BatchFull)))))
-          ≡ meant_by so_far (option_or (own_fault room) later) (line ∷ more) (cut false)
-      by_room true same = same refl
-      by_room false same = refl
-
-      by_flaw : (flaw : Option Flaw)
-          → reads (with_progress so_far (with_event so_far.progress line.number event))
-          ≡ meant_by so_far (option_or (option_map (at_line line.number)
-          (event_fault None (open_events version (last ∷ front)))) later) (line ∷ more) (cut false)
-          → reads (after_event flaw so_far line.number event)
-          ≡ meant_by so_far (option_or (option_map (at_line line.number)
-          (event_fault flaw (open_events version (last ∷ front)))) later) (line ∷ more) (cut false)
-      by_flaw None same = same
-      by_flaw (Some flaw) same = refl
-
-      event_agrees : statement_of version line.words ≡ Ok (statement.Event event)
-          → (ltb (length so_far.progress.batch) BATCH_EVENTS ≡ true
-          → resumed version next_one more ≡ meant_from next_one (line ∷ last ∷ front) more)
-          → reads (after_statement version so_far line.number (Ok (statement.Event event)))
-          ≡ means (Ok (statement.Event event))
-      event_agrees says same =
-          by_flaw (event_flaw version (profile_said so_far.head.lines).is_rv32 event)
-          (by_room (ltb (length so_far.progress.batch) BATCH_EVENTS)
-          (λ room. same room ∙ same_meant later _ _ _ _
-          (sym (since_from-event version line event says so_far.progress.since
-          (pieces_of version more) (some_piece version more)))
-          (same_read _ _ _ _ _ _ _ _
-          (sym (all_from-event version so_far.progress line event says (pieces_of version more)))
-          (ap (λ (h : List HeadLine). so_far.head.lines ++ h) (sym (head_here _ says)))
-          (ap (λ (e : List Expectation). so_far.expectations ++ e) (sym (expected_here _ says)))
-          (ap (λ (m : List Mark). so_far.marks ++ m) (sym (marks_here _ says)))))
-          ∙ ap (λ (n : ℕ). meant_by so_far (option_or (own_fault (ltb n BATCH_EVENTS)) later) (line ∷ more) (cut false))
-          knows.count)
-          ∙ ap (λ (narrow : Bool). meant_by so_far (option_or (option_map (at_line line.number)
-          (event_fault (event_flaw version narrow event) (open_events version (last ∷ front)))) later)
-          (line ∷ more) (cut false)) knows.xlen
+    event_agrees : (event : Event) → said_by version line ≡ Ok (statement.Event event)
+        → resumed version (with_event so_far line.number event) more
+        ≡ meant_from (with_event so_far line.number event) (line ∷ last ∷ front) more
+        → reads (after_statement version so_far line.number (Ok (statement.Event event)))
+        ≡ means (Ok (statement.Event event))
+    event_agrees event says same =
+        by_fault (with_event so_far line.number event) false
+        (event_fault (event_flaw version (profile_said so_far.head.lines).is_rv32 event)
+        (length so_far.progress.batch) so_far.events)
+        (same ∙ same_meant later _ _ _ _
+        (sym (since_from-event version line event says so_far.progress.since
+        (pieces_of version more) (some_piece version more)))
+        (same_read _ _ _ _ _ _ _ _
+        (sym (all_from-event version so_far.progress line event says (pieces_of version more)))
+        (ap (λ (h : List HeadLine). so_far.head.lines ++ h) (sym (head_here _ says)))
+        (ap (λ (e : List Expectation). so_far.expectations ++ e) (sym (expected_here _ says)))
+        (ap (λ (m : List Mark). so_far.marks ++ m) (sym (marks_here _ says)))))
+        ∙ (λ i. meant_by so_far (option_or (option_map (at_line line.number)
+        (event_fault (event_flaw version (knows.xlen i) event) (knows.count i) (knows.events i))) later)
+        (line ∷ more) (cut false))
 
   -- ---- all lines
 
@@ -296,7 +258,7 @@ module _ (version : Version) where
       → Knows version so_far (last ∷ front) → resumed version so_far lines ≡ meant_from so_far (last ∷ front) lines
 
   by_saying : (says : Result Statement Flaw) (line : Line) (more : List Line)
-      → statement_of version line.words ≡ says → HoldsOf more → HoldsOf (line ∷ more)
+      → said_by version line ≡ says → HoldsOf more → HoldsOf (line ∷ more)
   by_saying (Err kind) line more says same so_far last front above knows =
       agree so_far last front above knows line more (Err kind) says refl
   by_saying (Ok (statement.Publish name)) line more says same so_far last front above knows =
@@ -312,7 +274,7 @@ module _ (version : Version) where
   by_saying (Ok (statement.Event event)) line more says same so_far last front above knows =
       agree so_far last front above knows line more (Ok (statement.Event event)) says
       (event_agrees so_far last front above knows line more event says
-      (λ room. same (next_one so_far last front above knows line more event) line (last ∷ front) above
+      (same (with_event so_far line.number event) line (last ∷ front) above
       (knows_event version so_far (last ∷ front) knows line event says)))
   by_saying (Ok (statement.Head here)) line more says same so_far last front above knows =
       agree so_far last front above knows line more (Ok (statement.Head here)) says
@@ -336,4 +298,4 @@ module _ (version : Version) where
 
   pub reading_means : (lines : List Line) → HoldsOf lines
   reading_means [] = λ so_far last front above knows. nothing_left so_far so_far.progress.since
-  reading_means (line ∷ more) = by_saying (statement_of version line.words) line more refl (reading_means more)
+  reading_means (line ∷ more) = by_saying (said_by version line) line more refl (reading_means more)

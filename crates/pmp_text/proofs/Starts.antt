@@ -8,7 +8,7 @@ use Rattle.pmp_core.proofs.Saved.{restored_legal}
 use Rattle.pmp_text.specs.declared.script.version.Version.{Version}
 use Rattle.pmp_text.specs.declared.script.version.Version.TheVariants.{Sized, Headed}
 use Rattle.pmp_text.specs.Contents.{ScriptContents}
-use Rattle.pmp_text.specs.Scripts.{Line}
+use Rattle.pmp_text.specs.ScriptLines.{Line}
 use Rattle.pmp_text.specs.Versions.{LegalStartLaw}
 use Rattle.pmp_text.proofs.MadeScripts.{Begins, is_read}
 
@@ -22,4 +22,4 @@ begins_legal Headed more script begins =
 
 pub legal_start : LegalStartLaw
 legal_start text script e =
-    let it = is_read text script e in begins_legal it.version it.more script it.made.begins
+    let it = is_read text script e in begins_legal it.version _ script it.made.begins

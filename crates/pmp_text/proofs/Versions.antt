@@ -1,6 +1,6 @@
 -- What the version of a script makes of it.
 use Rattle.std.proofs.Common.{◌≡◌, ℕ, zero, suc, ◌+◌, ◌≤◌, Bool, true, false, cond, ltb, List, [], ◌∷◌, ◌++◌, length}
-use Rattle.std.proofs.Common.{take, Option, Result, Ok, Err, Some, refl, sym, ap, subst, ◌∙◌, arith}
+use Rattle.std.proofs.Common.{take, Option, Result, Ok, Err, Some, None, refl, sym, ap, subst, ◌∙◌, arith}
 use Rattle.std.specs.Prelude.{◌↔◌, All, filter, codes}
 use Rattle.std.specs.List.{list_all}
 use Rattle.std.proofs.lemmas.Bool.{and_parts, and_from, cond-true, cond-false}
@@ -19,9 +19,10 @@ use Rattle.pmp_text.specs.Contents.{Publications, ScriptContents}
 use Rattle.pmp_text.specs.declared.script.reader.TheConstants.{MAX_SCRIPT}
 use Rattle.pmp_text.specs.Lines.{words, lines}
 use Rattle.pmp_text.specs.Reports.{AreDecided, IsReport, file_of_script}
-use Rattle.pmp_text.specs.Scripts.{Line, counts, numbered_from, significant_from, significant_lines, version_flaw}
-use Rattle.pmp_text.specs.Scripts.{published_behind, version_named, for_unit}
-use Rattle.pmp_text.specs.Scripts.{meaning_behind, lines_meaning, script_meaning}
+use Rattle.pmp_text.specs.Longhand.{in_longhand, lines_in_longhand, meant_behind, meant_lines}
+use Rattle.pmp_text.specs.ScriptLines.{Line, counts, numbered_from, said_by, significant_from, significant_lines}
+use Rattle.pmp_text.specs.ScriptLines.{version_flaw, version_named}
+use Rattle.pmp_text.specs.Scripts.{for_unit, lines_meaning, meaning_behind, most_bytes, published_behind, script_meaning}
 use Rattle.pmp_text.specs.Statements.{statement_of}
 use Rattle.pmp_text.specs.Steps.Progress.{Reading, Read, nothing_begun, after_statement, resumed, concluded}
 use Rattle.pmp_text.specs.declared.flaw.Flaw.{Flaw}
@@ -31,12 +32,12 @@ use Rattle.pmp_text.specs.declared.script.version.Version.TheVariants.{Sized}
 use Rattle.pmp_core.specs.Decision.{IsDecision}
 use Rattle.pmp_core.specs.Hart.{profile_of, profile_with}
 use Rattle.pmp_core.specs.RegisterFile.{reset_file}
-use Rattle.pmp_text.specs.Versions.{is_version_one, lines_meaning_in_one, meaning_in_one, in_sixteen}
+use Rattle.pmp_text.specs.Versions.{IsVersionOne, is_version_one, lines_meaning_in_one, meaning_in_one, in_sixteen}
 use Rattle.pmp_text.specs.Versions.{IsReportInOne, VersionOneLaw, IsSameInTwo, in_sixty_four, VersionTwoLaw}
 use Rattle.pmp_text.specs.Versions.{HasNoHead, NoHeadLaw}
 use Rattle.pmp_core.proofs.HartNumbers.{usual}
 use Rattle.pmp_text.proofs.MadeScripts.{Begins, is_read}
-use Rattle.pmp_text.proofs.Meanings.{with_size}
+use Rattle.pmp_text.proofs.Meanings.{most_of, with_size}
 use Rattle.pmp_text.specs.declared.script.version.Version.{Version}
 use Rattle.pmp_text.specs.Flaws.{at_line, as_whole}
 
@@ -70,17 +71,29 @@ lines_in_one version more says =
     ∙ ap (for_unit Sixteen) (sym (cond-true _ (read_lines version more) (Err (at_line version.number (version_flaw version.words)))
     (ap is_version_one says ∙ names_one)))
 
-by_length : (long : Bool) (ls : List Line) → lines_meaning ls ≡ for_unit Sixteen (lines_meaning_in_one ls)
-    → cond long (Err (at_line 0 (as_whole TooLong))) (lines_meaning ls)
-    ≡ for_unit Sixteen (cond long (Err (at_line 0 (as_whole TooLong))) (lines_meaning_in_one ls))
-by_length true ls same = refl
-by_length false ls same = same
+module _ (text : List ℕ) (is : IsVersionOne text) where
+  named_one : version_named is.version.words ≡ Some (Sized Sixteen)
+  named_one = ap version_named is.says ∙ names_sixteen
 
-as_in_one : (text : List ℕ) → lines_meaning (significant_lines text)
-    ≡ for_unit Sixteen (lines_meaning_in_one (significant_lines text))
-    → script_meaning text ≡ for_unit Sixteen (meaning_in_one text)
-unfolding script_meaning
-as_in_one text same = by_length (ltb MAX_SCRIPT (length text)) (significant_lines text) same
+  by_length : (long : Bool) (ls : Result ScriptContents ScriptFault) (in_one : Result Publications ScriptFault)
+      → ls ≡ for_unit Sixteen in_one → cond long (Err (at_line 0 (as_whole TooLong))) ls
+      ≡ for_unit Sixteen (cond long (Err (at_line 0 (as_whole TooLong))) in_one)
+  by_length true ls in_one same = refl
+  by_length false ls in_one same = same
+
+  same_lines : lines_meaning (meant_lines text) ≡ for_unit Sixteen (lines_meaning_in_one (significant_lines text))
+  same_lines =
+      ap (λ (ls : List Line). lines_meaning (lines_in_longhand ls)) is.lines_are
+      ∙ ap (λ (v : Option Version). lines_meaning (meant_behind is.version is.more v)) named_one
+      ∙ lines_in_one is.version is.more is.says
+      ∙ ap (λ (ls : List Line). for_unit Sixteen (lines_meaning_in_one ls)) (sym is.lines_are)
+
+  as_in_one : script_meaning text ≡ for_unit Sixteen (meaning_in_one text)
+  unfolding script_meaning
+  as_in_one =
+      ap (λ (most : ℕ). cond (ltb most (length text)) (Err (at_line 0 (as_whole TooLong))) (lines_meaning (meant_lines text)))
+      (most_of text is.version is.more Sixteen is.lines_are named_one)
+      ∙ by_length (ltb MAX_SCRIPT (length text)) _ _ same_lines
 
 module _ (batches : List (List Event)) (lines : List (List ℕ)) (trace text : List ℕ) where
   reports_as_in_one : IsReport (in_sixteen batches lines) trace text → IsReportInOne batches trace text
@@ -102,17 +115,12 @@ module _ (batches : List (List Event)) (lines : List (List ℕ)) (trace text : L
   }
 
 pub version_one : VersionOneLaw
-version_one text is =
-    let same : lines_meaning (significant_lines text)
-    ≡ for_unit Sixteen (lines_meaning_in_one (significant_lines text)) =
-    ap lines_meaning is.lines_are ∙ lines_in_one is.version is.more is.says
-    ∙ ap (λ (ls : List Line). for_unit Sixteen (lines_meaning_in_one ls)) (sym is.lines_are) in
-    record {
-      meaning = as_in_one text same;
-      files = λ batches lines done. refl;
-      reports = λ batches lines trace text.
-          (reports_as_in_one batches lines trace text, reports_in_sixteen batches lines trace text);
-    }
+version_one text is = record {
+  meaning = as_in_one text is;
+  files = λ batches lines done. refl;
+  reports = λ batches lines trace text.
+      (reports_as_in_one batches lines trace text, reports_in_sixteen batches lines trace text);
+}
 
 -- ---- version 2: the lines behind the version are the same
 
@@ -121,18 +129,18 @@ significant number ls = filter (λ (line : Line). counts line.words) (numbered_f
 
 one_counts : (line : List ℕ) (says : List (List ℕ)) → words line ≡ says → counts says ≡ true
     → (number : ℕ) (after : List (List ℕ))
-    → significant number (line ∷ after) ≡ record { number = number; words = says } ∷ significant (number + 1) after
+    → significant number (line ∷ after) ≡ record { number = number; words = says; stands_for = None } ∷ significant (number + 1) after
 one_counts line says e counted number after =
-    cond-true (counts (words line)) (record { number = number; words = words line } ∷ significant (number + 1) after)
+    cond-true (counts (words line)) (record { number = number; words = words line; stands_for = None } ∷ significant (number + 1) after)
     (significant (number + 1) after) (ap counts e ∙ counted)
-    ∙ ap (λ (ws : List (List ℕ)). record { number = number; words = ws } ∷ significant (number + 1) after) e
+    ∙ ap (λ (ws : List (List ℕ)). record { number = number; words = ws; stands_for = None } ∷ significant (number + 1) after) e
 
 -- behind lines that don't count, the first line that does has the same number, whatever it says
 record StandsBehind (number : ℕ) (before after : List (List ℕ)) : Type 0 where
   at : ℕ
   more : List Line
   stands : (line : List ℕ) (says : List (List ℕ)) → words line ≡ says → counts says ≡ true
-      → significant number (before ++ line ∷ after) ≡ record { number = at; words = says } ∷ more
+      → significant number (before ++ line ∷ after) ≡ record { number = at; words = says; stands_for = None } ∷ more
 
 stands_behind : (number : ℕ) (before after : List (List ℕ)) → All (λ line. counts (words line) ≡ false) before
     → StandsBehind number before after
@@ -150,7 +158,7 @@ stands_behind number (skipped ∷ before) after none =
       more = rest.more;
       stands = λ line says e counted.
           cond-false (counts (words skipped))
-          (record { number = number; words = words skipped } ∷ significant (number + 1) (before ++ line ∷ after))
+          (record { number = number; words = words skipped; stands_for = None } ∷ significant (number + 1) (before ++ line ∷ after))
           (significant (number + 1) (before ++ line ∷ after)) here
           ∙ rest.stands line says e counted;
     }
@@ -170,10 +178,14 @@ goes_alike : (step : Result Reading ScriptFault) (more : List Line)
 goes_alike (Ok next) more alike = alike next
 goes_alike (Err fault) more alike = refl
 
-says_alike : (words : List (List ℕ)) → statement_of (Sized Sixteen) words ≡ statement_of (Sized SixtyFour) words
+words_alike : (words : List (List ℕ)) → statement_of (Sized Sixteen) words ≡ statement_of (Sized SixtyFour) words
 unfolding statement_of
-says_alike [] = refl
-says_alike (word ∷ operands) = refl
+words_alike [] = refl
+words_alike (word ∷ operands) = refl
+
+says_alike : (line : Line) → said_by (Sized Sixteen) line ≡ said_by (Sized SixtyFour) line
+unfolding said_by
+says_alike line = words_alike line.words
 
 takes_alike : (so_far : Reading) (number : ℕ) (says : Result Statement Flaw)
     → after_statement (Sized Sixteen) so_far number says ≡ after_statement (Sized SixtyFour) so_far number says
@@ -189,9 +201,9 @@ reads_alike : (lines : List Line) (so_far : Reading)
 reads_alike [] so_far = refl
 reads_alike (line ∷ more) so_far =
     ap (λ (says : Result Statement Flaw). on Sixteen more (after_statement (Sized Sixteen) so_far line.number says))
-    (says_alike line.words)
-    ∙ ap (on Sixteen more) (takes_alike so_far line.number (statement_of (Sized SixtyFour) line.words))
-    ∙ goes_alike (after_statement (Sized SixtyFour) so_far line.number (statement_of (Sized SixtyFour) line.words)) more
+    (says_alike line)
+    ∙ ap (on Sixteen more) (takes_alike so_far line.number (said_by (Sized SixtyFour) line))
+    ∙ goes_alike (after_statement (Sized SixtyFour) so_far line.number (said_by (Sized SixtyFour) line)) more
     (reads_alike more)
 
 -- what is read, as a script for a unit of this size
@@ -218,22 +230,38 @@ was_read (Err fault) script e = absurd cc
 
 module _ (one two : List ℕ) (script : ScriptContents) (same : IsSameInTwo one two)
     (means : script_meaning one ≡ Ok script) where
-  behind : StandsBehind 1 same.before same.after
+  abbrev behind : StandsBehind 1 same.before same.after
   behind = stands_behind 1 same.before same.after same.insignificant
 
-  short : length one ≤ MAX_SCRIPT
+  abbrev first_one : Line
+  first_one = record { number = behind.at; words = one_says; stands_for = None }
+
+  abbrev first_two : Line
+  first_two = record { number = behind.at; words = two_says; stands_for = None }
+
+  lines_one : significant_lines one ≡ first_one ∷ behind.more
+  lines_one = lines_behind one (same.before ++ same.version ∷ same.after) same.lines_of_one
+      ∙ behind.stands same.version one_says same.says_one refl
+
+  lines_two : significant_lines two ≡ first_two ∷ behind.more
+  lines_two = lines_behind two (same.before ++ same.other ∷ same.after) same.lines_of_two
+      ∙ behind.stands same.other two_says same.says_two refl
+
+  short : length one ≤ most_bytes one
   short = (is_read one script means).short
 
   in_one : script_meaning one ≡ concluded (Sized Sixteen) (resumed (Sized Sixteen) nothing_begun behind.more)
-  in_one = with_size one short (record { number = behind.at; words = one_says }) behind.more
-      (lines_behind one (same.before ++ same.version ∷ same.after) same.lines_of_one
-      ∙ behind.stands same.version one_says same.says_one refl) (Sized Sixteen) names_sixteen
+  in_one = with_size one short first_one behind.more lines_one (Sized Sixteen) names_sixteen
+
+  short_too : length two ≤ most_bytes two
+  short_too =
+      let e = same.as_long in let s = short in
+      let m = most_of one first_one behind.more Sixteen lines_one names_sixteen in
+      let n = most_of two first_two behind.more SixtyFour lines_two names_sixty_four in
+      omega arith
 
   in_two : script_meaning two ≡ concluded (Sized SixtyFour) (resumed (Sized SixtyFour) nothing_begun behind.more)
-  in_two = with_size two (let e = same.as_long in let s = short in omega arith)
-      (record { number = behind.at; words = two_says }) behind.more
-      (lines_behind two (same.before ++ same.other ∷ same.after) same.lines_of_two
-      ∙ behind.stands same.other two_says same.says_two refl) (Sized SixtyFour) names_sixty_four
+  in_two = with_size two short_too first_two behind.more lines_two (Sized SixtyFour) names_sixty_four
 
   read : WasRead script (resumed (Sized Sixteen) nothing_begun behind.more)
   read = was_read (resumed (Sized Sixteen) nothing_begun behind.more) script (sym in_one ∙ means)
@@ -318,5 +346,5 @@ pub no_head_law : NoHeadLaw
 no_head_law text size script is means =
     let it = is_read text script means in
     let same : it.first ≡ is.first = let e = sym it.lines ∙ is.lines_are in cc in
-    same_version size it.version it.more script
+    same_version size it.version (in_longhand it.version it.more) script
     (sym it.named ∙ ap (λ (line : Line). version_named line.words) same ∙ is.says) it.made.begins

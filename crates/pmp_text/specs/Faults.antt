@@ -2,11 +2,13 @@
 use Rattle.std.specs.Prelude.{◌≡◌, ℕ, ◌<◌, ◌≤◌, List, [], length, reverse, take, Option, Some, None, Err, MatchOption}
 use Rattle.std.specs.Prelude.{option_map, option_and_then, slice_get}
 use Rattle.pmp_text.specs.declared.script.ScriptFault.{ScriptFault}
-use Rattle.pmp_text.specs.Scripts.{Line, line_fault, first_fault, significant_lines, script_meaning}
-use Rattle.pmp_text.specs.declared.script.reader.TheConstants.{MAX_SCRIPT}
+use Rattle.pmp_text.specs.ScriptLines.{Line}
+use Rattle.pmp_text.specs.Longhand.{meant_lines}
+use Rattle.pmp_text.specs.ScriptFaults.{line_fault, first_fault}
+use Rattle.pmp_text.specs.Scripts.{most_bytes, script_meaning}
 use Rattle.pmp_text.specs.Flaws.{at_line}
 
--- the fault of the significant line with this index, by the lines before it
+-- the fault of the line with this index, by the lines before it
 abbrev pub fault_at : List Line → (index : ℕ) → Option ScriptFault
 fault_at lines index = option_and_then {T = Line} {U = ScriptFault}
     (λ line. option_map (at_line line.number) (line_fault (reverse (take index lines)) line)) (slice_get lines index)
@@ -23,7 +25,7 @@ FirstFaultLaw = (lines : List Line)
     → MatchOption (first_fault [] lines) ((index : ℕ) → fault_at lines index ≡ None)
     (λ fault. IsLeastFault (fault_at lines) fault)
 
--- a text that isn't too long is refused with the fault of its least faulty line, where it has one
+-- a text that isn't too long is refused with the fault of its least faulty line, in longhand, where it has one
 abbrev pub LeastFaultLaw : Type 0
-LeastFaultLaw = (text : List ℕ) → (fault : ScriptFault) → length text ≤ MAX_SCRIPT
-    → IsLeastFault (fault_at (significant_lines text)) fault → script_meaning text ≡ Err fault
+LeastFaultLaw = (text : List ℕ) → (fault : ScriptFault) → length text ≤ most_bytes text
+    → IsLeastFault (fault_at (meant_lines text)) fault → script_meaning text ≡ Err fault

@@ -15,6 +15,7 @@ pub mod Heads
 pub mod Hexadecimal
 pub mod Inputs
 pub mod Lines
+pub mod Longhand
 pub mod LongTraces
 pub mod Marks
 pub mod Moments
@@ -28,7 +29,11 @@ pub mod Refusals
 pub mod Reports
 pub mod RowsLeft
 pub mod RunLines
+pub mod ScriptEvents
+pub mod ScriptFaults
+pub mod ScriptLines
 pub mod Scripts
+pub mod Shorthands
 pub mod Statements
 pub mod Tables
 pub mod Traces

@@ -8,7 +8,8 @@ use Rattle.pmp_text.specs.declared.refusal.Refusal.TheVariants.{OddCfg, BadNumbe
 use Rattle.pmp_text.specs.declared.refusal.Refusal.TheVariants.{BadHeader, BadRow, BadAfter, Order, BadWord, Memory}
 use Rattle.pmp_text.specs.declared.refusal.Refusal.TheVariants.{NoPlace, Full, Moved, Input, Output}
 use Rattle.pmp_text.specs.declared.refusal.Refusal.TheVariants.{LateHead, Twice, BadEntries, BadBits, NotHeld, BadGrain}
-use Rattle.pmp_text.specs.declared.refusal.Refusal.TheVariants.{BadMark, OpenMark, NoMoment, BadEvent, NoHart, BadFormat}
+use Rattle.pmp_text.specs.declared.refusal.Refusal.TheVariants.{BadMark, OpenMark, NoMoment, BadEntry, BadEvent, NoHart}
+use Rattle.pmp_text.specs.declared.refusal.Refusal.TheVariants.{BadFormat, TooMany}
 
 abbrev pub number_of : Refusal → ℕ
 number_of BadLength = 3
@@ -41,9 +42,11 @@ number_of BadGrain = 55
 number_of BadMark = 56
 number_of OpenMark = 57
 number_of NoMoment = 58
+number_of BadEntry = 59
 number_of BadEvent = 60
 number_of NoHart = 61
 number_of BadFormat = 62
+number_of TooMany = 63
 
 abbrev pub name_of : Refusal → List ℕ
 name_of BadLength = codes "BadLength"
@@ -76,9 +79,11 @@ name_of BadGrain = codes "BadGrain"
 name_of BadMark = codes "BadMark"
 name_of OpenMark = codes "OpenMark"
 name_of NoMoment = codes "NoMoment"
+name_of BadEntry = codes "BadEntry"
 name_of BadEvent = codes "BadEvent"
 name_of NoHart = codes "NoHart"
 name_of BadFormat = codes "BadFormat"
+name_of TooMany = codes "TooMany"
 
 -- the program's exit status: 3 where memory, input, output or a shared unit failed, and else 2
 abbrev pub status_of : Refusal → ℕ

@@ -19,8 +19,10 @@ use Rattle.pmp_text.specs.Contents.{Publications, ScriptContents}
 use Rattle.pmp_text.specs.declared.script.reader.TheConstants.{MAX_SCRIPT}
 use Rattle.pmp_text.specs.Lines.{words, lines}
 use Rattle.pmp_text.specs.Reports.{IsReport, file_of_script, report_text}
-use Rattle.pmp_text.specs.Scripts.{Line, counts, significant_lines, published_behind, for_unit, version_flaw}
-use Rattle.pmp_text.specs.Scripts.{script_meaning, version_named}
+use Rattle.pmp_text.specs.ScriptLines.{Line, counts, significant_lines, version_flaw}
+use Rattle.pmp_text.specs.Scripts.{published_behind, for_unit}
+use Rattle.pmp_text.specs.Scripts.{script_meaning}
+use Rattle.pmp_text.specs.ScriptLines.{version_named}
 use Rattle.pmp_text.specs.Traces.{row_fields, trace_meaning}
 use Rattle.pmp_text.specs.Flaws.{at_line, as_whole}
 

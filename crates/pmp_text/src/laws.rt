@@ -16,7 +16,7 @@ pub fn law_least_fault()
     ensures answered { LeastFaultLaw }
 {}
 
-/// A script has no more publications and events than bytes.
+/// A script has no more events, and no more publications, than their limit.
 pub fn law_script_size()
     ensures { ScriptSizeLaw }
 {}

@@ -39,7 +39,8 @@ pub use output::{OutputFault, write_out};
 pub use policy::{Demand, Kinds, Modes, PolicyFields, PolicyRow, read_policy};
 pub use refusal::{InputFault, Refusal, ScriptKind, TraceKind};
 pub use script::{
-    MAX_SCRIPT, Script, ScriptFault, Words, is_headed, read_script, split_first_line,
+    MAX_EVENTS, MAX_HEADED_SCRIPT, MAX_SCRIPT, Script, ScriptFault, Words, is_headed, read_script,
+    split_first_line,
 };
 pub use sink::Sink;
 pub use trace::{MAX_TRACE, Place, Row, RowReader, TraceFault, read_trace};

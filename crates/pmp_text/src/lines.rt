@@ -9,7 +9,7 @@ mod expected;
 mod hexadecimal;
 mod marks;
 mod picture;
-mod registers;
+pub(crate) mod registers;
 mod report;
 mod runs;
 mod script;

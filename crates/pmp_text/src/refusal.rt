@@ -71,15 +71,19 @@ pub enum Refusal {
     OpenMark = 57,
     /// A name that the script gives no moment.
     NoMoment = 58,
+    /// An entry that no hart has, or a range that it can't have there.
+    BadEntry = 59,
     /// A line of a log names a PMP register or one of its events in another form.
     BadEvent = 60,
     /// A log has no write, and no register, of the hart.
     NoHart = 61,
     /// A word that names no form of logs.
     BadFormat = 62,
+    /// More than 1,048,576 events or publications of a script.
+    TooMany = 63,
 }
 
-/// Why a script is refused: 10 to 17, 40, and in version 3 those from 50 on.
+/// Why a script is refused: 10 to 17, 40, and in version 3 50 to 57, 59 and 63.
 pub type ScriptKind = Refusal;
 
 /// Why a trace or a policy is refused: 3, 4, 17, 20 to 23, 40 and 41.
@@ -129,9 +133,11 @@ impl Refusal {
             Refusal::BadMark => "BadMark",
             Refusal::OpenMark => "OpenMark",
             Refusal::NoMoment => "NoMoment",
+            Refusal::BadEntry => "BadEntry",
             Refusal::BadEvent => "BadEvent",
             Refusal::NoHart => "NoHart",
             Refusal::BadFormat => "BadFormat",
+            Refusal::TooMany => "TooMany",
         }
     }
 
@@ -156,7 +162,7 @@ impl Refusal {
             Refusal::BadVersion =>
                 "pmp 1 for a unit of 16 entries, pmp 2 for one of 64, or pmp 3 for any hart, before every line but comments",
             Refusal::BadLine =>
-                "write NAME VALUE, reset or publish; with pmp 3 also set NAME VALUE, expect NAME VALUE, mark NAME, publish NAME, and hart with xlen 32 or 64, entries N, grain BYTES, bits N or smepmp yes or no",
+                "write NAME VALUE, reset or publish; with pmp 3 also set, expect, set-bits or clear-bits NAME VALUE, entry I off, entry I with na4, napot or tor, FIRST, SIZE or END, RIGHTS and perhaps L, mark NAME, publish NAME, and hart with xlen 32 or 64, entries N, grain BYTES, bits N or smepmp yes or no",
             Refusal::BadName =>
                 "mseccfg, pmpcfg0, pmpcfg2, .. pmpcfg14, pmpaddr0 to pmpaddr63, or the register's number after 0x; with hart xlen 32 also mseccfgh and the odd pmpcfg",
             Refusal::OddCfg =>
@@ -166,7 +172,7 @@ impl Refusal {
             Refusal::BatchFull => "at most 64 writes and resets before a publish",
             Refusal::Unpublished => "a publish after this event",
             Refusal::TooLong =>
-                "at most 1048576 bytes of a script, and 16777216 of a trace or a policy; of a long trace, shorter lines",
+                "at most 1048576 bytes of a script, 67108864 with pmp 3, and 16777216 of a trace or a policy; of a long trace, shorter lines",
             Refusal::BadHeader =>
                 "after,mode,kind,start,length for a trace, from,to,modes,kind,first,last,demand for a policy",
             Refusal::BadRow =>
@@ -193,10 +199,13 @@ impl Refusal {
                 "a name of 1 to 64 bytes: a letter, then letters, digits, _ and ., and none of last, mml, mmwp and rlb",
             Refusal::OpenMark => "mark between publications",
             Refusal::NoMoment => "a name that mark or publish gives a moment of the script",
+            Refusal::BadEntry =>
+                "an entry 0 to 63 and a range that it can have here: na4 4 bytes, napot a power of two of 8 or more, each at a multiple of its size, tor from where the entry before it ends to a higher multiple of 4; all below 2^56, with hart xlen 32 below 2^34",
             Refusal::BadEvent =>
                 "each line that names a PMP register or one of its events in the form of its log: see pmp help import",
             Refusal::NoHart => "a log with a write or a register of the hart",
             Refusal::BadFormat => "qemu, gdb, openocd, spike or dump",
+            Refusal::TooMany => "at most 1048576 events and as many publications",
         }
     }
 
@@ -208,7 +217,7 @@ impl Refusal {
             Refusal::BadVersion =>
                 "make it the first line, in lower case and with no other word; save the script as UTF-8 without a byte-order mark, each line ended by LF",
             Refusal::BadLine =>
-                "write each CSR write as write NAME VALUE, without =; begin with pmp 3 for hart, set, expect and mark; begin comments with #, on lines of their own",
+                "write each CSR write as write NAME VALUE, without =; begin with pmp 3 for hart, set, expect, mark, set-bits, clear-bits and entry; begin comments with #, on lines of their own",
             Refusal::BadName =>
                 "write it so, in lower case and without leading zeros; leave out writes to other registers",
             Refusal::OddCfg =>
@@ -243,11 +252,15 @@ impl Refusal {
             Refusal::OpenMark => "put it behind the publish, or name that, as by publish NAME",
             Refusal::NoMoment =>
                 "look for the script's mark lines, and for publish lines with a name",
+            Refusal::BadEntry =>
+                "write the entry before it first, whose address a tor entry begins at, or take napot or na4; give sizes in bytes",
             Refusal::BadEvent =>
                 "see whether the format is the log's; leave out a line that isn't a whole one of it",
             Refusal::NoHart =>
                 "ask for another hart with --hart, or see whether the log has the events of PMP at all",
             Refusal::BadFormat => "name the program that wrote the log, in lower case",
+            Refusal::TooMany =>
+                "cut the script at a publish, and begin the next one with the registers that it leaves",
         }
     }
 }

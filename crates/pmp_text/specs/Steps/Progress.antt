@@ -1,14 +1,15 @@
 -- Reading a script line by line, behind its first significant line.
-use Rattle.std.specs.Prelude.{ℕ, List, [], ◌∷◌, ◌++◌, length, Option, Some, None, Result, Ok, Err, nat_lt, unwrap_or}
-use Rattle.std.specs.Prelude.{◌+◌, Bool, true, false, if◌then◌else◌}
+use Rattle.std.specs.Prelude.{ℕ, List, [], ◌∷◌, ◌++◌, length, Option, Some, None, Result, Ok, Err, unwrap_or}
+use Rattle.std.specs.Prelude.{◌+◌, Bool, true, false, fold}
 use Rattle.std.specs.List.{list_any}
 use Rattle.pmp_core.specs.declared.csr.Csr.{Csr}
 use Rattle.pmp_core.specs.Hart.{profile_of}
-use Rattle.pmp_core.specs.RegisterFile.{reset_file}
+use Rattle.pmp_core.specs.Histories.{joined}
+use Rattle.pmp_core.specs.RegisterFile.{RegisterFile, reset_file}
+use Rattle.pmp_core.specs.RegisterWrite.{step}
 use Rattle.pmp_core.specs.declared.event.Event.{Event}
-use Rattle.pmp_core.specs.declared.event.TheConstants.{BATCH_EVENTS}
 use Rattle.pmp_text.specs.declared.flaw.Flaw.{Flaw}
-use Rattle.pmp_text.specs.declared.refusal.Refusal.TheVariants.{BatchFull, Unpublished}
+use Rattle.pmp_text.specs.declared.refusal.Refusal.TheVariants.{Unpublished}
 use Rattle.pmp_text.specs.declared.script.ScriptFault.{ScriptFault}
 use Rattle.pmp_text.specs.declared.script.statement.Statement.{Statement}
 use Rattle.pmp_text.specs.declared.script.statement.Statement.TheVariants as statement
@@ -21,9 +22,12 @@ use Rattle.pmp_text.specs.declared.mark.Mark.{Mark}
 use Rattle.pmp_text.specs.declared.mark.Name.{Name}
 use Rattle.pmp_text.specs.Contents.{Publications, ScriptContents}
 use Rattle.pmp_text.specs.Heads.{event_flaw, is_same, profile_said}
-use Rattle.pmp_text.specs.Statements.{statement_of}
+use Rattle.pmp_text.specs.Longhand.{file_said, longhand}
 use Rattle.pmp_text.specs.Marks.{is_in}
-use Rattle.pmp_text.specs.Scripts.{Line, for_head, head_fault, mark_at, mark_fault, name_fault}
+use Rattle.pmp_text.specs.ScriptLines.{Line, said_by}
+use Rattle.pmp_text.specs.Scripts.{for_head}
+use Rattle.pmp_text.specs.ScriptFaults.{event_fault, head_fault, mark_fault, publish_fault}
+use Rattle.pmp_text.specs.ScriptEvents.{mark_at}
 use Rattle.pmp_text.specs.Flaws.{at_line, as_whole}
 
 -- the publications so far, the events of the open batch and their lines, and the line of the first of them
@@ -56,12 +60,6 @@ longer so_far number event = record {
   lines = so_far.lines ++ number ∷ [];
   since = Some (unwrap_or so_far.since number);
 }
-
--- an event joins the open batch where that has room
-abbrev pub with_event : Progress → ℕ → Event → Result Progress ScriptFault
-with_event so_far number event =
-    if nat_lt (length so_far.batch) BATCH_EVENTS then Ok (longer so_far number event)
-    else Err (at_line number (as_whole BatchFull))
 
 -- ---- the head
 
@@ -124,10 +122,12 @@ with_publish so_far name = record so_far {
 abbrev pub with_mark : Reading → Name → Reading
 with_mark so_far name = record so_far { marks = so_far.marks ++ mark_at (Some name) so_far.done }
 
-abbrev pub with_progress : Reading → Result Progress ScriptFault → Result Reading ScriptFault
-with_progress so_far (Ok progress) =
-    Ok (record so_far { progress = progress; head = over so_far.head; events = so_far.events + 1 })
-with_progress so_far (Err fault) = Err fault
+abbrev pub with_event : Reading → ℕ → Event → Reading
+with_event so_far number event = record so_far {
+  progress = longer so_far.progress number event;
+  head = over so_far.head;
+  events = so_far.events + 1;
+}
 
 abbrev pub with_head : Reading → Result HeadSoFar ScriptFault → Result Reading ScriptFault
 with_head so_far (Ok head) = Ok (record so_far { head = head })
@@ -139,27 +139,26 @@ with_expected so_far number register value = record so_far {
       ++ record { register = register; value = value; line = number; events = so_far.events } ∷ [];
 }
 
--- an event joins the open batch if it has no such flaw
-abbrev pub after_event : Option Flaw → Reading → ℕ → Event → Result Reading ScriptFault
-after_event (Some flaw) so_far number event = Err (at_line number flaw)
-after_event None so_far number event = with_progress so_far (with_event so_far.progress number event)
+abbrev pub after_event : Version → Reading → ℕ → Event → Result Reading ScriptFault
+after_event version so_far number event =
+    let flaw = event_flaw version (profile_said so_far.head.lines).is_rv32 event in
+    unless number (event_fault flaw (length so_far.progress.batch) so_far.events) (with_event so_far number event)
 
 -- what reading a line with this number makes of it, by what the line says
 abbrev pub after_statement : Version → Reading → ℕ → Result Statement Flaw → Result Reading ScriptFault
 after_statement version so_far number (Err flaw) = Err (at_line number flaw)
 after_statement version so_far number (Ok (statement.Publish name)) =
-    unless number (name_fault (is_in so_far.marks) name) (with_publish so_far name)
+    unless number (publish_fault (is_in so_far.marks) name so_far.done) (with_publish so_far name)
 after_statement version so_far number (Ok (statement.Mark name)) =
     unless number (mark_fault (length so_far.progress.batch) (is_in so_far.marks name)) (with_mark so_far name)
-after_statement version so_far number (Ok (statement.Event event)) =
-    after_event (event_flaw version (profile_said so_far.head.lines).is_rv32 event) so_far number event
+after_statement version so_far number (Ok (statement.Event event)) = after_event version so_far number event
 after_statement version so_far number (Ok (statement.Head says)) =
     with_head so_far (after_head so_far.head number says)
 after_statement version so_far number (Ok (statement.Expect register value)) =
     Ok (with_expected so_far number register value)
 
 abbrev pub after_line : Version → Reading → Line → Result Reading ScriptFault
-after_line version so_far line = after_statement version so_far line.number (statement_of version line.words)
+after_line version so_far line = after_statement version so_far line.number (said_by version line)
 
 -- what was read, where the text ends; an event line that no `publish` follows is at fault, the first of them
 abbrev pub all_published : Option ℕ → Read → Result Read ScriptFault
@@ -177,11 +176,39 @@ read_in so_far = record {
 abbrev pub finished : Reading → Result Read ScriptFault
 finished so_far = all_published so_far.progress.since (read_in so_far)
 
--- what comes of reading these lines next, to the end
+-- what comes of reading these lines next, to the end, all of them in longhand
 abbrev pub resumed : Version → Reading → List Line → Result Read ScriptFault
 resumed version so_far [] = finished so_far
 resumed version so_far (line ∷ more) =
     elim (after_line version so_far line) [ Ok next ↦ resumed version next more | Err fault ↦ Err fault ]
+
+-- ---- shorthands
+
+-- what reading these lines makes of it
+abbrev pub after_lines : Version → Reading → List Line → Result Reading ScriptFault
+after_lines version so_far [] = Ok so_far
+after_lines version so_far (line ∷ more) =
+    elim (after_line version so_far line) [ Ok next ↦ after_lines version next more | Err fault ↦ Err fault ]
+
+-- the events so far
+abbrev pub events_read : Progress → List Event
+events_read so_far = joined so_far.published.batches ++ so_far.batch
+
+-- the register file that they leave
+abbrev pub file_now : Reading → RegisterFile
+file_now so_far = fold step (file_said so_far.head.lines) (events_read so_far.progress)
+
+abbrev pub longhand_now : Version → Reading → Line → List Line
+longhand_now (Sized size) so_far line = line ∷ []
+longhand_now Headed so_far line = longhand (file_now so_far) line
+
+-- what comes of reading these lines next, to the end, each in longhand
+abbrev pub read_on : Version → Reading → List Line → Result Read ScriptFault
+read_on version so_far [] = finished so_far
+read_on version so_far (line ∷ more) = elim (after_lines version so_far (longhand_now version so_far line)) [
+  | Ok next ↦ read_on version next more
+  | Err fault ↦ Err fault
+]
 
 -- what a script means of which this was read
 abbrev pub concluded : Version → Result Read ScriptFault → Result ScriptContents ScriptFault

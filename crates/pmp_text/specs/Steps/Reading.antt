@@ -1,10 +1,12 @@
 -- What a log and the batch that is open in it say of a script that is being read.
-use Rattle.std.specs.Prelude.{◌≡◌, drop, length}
+use Rattle.std.specs.Prelude.{◌≡◌, IfSome, drop, fold, length}
+use Rattle.pmp_core.specs.RegisterWrite.{step}
 use Rattle.pmp_text.specs.declared.script.head.Head.{Head}
 use Rattle.pmp_text.specs.declared.script.reading.ScriptReading.{ScriptReading}
 use Rattle.pmp_text.specs.Heads.{profile_said}
 use Rattle.pmp_text.specs.declared.script.progress.OpenBatch.{OpenBatch}
 use Rattle.pmp_text.specs.EventLogs.{Kept}
+use Rattle.pmp_text.specs.Longhand.{file_said}
 use Rattle.pmp_text.specs.Steps.Cuts.{AreOpen, cut_from}
 use Rattle.pmp_text.specs.Steps.Progress.{HeadSoFar, Progress, Reading}
 
@@ -44,6 +46,8 @@ reading_of kept reading = record {
   done = length kept.ends;
 }
 
+-- the register file, where it is known, is the one that the events of the log leave
 pub record IsReading (kept : Kept) (reading : ScriptReading) : Type 0 where
   pub batch : IsOpen kept reading.batch
   pub head : IsHead reading.head
+  pub file : IfSome reading.file (λ file. file ≡ fold step (file_said reading.head.lines.items) kept.events)

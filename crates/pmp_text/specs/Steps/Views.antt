@@ -1,9 +1,9 @@
 -- What the reader's iterators stand for.
-use Rattle.std.specs.Prelude.{ℕ, List, [], ◌∷◌}
+use Rattle.std.specs.Prelude.{ℕ, List, [], ◌∷◌, None}
 use Rattle.pmp_text.specs.declared.script.significant.NumberedLine.{NumberedLine}
 use Rattle.pmp_text.specs.declared.script.significant.SignificantLines.{SignificantLines}
 use Rattle.pmp_text.specs.Lines.{words}
-use Rattle.pmp_text.specs.Scripts.{Line, significant_from}
+use Rattle.pmp_text.specs.ScriptLines.{Line, significant_from}
 use Rattle.pmp_text.specs.declared.policy.row_fields.Words.{Words}
 use Rattle.pmp_text.specs.declared.trace.row_fields.Words as trace
 use Rattle.pmp_text.specs.Policies.{SevenFields}
@@ -11,7 +11,7 @@ use Rattle.pmp_text.specs.Traces.{FiveFields}
 
 -- a line as the definitions see it
 abbrev pub seen_line : NumberedLine → Line
-seen_line line = record { number = line.number; words = words line.bytes.now }
+seen_line line = record { number = line.number; words = words line.bytes.now; stands_for = None }
 
 -- the lines that an iterator still yields
 abbrev pub lines_left : SignificantLines → List Line

@@ -88,8 +88,8 @@ fn registers_for(hart: &Hart, entries: u8) -> u8
 }
 
 /// The configuration register in this place among those that the hart has.
-fn cfg_at(hart: &Hart, place: u8) -> Csr
-    requires { place < 16 }
+pub(crate) fn cfg_at(hart: &Hart, place: u8) -> Csr
+    requires { place < 128 }
     ensures { result ≡ cfg_at hart.now place }
 {
     if hart.profile().is_rv32 {

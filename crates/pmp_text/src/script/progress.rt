@@ -1,15 +1,15 @@
 //! The batch that is open while a script is read.
 
-ghost use Rattle.std.specs.Prelude.{◌≡◌, Ok, OnOk, length};
+ghost use Rattle.std.specs.Prelude.{◌≡◌, ◌<◌, Ok, OnOk, length};
+ghost use Rattle.pmp_core.specs.declared.event.TheConstants.{BATCH_EVENTS};
 ghost use Rattle.pmp_text.specs.EventLogs.{nothing_kept, with_end, with_event as pushed};
 ghost use Rattle.pmp_text.specs.Outcomes.{Gives};
-ghost use Rattle.pmp_text.specs.Steps.Progress.{nothing_read, published, with_event};
+ghost use Rattle.pmp_text.specs.Steps.Progress.{longer, nothing_read, published};
 ghost use Rattle.pmp_text.specs.Steps.Reading.{IsOpen, progress_of};
 
 use crate::event_log::EventLog;
-use crate::refusal::Refusal;
 use crate::script::ScriptFault;
-use pmp_core::{BATCH_EVENTS, Event};
+use pmp_core::Event;
 
 /// The batch that is open: the last events of a log, behind those that are published.
 #[derive(Clone, Copy)]
@@ -54,22 +54,20 @@ impl OpenBatch {
         log.events().len() - self.published
     }
 
-    /// Adds an event to the open batch.
+    /// Adds an event to the open batch, which has room for it.
     pub fn add<L: EventLog>(
         &mut self,
         log: &mut L,
         line: u64,
         event: Event,
     ) -> Result<(), ScriptFault>
-        requires { IsOpen (L.kept log.old) self.old }
+        requires open { IsOpen (L.kept log.old) self.old }
+        requires room { length (progress_of (L.kept log.old) self.old).batch < BATCH_EVENTS }
         ensures open { OnOk result (IsOpen (L.kept log.new) self.new) }
         ensures pushed { OnOk result (L.kept log.new ≡ pushed (L.kept log.old) line event) }
         ensures added { Gives (λ _. progress_of (L.kept log.new) self.new) result
-            (with_event (progress_of (L.kept log.old) self.old) line event) }
+            (Ok (longer (progress_of (L.kept log.old) self.old) line event)) }
     {
-        if self.count(log) >= BATCH_EVENTS {
-            return Err(Refusal::BatchFull.whole().at_line(line));
-        }
         log.push(line, event)?;
         self.since = Some(self.since.unwrap_or(line));
         Ok(())

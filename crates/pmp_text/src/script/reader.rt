@@ -1,9 +1,10 @@
 //! Reading a script: the version, then line by line, up to the first fault.
 
-ghost use Rattle.std.specs.Prelude.{◌≡◌, ◌<◌, ◌^◌, length};
+ghost use Rattle.std.specs.Prelude.{◌≡◌, ◌<◌, ◌^◌, length, nat_lt};
 ghost use Rattle.pmp_text.specs.Outcomes.{Gives};
-ghost use Rattle.pmp_text.specs.Steps.Progress.{concluded, nothing_begun, resumed};
-ghost use Rattle.pmp_text.specs.Scripts.{is_headed, script_meaning};
+ghost use Rattle.pmp_text.specs.Steps.Progress.{concluded, nothing_begun, read_on};
+ghost use Rattle.pmp_text.specs.ScriptLines.{is_headed};
+ghost use Rattle.pmp_text.specs.Scripts.{most_bytes, script_meaning};
 ghost use Rattle.pmp_text.specs.Steps.Views.{lines_left};
 
 use crate::event_log::EventLog;
@@ -13,8 +14,14 @@ use crate::script::significant::SignificantLines;
 use crate::script::version::{Version, read_version};
 use crate::script::{Script, ScriptFault};
 
-/// The most bytes of a script.
+/// The most bytes of a script of version 1 or 2.
 pub const MAX_SCRIPT: usize = 1 << 20;
+
+/// The most bytes of a script of version 3.
+pub const MAX_HEADED_SCRIPT: usize = 1 << 26;
+
+/// The most events of a script, and the most publications.
+pub const MAX_EVENTS: usize = 1 << 20;
 
 /// Reads the lines behind a script's first one.
 fn read_statements<'a, L: EventLog>(
@@ -23,7 +30,7 @@ fn read_statements<'a, L: EventLog>(
     lines: SignificantLines,
 ) -> Result<Script<'a>, ScriptFault>
     ensures { Gives (λ script. script) result
-        (concluded version (resumed version nothing_begun (lines_left lines.entry))) }
+        (concluded version (read_on version nothing_begun (lines_left lines.entry))) }
 {
     log.clear();
     let mut reading = ScriptReading::new();
@@ -33,13 +40,20 @@ fn read_statements<'a, L: EventLog>(
     reading.finish(log, version)
 }
 
+/// Whether a text has more bytes than a script of its version.
+fn is_too_long(text: &[u8]) -> bool
+    ensures { result ≡ nat_lt (most_bytes text.now) (length text.now) }
+{
+    text.len() > MAX_HEADED_SCRIPT || text.len() > MAX_SCRIPT && !is_headed(text)
+}
+
 /// The script that a text describes, else its first fault. The time is linear in the text, and only the publications
 /// and what is expected take room, in the log, which forgets what it had: where they have none, `Memory` is answered in
 /// place of any fault further on.
 pub fn read_script<'a, L: EventLog>(log: &'a mut L, text: &[u8]) -> Result<Script<'a>, ScriptFault>
     ensures { Gives (λ script. script) result (script_meaning text.now) }
 {
-    if text.len() > MAX_SCRIPT {
+    if is_too_long(text) {
         return Err(Refusal::TooLong.whole().at_line(0));
     }
     let mut lines = SignificantLines::new(text);

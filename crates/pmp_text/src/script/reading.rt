@@ -1,11 +1,22 @@
 //! What was read of a script so far.
 
-ghost use Rattle.std.specs.Prelude.{◌≡◌, ◌++◌, Err, IfErr, IfOk, Ok, OnOk, length};
+ghost use Rattle.std.specs.Prelude.{◌≡◌, ◌++◌, Err, IfErr, IfOk, None, Ok, OnOk, Some, length, nat_lt};
+ghost use Rattle.std.specs.Prelude.{if◌then◌else◌};
 ghost use Rattle.pmp_text.specs.EventLogs.{nothing_kept};
+ghost use Rattle.pmp_text.specs.Flaws.{and_then, as_whole};
+ghost use Rattle.pmp_text.specs.Lines.{words};
+ghost use Rattle.pmp_text.specs.Longhand.{written_out};
 ghost use Rattle.pmp_text.specs.Marks.{is_in};
+ghost use Rattle.pmp_text.specs.Shorthands.{writes_of};
+ghost use Rattle.pmp_text.specs.Statements.{statement_of};
+ghost use Rattle.pmp_text.specs.declared.refusal.Refusal.TheVariants.{TooMany};
+ghost use Rattle.pmp_text.specs.declared.script.reader.TheConstants.{MAX_EVENTS};
+ghost use Rattle.pmp_text.specs.declared.script.version.Version.TheVariants.{Headed};
 ghost use Rattle.pmp_text.specs.Outcomes.{Gives};
-ghost use Rattle.pmp_text.specs.Scripts.{mark_at, mark_fault, name_fault};
-ghost use Rattle.pmp_text.specs.Steps.Progress.{after_line, concluded, finished, nothing_begun};
+ghost use Rattle.pmp_text.specs.ScriptEvents.{mark_at};
+ghost use Rattle.pmp_text.specs.ScriptFaults.{event_fault, mark_fault, name_fault, publish_fault};
+ghost use Rattle.pmp_text.specs.Steps.Progress.{after_event, after_lines, after_statement, concluded, file_now};
+ghost use Rattle.pmp_text.specs.Steps.Progress.{finished, longhand_now, nothing_begun};
 ghost use Rattle.pmp_text.specs.Steps.Reading.{IsReading, reading_of};
 ghost use Rattle.pmp_text.specs.Steps.Views.{seen_line};
 
@@ -17,12 +28,14 @@ use crate::refusal::Refusal;
 use crate::script::hart_registers::event_flaw;
 use crate::script::head::Head;
 use crate::script::progress::OpenBatch;
+use crate::script::reader::MAX_EVENTS;
+use crate::script::shorthand::{Shorthand, Writes, read_shorthand};
 use crate::script::significant::NumberedLine;
-use crate::script::start::start;
+use crate::script::start::{file_said, start};
 use crate::script::statement::{Statement, read_statement};
 use crate::script::version::Version;
 use crate::script::{Script, ScriptFault, shown_size};
-use pmp_core::RegFile;
+use pmp_core::{BATCH_EVENTS, Event, RegFile};
 
 /// Whether one of these has the name.
 fn is_in(marks: &[Mark], name: &Name) -> bool
@@ -37,6 +50,33 @@ fn name_flaw(marks: &[Mark], name: Option<Name>) -> Option<Flaw>
 {
     let name = name?;
     is_in(marks, &name).then_some(Refusal::Twice.part(1))
+}
+
+/// What is wrong with one event more, or one publication more, behind so many.
+fn many_flaw(count: usize) -> Option<Flaw>
+    ensures { result ≡ if nat_lt count MAX_EVENTS then None else Some (as_whole TooMany) }
+{
+    (count >= MAX_EVENTS).then_some(Refusal::TooMany.whole())
+}
+
+/// What is wrong with an event, of which more is known, behind so many that aren't published and so many in all.
+fn event_fault(flaw: Option<Flaw>, unpublished: usize, all: usize) -> Option<Flaw>
+    ensures { result ≡ event_fault flaw unpublished all }
+{
+    if flaw.is_some() {
+        return flaw;
+    }
+    if unpublished >= BATCH_EVENTS {
+        return Some(Refusal::BatchFull.whole());
+    }
+    many_flaw(all)
+}
+
+/// What is wrong with a publication whose moment gets this name, or none.
+fn publish_flaw<L: EventLog>(log: &L, name: Option<Name>) -> Option<Flaw>
+    ensures { let kept = L.kept log.now in result ≡ publish_fault (is_in kept.marks) name (length kept.ends) }
+{
+    name_flaw(log.marks(), name).or(many_flaw(log.ends().len()))
 }
 
 /// What is wrong with a `mark` behind so many events that aren't published.
@@ -62,11 +102,20 @@ fn mark<L: EventLog>(log: &mut L, name: Option<Name>) -> Result<(), ScriptFault>
     Ok(log.mark(Mark { name, done })?)
 }
 
+/// The writes that a line stands for in this file.
+fn writes(says: Result<Shorthand, Flaw>, file: &RegFile) -> Result<Writes, Flaw>
+    ensures { result ≡ and_then says (writes_of file.now) }
+{
+    says?.writes(file)
+}
+
 /// The batch that is open in a log, and the head.
 #[derive(Drop)]
 pub struct ScriptReading {
     batch: OpenBatch,
     head: Head,
+    /// The register file here, once a shorthand asked for it.
+    file: Option<RegFile>,
 }
 
 impl ScriptReading {
@@ -78,11 +127,93 @@ impl ScriptReading {
         ScriptReading {
             batch: OpenBatch::new(),
             head: Head::new(),
+            file: None,
         }
     }
 
-    /// Takes a significant line that isn't the script's first one. After an error the log is of no use.
-    pub fn take_line<L: EventLog>(
+    /// Takes an event.
+    fn take_event<L: EventLog>(
+        &mut self,
+        log: &mut L,
+        version: Version,
+        line: u64,
+        event: Event,
+    ) -> Result<(), ScriptFault>
+        requires { IsReading (L.kept log.old) self.old }
+        ensures reading { OnOk result (IsReading (L.kept log.new) self.new) }
+        ensures taken { Gives (λ _. reading_of (L.kept log.new) self.new) result
+            (after_event version (reading_of (L.kept log.old) self.old) line event) }
+    {
+        let flaw = event_flaw(version, self.head.said().is_rv32, event);
+        if let Some(flaw) = event_fault(flaw, self.batch.count(log), log.events().len()) {
+            return Err(flaw.at_line(line));
+        }
+        self.head.end();
+        self.batch.add(log, line, event)?;
+        if let Some(file) = &mut self.file {
+            file.step(event);
+        }
+        Ok(())
+    }
+
+    /// The register file here.
+    fn file_here<L: EventLog>(&self, log: &L) -> RegFile
+        requires { IsReading (L.kept log.now) self.now }
+        ensures { result ≡ file_now (reading_of (L.kept log.now) self.now) }
+    {
+        if let Some(file) = self.file {
+            return file;
+        }
+        let mut file = file_said(&self.head);
+        file.run_events(log.events());
+        file
+    }
+
+    /// Takes these writes in the place of a line.
+    fn take_writes<L: EventLog>(
+        &mut self,
+        log: &mut L,
+        line: NumberedLine,
+        writes: Writes,
+    ) -> Result<(), ScriptFault>
+        requires { IsReading (L.kept log.old) self.old }
+        ensures reading { OnOk result (IsReading (L.kept log.new) self.new) }
+        ensures taken { Gives (λ _. reading_of (L.kept log.new) self.new) result
+            (after_lines Headed (reading_of (L.kept log.old) self.old) (written_out (seen_line line.entry) (Ok writes))) }
+    {
+        match writes.address {
+            None => self.take_event(log, Version::Headed, line.number, writes.last),
+            Some(address) => match self.take_event(log, Version::Headed, line.number, address) {
+                Ok(()) => self.take_event(log, Version::Headed, line.number, writes.last),
+                Err(fault) => Err(fault),
+            },
+        }
+    }
+
+    /// Takes a line that stands for writes.
+    fn take_shorthand<L: EventLog>(
+        &mut self,
+        log: &mut L,
+        line: NumberedLine,
+        says: Result<Shorthand, Flaw>,
+    ) -> Result<(), ScriptFault>
+        requires { IsReading (L.kept log.old) self.old }
+        ensures reading { OnOk result (IsReading (L.kept log.new) self.new) }
+        ensures taken { let before = reading_of (L.kept log.old) self.old in
+            Gives (λ _. reading_of (L.kept log.new) self.new) result (after_lines Headed before
+            (written_out (seen_line line.entry) (and_then says (writes_of (file_now before))))) }
+    {
+        let file = self.file_here(log);
+        let writes = match writes(says, &file) {
+            Ok(writes) => writes,
+            Err(flaw) => return Err(flaw.at_line(line.number)),
+        };
+        self.file = Some(file);
+        self.take_writes(log, line, writes)
+    }
+
+    /// Takes a line that stands for itself.
+    fn take_statement<L: EventLog>(
         &mut self,
         log: &mut L,
         version: Version,
@@ -91,18 +222,13 @@ impl ScriptReading {
         requires { IsReading (L.kept log.old) self.old }
         ensures reading { OnOk result (IsReading (L.kept log.new) self.new) }
         ensures taken { Gives (λ _. reading_of (L.kept log.new) self.new) result
-            (after_line version (reading_of (L.kept log.old) self.old) (seen_line line.entry)) }
+            (after_statement version (reading_of (L.kept log.old) self.old) line.entry.number
+            (statement_of version (words line.entry.bytes.now))) }
     {
         match read_statement(version, line.bytes) {
-            Ok(Statement::Event(event)) => {
-                if let Some(flaw) = event_flaw(version, self.head.said().is_rv32, event) {
-                    return Err(flaw.at_line(line.number));
-                }
-                self.head.end();
-                self.batch.add(log, line.number, event)
-            }
+            Ok(Statement::Event(event)) => self.take_event(log, version, line.number, event),
             Ok(Statement::Publish(name)) => {
-                if let Some(flaw) = name_flaw(log.marks(), name) {
+                if let Some(flaw) = publish_flaw(log, name) {
                     return Err(flaw.at_line(line.number));
                 }
                 self.head.end();
@@ -115,7 +241,10 @@ impl ScriptReading {
                 }
                 mark(log, Some(name))
             }
-            Ok(Statement::Head(statement)) => self.head.take(line.number, statement),
+            Ok(Statement::Head(statement)) => {
+                self.file = None;
+                self.head.take(line.number, statement)
+            }
             Ok(Statement::Expect(register, value)) => Ok(log.expect(Expectation {
                 register,
                 value,
@@ -123,6 +252,29 @@ impl ScriptReading {
                 events: log.events().len() as u64,
             })?),
             Err(flaw) => Err(flaw.at_line(line.number)),
+        }
+    }
+
+    /// Takes a significant line that isn't the script's first one. After an error the log is of no use.
+    #[tactic(auto, using(crate::proofs::Longhands::one_line))]
+    pub fn take_line<L: EventLog>(
+        &mut self,
+        log: &mut L,
+        version: Version,
+        line: NumberedLine,
+    ) -> Result<(), ScriptFault>
+        requires { IsReading (L.kept log.old) self.old }
+        ensures reading { OnOk result (IsReading (L.kept log.new) self.new) }
+        ensures taken { let before = reading_of (L.kept log.old) self.old in
+            Gives (λ _. reading_of (L.kept log.new) self.new) result
+            (after_lines version before (longhand_now version before (seen_line line.entry))) }
+    {
+        match version {
+            Version::Headed => match read_shorthand(line.bytes) {
+                Some(says) => self.take_shorthand(log, line, says),
+                None => self.take_statement(log, version, line),
+            },
+            Version::Sized(_) => self.take_statement(log, version, line),
         }
     }
 

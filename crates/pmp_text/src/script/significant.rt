@@ -3,7 +3,7 @@
 ghost use Rattle.std.specs.Prelude.{◌≡◌, ◌+◌, ◌<◌, ◌^◌, length};
 ghost use Rattle.std.specs.Iterator.{YieldsFirstBy, item_count};
 ghost use Rattle.pmp_text.specs.Lines.{words};
-ghost use Rattle.pmp_text.specs.Scripts.{counts};
+ghost use Rattle.pmp_text.specs.ScriptLines.{counts};
 
 use crate::script::lines::split_first_line;
 use crate::script::words::Words;
@@ -35,7 +35,7 @@ pub struct SignificantLines<'a> {
 }
 
 impl<'a> SignificantLines<'a> {
-    ghost use Rattle.pmp_text.specs.Scripts.{significant_lines};
+    ghost use Rattle.pmp_text.specs.ScriptLines.{significant_lines};
     ghost use Rattle.pmp_text.specs.Steps.Views.{lines_left};
 
     pub fn new(text: &'a [u8]) -> Self

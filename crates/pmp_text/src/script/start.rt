@@ -5,6 +5,7 @@ ghost use Rattle.pmp_text.specs.Heads.{bits_fault, first_not_held, hart_said, is
 ghost use Rattle.pmp_text.specs.Heads.{fault_on, start_on, with_bits, with_bytes, with_register, with_set};
 ghost use Rattle.pmp_text.specs.Flaws.{at_line, part};
 ghost use Rattle.pmp_text.specs.declared.refusal.Refusal.TheVariants.{NotHeld};
+ghost use Rattle.pmp_text.specs.Longhand.{file_said};
 ghost use Rattle.pmp_text.specs.Steps.Reading.{IsHead};
 
 use crate::expectation::Expectation;
@@ -68,7 +69,7 @@ fn set_lines(hart: &Hart, saved: &mut SavedRegisters, lines: &[HeadLine])
 }
 
 /// All that a register keeps.
-fn kept_value(file: &RegFile, register: Csr) -> u64
+pub(super) fn kept_value(file: &RegFile, register: Csr) -> u64
     ensures { result ≡ kept_value file.now register }
 {
     match register {
@@ -152,6 +153,17 @@ fn start_on(hart: Hart, lines: &[HeadLine]) -> RegFile
     let mut saved = RegFile::reset_on(hart).save();
     set_lines(&hart, &mut saved, lines);
     RegFile::restore(&saved)
+}
+
+/// The register file that a head says, so far; where there is no such hart, that of the usual one.
+pub(super) fn file_said(head: &Head) -> RegFile
+    requires { IsHead head.now }
+    ensures { result ≡ file_said head.now.lines.items }
+{
+    match hart_of(head) {
+        Ok(hart) => start_on(hart, head.lines()),
+        Err(_) => RegFile::reset(),
+    }
 }
 
 /// The fault of a value that its register doesn't keep.

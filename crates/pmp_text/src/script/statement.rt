@@ -73,7 +73,7 @@ fn read_two<'a>(mut operands: Words<'a>) -> Result<(&'a [u8], &'a [u8]), Flaw>
 }
 
 /// A register and a value.
-fn read_assignment(version: Version, operands: Words) -> Result<(Csr, u64), Flaw>
+pub(super) fn read_assignment(version: Version, operands: Words) -> Result<(Csr, u64), Flaw>
     ensures { result ≡ assignment version (words operands.entry.rest.now) }
 {
     let (name, value) = read_two(operands)?;

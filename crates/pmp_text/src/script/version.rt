@@ -2,7 +2,7 @@
 
 ghost use Rattle.std.specs.Prelude.{◌≡◌, IfErr, IfOk, None, Some};
 ghost use Rattle.pmp_text.specs.Lines.{words};
-ghost use Rattle.pmp_text.specs.Scripts.{version_flaw, version_named, version_numbered};
+ghost use Rattle.pmp_text.specs.ScriptLines.{version_flaw, version_named, version_numbered};
 ghost use Rattle.pmp_text.specs.Statements.{has_rv32};
 
 use crate::flaw::Flaw;
@@ -44,7 +44,7 @@ fn version_numbered(number: &[u8]) -> Option<Version>
 }
 
 /// The version that a script's first line names.
-#[tactic(auto, unfolding(crate::specs::Scripts::version_named))]
+#[tactic(auto, unfolding(crate::specs::ScriptLines::version_named))]
 pub fn read_version(line: &[u8]) -> Result<Version, Flaw>
     ensures ok { IfOk result (λ version. version_named (words line.now) ≡ Some version) }
     ensures err { IfErr result (λ flaw.

@@ -1,6 +1,6 @@
 use Rattle.std.proofs.Common.{rules, ◌<◌, ◌+◌, length, sym, ap, ◌∙◌, arith}
 use Rattle.pmp_text.specs.Steps.Views.{lines_left}
-use Rattle.pmp_text.specs.Scripts.{significant_from}
+use Rattle.pmp_text.specs.ScriptLines.{significant_from}
 use Rattle.pmp_text.proofs.Lefts.{none_left, counting_left, skipping_left}
 use Rattle.pmp_text.proofs.script.significant.SignificantLinesIterator.next.Goals as goal
 
