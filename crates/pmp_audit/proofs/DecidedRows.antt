@@ -22,7 +22,7 @@ use Rattle.pmp_share.specs.Room.{has_room}
 use Rattle.pmp_text.specs.declared.trace.Row.{Row}
 use Rattle.pmp_text.specs.Contents.{ScriptContents}
 use Rattle.pmp_text.specs.Reports.{AreDecided, file_of_script}
-use Rattle.pmp_text.specs.Sizes.{script_size}
+use Rattle.pmp_text.specs.Sizes.{IsInLimits}
 use Rattle.pmp_text.specs.TraceFaults.{IsInOrder, afters}
 use Rattle.pmp_text.specs.Traces.{row_fields}
 use Rattle.pmp_audit.specs.Rounds.{AreDecidedSoFar, asking, decision_for}
@@ -117,7 +117,7 @@ module _ (script : ScriptContents) where
 
   -- ---- a script's publications have room
 
-  pub room_for : (index : ℕ) (published : Batches) (batch : List Event) → script_size script.batches ≤ HISTORY_LIMIT
+  pub room_for : (index : ℕ) (published : Batches) (batch : List Event) → IsInLimits script.batches
       → index < length script.batches → published ≡ take index script.batches
       → batch ≡ slice_index_or script.batches index []
       → has_room published [] batch ≡ true
@@ -128,8 +128,8 @@ module _ (script : ScriptContents) where
       let many : length published ≡ index =
       ap (λ (l : Batches). length l) done ∙ length-take-le index script.batches (omega arith) in
       let more : length batch ≡ length (get_or script.batches index []) = ap (λ (l : List Event). length l) is in
-      let events_fit : event_count published + 0 + length batch ≤ HISTORY_LIMIT = omega arith in
-      let batches_fit : length published + 0 + 1 ≤ HISTORY_LIMIT = omega arith in
+      let events_fit : event_count published + 0 + length batch ≤ HISTORY_LIMIT = omega (arith, size.events) in
+      let batches_fit : length published + 0 + 1 ≤ HISTORY_LIMIT = omega (arith, size.publications) in
       grind (arith, nat_tests)
 
 -- ---- each decision is the manual's

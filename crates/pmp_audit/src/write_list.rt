@@ -3,8 +3,7 @@
 ghost use Rattle.std.specs.Prelude.{◌≡◌, ◌+◌, ◌^◌, ◌<◌, ◌≤◌, IfOk, IfErr, OnErr, ◌++◌, length, if◌then◌else◌};
 ghost use Rattle.pmp_core.specs.RegisterFile.{RegisterFile};
 ghost use Rattle.pmp_core.specs.RegisterWrite.{step};
-ghost use Rattle.pmp_text.specs.declared.script.reader.TheConstants.{MAX_SCRIPT};
-ghost use Rattle.pmp_text.specs.Sizes.{script_size};
+ghost use Rattle.pmp_text.specs.Sizes.{IsInLimits};
 ghost use Rattle.pmp_audit.specs.Answers.{Declines, IsAppended, IsWritten, IsRefused};
 ghost use Rattle.pmp_audit.specs.Growing.{HasGrown};
 ghost use Rattle.pmp_audit.specs.EventRows.{AreWritten};
@@ -75,7 +74,7 @@ pub fn append_writes<L: EventLog, S: Sink>(
 
 /// Appends the rows of a script's events, and behind them those of what it expects.
 fn write_script<S: Sink>(out: &mut S, script: &Script) -> Result<WriteSummary, AllocError>
-    requires { script_size script.now.batches ≤ MAX_SCRIPT }
+    requires { IsInLimits script.now.batches }
     ensures rows { IfOk result (λ _. S.text out.new ≡ S.text out.old ++ all_rows script.now) }
     ensures counted { IfOk result (λ summary. summary ≡ write_summary script.now) }
     ensures err { OnErr result (HasGrown (S.text out.old) (S.text out.new)) }
@@ -98,7 +97,7 @@ struct EventSummary {
 }
 
 fn write_events<S: Sink>(out: &mut S, script: &Script) -> Result<EventSummary, AllocError>
-    requires { script_size script.now.batches ≤ MAX_SCRIPT }
+    requires { IsInLimits script.now.batches }
     ensures rows { IfOk result (λ _. S.text out.new ≡ S.text out.old
         ++ rows_text script.now.start (placed_events script.now)) }
     ensures counted { IfOk result

@@ -9,7 +9,7 @@ use Rattle.pmp_import.specs.Imports.{Stops}
 use Rattle.pmp_import.specs.Surveys.{given_alone, given_for, surveyed}
 use Rattle.pmp_text.specs.Lines.{lines}
 use Rattle.pmp_text.specs.declared.refusal.Refusal.{Refusal}
-use Rattle.pmp_text.specs.declared.script.reader.TheConstants.{MAX_SCRIPT}
+use Rattle.pmp_text.specs.declared.script.reader.TheConstants.{MAX_HEADED_SCRIPT}
 use Rattle.pmp_text.specs.declared.trace.reader.TheConstants.{MAX_TRACE}
 use Rattle.pmp_audit.specs.declared.fault.AuditFault.{AuditFault}
 use Rattle.pmp_audit.specs.AccessCheck.{CheckSays}
@@ -108,7 +108,7 @@ AuditByRefuses (Some count) script trace fault = SharedAuditRefuses script trace
 
 -- a script can't be read, which of two is the one on a side
 abbrev pub IsUnread : (known : Option (List ℕ)) (side : Option Side) → Failure → Type 0
-IsUnread known side failure = (fault : Refusal) × CantBeRead MAX_SCRIPT known fault × (failure ≡ unread fault side)
+IsUnread known side failure = (fault : Refusal) × CantBeRead MAX_HEADED_SCRIPT known fault × (failure ≡ unread fault side)
 
 module _ (before after : Option (List ℕ)) where
   -- a call refuses what it is given before a byte is written, or memory or the output failed
@@ -132,7 +132,7 @@ module _ (before after : Option (List ℕ)) where
 
   -- and of a script, which of two is the one on a side
   abbrev pub ScriptFails : (known : Option (List ℕ)) → Option Side → (List ℕ → Failure → Type 0) → Failure → Type 0
-  ScriptFails known = InputFails (CantBeRead MAX_SCRIPT known) known
+  ScriptFails known = InputFails (CantBeRead MAX_HEADED_SCRIPT known) known
 
   -- a long audit stops, maybe behind whole rows
   pub record StopsInTrace (script : List ℕ) (first : ℕ) (trace : List ℕ) (failure : Failure) : Type 0 where

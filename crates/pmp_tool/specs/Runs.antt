@@ -22,7 +22,7 @@ use Rattle.pmp_tool.specs.declared.request.Request.{Request}
 use Rattle.pmp_tool.specs.declared.request.Request.TheVariants.{Import as OfLog}
 use Rattle.pmp_audit.specs.declared.fault.Side.{Side}
 use Rattle.pmp_text.specs.declared.refusal.Refusal.{Refusal}
-use Rattle.pmp_text.specs.declared.script.reader.TheConstants.{MAX_SCRIPT}
+use Rattle.pmp_text.specs.declared.script.reader.TheConstants.{MAX_HEADED_SCRIPT}
 
 -- the bytes are those of the command's script; an import has none
 abbrev pub IsScriptOf : Request → (known : Option (List ℕ)) → List ℕ → Type 0
@@ -45,7 +45,7 @@ Answers words scripts traces before after outcome =
 -- a script can't be read, of two scripts the one on a side, or what is done with it fails
 pub data IsUnscripted (before after : Option (List ℕ)) (known : Option (List ℕ)) (side : Option Side) (request : Request)
     (Fails : List ℕ → Failure → Type 0) : Failure → Type 0 where
-  no_script : (fault : Refusal) → CantBeRead MAX_SCRIPT known fault → Keeps before after
+  no_script : (fault : Refusal) → CantBeRead MAX_HEADED_SCRIPT known fault → Keeps before after
       → IsUnscripted before after known side request Fails (unread fault side)
   of_script : (script : List ℕ) (failure : Failure) → IsScriptOf request known script → Fails script failure
       → IsUnscripted before after known side request Fails failure

@@ -48,7 +48,7 @@ pub const ONLY: &str =
     "Writes the rows that gain something, where CHANGE is more, or those that lose something, where it is less";
 
 pub const SCRIPT: &str =
-    "The path of a script of at most 1048576 bytes, or stdin for standard input; it begins with pmp 1 for a unit of \
+    "The path of a script of at most 1048576 bytes, 67108864 with pmp 3, or stdin for standard input; it begins with pmp 1 for a unit of \
     16 entries, with pmp 2 for one of 64";
 
 pub const TRACE: &str =

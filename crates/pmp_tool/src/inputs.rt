@@ -2,14 +2,14 @@
 
 ghost use Rattle.std.specs.Prelude.{◌≡◌, ℕ, ◌≤◌, List, length, Option, None, IfOk, IfErr};
 ghost use Rattle.pmp_text.specs.declared.input.TheConstants.{MAX_LIMIT};
-ghost use Rattle.pmp_text.specs.declared.script.reader.TheConstants.{MAX_SCRIPT};
+ghost use Rattle.pmp_text.specs.declared.script.reader.TheConstants.{MAX_HEADED_SCRIPT};
 ghost use Rattle.pmp_text.specs.declared.trace.reader.TheConstants.{MAX_TRACE};
 ghost use Rattle.pmp_tool.specs.Inputs.{AreBytesOf, CantBeOpened, CantBeRead, GivesBytesOf};
 
 use crate::kept::Kept;
 use crate::progress::Watched;
 use crate::trace_input::TraceInput;
-use pmp_text::{InputFault, MAX_LIMIT, MAX_SCRIPT, MAX_TRACE, read_bytes};
+use pmp_text::{InputFault, MAX_LIMIT, MAX_HEADED_SCRIPT, MAX_TRACE, read_bytes};
 use std::fs;
 use std::io::{Read, Write};
 use std::rt::Files;
@@ -29,7 +29,7 @@ pub trait Inputs {
     /// The bytes of the script at this path.
     fn script(&mut self, path: &str) -> Result<Vec<u8>, InputFault>
         ensures read { IfOk result (λ bytes. AreBytesOf (scripts self.old path.now) bytes.items) }
-        ensures unread { IfErr result (CantBeRead MAX_SCRIPT (scripts self.old path.now)) }
+        ensures unread { IfErr result (CantBeRead MAX_HEADED_SCRIPT (scripts self.old path.now)) }
         ensures scripts { scripts self.new ≡ scripts self.old }
         ensures traces { traces self.new ≡ traces self.old };
 
@@ -103,10 +103,10 @@ fn read_script_at<R: Files + Input + AllocGlobal>(
     runtime: &R,
     path: &str,
 ) -> Result<Vec<u8>, InputFault>
-    ensures read { IfOk result (λ bytes. length bytes.items ≤ MAX_SCRIPT) }
-    ensures unread { IfErr result (CantBeRead MAX_SCRIPT None) }
+    ensures read { IfOk result (λ bytes. length bytes.items ≤ MAX_HEADED_SCRIPT) }
+    ensures unread { IfErr result (CantBeRead MAX_HEADED_SCRIPT None) }
 {
-    read_at(runtime, path, MAX_SCRIPT as u64)
+    read_at(runtime, path, MAX_HEADED_SCRIPT as u64)
 }
 
 fn read_trace_at<R: Files + Input + AllocGlobal>(

@@ -4,10 +4,9 @@ ghost use Rattle.std.specs.Prelude.{◌≡◌, ◌<◌, ◌≤◌, [], ◌∷◌
 ghost use Rattle.pmp_core.specs.declared.event.TheConstants.{BATCH_EVENTS};
 ghost use Rattle.pmp_share.specs.declared.fault.ShareFault.TheVariants.{Memory};
 ghost use Rattle.pmp_share.specs.declared.opening.TheConstants.{CHECKERS};
-ghost use Rattle.pmp_share.specs.declared.room.TheConstants.{HISTORY_LIMIT};
 ghost use Rattle.pmp_share.specs.Object.{no_batches};
 ghost use Rattle.pmp_share.specs.Room.{has_room};
-ghost use Rattle.pmp_text.specs.Sizes.{script_size};
+ghost use Rattle.pmp_text.specs.Sizes.{IsInLimits};
 ghost use Rattle.pmp_text.specs.TraceFaults.{IsInOrder, afters};
 ghost use Rattle.pmp_text.specs.Traces.{row_fields};
 ghost use Rattle.pmp_audit.specs.Rounds.{decision_for};
@@ -54,7 +53,7 @@ fn decide_rows<R: Threads + Wait + Sync, G: Gate + Sync>(
     requires base { publisher.old.unit.base ≡ script.now.start }
     requires published { publisher.old.published ≡ no_batches }
     requires pending { publisher.old.pending ≡ [] }
-    requires size { script_size script.now.batches ≤ HISTORY_LIMIT }
+    requires size { IsInLimits script.now.batches }
     requires order { IsInOrder (length script.now.batches) 0 (afters (map row_fields rows.now)) }
     ensures decided { IfOk result (λ decided. decided.items ≡ map (decision_for script.now) rows.now) }
     ensures refused { IfErr result (MayStop script.now.batches (map row_fields rows.now)) }
@@ -87,7 +86,7 @@ pub(crate) fn decide_shared<R: Threads + Wait + Sync, G: Gate + Sync>(
     rows: &[Row],
 ) -> Result<Vec<Decision>, AuditFault>
     requires workers { (1 ≤ k) × (k ≤ CHECKERS) }
-    requires size { script_size script.now.batches ≤ HISTORY_LIMIT }
+    requires size { IsInLimits script.now.batches }
     requires order { IsInOrder (length script.now.batches) 0 (afters (map row_fields rows.now)) }
     ensures decided { IfOk result (λ decided. decided.items ≡ map (decision_for script.now) rows.now) }
     ensures refused { IfErr result (MayStop script.now.batches (map row_fields rows.now)) }
