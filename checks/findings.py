@@ -3,12 +3,14 @@ the module's bytes, and the texts that are shown.
 
 A policy's rows are read by the page's own JavaScript, so their texts are compared too: each mode, kind, demand and
 pace, rows at edges, and rows that are refused."""
+import csv
 import itertools
 import pathlib
 import re
 import subprocess
 
 HEADER = "from,to,modes,kind,first,last,demand\n"
+LABELED = "name,from,to,modes,kind,first,last,demand,comment\n"
 MODES = ("M", "S", "U", "MS", "UM", "SU", "USM")
 KINDS = ("fetch", "load", "store", "any")
 DEMANDS = ("never", "always", "held")
@@ -22,11 +24,20 @@ READ = {
     "quotes that open and close": HEADER + '"0"0,"","S"U,any,"0",9,"never"', "no last line end": (HEADER + ROW)[:-1],
     "a header in quotes": '"from",to,modes,kind,first,last,demand\n' + ROW, "long numbers":
     HEADER + "00000000000000000000,,M,load,0x0000000000000000,00000000000000000009,held\n",
+    "names and comments": LABELED + f'a b,{ROW[:-1]},why\n,{ROW[:-1]},"no, it isn""t"\n"""a""",{ROW[:-1]},\n'
+                          + f"\u00e9,{ROW[:-1]},\u0085\n",
+    "labels without rows": LABELED,
     "addresses without 0x": HEADER + ROW + ROW.replace("9", "00000080000000") + ROW.replace("0,9", "00000000000000,9"),
 }
 REFUSED = {
     "no header": (20, 0, ROW), "another header": (20, 0, HEADER.replace("to", "until") + ROW),
     "a header too long": (20, 0, HEADER.replace("demand", "demand,") + ROW), "nothing": (20, 0, "\n"),
+    "a name alone": (20, 0, LABELED.replace(",comment", "")), "names last": (20, 0, HEADER[:-1] + ",comment,name\n"),
+    "no label": (21, 1, LABELED + ROW), "a label too many": (21, 1, HEADER + f"a,{ROW[:-1]},b\n"),
+    "a tab in a name": (21, 1, LABELED + f"a\tb,{ROW[:-1]},\n"),
+    "a delete in a comment": (21, 1, LABELED + f"a,3{ROW[1:-1]},\x7f\n"),
+    "a line end in a comment": (21, 1, LABELED + f'a,{ROW[:-1]},"b\nc"\n'),
+    "a name and a number": (22, 1, LABELED + f"a,3{ROW[1:-1]},b\n"),
     "six fields": (21, 2, HEADER + ROW + "0,,SU,any,0,9\n"), "eight fields": (21, 1, HEADER + ROW.replace("\n", ",\n")),
     "a blank": (21, 1, HEADER + " " + ROW), "a line of a blank": (21, 2, HEADER + ROW + " \n"),
     "no from": (21, 1, HEADER + ROW[1:]), "a mode twice": (21, 1, HEADER + ROW.replace("SU", "SS")),
@@ -90,8 +101,12 @@ class Findings:
             status, place, text = self.run("policy", options, script, policy)
             shown = tab.call("verdictsShown", policy, by)
             place_shown = f"{name} after each {by}"
-            rows = text.splitlines()
+            told = list(csv.reader(text.split("\n")[:-1]))
+            rows = [",".join(it[:6]) for it in told]
             self.tally.compare(f"{place_shown}: verdicts", shown["rows"], rows[:500])
+            for said, (name_told, comment) in zip(shown["said"], (it[6:] for it in told if it[6:])):
+                self.tally.has(f"{place_shown}: {said!r}", said.startswith(name_told and f"{name_told}: ")
+                               and said.endswith(comment and f"; {comment}"))
             self.tally.compare(f"{place_shown}: the module's", shown["answers"], rows)
             head = f"{place.capitalize() or 'Policy'}: refused {status} "
             self.tally.has(f"{place_shown}: {shown['fault']!r}", shown["fault"].startswith(head) if status

@@ -155,6 +155,7 @@ async function verdictsShown(policy, by) {
     const asRow = (cells) => cells.slice(0, 6).join(',');
     return {
         rows: rowsOf('verdicts').map(asRow),
+        said: rowsOf('verdicts').map((cells) => cells[6]),
         answers: page.demands.fault ? [] : page.demands.lines.map(asRow),
         fault: seen ? byId('policy-fault-line').textContent : '',
         note: byId('verdicts-count').textContent.split(' Row ')[1] ?? '',

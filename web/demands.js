@@ -3,9 +3,11 @@
 const MOST_DEMANDS = 500;
 const PACES = {publication: 0, write: 1};
 
-// A row's demand in words.
-function sayDemand([from, to, modes, kind, first, last, demand]) {
-    return `${demand} ${modes} ${kind} ${first} to ${last}, from ${from} on${to === '' ? '' : `, up to ${to}`}`;
+// A row's demand in words, behind its name and before its comment.
+function sayDemand({words: [from, to, modes, kind, first, last, demand], name, comment}) {
+    const moments = `from ${from} on${to === '' ? '' : `, up to ${to}`}`;
+    const front = name === '' ? '' : `${name}: `;
+    return `${front}${demand} ${modes} ${kind} ${first} to ${last}, ${moments}${comment === '' ? '' : `; ${comment}`}`;
 }
 
 class Demands {
@@ -91,7 +93,7 @@ class Demands {
                 this.showFault({...answer, row: Number(row.number), place: row.place, wanted: sayAdvice(answer)});
                 break;
             }
-            this.lines.push([...linesOf(answer.text, ',')[0], sayDemand(row.words)]);
+            this.lines.push([...linesOf(answer.text, ',')[0], sayDemand(row)]);
         }
         this.draw(by);
         if (this.fault === null) this.showNote(rows);

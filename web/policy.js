@@ -7,6 +7,7 @@ const BAD_AFTER = 22;
 const PAST_END = 4;
 const END_OF_MEMORY = 1n << 56n;
 const FIELDS = ['from', 'to', 'modes', 'kind', 'first', 'last', 'demand'];
+const LABELED_FIELDS = ['name', ...FIELDS, 'comment'];
 const MODE_BITS = {U: 1, S: 2, M: 8};
 const POLICY_KINDS = {...KINDS, any: 3};
 const DEMANDS = {never: 0, always: 1, held: 2};
@@ -68,30 +69,50 @@ class Records {
 }
 
 // The policy of a text over a script with so many publications: {rows, fault}. Each row is what the module takes, with
-// its words; a fault is {status, row, place, wanted}, with row 0 where it is none of a row.
+// its words, and its name and comment, which may be empty; a fault is {status, row, place, wanted}, with row 0 where it
+// is none of a row.
 function readPolicy(text, publications, mostBytes) {
     if (encodeText(text).length > mostBytes) {
         return {rows: [], fault: {status: TOO_LONG, row: 0, place: 0, wanted: ''}};
     }
     const [header, ...records] = recordsOf(text);
-    if (header?.fields.join() !== FIELDS.join() || header.fields.length !== FIELDS.length) {
-        const wanted = `The first record has to be ${FIELDS.join()}.`;
+    const names = [FIELDS, LABELED_FIELDS].find((it) => isHeader(header, it));
+    if (names === undefined) {
+        const wanted = `The first record has to be ${FIELDS.join()}, or that between name and comment.`;
         return {rows: [], fault: {status: BAD_HEADER, row: 0, place: header?.place ?? 0, wanted}};
     }
     const rows = [];
     for (const {fields, place} of records) {
-        const read = readRow(fields, BigInt(publications));
+        const read = readRow(fields, names, BigInt(publications));
         const row = rows.length + 1;
         if (read.wanted) return {rows: [], fault: {status: read.status, row, place, wanted: read.wanted}};
-        rows.push({...read, number: BigInt(row), words: fields, place});
+        rows.push({...read, number: BigInt(row), place});
     }
     return {rows, fault: null};
 }
 
-// A row's numbers, or {status, wanted} of the first rule that it breaks.
-function readRow(fields, publications) {
+function isHeader(header, names) {
+    return header?.fields.length === names.length && header.fields.every((it, place) => it === names[place]);
+}
+
+// A row by its fields of these names, or {status, wanted} of the first rule that it breaks.
+function readRow(fields, names, publications) {
+    if (fields.length !== names.length) {
+        return {status: BAD_ROW, wanted: `Wanted: the ${names.length} fields ${names.join()}. Here: ${fields.length}.`};
+    }
+    const [name, words, comment] = names === FIELDS ? ['', fields, '']
+        : [fields[0], fields.slice(1, -1), fields.at(-1)];
+    if (hasControl(name)) return {status: BAD_ROW, wanted: 'name has to be a text without control characters.'};
+    return {...readDemand(words, comment, publications), words, name, comment};
+}
+
+function hasControl(text) {
+    return [...text].some((letter) => letter < ' ' || letter === '\x7f');
+}
+
+// What seven words demand, or the first rule that they or the comment break.
+function readDemand(fields, comment, publications) {
     const bad = (wanted, status = BAD_ROW) => ({status, wanted});
-    if (fields.length !== FIELDS.length) return bad(`Wanted: the seven fields ${FIELDS.join()}. Here: ${fields.length}.`);
     const [from, first, last] = [fields[0], fields[4], fields[5]].map(readNumber);
     const to = fields[1] === '' ? publications : readNumber(fields[1]);
     const [modes, kind, demand] = [readModes(fields[2]), wordIn(POLICY_KINDS, fields[3]), wordIn(DEMANDS, fields[6])];
@@ -104,6 +125,7 @@ function readRow(fields, publications) {
     if (last === null) return bad('last has to be a byte address, a number.');
     if (last < first) return bad('last has to be at least first.');
     if (demand === null) return bad('demand has to be never, always or held.');
+    if (hasControl(comment)) return bad('comment has to be a text without control characters.');
     if (from > publications || to > publications) {
         return bad(`The script has no more than ${counted(Number(publications), 'publication')}.`, BAD_AFTER);
     }

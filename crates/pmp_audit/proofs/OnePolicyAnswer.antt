@@ -20,6 +20,7 @@ use Rattle.pmp_text.specs.declared.policy.Demand.TheVariants.{Never, Always, Hel
 use Rattle.pmp_text.specs.declared.policy.PolicyRow.{PolicyRow}
 use Rattle.pmp_text.specs.declared.policy.Kinds.{Kinds}
 use Rattle.pmp_text.specs.declared.policy.Modes.{Modes}
+use Rattle.pmp_text.specs.Labels.{policy_labels}
 use Rattle.pmp_text.specs.Policies.{policy_fields}
 use Rattle.pmp_audit.specs.Laws.{OnePolicyAnswerLaw}
 use Rattle.pmp_audit.specs.PolicyCheck.{IsBroken, IsFirstBreach, IsFirstIn, IsFirstNotHeld, IsFirstOf, IsFirstOfAll}
@@ -227,5 +228,5 @@ one_policy_answer pace script policy one other text another said too =
     (step_count pace too.contents.batches row.to) row.demand)) too.rows said.verdicts too.verdicts judged too.judged in (
       said.counted ∙ ap (λ rows. policy_summary rows said.verdicts) rows ∙ ap (policy_summary too.rows) verdicts
           ∙ sym too.counted,
-      said.text_is ∙ ap verdicts_text verdicts ∙ sym too.text_is,
+      said.text_is ∙ ap (verdicts_text (policy_labels policy)) verdicts ∙ sym too.text_is,
     )

@@ -1,7 +1,7 @@
 -- The verdicts on a policy's rows, one after another.
 use Rattle.std.proofs.Common.{◌≡◌, ℕ, ◌+◌, ◌<◌, cond, List, [], ◌∷◌, ◌++◌, length, map, None, Ok, Option, Some}
 use Rattle.std.proofs.Common.{get_or, suc, take, sym, ap, ◌∙◌, append_assoc, arith}
-use Rattle.std.specs.Prelude.{All, count_by}
+use Rattle.std.specs.Prelude.{All, count_by, slice_get}
 use Rattle.std.specs.List.{AllZip, enumerate_from, flat_map, position_from}
 use Rattle.std.specs.Option.{option_or}
 use Rattle.std.proofs.lemmas.List.{append-nil, flat_map_more, length-append, length-map, map-append, take_more}
@@ -10,6 +10,7 @@ use Rattle.pmp_text.specs.declared.lines.verdict.Verdict.{Verdict}
 use Rattle.pmp_text.specs.Moments.{KnownMoments}
 use Rattle.pmp_text.specs.declared.policy.PolicyRow.{PolicyRow}
 use Rattle.pmp_text.specs.Contents.{ScriptContents}
+use Rattle.pmp_text.specs.Labels.{LabelText, policy_labels}
 use Rattle.pmp_text.specs.Policies.{policy_fields, policy_meaning}
 use Rattle.pmp_text.specs.Scripts.{script_meaning}
 use Rattle.pmp_text.specs.Verdicts.{is_breach, verdict_row}
@@ -23,15 +24,20 @@ use Rattle.pmp_audit.specs.PolicyMoments.{AreMoments}
 use Rattle.pmp_audit.specs.PolicyRows.{AreWritten}
 use Rattle.pmp_audit.specs.PolicySweep.{rows_of, told_of, verdicts_of}
 
-verdicts_text-push : (verdicts : List Verdict) (verdict : Verdict)
-    → verdicts_text (verdicts ++ verdict ∷ []) ≡ verdicts_text verdicts ++ verdict_row (length verdicts + 1) verdict
+-- the row of a verdict at this place
+abbrev row_at : List LabelText → (index : ℕ) → Verdict → List ℕ
+row_at labels index verdict = verdict_row (index + 1) verdict (slice_get labels index)
+
+verdicts_text-push : (labels : List LabelText) (verdicts : List Verdict) (verdict : Verdict)
+    → verdicts_text labels (verdicts ++ verdict ∷ [])
+    ≡ verdicts_text labels verdicts ++ row_at labels (length verdicts) verdict
 unfolding verdicts_text
-verdicts_text-push verdicts verdict =
-    let line : ℕ × Verdict → List ℕ = λ (number, v). verdict_row number v in
-    let number : 1 + length verdicts ≡ length verdicts + 1 = omega arith in
-    ap (flat_map line) (enumerate_from-push 1 verdicts verdict)
-    ∙ sym (flat_map_more line [] (enumerate_from 1 verdicts) (1 + length verdicts, verdict))
-    ∙ ap (λ (n : ℕ). verdicts_text verdicts ++ verdict_row n verdict) number
+verdicts_text-push labels verdicts verdict =
+    let line : ℕ × Verdict → List ℕ = λ (index, v). row_at labels index v in
+    let index : 0 + length verdicts ≡ length verdicts = omega arith in
+    ap (flat_map line) (enumerate_from-push 0 verdicts verdict)
+    ∙ sym (flat_map_more line [] (enumerate_from 0 verdicts) (0 + length verdicts, verdict))
+    ∙ ap (λ (n : ℕ). verdicts_text labels verdicts ++ row_at labels n verdict) index
 
 same_summary : (one other : PolicySummary) → one.rows ≡ other.rows → one.broken ≡ other.broken
     → one.bare ≡ other.bare → one ≡ other
@@ -46,16 +52,16 @@ bare_push rows row =
     ap (λ (n : ℕ). option_or (position_from (λ row. row.is_bare) 1 rows) (cond row.is_bare (Some n) None)) number
     ∙ sym (position_apart (λ (r : PolicyRow). r.is_bare) rows (row ∷ []) 1)
 
-pub none_written : (held : List ℕ) (summary : PolicySummary) → summary.rows ≡ 0 → summary.broken ≡ 0
-    → summary.bare ≡ None → AreWritten [] held held summary
+pub none_written : (labels : List LabelText) (held : List ℕ) (summary : PolicySummary) → summary.rows ≡ 0 → summary.broken ≡ 0
+    → summary.bare ≡ None → AreWritten [] labels held held summary
 unfolding verdicts_text
-none_written held summary rows broken bare = record {
+none_written labels held summary rows broken bare = record {
   text_is = sym (append-nil held);
   counted = same_summary summary (policy_summary [] []) rows broken bare;
 }
 
-module _ (judged : List Judged) (before held : List ℕ) (summary : PolicySummary)
-    (so_far : AreWritten judged before held summary) where
+module _ (judged : List Judged) (labels : List LabelText) (before held : List ℕ) (summary : PolicySummary)
+    (so_far : AreWritten judged labels before held summary) where
   abbrev asked : List PolicyRow
   asked = rows_of judged
 
@@ -86,22 +92,25 @@ module _ (judged : List Judged) (before held : List ℕ) (summary : PolicySummar
         ∙ bare_push asked one.row in
         same_summary more (policy_summary (asked ++ one.row ∷ []) (verdicts ++ told_of one ∷ [])) many faults first
 
-    written : more.rows ≡ summary.rows + 1 → after ≡ held ++ verdict_row more.rows (told_of one)
-        → after ≡ before ++ verdicts_text (verdicts ++ told_of one ∷ [])
-    written one_more appended =
-        let number : more.rows ≡ length verdicts + 1 = one_more ∙ ap (λ (n : ℕ). n + 1) verdicts_so_far in
-        let last = verdict_row (length verdicts + 1) (told_of one) in
-        appended ∙ ap (λ (n : ℕ). held ++ verdict_row n (told_of one)) number
-        ∙ ap (λ l. l ++ last) so_far.text_is ∙ append_assoc before (verdicts_text verdicts) last
-        ∙ ap (λ l. before ++ l) (sym (verdicts_text-push verdicts (told_of one)))
+    -- the next verdict stands behind what was held
+    abbrev pub IsNext : Type 0
+    IsNext = after ≡ held ++ verdict_row more.rows (told_of one) (slice_get labels summary.rows)
 
-    pub one_written : after ≡ held ++ verdict_row more.rows (told_of one) → IsCounted
-        → AreWritten (judged ++ one ∷ []) before after more
+    written : more.rows ≡ summary.rows + 1 → IsNext
+        → after ≡ before ++ verdicts_text labels (verdicts ++ told_of one ∷ [])
+    written one_more appended =
+        let last = row_at labels (length verdicts) (told_of one) in
+        appended ∙ ap (λ (n : ℕ). held ++ verdict_row n (told_of one) (slice_get labels summary.rows)) one_more
+        ∙ ap (λ (n : ℕ). held ++ row_at labels n (told_of one)) verdicts_so_far
+        ∙ ap (λ l. l ++ last) so_far.text_is ∙ append_assoc before (verdicts_text labels verdicts) last
+        ∙ ap (λ l. before ++ l) (sym (verdicts_text-push labels verdicts (told_of one)))
+
+    pub one_written : IsNext → IsCounted → AreWritten (judged ++ one ∷ []) labels before after more
     one_written appended all =
         let rows_more = sym (map-append (λ (j : Judged). j.row) judged (one ∷ [])) in
         let verdicts_more = sym (map-append told_of judged (one ∷ [])) in
         record {
-          text_is = written all.0 appended ∙ ap (λ vs. before ++ verdicts_text vs) verdicts_more;
+          text_is = written all.0 appended ∙ ap (λ vs. before ++ verdicts_text labels vs) verdicts_more;
           counted = counted all ∙ (λ i. policy_summary (rows_more i) (verdicts_more i));
         }
 
@@ -123,8 +132,9 @@ pub policy_says : (pace : Pace) (script policy : List ℕ) (contents : ScriptCon
     (judged : List Judged) (before after text : List ℕ) (summary : PolicySummary) (moments : KnownMoments)
     → script_meaning script ≡ Ok contents → AreMoments script contents moments
     → policy_meaning moments policy ≡ Ok (map policy_fields rows) → rows_of judged ≡ rows
-    → All (λ one. IsVerdict pace contents one.row (told_of one)) judged → AreWritten judged before after summary
-    → before ≡ [] → text ≡ after → PolicySays pace script policy summary text
+    → All (λ one. IsVerdict pace contents one.row (told_of one)) judged
+    → AreWritten judged (policy_labels policy) before after summary → before ≡ [] → text ≡ after
+    → PolicySays pace script policy summary text
 policy_says pace script policy contents rows judged before after text summary moments script_means moments_are
     policy_means same all written empty whole =
     record {
@@ -136,6 +146,6 @@ policy_says pace script policy contents rows judged before after text summary mo
       policy_means = policy_means ∙ ap (λ (l : List PolicyRow). Ok (map policy_fields l)) (sym same);
       verdicts = verdicts_of judged;
       judged = each_judged (IsVerdict pace contents) judged all;
-      text_is = whole ∙ written.text_is ∙ ap (λ front. front ++ verdicts_text (verdicts_of judged)) empty;
+      text_is = whole ∙ written.text_is ∙ ap (λ front. front ++ verdicts_text (policy_labels policy) (verdicts_of judged)) empty;
       counted = written.counted;
     }

@@ -1,6 +1,6 @@
 -- What the rows of a policy come to, by bytes and by states of the register file (Volume II, 3.7.1.3).
 use Rattle.std.specs.Prelude.{◌≡◌, ◌≢◌, ℕ, ◌+◌, ◌<◌, ◌≤◌, Bool, true, false, List, [], ◌∷◌, length, map, take, count_by}
-use Rattle.std.specs.Prelude.{Option, Some, None, IsSome, Ok, Err, ◌⊎◌, option_map}
+use Rattle.std.specs.Prelude.{Option, Some, None, IsSome, Ok, Err, ◌⊎◌, option_map, slice_get}
 use Rattle.std.specs.List.{AllZip, enumerate_from, flat_map, position_from}
 use Rattle.pmp_core.specs.declared.access.Kind.{Kind}
 use Rattle.pmp_core.specs.declared.access.Mode.{Mode}
@@ -24,6 +24,7 @@ use Rattle.pmp_text.specs.declared.trace.TraceFault.{TraceFault}
 use Rattle.pmp_text.specs.Contents.{ScriptContents}
 use Rattle.pmp_text.specs.Outcomes.{no_input_for_rows}
 use Rattle.pmp_text.specs.declared.policy.row_fields.PolicyFields.{PolicyFields}
+use Rattle.pmp_text.specs.Labels.{LabelText, policy_labels}
 use Rattle.pmp_text.specs.Policies.{has_kind, has_mode, policy_fields, policy_meaning, proper_fields_fault}
 use Rattle.pmp_text.specs.Reports.{file_behind}
 use Rattle.pmp_text.specs.Scripts.{script_meaning}
@@ -140,9 +141,10 @@ IsVerdict pace script row = IsVerdictOn row.coming (IsBreachOf pace script row)
 
 -- ---- a whole policy
 
--- a row for each verdict, numbered from 1
-unfoldable pub verdicts_text : List Verdict → List ℕ
-verdicts_text verdicts = flat_map (λ (number, verdict). verdict_row number verdict) (enumerate_from 1 verdicts)
+-- a row for each verdict, numbered from 1, with the label at its place where there is one
+unfoldable pub verdicts_text : List LabelText → List Verdict → List ℕ
+verdicts_text labels verdicts =
+    flat_map (λ (index, verdict). verdict_row (index + 1) verdict (slice_get labels index)) (enumerate_from 0 verdicts)
 
 -- how many rows there are, how many of them are broken or unmet, and the number of the first that has a bare address
 abbrev pub policy_summary : List PolicyRow → List Verdict → PolicySummary
@@ -162,7 +164,7 @@ pub record PolicySays (pace : Pace) (script policy : List ℕ) (summary : Policy
   pub policy_means : policy_meaning moments policy ≡ Ok (map policy_fields rows)
   pub verdicts : List Verdict
   pub judged : AllZip (IsVerdict pace contents) rows verdicts
-  pub text_is : text ≡ verdicts_text verdicts
+  pub text_is : text ≡ verdicts_text (policy_labels policy) verdicts
   pub counted : summary ≡ policy_summary rows verdicts
 
 -- the script means this, the fields are a row beside it, and the text has the verdict on it, as row of this number
@@ -174,7 +176,7 @@ pub record VerdictSays (pace : Pace) (script : List ℕ) (number : ℕ) (fields 
   pub row_is : policy_fields row ≡ fields
   pub proper : proper_fields_fault (length contents.batches) fields ≡ None
   pub judged : IsVerdict pace contents row verdict
-  pub text_is : text ≡ verdict_row number verdict
+  pub text_is : text ≡ verdict_row number verdict None
 
 -- the script's own fault, then that of the row with this number
 abbrev pub VerdictRefuses : (script : List ℕ) → (number : ℕ) → PolicyFields → AuditFault → Type 0

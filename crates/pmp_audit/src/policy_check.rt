@@ -1,8 +1,9 @@
 //! The rows of a policy, each judged in all states that it asks of.
 
-ghost use Rattle.std.specs.Prelude.{◌≡◌, ◌+◌, ◌^◌, ◌<◌, ◌≤◌, ◌++◌, All, IfOk, IfErr, OnErr, OnOk, length};
-ghost use Rattle.std.specs.Prelude.{None, Some, if◌then◌else◌};
+ghost use Rattle.std.specs.Prelude.{◌≡◌, ◌+◌, ◌^◌, ◌<◌, ◌≤◌, ◌++◌, All, IfOk, IfErr, OnErr, OnOk, length, map};
+ghost use Rattle.std.specs.Prelude.{None, Some, if◌then◌else◌, slice_get};
 ghost use Rattle.std.specs.Option.{option_or};
+ghost use Rattle.pmp_text.specs.Labels.{label_text};
 ghost use Rattle.pmp_text.specs.Verdicts.{is_breach, verdict_row};
 ghost use Rattle.pmp_audit.specs.Answers.{Declines, IsAppended, IsWritten, IsRefused};
 ghost use Rattle.pmp_audit.specs.Fault.{fault_of_policy};
@@ -21,7 +22,7 @@ use crate::policy_check::moments::moments_of;
 use crate::policy_check::steps::Steps;
 use crate::policy_check::sweep::{Judged, judge, unjudged};
 use pmp_text::{
-    EventLog, GrowingLog, PolicyFields, PolicyRow, Sink, Verdict, read_policy, read_script,
+    EventLog, GrowingLog, Label, PolicyFields, PolicyRow, Sink, Verdict, read_policy, read_script,
     write_verdict,
 };
 use std::alloc::{AllocError, Global};
@@ -61,18 +62,18 @@ pub fn check_policy<W: Write>(
 {
     let mut log = GrowingLog::new(alloc);
     let read = read_script(&mut log, script)?;
-    let rows = match read_policy(alloc, policy, &moments_of(script, &read)) {
-        Ok(rows) => rows,
+    let policy = match read_policy(alloc, policy, &moments_of(script, &read)) {
+        Ok(policy) => policy,
         Err(fault) => return Err(AuditFault::of_policy(fault)),
     };
     let steps = Steps {
         script: &read,
         pace,
     };
-    let mut judged = unjudged(alloc, &steps, &rows)?;
+    let mut judged = unjudged(alloc, &steps, &policy.rows)?;
     judge(&steps, &mut judged);
     let mut text = Vec::new(alloc);
-    let summary = write_verdicts(&mut text, &judged)?;
+    let summary = write_verdicts(&mut text, &judged, &policy.labels)?;
     write_answer(writer, &text, Ok(summary))
 }
 
@@ -104,17 +105,21 @@ pub fn append_verdict<L: EventLog, S: Sink>(
     judge(&steps, &mut judged);
     let [one] = judged;
     let verdict = one.told();
-    write_verdict(out, number, verdict)?;
+    write_verdict(out, number, verdict, None)?;
     Ok(verdict)
 }
 
-/// Appends the verdicts on the rows.
-fn write_verdicts(out: &mut Vec<u8>, judged: &[Judged]) -> Result<PolicySummary, AllocError>
-    ensures { IfOk result (AreWritten judged.now out.old.items out.new.items) }
+/// Appends the verdicts on the rows, with the labels of those that have one.
+fn write_verdicts(
+    out: &mut Vec<u8>,
+    judged: &[Judged],
+    labels: &[Label],
+) -> Result<PolicySummary, AllocError>
+    ensures { IfOk result (AreWritten judged.now (map label_text labels.now) out.old.items out.new.items) }
 {
     let mut summary = PolicySummary::default();
     for one in judged {
-        summary.add_row(out, &one.row, one.told())?;
+        summary.add_row(out, &one.row, one.told(), labels)?;
     }
     Ok(summary)
 }
@@ -126,6 +131,7 @@ impl PolicySummary {
         out: &mut Vec<u8>,
         row: &PolicyRow,
         verdict: Verdict,
+        labels: &[Label],
     ) -> Result<(), AllocError>
         requires rows { self.old.rows + 1 < 2 ^ 64 }
         requires broken { self.old.broken ≤ self.old.rows }
@@ -133,13 +139,15 @@ impl PolicySummary {
         ensures broken { self.new.broken ≡ self.old.broken + (if is_breach verdict then 1 else 0) }
         ensures bare { self.new.bare ≡ option_or self.old.bare
             (if row.now.is_bare then Some (self.old.rows + 1) else None) }
-        ensures written { OnOk result (out.new.items ≡ out.old.items ++ verdict_row self.new.rows verdict) }
+        ensures written { OnOk result (out.new.items ≡ out.old.items
+            ++ verdict_row self.new.rows verdict (slice_get (map label_text labels.now) self.old.rows)) }
     {
+        let label = labels.get(self.rows as usize);
         self.rows += 1;
         if verdict.is_breach() {
             self.broken += 1;
         }
         self.bare = self.bare.or(row.is_bare.then_some(self.rows));
-        write_verdict(out, self.rows, verdict)
+        write_verdict(out, self.rows, verdict, label)
     }
 }

@@ -38,14 +38,18 @@ xlen_line is_rv32 = if is_rv32 then hart_line (codes "xlen") (codes "32") [] els
 unfoldable pub smepmp_line : (has_smepmp : Bool) → List ℕ
 smepmp_line has_smepmp = if has_smepmp then [] else hart_line (codes "smepmp") (codes "no") []
 
--- the version, where the log comes from, and what the hart is
+-- a name of the moment where it stands
+abbrev pub mark_line : (name : List ℕ) → List ℕ
+mark_line name = codes "mark " ++ (name ++ 10 ∷ [])
+
+-- the version, where the log comes from, what the hart is, and the name of the moment before its first event
 unfoldable pub head_text : Given → List ℕ
 head_text given =
     codes "pmp 3" ++ 10 ∷ (codes "# from " ++ (source_text given.format ++ (codes ", hart "
     ++ (decimal given.hart ++ 10 ∷ (xlen_line given.is_rv32
     ++ (number_line (codes "entries") (other_entries given.entries)
     ++ (number_line (codes "grain") given.grain ++ (number_line (codes "bits") given.bits
-    ++ smepmp_line given.has_smepmp))))))))
+    ++ (smepmp_line given.has_smepmp ++ mark_line (codes "start"))))))))))
 
 -- ---- a line's lines
 
@@ -126,10 +130,15 @@ told_text given walk told =
     else source_line walk.line ++ (write_lines told ++ (publish_if (is_write told.how && ends given walk)
     ++ known_lines given.is_rv32 told)))
 
+-- the moments behind resets are `reset`, `reset2`, `reset3` and so on
+abbrev pub reset_name : (number : ℕ) → List ℕ
+reset_name number = codes "reset" ++ (if number == 1 then [] else decimal number)
+
 -- a reset of a hart that wasn't used since the last one is none
 abbrev pub reset_text : Walk → List ℕ
 reset_text walk = publish_if (is_open walk) ++ (if walk.is_used
-    then source_line walk.line ++ (codes "reset" ++ 10 ∷ (codes "publish" ++ 10 ∷ [])) else [])
+    then source_line walk.line ++ (codes "reset" ++ 10 ∷ (codes "publish" ++ 10 ∷ mark_line (reset_name walk.reset)))
+    else [])
 
 -- the lines of the script that a line gives; any but a write ends a burst
 abbrev pub said_text : Given → Walk → Said → List ℕ
@@ -150,10 +159,16 @@ behind_told given walk told = record (behind_line walk) {
   is_found = walk.is_found || not (is_read told.how);
 }
 
+abbrev pub behind_reset : Walk → Walk
+behind_reset walk = record (behind_line walk) {
+  is_used = false;
+  reset = if walk.is_used then min (walk.reset + 1) (2 ^ 64 - 1) else walk.reset;
+}
+
 abbrev pub behind_said : Given → Walk → Said → Walk
 behind_said given walk (Register told) =
     if is_of_hart given walk told then behind_told given walk told else behind_line walk
-behind_said given walk Reset = record (behind_line walk) { is_used = false }
+behind_said given walk Reset = behind_reset walk
 behind_said given walk (Hart hart) = record (behind_line walk) { shown = hart }
 behind_said given walk Nothing = behind_line walk
 
@@ -202,7 +217,7 @@ imported_from given walk (line ∷ more) = elim (line_of given walk line) [
 
 -- before the first line
 abbrev pub beginning : Walk
-beginning = record { line = 1; pending = 0; is_used = false; is_found = false; shown = 0 }
+beginning = record { line = 1; reset = 1; pending = 0; is_used = false; is_found = false; shown = 0 }
 
 -- the script of a log with these lines
 abbrev pub imported : Given → List (List ℕ) → Result (List ℕ) ImportFault

@@ -1,7 +1,8 @@
 //! What is given of a log, and where a reading of it stands.
 
 ghost use Rattle.std.specs.Prelude.{◌≡◌};
-ghost use Rattle.pmp_import.specs.Imported.{beginning, behind_line, behind_said, behind_told, ends, is_of_hart, is_open};
+ghost use Rattle.pmp_import.specs.Imported.{beginning, behind_line, behind_reset, behind_said, behind_told};
+ghost use Rattle.pmp_import.specs.Imported.{ends, is_of_hart, is_open};
 
 use crate::format::Format;
 use crate::said::{Said, Told};
@@ -29,6 +30,8 @@ pub struct Given {
 pub struct Walk {
     /// The number of the next line, from 1.
     pub line: u64,
+    /// The number of the next reset, from 1.
+    pub reset: u64,
     /// How many writes the open publication has.
     pub pending: u64,
     /// Whether the hart has been used since the last reset.
@@ -59,6 +62,7 @@ impl Walk {
     /// Before the first line.
     pub const BEGINNING: Walk = Walk {
         line: 1,
+        reset: 1,
         pending: 0,
         is_used: false,
         is_found: false,
@@ -78,10 +82,7 @@ impl Walk {
     {
         match said {
             Said::Register(told) if given.is_of_hart(self, told) => self.behind_told(given, told),
-            Said::Reset => Walk {
-                is_used: false,
-                ..self.behind_line()
-            },
+            Said::Reset => self.behind_reset(),
             Said::Hart(hart) => Walk {
                 shown: hart,
                 ..self.behind_line()
@@ -98,6 +99,22 @@ impl Walk {
             line: self.line.saturating_add(1),
             pending: 0,
             ..self
+        }
+    }
+
+    /// Behind a line that resets the hart.
+    fn behind_reset(self) -> Walk
+        ensures { result ≡ behind_reset self }
+    {
+        let reset = if self.is_used {
+            self.reset.saturating_add(1)
+        } else {
+            self.reset
+        };
+        Walk {
+            is_used: false,
+            reset,
+            ..self.behind_line()
         }
     }
 

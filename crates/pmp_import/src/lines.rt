@@ -2,8 +2,8 @@
 
 ghost use Rattle.std.specs.Prelude.{◌≡◌, Some, codes, if◌then◌else◌};
 ghost use Rattle.pmp_import.specs.Imported.{head_text, kept_lines, kept_of, known_lines, number_line, other_entries};
-ghost use Rattle.pmp_import.specs.Imported.{publish_if, reset_text, said_text, smepmp_line, told_text, value_line};
-ghost use Rattle.pmp_import.specs.Imported.{write_lines, xlen_line};
+ghost use Rattle.pmp_import.specs.Imported.{publish_if, reset_name, reset_text, said_text, smepmp_line, told_text};
+ghost use Rattle.pmp_import.specs.Imported.{value_line, write_lines, xlen_line};
 
 use crate::given::{Given, Walk};
 use crate::said::{How, Said, Told};
@@ -11,7 +11,7 @@ use pmp_core::Csr;
 use pmp_text::RegisterName;
 use std::fmt;
 
-/// The version, and what the hart is.
+/// The version, what the hart is, and the name of the moment before its first event.
 #[derive(Clone, Copy)]
 pub struct Head(pub Given);
 
@@ -28,7 +28,7 @@ impl fmt::Display for Head {
         let smepmp = smepmp_line(self.0.has_smepmp);
         write!(
             f,
-            "pmp 3\n# from {format}, hart {hart}\n{xlen}{entries}{grain}{bits}{smepmp}"
+            "pmp 3\n# from {format}, hart {hart}\n{xlen}{entries}{grain}{bits}{smepmp}mark start\n"
         )
     }
 }
@@ -204,6 +204,21 @@ impl fmt::Display for ToldLines {
     }
 }
 
+/// The name of the moment behind a reset with this number.
+#[derive(Clone, Copy)]
+struct ResetName(u64);
+
+impl fmt::Display for ResetName {
+    ghost output = { λ name. Some (reset_name name.0) };
+
+    fn fmt<W: fmt::Write>(&self, f: &mut fmt::Formatter<W>) -> fmt::Result {
+        match self.0 {
+            1 => f.write_str("reset"),
+            number => write!(f, "reset{number}"),
+        }
+    }
+}
+
 /// What a reset gives.
 #[derive(Clone, Copy)]
 struct ResetLines(Walk);
@@ -217,7 +232,11 @@ impl fmt::Display for ResetLines {
             return write!(f, "{before}");
         }
         let line = self.0.line;
-        write!(f, "{before}# line {line}\nreset\npublish\n")
+        let name = ResetName(self.0.reset);
+        write!(
+            f,
+            "{before}# line {line}\nreset\npublish\nmark {name}\n"
+        )
     }
 }
 

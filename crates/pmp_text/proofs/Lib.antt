@@ -1,6 +1,7 @@
 pub mod Appending
 pub mod Bounds
 pub mod BrokenRows
+pub mod CsvFields
 pub mod CutPieces
 pub mod CutTexts
 pub mod WholeLines

@@ -10,30 +10,30 @@ use Rattle.pmp_text.specs.Tables.{behind_header, fault_or_rows, records_of, with
 use Rattle.pmp_text.specs.Traces.{is_header, rows_meaning, trace_meaning}
 use Rattle.pmp_text.specs.declared.policy.row_fields.PolicyFields.{PolicyFields}
 use Rattle.pmp_text.specs.Policies.{first_policy_fault, policy_meaning, policy_of_record, policy_rows_meaning, policy_in}
-use Rattle.pmp_text.specs.Policies.{is_policy_header, policy_row_fault}
+use Rattle.pmp_text.specs.Policies.{is_labeled, is_policy_header, policy_row_fault}
 use Rattle.pmp_text.specs.declared.trace.reader.TheConstants.{MAX_TRACE}
 use Rattle.pmp_text.specs.Flaws.{at_row, as_whole}
 
--- what is meant where so many rows of a policy were read, which say this, and these records are left
-abbrev pub with_policy_read : (moments : KnownMoments) → (count : ℕ) → List PolicyFields → List (List (List ℕ))
-    → Result (List PolicyFields) TraceFault
-with_policy_read moments count rows left = fault_or_rows (first_policy_fault moments (count + 1) left)
-    (rows ++ filter_map (policy_of_record moments) left)
+module _ (labeled : Bool) (moments : KnownMoments) where
+  -- what is meant where so many rows of a policy were read, which say this, and these records are left
+  abbrev pub with_policy_read : (count : ℕ) → List PolicyFields → List (List (List ℕ))
+      → Result (List PolicyFields) TraceFault
+  with_policy_read count rows left = fault_or_rows (first_policy_fault labeled moments (count + 1) left)
+      (rows ++ filter_map (policy_of_record labeled moments) left)
 
--- one row more of it is read
-pub one_policy_row : (moments : KnownMoments) (count : ℕ) (rows : List PolicyFields) (row : PolicyFields)
-    (fields : List (List ℕ)) (left : List (List (List ℕ))) → policy_in moments fields ≡ Ok row
-    → policy_row_fault moments.publications (policy_in moments fields) ≡ None
-    → with_policy_read moments count rows (fields ∷ left)
-    ≡ with_policy_read moments (count + 1) (rows ++ row ∷ []) left
-one_policy_row moments count rows row fields left says fine =
-    let said = filter_map (policy_of_record moments) left in
-    let fault : first_policy_fault moments (count + 1) (fields ∷ left)
-    ≡ first_policy_fault moments (count + 1 + 1) left = rw fine refl in
-    let picked : filter_map (policy_of_record moments) (fields ∷ left) ≡ row ∷ said = rw says refl in
-    (λ i. fault_or_rows (fault i) (rows ++ picked i))
-    ∙ ap (λ (all : List PolicyFields). fault_or_rows (first_policy_fault moments (count + 1 + 1) left) all)
-    (sym (append_assoc rows (row ∷ []) said))
+  -- one row more of it is read
+  pub one_policy_row : (count : ℕ) (rows : List PolicyFields) (row : PolicyFields)
+      (fields : List (List ℕ)) (left : List (List (List ℕ))) → policy_in labeled moments fields ≡ Ok row
+      → policy_row_fault moments.publications (policy_in labeled moments fields) ≡ None
+      → with_policy_read count rows (fields ∷ left) ≡ with_policy_read (count + 1) (rows ++ row ∷ []) left
+  one_policy_row count rows row fields left says fine =
+      let said = filter_map (policy_of_record labeled moments) left in
+      let fault : first_policy_fault labeled moments (count + 1) (fields ∷ left)
+      ≡ first_policy_fault labeled moments (count + 1 + 1) left = rw fine refl in
+      let picked : filter_map (policy_of_record labeled moments) (fields ∷ left) ≡ row ∷ said = rw says refl in
+      (λ i. fault_or_rows (fault i) (rows ++ picked i))
+      ∙ ap (λ (all : List PolicyFields). fault_or_rows (first_policy_fault labeled moments (count + 1 + 1) left) all)
+      (sym (append_assoc rows (row ∷ []) said))
 
 -- ---- from the header on
 
@@ -63,6 +63,6 @@ unfolding trace_meaning
 trace_is publications text = refl
 
 pub policy_is : (moments : KnownMoments) (text : List ℕ) → policy_meaning moments text
-    ≡ within_limit (behind_header is_policy_header (policy_rows_meaning moments)) text
+    ≡ within_limit (behind_header is_policy_header (policy_rows_meaning (is_labeled (records_of text)) moments)) text
 unfolding policy_meaning
 policy_is moments text = refl

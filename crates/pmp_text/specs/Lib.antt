@@ -14,6 +14,7 @@ pub mod Flaws
 pub mod Heads
 pub mod Hexadecimal
 pub mod Inputs
+pub mod Labels
 pub mod Lines
 pub mod Longhand
 pub mod LongTraces

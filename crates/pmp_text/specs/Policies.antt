@@ -2,7 +2,7 @@
 use Rattle.std.specs.Prelude.{ℕ, ◌+◌, List, [], ◌∷◌, length, filter_map, Bool, false, true, ◌&&◌, ◌||◌, ◌==◌, Option}
 use Rattle.std.specs.Prelude.{Some, None, Result, Ok, Err, option_map, nat_lt, nat_le, codes, bytes_eq}
 use Rattle.std.specs.Prelude.{if◌then◌else◌}
-use Rattle.std.specs.List.{count_by}
+use Rattle.std.specs.List.{count_by, list_any}
 use Rattle.std.specs.Option.{option_or}
 use Rattle.std.specs.Result.{result_ok}
 use Rattle.pmp_core.specs.declared.access.Mode.{Mode}
@@ -17,6 +17,7 @@ use Rattle.pmp_text.specs.declared.policy.Kinds.TheVariants.{One, Any}
 use Rattle.pmp_text.specs.declared.policy.Modes.{Modes}
 use Rattle.pmp_text.specs.declared.policy.PolicyRow.{PolicyRow}
 use Rattle.pmp_text.specs.declared.policy.row_fields.PolicyFields.{PolicyFields}
+use Rattle.pmp_text.specs.declared.policy.row_fields.TheConstants.{COMMENT, NAME}
 use Rattle.pmp_text.specs.declared.flaw.Flaw.{Flaw}
 use Rattle.pmp_text.specs.declared.refusal.Refusal.TheVariants.{BadRow, BadAfter, PastEnd}
 use Rattle.pmp_text.specs.declared.trace.TraceFault.{TraceFault}
@@ -24,7 +25,7 @@ use Rattle.pmp_text.specs.declared.moments.Asked.{Asked}
 use Rattle.pmp_text.specs.AccessWords.{kind_named}
 use Rattle.pmp_text.specs.Moments.{KnownMoments, asked_between, moment_said, to_said}
 use Rattle.pmp_text.specs.Numbers.{is_bare, word_number}
-use Rattle.pmp_text.specs.Tables.{behind_header, fault_or_rows, within_limit}
+use Rattle.pmp_text.specs.Tables.{behind_header, fault_or_rows, records_of, within_limit}
 use Rattle.pmp_text.specs.Flaws.{and_then, at_row, in_part, of_part, part, as_whole}
 
 -- ---- words
@@ -102,6 +103,28 @@ seven_fields (from ∷ to ∷ modes ∷ kind ∷ first ∷ last ∷ demand ∷ [
 })
 seven_fields _ = None
 
+-- the fields of a record that has nine: those seven between a name and a comment
+pub record NineFields : Type 0 where
+  pub name : List ℕ
+  pub words : SevenFields
+  pub comment : List ℕ
+
+unfoldable pub nine_fields : List (List ℕ) → Option NineFields
+nine_fields (name ∷ from ∷ to ∷ modes ∷ kind ∷ first ∷ last ∷ demand ∷ comment ∷ []) = Some (record {
+  name = name;
+  words = record {
+    from = from;
+    to = to;
+    modes = modes;
+    kind = kind;
+    first = first;
+    last = last;
+    demand = demand;
+  };
+  comment = comment;
+})
+nine_fields _ = None
+
 -- the first record names the fields
 abbrev pub names_seven : SevenFields → Bool
 names_seven words = bytes_eq words.from (codes "from")
@@ -109,8 +132,24 @@ names_seven words = bytes_eq words.from (codes "from")
     && (bytes_eq words.kind (codes "kind") && (bytes_eq words.first (codes "first")
     && (bytes_eq words.last (codes "last") && bytes_eq words.demand (codes "demand"))))))
 
+abbrev pub is_plain_header : List (List ℕ) → Bool
+is_plain_header fields = elim (seven_fields fields) [ Some words ↦ names_seven words | None ↦ false ]
+
+-- with a name before them, and a comment behind
+abbrev pub is_labeled_header : List (List ℕ) → Bool
+is_labeled_header fields = elim (nine_fields fields) [
+  | Some all ↦
+      bytes_eq all.name (codes "name") && (names_seven all.words && bytes_eq all.comment (codes "comment"))
+  | None ↦ false
+]
+
 abbrev pub is_policy_header : List (List ℕ) → Bool
-is_policy_header fields = elim (seven_fields fields) [ Some words ↦ names_seven words | None ↦ false ]
+is_policy_header fields = is_labeled_header fields || is_plain_header fields
+
+-- the rows of these records have names and comments
+abbrev pub is_labeled : List (List (List ℕ)) → Bool
+is_labeled [] = false
+is_labeled (header ∷ rows) = is_labeled_header header
 
 abbrev pub policy_fields : PolicyRow → PolicyFields
 policy_fields row = record {
@@ -158,13 +197,28 @@ policy_of_fields moments words =
       is_bare = is_bare words.first || is_bare words.last;
     })))))
 
--- what a record says as a row, or what of it says nothing
-abbrev pub policy_in : KnownMoments → List (List ℕ) → Result PolicyFields Flaw
-policy_in moments fields =
-    elim (seven_fields fields) [ Some words ↦ policy_of_fields moments words | None ↦ Err (as_whole BadRow) ]
+-- a name or a comment is any text without control bytes
+abbrev pub is_control : (byte : ℕ) → Bool
+is_control byte = nat_lt byte 32 || byte == 127
 
-abbrev pub policy_of_record : KnownMoments → List (List ℕ) → Option PolicyFields
-policy_of_record moments fields = result_ok (policy_in moments fields)
+abbrev pub label_said : List ℕ → Option (List ℕ)
+label_said text = if list_any is_control text then None else Some text
+
+-- the same between a name and a comment
+unfoldable pub policy_of_nine : KnownMoments → NineFields → Result PolicyFields Flaw
+policy_of_nine moments all =
+    of_part NAME (label_said all.name) (λ name. and_then (policy_of_fields moments all.words) (λ row.
+    of_part COMMENT (label_said all.comment) (λ comment. Ok row)))
+
+-- what a record says as a row, perhaps with a name and a comment, or what of it says nothing
+abbrev pub policy_in : (labeled : Bool) → KnownMoments → List (List ℕ) → Result PolicyFields Flaw
+policy_in false moments fields =
+    elim (seven_fields fields) [ Some words ↦ policy_of_fields moments words | None ↦ Err (as_whole BadRow) ]
+policy_in true moments fields =
+    elim (nine_fields fields) [ Some all ↦ policy_of_nine moments all | None ↦ Err (as_whole BadRow) ]
+
+abbrev pub policy_of_record : (labeled : Bool) → KnownMoments → List (List ℕ) → Option PolicyFields
+policy_of_record labeled moments fields = result_ok (policy_in labeled moments fields)
 
 -- the fault of what a row says: more publications than there are, then a last byte that is none
 abbrev pub policy_fields_fault : (publications : ℕ) → PolicyFields → Option Flaw
@@ -187,17 +241,20 @@ policy_row_fault publications (Ok row) = policy_fields_fault publications row
 -- ---- all rows
 
 -- the fault of the first row that has one; the first row has this number
-abbrev pub first_policy_fault : KnownMoments → (number : ℕ) → List (List (List ℕ)) → Option TraceFault
-first_policy_fault moments number [] = None
-first_policy_fault moments number (row ∷ more) =
-    option_or (option_map (at_row number) (policy_row_fault moments.publications (policy_in moments row)))
-    (first_policy_fault moments (number + 1) more)
+abbrev pub first_policy_fault : (labeled : Bool) → KnownMoments → (number : ℕ) → List (List (List ℕ))
+    → Option TraceFault
+first_policy_fault labeled moments number [] = None
+first_policy_fault labeled moments number (row ∷ more) =
+    option_or (option_map (at_row number) (policy_row_fault moments.publications (policy_in labeled moments row)))
+    (first_policy_fault labeled moments (number + 1) more)
 
 -- the rows are numbered from 1
-abbrev pub policy_rows_meaning : KnownMoments → List (List (List ℕ)) → Result (List PolicyFields) TraceFault
-policy_rows_meaning moments rows =
-    fault_or_rows (first_policy_fault moments 1 rows) (filter_map (policy_of_record moments) rows)
+abbrev pub policy_rows_meaning : (labeled : Bool) → KnownMoments → List (List (List ℕ))
+    → Result (List PolicyFields) TraceFault
+policy_rows_meaning labeled moments rows =
+    fault_or_rows (first_policy_fault labeled moments 1 rows) (filter_map (policy_of_record labeled moments) rows)
 
 -- what a text means as a policy beside a script with these moments
 unfoldable pub policy_meaning : KnownMoments → List ℕ → Result (List PolicyFields) TraceFault
-policy_meaning moments text = within_limit (behind_header is_policy_header (policy_rows_meaning moments)) text
+policy_meaning moments text = within_limit
+    (behind_header is_policy_header (policy_rows_meaning (is_labeled (records_of text)) moments)) text

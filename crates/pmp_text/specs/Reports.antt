@@ -40,6 +40,10 @@ abbrev pub fields_after : List (List ℕ) → List ℕ
 fields_after [] = 10 ∷ []
 fields_after (field ∷ rest) = codes "," ++ (field ++ fields_after rest)
 
+-- each field behind a comma
+abbrev pub fields_before : List (List ℕ) → List ℕ
+fields_before fields = flat_map (λ field. codes "," ++ field) fields
+
 -- the row of an access with this number
 unfoldable pub report_row : ℕ → Access → Decision → List ℕ
 report_row number access decision =

@@ -1,9 +1,10 @@
 -- The rows of a policy's answer.
-use Rattle.std.specs.Prelude.{ℕ, List, [], ◌∷◌, ◌++◌, Bool, true, false, not, codes, decimal}
+use Rattle.std.specs.Prelude.{ℕ, List, [], ◌∷◌, ◌++◌, Bool, true, false, not, Option, codes, decimal}
 use Rattle.pmp_text.specs.declared.lines.hexadecimal.TheConstants.{ADDRESS_DIGITS}
 use Rattle.pmp_text.specs.declared.lines.verdict.Verdict.{Verdict}
 use Rattle.pmp_text.specs.declared.lines.verdict.Verdict.TheVariants.{Broken, Holds, Unmet}
 use Rattle.pmp_text.specs.Hexadecimal.{hex_text}
+use Rattle.pmp_text.specs.Labels.{LabelText, label_fields}
 use Rattle.pmp_text.specs.Reports.{fields_after}
 use Rattle.pmp_text.specs.RunLines.{owner_text}
 
@@ -21,6 +22,6 @@ verdict_fields (Broken breach) =
     codes "broken" ∷ decimal breach.done ∷ hex_text ADDRESS_DIGITS breach.run.first
     ∷ hex_text ADDRESS_DIGITS breach.run.last ∷ owner_text breach.run.owner ∷ []
 
--- the row of a policy's row with this number
-unfoldable pub verdict_row : ℕ → Verdict → List ℕ
-verdict_row number verdict = decimal number ++ fields_after (verdict_fields verdict)
+-- the row of a policy's row with this number, with its name and its comment where it has them
+unfoldable pub verdict_row : ℕ → Verdict → Option LabelText → List ℕ
+verdict_row number verdict label = decimal number ++ fields_after (verdict_fields verdict ++ label_fields label)

@@ -36,7 +36,9 @@ pub use moments::{Coming, Lasting, Moments};
 pub use names::{RegisterName, read_plain_number, read_register, read_register_number};
 pub use numbers::{is_bare, read_numeral, read_word_number};
 pub use output::{OutputFault, write_out};
-pub use policy::{Demand, Kinds, Modes, PolicyFields, PolicyRow, read_policy};
+pub use policy::{
+    COMMENT, Demand, Kinds, Label, Modes, NAME, Policy, PolicyFields, PolicyRow, read_policy,
+};
 pub use refusal::{InputFault, Refusal, ScriptKind, TraceKind};
 pub use script::{
     MAX_EVENTS, MAX_HEADED_SCRIPT, MAX_SCRIPT, Script, ScriptFault, Words, is_headed, read_script,

@@ -6,6 +6,7 @@ mod changes;
 mod effects;
 mod entries;
 mod expected;
+mod field;
 mod hexadecimal;
 mod marks;
 mod picture;

@@ -3,6 +3,7 @@
 ghost use Rattle.std.specs.Prelude.{◌≡◌, ◌<◌, ◌≤◌};
 ghost use Rattle.pmp_core.specs.declared.access.TheConstants.{ADDRESS_LIMIT};
 
+mod label;
 mod reader;
 mod row_fields;
 mod words;
@@ -10,9 +11,10 @@ mod words;
 use crate::flaw::Flaw;
 use crate::moments::Coming;
 use crate::refusal::Refusal;
+pub use label::Label;
 use pmp_core::{Kind, Mode};
 pub use reader::read_policy;
-pub use row_fields::PolicyFields;
+pub use row_fields::{COMMENT, NAME, PolicyFields};
 
 /// What is demanded of the bytes that a row speaks of. A byte is open to a mode and a kind where the access of that one
 /// byte is allowed.
@@ -96,6 +98,14 @@ pub struct PolicyRow {
     pub ghost forward: { from ≤ to },
     pub ghost ordered: { first ≤ last },
     pub ghost inside: { last < ADDRESS_LIMIT },
+}
+
+/// The rows of a policy.
+#[derive(Drop)]
+pub struct Policy {
+    pub rows: Vec<PolicyRow>,
+    /// The label of each row, or none where the header names neither names nor comments.
+    pub labels: Vec<Label>,
 }
 
 impl PolicyRow {

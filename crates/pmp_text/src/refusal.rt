@@ -174,7 +174,7 @@ impl Refusal {
             Refusal::TooLong =>
                 "at most 1048576 bytes of a script, 67108864 with pmp 3, and 16777216 of a trace or a policy; of a long trace, shorter lines",
             Refusal::BadHeader =>
-                "after,mode,kind,start,length for a trace, from,to,modes,kind,first,last,demand for a policy",
+                "after,mode,kind,start,length for a trace, from,to,modes,kind,first,last,demand for a policy, or that between name and comment",
             Refusal::BadRow =>
                 "as many fields as the header names, each of its form: see pmp help trace and pmp help policy",
             Refusal::BadAfter => "at most as many publications as the script has",

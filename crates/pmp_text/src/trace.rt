@@ -11,11 +11,12 @@ mod row_fields;
 mod rows;
 
 use crate::refusal::{Refusal, TraceKind};
+pub(crate) use plain::is_apart;
 use pmp_core::Access;
 pub use reader::{MAX_TRACE, read_trace};
 pub(crate) use records::Records;
 pub use rows::{Place, RowReader};
-use std::alloc::AllocFailed;
+use std::alloc::{AllocError, AllocFailed};
 
 /// An access, and how many publications of the script are done before it.
 #[derive(Clone, Copy, PartialEq, Eq)]
@@ -33,7 +34,8 @@ pub struct TraceFault {
     /// The row, counted from 1 behind the header, or 0 where the fault is of no row: `BadHeader`, `TooLong`, `Memory`
     /// and `Input`.
     pub row: u64,
-    /// The field of the row, counted from 0, or none where the whole row is at fault.
+    /// The field of the row, counted from 0, or none where the whole row is at fault. In a policy `from` is 0, be there
+    /// names or not.
     pub field: Option<usize>,
 }
 
@@ -41,6 +43,14 @@ impl<T: Drop> From<AllocFailed<T>> for TraceFault {
     ghost from_gives = { λ _ fault. fault ≡ no_memory_for_rows };
 
     fn from(_failed: AllocFailed<T>) -> TraceFault {
+        Refusal::Memory.whole().at_row(0)
+    }
+}
+
+impl From<AllocError> for TraceFault {
+    ghost from_gives = { λ _ fault. fault ≡ no_memory_for_rows };
+
+    fn from(_error: AllocError) -> TraceFault {
         Refusal::Memory.whole().at_row(0)
     }
 }

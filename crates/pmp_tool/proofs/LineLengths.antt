@@ -1,5 +1,6 @@
 -- Every line that tells of a refusal fits its room.
-use Rattle.std.proofs.Common.{ℕ, ◌<◌, ◌≤◌, ◌^◌, length, decimal, arith}
+use Rattle.std.proofs.Common.{ℕ, ◌<◌, ◌≤◌, ◌^◌, Bool, true, false, cond, List, [], ◌++◌, length, decimal, nat_eq, arith}
+use Rattle.std.specs.Prelude.{codes}
 use Rattle.std.proofs.lemmas.Fmt.{length-decimal-le}
 use Rattle.std.proofs.lemmas.List.{length-append}
 use Rattle.pmp_audit.specs.declared.fault.Side.{Side}
@@ -9,7 +10,7 @@ use Rattle.pmp_text.specs.declared.refusal.Refusal.{Refusal}
 use Rattle.pmp_text.specs.declared.refusal.Refusal.TheVariants.{BadLength}
 use Rattle.pmp_tool.specs.FaultLines.{place_text, side_text}
 use Rattle.pmp_tool.specs.LineLengths.{IsNumbered, IsNumberedNote, LineFitsLaw, NoteFitsLaw}
-use Rattle.pmp_tool.specs.Notes.{note_text}
+use Rattle.pmp_tool.specs.Notes.{left_text, note_text}
 use Rattle.pmp_tool.specs.declared.note.Note.{Note}
 use Rattle.pmp_tool.specs.declared.note.Note.TheVariants as note
 use Rattle.pmp_tool.specs.declared.fault_line.Place.{Place}
@@ -49,12 +50,20 @@ line_fits refusal place small =
     (let small = number_fits refusal in omega arith) in
     simp length-append (omega (arith, digits, name_fits refusal, place_fits place small))
 
+none_fits : (none : Bool) (text : List ℕ) (most : ℕ) → length text ≤ most → length (cond none [] text) ≤ most
+none_fits true text most fits = omega arith
+none_fits false text most fits = fits
+
+left_fits : (left : ℕ) → left < 2 ^ 64 → length (left_text left) ≤ 54
+left_fits left small = none_fits (nat_eq left 0) (codes "; writes of other harts left out: " ++ decimal left) 54
+    (simp length-append (omega (arith, digits_fit left small)))
+
 note_text_fits : (one : Note) → IsNumberedNote one → length (note_text one) ≤ 140
 note_text_fits note.Start small = omega arith
 note_text_fits (note.TraceRow row) small = simp length-append (omega (arith, digits_fit row small))
 note_text_fits (note.PolicyRow row) small = simp length-append (omega (arith, digits_fit row small))
 note_text_fits (note.Guessed hart entries left) small = simp length-append
-    (omega (arith, digits_fit hart small.0, digits_fit entries small.1, digits_fit left small.2))
+    (omega (arith, digits_fit hart small.0, digits_fit entries small.1, left_fits left small.2))
 note_text_fits (note.Taken hart entries) small =
     simp length-append (omega (arith, digits_fit hart small.0, digits_fit entries small.1))
 

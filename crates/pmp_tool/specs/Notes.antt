@@ -1,6 +1,6 @@
 -- What the program notes beside an answer: what an import has guessed, or an address of 14 digits without `0x`, which is
 -- read as decimal.
-use Rattle.std.specs.Prelude.{ℕ, List, ◌++◌, codes, decimal, Option, Some, None, option_map, if◌then◌else◌}
+use Rattle.std.specs.Prelude.{ℕ, List, [], ◌++◌, ◌==◌, codes, decimal, Option, Some, None, option_map, if◌then◌else◌}
 use Rattle.std.specs.Io.KnownBytes.{Keeps}
 use Rattle.pmp_text.specs.Bytes.{AppendsBeginning}
 use Rattle.pmp_tool.specs.declared.note.Note.{Note}
@@ -20,12 +20,16 @@ note_of _ = None
 abbrev pub as_decimal : List ℕ
 as_decimal = codes ": 14 digits without 0x are read as decimal; write 0x before a hexadecimal address"
 
+-- where other harts have writes
+abbrev pub left_text : (left : ℕ) → List ℕ
+left_text left = if left == 0 then [] else codes "; writes of other harts left out: " ++ decimal left
+
 abbrev pub note_text : Note → List ℕ
 note_text Start = codes "START" ++ as_decimal
 note_text (TraceRow row) = codes "trace row " ++ (decimal row ++ as_decimal)
 note_text (PolicyRow row) = codes "policy row " ++ (decimal row ++ as_decimal)
 note_text (Guessed hart entries left) = codes "hart " ++ (decimal hart ++ (codes ", " ++ (decimal entries
-    ++ (codes " entries; " ++ (decimal left ++ codes " writes of other harts are left out")))))
+    ++ (codes " entries" ++ left_text left))))
 note_text (Taken hart entries) = codes "hart " ++ (decimal hart ++ (codes ", " ++ (decimal entries
     ++ codes " entries, since the log is read once")))
 

@@ -16,7 +16,7 @@ use crate::failure::Failure;
 use crate::fault_line::{FaultLine, Place};
 use crate::inputs::Inputs;
 use crate::kept::{Kept, KeptInput};
-use fields::{is_policy_address, is_trace_address, policy_field, trace_field};
+use fields::{is_policy_address, is_trace_address, policy_field, policy_place, trace_field};
 use pmp_audit::Side;
 use pmp_text::{GrowingLog, Refusal, read_script, write_out};
 use shown::show_text;
@@ -206,8 +206,11 @@ fn spot_of<'a>(line: &FaultLine, input: &'a KeptInput) -> Option<Spot<'a>> {
         Place::ScriptLine(fault) | Place::LineOf(_, fault) => {
             Some(Spot::of_line(&input.bytes, fault.line, fault.word))
         }
-        Place::TraceRow(fault) | Place::PolicyRow(fault) => {
-            Spot::of_row(&input.bytes, fault.row, fault.field)
+        Place::TraceRow(fault) => Spot::of_row(&input.bytes, fault.row, fault.field),
+        Place::PolicyRow(fault) => {
+            let header = Spot::header(&input.bytes);
+            let place = fault.field.map(|index| policy_place(header, index));
+            Spot::of_row(&input.bytes, fault.row, place)
         }
         _ if line.refusal == Refusal::BadHeader => Spot::of_row(&input.bytes, 0, None),
         _ => None,

@@ -4,7 +4,7 @@ ghost use Rattle.std.specs.Prelude.{Some, OnErr, OnOk};
 ghost use Rattle.std.specs.Io.KnownBytes.{Appends};
 ghost use Rattle.pmp_text.specs.Bytes.{AppendsBeginning};
 ghost use Rattle.pmp_tool.specs.LineLengths.{NoteFitsLaw};
-ghost use Rattle.pmp_tool.specs.Notes.{Notes, note_line, note_text};
+ghost use Rattle.pmp_tool.specs.Notes.{Notes, left_text, note_line, note_text};
 
 use crate::outcome::Outcome;
 use arrayvec::ArrayString;
@@ -61,6 +61,21 @@ impl Note {
     }
 }
 
+/// How many writes of other harts a script hasn't, where they have some.
+#[derive(Clone, Copy)]
+struct LeftOut(u64);
+
+impl fmt::Display for LeftOut {
+    ghost output = { λ left. Some (left_text left.0) };
+
+    fn fmt<W: fmt::Write>(&self, f: &mut fmt::Formatter<W>) -> fmt::Result {
+        match self.0 {
+            0 => Ok(()),
+            left => write!(f, "; writes of other harts left out: {left}"),
+        }
+    }
+}
+
 /// What it says.
 impl fmt::Display for Note {
     ghost output = { λ note. Some (note_text note) };
@@ -70,10 +85,10 @@ impl fmt::Display for Note {
             Note::Start => write!(f, "START: {AS_DECIMAL}"),
             Note::TraceRow(row) => write!(f, "trace row {row}: {AS_DECIMAL}"),
             Note::PolicyRow(row) => write!(f, "policy row {row}: {AS_DECIMAL}"),
-            Note::Guessed(hart, entries, left) => write!(
-                f,
-                "hart {hart}, {entries} entries; {left} writes of other harts are left out"
-            ),
+            Note::Guessed(hart, entries, left) => {
+                let left = LeftOut(left);
+                write!(f, "hart {hart}, {entries} entries{left}")
+            }
             Note::Taken(hart, entries) => {
                 write!(
                     f,

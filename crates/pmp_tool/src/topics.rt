@@ -109,7 +109,8 @@ for each row of the trace, in order.
 
 `pmp policy` writes a row for each row of the policy, in order: `N,holds,,,,`,
 or `N,broken,DONE,FIRST,LAST,OWNER` with its first breach, in time and then in
-address, or `N,unmet,,,,`. Further breaches aren't told.
+address, or `N,unmet,,,,`. Further breaches aren't told. Where the policy's
+header has them, `,NAME,COMMENT` stands behind.
 
   1,broken,0,00000000000000,0000000000000f,-
 
@@ -159,6 +160,7 @@ a comment with the number of the log's line what the line says.
 
   pmp 3
   # from QEMU's trace, hart 0
+  mark start
   # line 1
   write pmpcfg0 0x18
   publish
@@ -268,7 +270,7 @@ A policy lists demands on ranges of bytes and on publications of a script:
   3,4,S,any,0x80200000,0x802fffff,always
 
 It is read as a trace is: CSV of at most 16,777,216 bytes, that header, and a
-row of seven fields for each demand, numbered from 1:
+row of its fields for each demand, numbered from 1:
   from    the first moment that is asked of: a number of publications, at most
           as many as there are; 0 is before the first
   to      the last one, not below from and at most as many as there are; where
@@ -292,6 +294,15 @@ a policy outlives a change of the firmware:
 A row is unmet where such a moment never comes, or `to` comes before `from`. A
 name may end with a blank and `if-any`: then the row need not be met.
 
+Each row may begin with a name and end with a comment, both for people, where
+the header says so:
+
+  name,from,to,modes,kind,first,last,demand,comment
+  firmware,1,,SU,any,0x80000000,0x8007ffff,never,\"closed to all but machine mode, from the first publication on\"
+
+A name and a comment are any text without control bytes, below 0x20 or 0x7F, or
+none. Two rows may have one name.
+
 A byte is open to a mode and a kind where the access of that one byte is
 allowed.
   never   after none of these publications a byte of the range is open to one of
@@ -305,14 +316,18 @@ allowed.
 
 `pmp policy` writes a row for each row of the policy, in order: `N,holds,,,,`,
 or `N,broken,DONE,FIRST,LAST,OWNER` with its first breach, in time and then in
-address, or `N,unmet,,,,`. Further breaches aren't told.
-  N      the row's number, from 1
-  DONE   after how many publications it is broken; where the hold alone is
-         missing, the last of those that are asked of
-  FIRST  the byte address of the first byte of the range at fault there
-  LAST   that of the last byte behind it with the same owner, as far as the
-         range goes
-  OWNER  the number of the entry that owns them, or - where no entry matches
+address, or `N,unmet,,,,`. Further breaches aren't told. Where the policy's
+header has them, `,NAME,COMMENT` stands behind.
+  N              the row's number, from 1
+  DONE           after how many publications it is broken; where the hold alone
+                 is missing, the last of those that are asked of
+  FIRST          the byte address of the first byte of the range at fault there
+  LAST           that of the last byte behind it with the same owner, as far as
+                 the range goes
+  OWNER          the number of the entry that owns them, or - where no entry
+                 matches
+  NAME, COMMENT  the row's, as fields of CSV: in quotes where they have a comma
+                 or a quote, and then with \"\" for a quote
 
 With `--each-write` a policy asks after each event behind publication `from`
 too, up to `to`, which still count publications. DONE is then how many events
@@ -587,9 +602,12 @@ a comment with the number of the log's line what the line says.
 A write is a `write`, and a publication of its own, but with `--bursts`. A read
 is an `expect`, and so is behind a write of Spike's log the value that the
 register has then. Lines of resets side by side are one `reset`, but before the
-first line of the hart. A register that a debugger shows is a `set`, but for
-zero. Bits 63 to 54 of a `pmpaddr`, which QEMU before 11 keeps, are left out of
-`set` and `expect`, as a comment says.
+first line of the hart. `mark start` names the moment before the first event,
+`mark reset` the one behind the first reset, and `mark reset2`, `mark reset3`
+and so on those behind the next ones, so that policies may name them. A register
+that a debugger shows is a `set`, but for zero. Bits 63 to 54 of a `pmpaddr`,
+which QEMU before 11 keeps, are left out of `set` and `expect`, as a comment
+says.
 
 A file is read twice. The script is of the hart that writes first, or is shown
 first, and has 64 entries where a register of one behind the 16th has a value,

@@ -1,12 +1,14 @@
 -- What the reader's iterators stand for.
-use Rattle.std.specs.Prelude.{ℕ, List, [], ◌∷◌, None}
+use Rattle.std.specs.Prelude.{ℕ, ◌+◌, List, [], ◌∷◌, Option, Some, None}
 use Rattle.pmp_text.specs.declared.script.significant.NumberedLine.{NumberedLine}
 use Rattle.pmp_text.specs.declared.script.significant.SignificantLines.{SignificantLines}
 use Rattle.pmp_text.specs.Lines.{words}
 use Rattle.pmp_text.specs.ScriptLines.{Line, significant_from}
+use Rattle.csv.specs.Records.{field_at}
+use Rattle.pmp_text.specs.declared.policy.row_fields.LabeledWords.{LabeledWords}
 use Rattle.pmp_text.specs.declared.policy.row_fields.Words.{Words}
 use Rattle.pmp_text.specs.declared.trace.row_fields.Words as trace
-use Rattle.pmp_text.specs.Policies.{SevenFields}
+use Rattle.pmp_text.specs.Policies.{NineFields, SevenFields}
 use Rattle.pmp_text.specs.Traces.{FiveFields}
 
 -- a line as the definitions see it
@@ -42,3 +44,25 @@ seen_seven words = record {
   last = words.last.now;
   demand = words.demand.now;
 }
+
+-- and with a name and a comment
+abbrev pub seen_nine : LabeledWords → NineFields
+seen_nine all = record { name = all.name.now; words = seen_seven all.words; comment = all.comment.now }
+
+abbrev pub seven_at : (from to modes kind first last demand : Option (List ℕ)) → Option SevenFields
+seven_at (Some from) (Some to) (Some modes) (Some kind) (Some first) (Some last) (Some demand) = Some (record {
+  from = from;
+  to = to;
+  modes = modes;
+  kind = kind;
+  first = first;
+  last = last;
+  demand = demand;
+})
+seven_at _ _ _ _ _ _ _ = None
+
+-- seven fields of a record, from the one with this index on
+abbrev pub seven_from : List (List ℕ) → (first : ℕ) → Option SevenFields
+seven_from fields first = seven_at (field_at fields first) (field_at fields (first + 1)) (field_at fields (first + 2))
+    (field_at fields (first + 3)) (field_at fields (first + 4)) (field_at fields (first + 5))
+    (field_at fields (first + 6))

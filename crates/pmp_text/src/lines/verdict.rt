@@ -1,13 +1,19 @@
 //! The rows of a policy's answer.
 
-ghost use Rattle.std.specs.Prelude.{◌≡◌, ◌++◌, OnErr, OnOk};
-ghost use Rattle.pmp_text.specs.Verdicts.{is_breach, verdict_row};
+ghost use Rattle.std.specs.Prelude.{◌≡◌, ◌++◌, OnErr, OnOk, decimal, option_copied, option_map};
+ghost use Rattle.std.specs.Io.{StartsWith};
+ghost use Rattle.pmp_text.specs.Labels.{label_fields, label_text};
+ghost use Rattle.pmp_text.specs.Reports.{fields_before};
+ghost use Rattle.pmp_text.specs.Verdicts.{is_breach, verdict_fields, verdict_row};
 
+use crate::lines::field::append_field;
 use crate::lines::hexadecimal::{ADDRESS_DIGITS, Hex};
 use crate::lines::runs::Owner;
 use crate::lines::{NoMemory, append_line};
+use crate::policy::Label;
 use crate::sink::Sink;
 use pmp_map::Run;
+use std::alloc::AllocError;
 
 /// Where a row of a policy doesn't hold.
 #[derive(Clone, Copy, Debug, PartialEq, Eq)]
@@ -41,17 +47,17 @@ impl Verdict {
     }
 }
 
-/// Appends the row of a policy's row with this number: `NUMBER,holds,,,,` and LF where nothing breaks it,
-/// `NUMBER,unmet,,,,` and LF where its moments don't come, else `NUMBER,broken,DONE,FIRST,LAST,OWNER` and LF, with the
-/// first and the last byte in fourteen hexadecimal digits, and a dash for no owner.
-#[tactic(auto, unfolding(crate::specs::Verdicts::verdict_row))]
-pub fn write_verdict<S: Sink>(out: &mut S, number: u64, verdict: Verdict) -> Result<(), NoMemory>
-    ensures ok { OnOk result (S.text out.new ≡ S.text out.old ++ verdict_row number verdict) }
+/// Appends `NUMBER,holds,,,,` where nothing breaks the row, `NUMBER,unmet,,,,` where its moments don't come, else
+/// `NUMBER,broken,DONE,FIRST,LAST,OWNER`, with the first and the last byte in fourteen hexadecimal digits, and a dash for
+/// no owner.
+fn write_fields<S: Sink>(out: &mut S, number: u64, verdict: Verdict) -> Result<(), AllocError>
+    ensures ok { OnOk result
+        (S.text out.new ≡ S.text out.old ++ (decimal number ++ fields_before (verdict_fields verdict))) }
     ensures err { OnErr result (S.text out.new ≡ S.text out.old) }
 {
     let Breach { done, run } = match verdict {
-        Verdict::Holds => return append_line(out, format_args!("{number},holds,,,,\n")),
-        Verdict::Unmet(_) => return append_line(out, format_args!("{number},unmet,,,,\n")),
+        Verdict::Holds => return append_line(out, format_args!("{number},holds,,,,")),
+        Verdict::Unmet(_) => return append_line(out, format_args!("{number},unmet,,,,")),
         Verdict::Broken(breach) => breach,
     };
     let first = Hex::<ADDRESS_DIGITS>::new(run.first);
@@ -59,6 +65,54 @@ pub fn write_verdict<S: Sink>(out: &mut S, number: u64, verdict: Verdict) -> Res
     let owner = Owner(run.owner);
     append_line(
         out,
-        format_args!("{number},broken,{done},{first},{last},{owner}\n"),
+        format_args!("{number},broken,{done},{first},{last},{owner}"),
     )
+}
+
+/// Appends the name and the comment of a row that has them, or a beginning of these.
+fn write_label<S: Sink>(out: &mut S, label: Option<&Label>) -> Result<(), AllocError>
+    ensures ok { OnOk result (S.text out.new
+        ≡ S.text out.old ++ fields_before (label_fields (option_map label_text (option_copied label.entry)))) }
+    ensures err { OnErr result (StartsWith (S.text out.new) (S.text out.old)) }
+{
+    let Some(label) = label else {
+        return Ok(());
+    };
+    append_field(out, &label.name)?;
+    append_field(out, &label.comment)
+}
+
+/// Appends the whole row, or a beginning of it.
+fn write_all<S: Sink>(
+    out: &mut S,
+    number: u64,
+    verdict: Verdict,
+    label: Option<&Label>,
+) -> Result<(), AllocError>
+    ensures ok { OnOk result
+        (S.text out.new ≡ S.text out.old ++ verdict_row number verdict (option_map label_text (option_copied label.entry))) }
+    ensures err { OnErr result (StartsWith (S.text out.new) (S.text out.old)) }
+{
+    write_fields(out, number, verdict)?;
+    write_label(out, label)?;
+    out.append(b"\n")
+}
+
+/// Appends the row of a policy's row with this number, with its name and its comment where it has them, and LF.
+pub fn write_verdict<S: Sink>(
+    out: &mut S,
+    number: u64,
+    verdict: Verdict,
+    label: Option<&Label>,
+) -> Result<(), NoMemory>
+    ensures ok { OnOk result
+        (S.text out.new ≡ S.text out.old ++ verdict_row number verdict (option_map label_text (option_copied label.entry))) }
+    ensures err { OnErr result (S.text out.new ≡ S.text out.old) }
+{
+    let before = out.position();
+    let written = write_all(out, number, verdict, label);
+    if written.is_err() {
+        out.go_back(before);
+    }
+    written
 }

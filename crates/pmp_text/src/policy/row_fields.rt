@@ -1,19 +1,26 @@
 //! What one record of a policy says.
 
 ghost use Rattle.std.specs.Prelude.{◌≡◌, ◌≤◌, IfOk, IfErr, None, Ok, Some, option_map};
+ghost use Rattle.std.specs.List.{list_any};
 ghost use Rattle.csv.specs.Records.{fields_of};
 ghost use Rattle.pmp_text.specs.Policies.{
   accesses_said,
   bytes_said,
-  is_policy_header,
+  is_control,
+  is_labeled_header,
+  is_plain_header,
   moments_said,
+  names_seven,
+  nine_fields,
   policy_fields,
   policy_fields_fault,
   policy_in,
+  policy_of_fields,
+  policy_of_nine,
   policy_row_fault,
   seven_fields,
 };
-ghost use Rattle.pmp_text.specs.Steps.Views.{seen_seven};
+ghost use Rattle.pmp_text.specs.Steps.Views.{seen_nine, seen_seven, seven_from};
 
 use crate::flaw::Flaw;
 use crate::moments::{Asked, Coming, Moments};
@@ -23,6 +30,13 @@ use crate::policy::{Demand, Kinds, Modes, PolicyRow};
 use crate::refusal::Refusal;
 use csv::ByteRecord;
 use pmp_core::ADDRESS_LIMIT;
+
+/// The index by which a flaw tells of a row's name. The fields from `from` to `demand` have 0 to 6, whether they stand
+/// between a name and a comment or not.
+pub const NAME: usize = 7;
+
+/// The index by which a flaw tells of a row's comment.
+pub const COMMENT: usize = 8;
 
 /// What the seven fields of a row say, be it a row or not: its publications, modes, kinds, byte addresses and demand. Of a
 /// row whose moments don't come `from` and `to` are the number of all publications.
@@ -53,55 +67,94 @@ pub struct Words<'a> {
     pub demand: &'a [u8],
 }
 
+/// The nine fields of a record: seven between a name and a comment.
+#[derive(Clone, Copy)]
+pub struct LabeledWords<'a> {
+    pub name: &'a [u8],
+    pub words: Words<'a>,
+    pub comment: &'a [u8],
+}
+
+/// Seven fields of a record, from the one with this index on.
+fn words_from(fields: &ByteRecord, first: usize) -> Option<Words<'_>>
+    requires { first ≤ 1 }
+    ensures { option_map seen_seven result ≡ seven_from (fields_of fields.now) first }
+{
+    Some(Words {
+        from: fields.get(first)?,
+        to: fields.get(first + 1)?,
+        modes: fields.get(first + 2)?,
+        kind: fields.get(first + 3)?,
+        first: fields.get(first + 4)?,
+        last: fields.get(first + 5)?,
+        demand: fields.get(first + 6)?,
+    })
+}
+
 /// The fields of a record that has seven.
 #[tactic(auto, using(crate::proofs::Fields::by_seven_places))]
 fn seven_fields(fields: &ByteRecord) -> Option<Words<'_>>
     ensures { option_map seen_seven result ≡ seven_fields (fields_of fields.now) }
 {
-    let (Some(from), Some(to), Some(modes), Some(kind)) = (
-        fields.get(0),
-        fields.get(1),
-        fields.get(2),
-        fields.get(3),
-    ) else {
+    if fields.get(7).is_some() {
         return None;
-    };
-    let (Some(first), Some(last), Some(demand), None) = (
-        fields.get(4),
-        fields.get(5),
-        fields.get(6),
-        fields.get(7),
-    ) else {
+    }
+    words_from(fields, 0)
+}
+
+/// The fields of a record that has nine.
+#[tactic(auto, using(crate::proofs::Fields::by_nine_places))]
+pub fn nine_fields(fields: &ByteRecord) -> Option<LabeledWords<'_>>
+    ensures { option_map seen_nine result ≡ nine_fields (fields_of fields.now) }
+{
+    if fields.get(9).is_some() {
         return None;
-    };
-    Some(Words {
-        from,
-        to,
-        modes,
-        kind,
-        first,
-        last,
-        demand,
+    }
+    Some(LabeledWords {
+        name: fields.get(0)?,
+        words: words_from(fields, 1)?,
+        comment: fields.get(8)?,
     })
 }
 
-/// Whether a record names the fields of the rows.
-pub fn is_policy_header(fields: &ByteRecord) -> bool
-    ensures { result ≡ is_policy_header (fields_of fields.now) }
+/// Whether a record names the fields of rows without names and comments.
+pub fn is_plain_header(fields: &ByteRecord) -> bool
+    ensures { result ≡ is_plain_header (fields_of fields.now) }
 {
-    let Some(words) = seven_fields(fields) else {
+    seven_fields(fields).is_some_and(|words| words.are_names())
+}
+
+/// Whether a record names the fields of rows with names and comments.
+pub fn is_labeled_header(fields: &ByteRecord) -> bool
+    ensures { result ≡ is_labeled_header (fields_of fields.now) }
+{
+    let Some(all) = nine_fields(fields) else {
         return false;
     };
-    words.from == b"from".as_slice()
-        && words.to == b"to".as_slice()
-        && words.modes == b"modes".as_slice()
-        && words.kind == b"kind".as_slice()
-        && words.first == b"first".as_slice()
-        && words.last == b"last".as_slice()
-        && words.demand == b"demand".as_slice()
+    all.name == b"name".as_slice() && all.words.are_names() && all.comment == b"comment".as_slice()
+}
+
+/// Whether a text has a control byte, as no name and no comment does.
+fn has_control(text: &[u8]) -> bool
+    ensures { result ≡ list_any is_control text.now }
+{
+    text.iter().any(|byte| matches!(*byte, 0..=31 | 127))
 }
 
 impl Words<'_> {
+    /// Whether they are the names of the fields.
+    fn are_names(self) -> bool
+        ensures { result ≡ names_seven (seen_seven self.entry) }
+    {
+        self.from == b"from".as_slice()
+            && self.to == b"to".as_slice()
+            && self.modes == b"modes".as_slice()
+            && self.kind == b"kind".as_slice()
+            && self.first == b"first".as_slice()
+            && self.last == b"last".as_slice()
+            && self.demand == b"demand".as_slice()
+    }
+
     /// From which moment to which they speak.
     #[tactic(auto, unfolding(crate::specs::Policies::moments_said))]
     fn moments(self, moments: &Moments<'_>) -> Result<Asked, Flaw>
@@ -135,15 +188,53 @@ impl Words<'_> {
     }
 }
 
-impl PolicyFields {
-    /// What a record says as a row beside a script with these moments, or which field says nothing.
-    #[tactic(auto, unfolding(crate::specs::Policies::policy_of_fields))]
-    pub fn read(fields: &ByteRecord, moments: &Moments<'_>) -> Result<PolicyFields, Flaw>
-        ensures said { result ≡ policy_in moments.now (fields_of fields.now) }
+impl LabeledWords<'_> {
+    /// What they say as a row, or which of them says nothing.
+    #[tactic(auto, unfolding(crate::specs::Policies::policy_of_nine))]
+    fn row(self, moments: &Moments<'_>) -> Result<PolicyFields, Flaw>
+        ensures said { result ≡ policy_of_nine moments.now (seen_nine self.entry) }
         ensures forward { IfOk result (λ row. row.from ≤ moments.now.publications → row.from ≤ row.to) }
         ensures ordered { IfOk result (λ row. row.first ≤ row.last) }
     {
-        let words = seven_fields(fields).ok_or(Refusal::BadRow.whole())?;
+        if has_control(self.name) {
+            return Err(Refusal::BadRow.part(NAME));
+        }
+        let row = PolicyFields::of_words(self.words, moments)?;
+        if has_control(self.comment) {
+            return Err(Refusal::BadRow.part(COMMENT));
+        }
+        Ok(row)
+    }
+}
+
+impl PolicyFields {
+    /// What a record says as a row beside a script with these moments, perhaps with a name and a comment, or which
+    /// field says nothing.
+    pub fn read(
+        labeled: bool,
+        fields: &ByteRecord,
+        moments: &Moments<'_>,
+    ) -> Result<PolicyFields, Flaw>
+        ensures said { result ≡ policy_in labeled moments.now (fields_of fields.now) }
+        ensures forward { IfOk result (λ row. row.from ≤ moments.now.publications → row.from ≤ row.to) }
+        ensures ordered { IfOk result (λ row. row.first ≤ row.last) }
+    {
+        if labeled {
+            let all = nine_fields(fields).ok_or(Refusal::BadRow.whole())?;
+            all.row(moments)
+        } else {
+            let words = seven_fields(fields).ok_or(Refusal::BadRow.whole())?;
+            PolicyFields::of_words(words, moments)
+        }
+    }
+
+    /// What seven fields say, or which one says nothing.
+    #[tactic(auto, unfolding(crate::specs::Policies::policy_of_fields))]
+    fn of_words(words: Words<'_>, moments: &Moments<'_>) -> Result<PolicyFields, Flaw>
+        ensures said { result ≡ policy_of_fields moments.now (seen_seven words.entry) }
+        ensures forward { IfOk result (λ row. row.from ≤ moments.now.publications → row.from ≤ row.to) }
+        ensures ordered { IfOk result (λ row. row.first ≤ row.last) }
+    {
         let Asked { from, to, coming } = words.moments(moments)?;
         let (modes, kinds) = words.accesses()?;
         let (first, last) = words.bytes()?;
@@ -193,14 +284,18 @@ impl PolicyFields {
     }
 }
 
-/// The row that a record says, beside a script with these moments.
-pub fn read_policy_row(fields: &ByteRecord, moments: &Moments<'_>) -> Result<PolicyRow, Flaw>
+/// The row that a record says, perhaps with a name and a comment, beside a script with these moments.
+pub fn read_policy_row(
+    labeled: bool,
+    fields: &ByteRecord,
+    moments: &Moments<'_>,
+) -> Result<PolicyRow, Flaw>
     ensures ok { IfOk result (λ row.
-        (policy_in moments.now (fields_of fields.now) ≡ Ok (policy_fields row))
-        × (policy_row_fault moments.now.publications (policy_in moments.now (fields_of fields.now)) ≡ None)) }
+        (policy_in labeled moments.now (fields_of fields.now) ≡ Ok (policy_fields row))
+        × (policy_row_fault moments.now.publications (policy_in labeled moments.now (fields_of fields.now)) ≡ None)) }
     ensures within { IfOk result (λ row. row.to ≤ moments.now.publications) }
-    ensures err { IfErr result (λ flaw.
-        policy_row_fault moments.now.publications (policy_in moments.now (fields_of fields.now)) ≡ Some flaw) }
+    ensures err { IfErr result (λ flaw. policy_row_fault moments.now.publications
+        (policy_in labeled moments.now (fields_of fields.now)) ≡ Some flaw) }
 {
-    PolicyFields::read(fields, moments)?.check(moments.publications)
+    PolicyFields::read(labeled, fields, moments)?.check(moments.publications)
 }

@@ -30,7 +30,7 @@ fn word_behind(before: u8, text: &[u8]) -> Option<(&[u8], &[u8])>
 }
 
 /// Whether a byte ends a word of a plain line, or may not stand in one.
-fn is_apart(byte: u8) -> bool
+pub fn is_apart(byte: u8) -> bool
     ensures { result ≡ needs_byte default_writer byte }
 {
     byte <= b',' && matches!(byte, b',' | b'"' | b'\r' | b'\n')

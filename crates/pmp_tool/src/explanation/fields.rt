@@ -1,5 +1,7 @@
 //! The fields of rows, as an explanation says what was wanted in them.
 
+use pmp_text::{COMMENT, NAME};
+
 /// Those of a trace.
 const TRACE: [&str; 5] = [
     "after: a number of publications",
@@ -9,8 +11,8 @@ const TRACE: [&str; 5] = [
     "length: a number of bytes",
 ];
 
-/// Those of a policy.
-const POLICY: [&str; 7] = [
+/// Those of a policy, in the order by which its faults tell them: a name and a comment stand last.
+const POLICY: [&str; 9] = [
     "from: a number of publications, or with pmp 3 last, last-N, mml, mmwp or rlb-clear",
     "to: a number of publications that isn't below from, or nothing for all, or with pmp 3 last, last-N, mml, mmwp or rlb-clear",
     "modes: one or more of the letters M, S and U, each once",
@@ -18,6 +20,8 @@ const POLICY: [&str; 7] = [
     "first: a byte address, in decimal or with 0x",
     "last: a byte address that isn't below first, in decimal or with 0x",
     "demand: never, always or held",
+    "name: any text without control bytes, or nothing",
+    "comment: any text without control bytes, or nothing",
 ];
 
 /// What the field of a trace with this index has to be.
@@ -33,6 +37,17 @@ pub fn is_trace_address(index: Option<usize>) -> bool {
 /// Whether a row of a policy has an address at this index.
 pub fn is_policy_address(index: Option<usize>) -> bool {
     matches!(index, Some(4 | 5))
+}
+
+/// Where the field of a policy with this index stands in the rows below this header, from 0.
+pub fn policy_place(header: &[u8], index: usize) -> usize {
+    let last = header.iter().filter(|byte| **byte == b',').count();
+    match index {
+        NAME => 0,
+        COMMENT => last,
+        _ if last == COMMENT => index.saturating_add(1),
+        _ => index,
+    }
 }
 
 /// What the field of a policy with this index has to be.

@@ -27,14 +27,17 @@ impl<'a> Spot<'a> {
         Spot::new(number, line_at(text, number), word, b" \t")
     }
 
-    /// The line of a row with this number, and its field with this index, from 0; row 0 is the header. Fields in quotes
-    /// aren't told apart.
+    /// The line of a row with this number, and its field with this index, from 0; row 0 is the header.
     pub fn of_row(text: &'a [u8], row: u64, field: Option<usize>) -> Option<Spot<'a>> {
         let text = text.strip_prefix(BYTE_ORDER_MARK).unwrap_or(text);
         let (start, number) = row_start(text, row)?;
         let line = until(text.get(start..)?, b"\r\n");
-        let field = field.filter(|_| !line.contains(&b'"'));
         Some(Spot::new(number, line, field, b","))
+    }
+
+    /// The line of the header.
+    pub fn header(text: &'a [u8]) -> &'a [u8] {
+        Spot::of_row(text, 0, None).map_or(&[], |spot| spot.line)
     }
 
     /// The part of a line with this index among those between separators, or else all of it from its first word on.
@@ -102,15 +105,21 @@ fn first_word(line: &[u8]) -> usize {
         .unwrap_or(0)
 }
 
-/// Where the part of a line with this index stands. Between commas, but not between blanks, a part may be empty.
+/// Where the part of a line with this index stands. Between commas, but not between blanks, a part may be empty, or have
+/// commas where it stands in quotes.
 fn part_at(line: &[u8], index: usize, separators: &[u8]) -> Option<(usize, usize)> {
+    let is_csv = separators.contains(&b',');
     let mut left = index;
     let mut start = 0;
+    let mut is_quoted = false;
     for end in 0..line.len().saturating_add(1) {
-        if line.get(end).is_some_and(|byte| !separators.contains(byte)) {
+        if is_csv && line.get(end) == Some(&b'"') && line.get(start) == Some(&b'"') {
+            is_quoted = !is_quoted;
+        }
+        if is_quoted || line.get(end).is_some_and(|byte| !separators.contains(byte)) {
             continue;
         }
-        if start < end || separators.contains(&b',') {
+        if start < end || is_csv {
             if left == 0 {
                 return Some((start, end));
             }

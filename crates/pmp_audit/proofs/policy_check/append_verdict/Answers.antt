@@ -1,4 +1,4 @@
-use Rattle.std.proofs.Common.{◌≡◌, zero, suc, List, [], ◌∷◌, refl, arith}
+use Rattle.std.proofs.Common.{◌≡◌, None, zero, suc, List, [], ◌∷◌, refl, arith}
 use Rattle.std.specs.Prelude.{All}
 use Rattle.pmp_audit.specs.PolicySweep.{IsJudged}
 use Rattle.std.proofs.Common.{◌≡◌, ◌<◌, ◌∙◌, List, ap, arith, get_or, length, refl, subst, sym}
@@ -19,7 +19,7 @@ returns-clause-ok g c =
     ∙ ap (λ (l : List PolicyRow). get_or l 0 row) c.judge.ensures.rows ∙ c.new-2.ensures.row in
     let told = c.told-verdict.ensures in
     record {
-      text = verdict_row c.args.number c.told-verdict.result;
+      text = verdict_row c.args.number c.told-verdict.result None;
       says = record {
         contents = c.in_ok-script.script;
         script_means = c.in_ok-script.ensures;

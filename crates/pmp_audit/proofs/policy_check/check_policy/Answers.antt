@@ -4,6 +4,7 @@ use Rattle.pmp_audit.proofs.FaultyInputs.{policy_refused, script_refused}
 use Rattle.std.proofs.lemmas.Result.{IfOk-from_err}
 use Rattle.std.proofs.Common.{◌≡◌, ◌∙◌, List, ap, arith, length, map, Ok}
 use Rattle.std.proofs.lemmas.List.{take_at}
+use Rattle.pmp_text.specs.Labels.{label_text, policy_labels}
 use Rattle.pmp_text.specs.Policies.{policy_fields, policy_meaning}
 use Rattle.pmp_audit.specs.declared.policy_check.sweep.Judged.{Judged}
 use Rattle.pmp_audit.specs.PolicyCheck.{PolicyRefuses, PolicySays}
@@ -14,7 +15,7 @@ use Rattle.pmp_audit.proofs.policy_check.check_policy.Goals as goal
 use Rattle.pmp_audit.proofs.policy_check.check_policy.Goals.{After-write_answer}
 
 says : (g : _) (c : After-write_answer g)
-    → PolicySays c.args.pace c.args.script.now c.args.policy.now c.in_ok-summary.summary c.deref-3.result.now
+    → PolicySays c.args.pace c.args.script.now c.args.policy.now c.in_ok-summary.summary c.deref-4.result.now
 says g c =
     let script = c.in_ok-read.read in
     let rows = c.deref.result.now in
@@ -31,9 +32,11 @@ says g c =
     ) in
     let left : c.deref-2.result.now ≡ judged = c.deref-2.ensures.value
     ∙ take_at judged _ c.in_ok-judged.judged.len long in
-    policy_says c.args.pace c.args.script.now c.args.policy.now script rows judged _ _ c.deref-3.result.now
+    let labels : map label_text c.deref-3.result.now ≡ policy_labels c.args.policy.now =
+    ap (map label_text) c.deref-3.ensures.value ∙ c.in-Ok.ensures.labels in
+    policy_says c.args.pace c.args.script.now c.args.policy.now script rows judged _ _ c.deref-4.result.now
     c.in_ok-summary.summary c.moments_of.result c.in_ok-read.ensures c.moments_of.ensures policy_means same
-    c.judge.ensures.judged (rw left at c.in_ok-summary.ensures) c.new-text.ensures.items c.deref-3.ensures.value
+    c.judge.ensures.judged (rw (left, labels) at c.in_ok-summary.ensures) c.new-text.ensures.items c.deref-4.ensures.value
 
 pub returns-clause-ok : goal.returns-clause-ok
 returns-clause-ok g c =

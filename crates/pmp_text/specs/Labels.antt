@@ -1,0 +1,44 @@
+-- What people call the rows of a policy, and what they say of them.
+use Rattle.std.specs.Prelude.{ℕ, List, [], ◌∷◌, map, Option, Some, None, if◌then◌else◌}
+use Rattle.csv.specs.Writing.{default_writer, field_text}
+use Rattle.pmp_text.specs.declared.policy.label.Label.{Label}
+use Rattle.pmp_text.specs.declared.policy.Policy.{Policy}
+use Rattle.pmp_text.specs.declared.policy.row_fields.PolicyFields.{PolicyFields}
+use Rattle.pmp_text.specs.Policies.{is_labeled, nine_fields, policy_fields}
+use Rattle.pmp_text.specs.Tables.{records_of}
+
+pub record LabelText : Type 0 where
+  pub name : List ℕ
+  pub comment : List ℕ
+
+abbrev pub label_text : Label → LabelText
+label_text label = record { name = label.name.items; comment = label.comment.items }
+
+-- those of a record
+abbrev pub label_in : List (List ℕ) → LabelText
+label_in fields = elim (nine_fields fields) [
+  | Some all ↦ record { name = all.name; comment = all.comment }
+  | None ↦ record { name = []; comment = [] }
+]
+
+-- those of the records behind a header
+abbrev pub labels_behind : List (List (List ℕ)) → List LabelText
+labels_behind [] = []
+labels_behind (header ∷ rows) = if is_labeled (header ∷ rows) then map label_in rows else []
+
+-- the labels of a policy's rows, in their order, where its header names them; else there are none
+abbrev pub policy_labels : (text : List ℕ) → List LabelText
+policy_labels text = labels_behind (records_of text)
+
+-- what a policy that was read says by its rows, and calls them
+abbrev pub rows_said : Policy → List PolicyFields
+rows_said policy = map policy_fields policy.rows.items
+
+abbrev pub labels_said : Policy → List LabelText
+labels_said policy = map label_text policy.labels.items
+
+-- the fields of CSV that a verdict has of them
+abbrev pub label_fields : Option LabelText → List (List ℕ)
+label_fields None = []
+label_fields (Some label) =
+    field_text default_writer label.name ∷ field_text default_writer label.comment ∷ []
