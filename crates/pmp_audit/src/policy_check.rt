@@ -9,7 +9,6 @@ ghost use Rattle.pmp_audit.specs.Fault.{fault_of_policy};
 ghost use Rattle.pmp_audit.specs.PolicyCheck.{PolicySays, PolicyRefuses, VerdictRefuses, VerdictSays};
 ghost use Rattle.pmp_audit.specs.PolicyRows.{AreWritten};
 
-mod moments;
 mod question;
 mod search;
 mod steps;
@@ -17,7 +16,7 @@ mod sweep;
 
 use crate::answer::write_answer;
 use crate::fault::AuditFault;
-use crate::policy_check::moments::moments_of;
+use crate::moments::moments_of;
 use crate::policy_check::steps::Steps;
 use crate::policy_check::sweep::{Judged, judge, unjudged};
 use pmp_text::{
@@ -61,7 +60,7 @@ pub fn check_policy<W: Write>(
 {
     let mut log = GrowingLog::new(alloc);
     let read = read_script(&mut log, script)?;
-    let rows = match read_policy(alloc, policy, &moments_of(script, &read)) {
+    let rows = match read_policy(alloc, policy, &moments_of(&read)) {
         Ok(rows) => rows,
         Err(fault) => return Err(AuditFault::of_policy(fault)),
     };

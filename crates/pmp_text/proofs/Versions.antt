@@ -1,5 +1,5 @@
 -- What the version of a script makes of it.
-use Rattle.std.proofs.Common.{◌≡◌, ℕ, zero, suc, ◌+◌, ◌≤◌, Bool, true, false, cond, ltb, List, [], ◌∷◌, ◌++◌, length}
+use Rattle.std.proofs.Common.{None, ◌≡◌, ℕ, zero, suc, ◌+◌, ◌≤◌, Bool, true, false, cond, ltb, List, [], ◌∷◌, ◌++◌, length}
 use Rattle.std.proofs.Common.{take, Option, Result, Ok, Err, Some, refl, sym, ap, subst, ◌∙◌, arith}
 use Rattle.std.specs.Prelude.{◌↔◌, All, filter, codes}
 use Rattle.std.specs.List.{list_all}
@@ -202,7 +202,7 @@ of_size size all = record {
   batches = all.published.batches;
   lines = all.published.lines;
   expectations = all.expectations;
-  marks = all.marks;
+  marks = None;
 }
 
 -- what was read of a script of version 1

@@ -192,7 +192,8 @@ impl Refusal {
             Refusal::BadMark =>
                 "a name of 1 to 64 bytes: a letter, then letters, digits, _ and ., and none of last, mml, mmwp and rlb",
             Refusal::OpenMark => "mark between publications",
-            Refusal::NoMoment => "a name that mark or publish gives a moment of the script",
+            Refusal::NoMoment =>
+                "a moment that the script has: a name that mark or publish gives it, or one that comes",
             Refusal::BadEvent =>
                 "each line that names a PMP register or one of its events in the form of its log: see pmp help import",
             Refusal::NoHart => "a log with a write or a register of the hart",
@@ -242,7 +243,7 @@ impl Refusal {
             Refusal::BadMark => "give the moment another name",
             Refusal::OpenMark => "put it behind the publish, or name that, as by publish NAME",
             Refusal::NoMoment =>
-                "look for the script's mark lines, and for publish lines with a name",
+                "look for the script's mark lines and publish lines with a name; pmp writes says when MML, MMWP and RLB change",
             Refusal::BadEvent =>
                 "see whether the format is the log's; leave out a line that isn't a whole one of it",
             Refusal::NoHart =>
