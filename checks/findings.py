@@ -126,6 +126,10 @@ class Findings:
             self.tally.compare(f"{name}: refused", self.run("policy", [], MARKED, text), refused)
             self.compare_verdicts(tab, name, MARKED, text)
         self.compare_verdicts(tab, "a name in version 1", SCRIPT, f"{HEADER}last,{ROW[2:]}")
+        tab.call("type", MARKED)
+        for at, names in ((0, " (start)"), (1, " (open.1, also_open)"), (2, ""), (3, " (Closed, z9._)"), (4, "")):
+            shown = tab.call("momentShown", "publication", at)
+            self.tally.has(f"names of moment {at}: {shown}", shown.startswith(f"After publication {at}{names}: "))
         for change, status in NUMBERS:
             self.tally.compare(f"{change}: the module", tab.call("verdictOf", SCRIPT, change), [status, 0, ""])
 
