@@ -53,6 +53,44 @@ REFUSED = {
     "number before end": (22, 1, HEADER + "3" + ROW[1:].replace("9", str(2 ** 56))),
     "an open quote": (21, 1, HEADER + '"' + ROW), "the first of two": (22, 1, HEADER + "3" + ROW[1:] + "x\n"),
 }
+# A script of version 3 that names moments, and policies that do.
+MARKED = """pmp 3
+mark start
+hart entries 4
+ # mark comment
+set mseccfg 0x4
+write pmpaddr0 0x200001ff
+write pmpcfg0 0x19
+publish open.1
+\tmark  also_open\r
+publish
+write pmpcfg0 0
+write mseccfg 5
+publish Closed
+mark z9._
+reset
+write mseccfg 7
+write mseccfg 3
+publish
+"""
+FIRSTS = ("start", "open.1", "also_open", "Closed", "z9._", "last", "last-1", "last-4", "mml", "mmwp", "rlb-clear", "2")
+LASTS = ("", "start", "also_open", "Closed", "last", "last-0x2", "mml", "mmwp", "rlb-clear", "3")
+NAMED = {
+    "names": HEADER + "".join(f"{first},{last},SU,any,0x80000000,0x80000fff,never\n"
+                              for first, last in itertools.product(FIRSTS, LASTS)),
+    "moments that don't come": HEADER + "".join(f"{first},{last},M,load,0,9,always\n" for first, last in (
+        ("last-5", ""), ("0", "last-5"), ("last-5 if-any", ""), ("3", "start if-any"), ("Closed", "0"),
+        ("last", "last-1"), ("last-99", "99"), ("mml if-any", "mml"))),
+}
+NO_NAMES = {
+    "another name": (58, 1, "nowhere,"), "another case": (58, 1, "Start,"), "a name to end at": (58, 1, "0,nowhere"),
+    "a comment's name": (58, 1, "comment,"), "two blanks before if-any": (21, 1, "start  if-any,"),
+    "a number if any": (21, 1, "0 if-any,"), "no number": (21, 1, "last-,"), "a sign": (21, 1, "last--1,"),
+    "a letter first": (21, 1, "9start,"), "a dash": (21, 1, "start-1,"), "a taken word": (21, 1, "rlb,"),
+    "a name too long": (21, 1, 65 * "a" + ","), "the longest name": (58, 1, 64 * "a" + ","),
+    "a number above": (22, 1, "5,start"), "a number to end at": (22, 1, "start,5"), "a number below": (21, 1, "2,1"),
+    "a property": (58, 1, "constructor,"), "an umlaut": (21, 1, "\u00e4,"),
+}
 # Numbers that no text of a policy gives the module: what they change of a right row, and the refusal.
 NUMBERS = (({"modes": 0}, 24), ({"modes": 4}, 24), ({"modes": 16}, 24), ({"kind": 4}, 24), ({"demand": 3}, 24),
            ({"pace": 2}, 24), ({"from": "2", "to": "1"}, 21), ({"first": "10"}, 21), ({"to": "3"}, 22),
@@ -91,6 +129,18 @@ class Findings:
             place = f"policy row {row}" if row else ""
             self.tally.compare(f"{name}: refused", self.run("policy", [], SCRIPT, text), [status, place, ""])
             self.compare_verdicts(tab, name, SCRIPT, text)
+        for name, text in NAMED.items():
+            self.compare_verdicts(tab, name, MARKED, text)
+        for name, (status, row, moments) in NO_NAMES.items():
+            text = f"{HEADER}{moments}{ROW[2:]}"
+            refused = [status, f"policy row {row}", ""]
+            self.tally.compare(f"{name}: refused", self.run("policy", [], MARKED, text), refused)
+            self.compare_verdicts(tab, name, MARKED, text)
+        self.compare_verdicts(tab, "a name in version 1", SCRIPT, f"{HEADER}last,{ROW[2:]}")
+        tab.call("type", MARKED)
+        for at, names in ((0, " (start)"), (1, " (open.1, also_open)"), (2, ""), (3, " (Closed, z9._)"), (4, "")):
+            shown = tab.call("momentShown", "publication", at)
+            self.tally.has(f"names of moment {at}: {shown}", shown.startswith(f"After publication {at}{names}: "))
         for change, status in NUMBERS:
             self.tally.compare(f"{change}: the module", tab.call("verdictOf", SCRIPT, change), [status, 0, ""])
 

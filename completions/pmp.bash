@@ -26,7 +26,8 @@ _pmp() {
         --checkers) words='1 2 3 4 5 6 7 8' files= ;;
         --xlen) words='32 64' files= ;;
         --smepmp) words='yes no' files= ;;
-        --after | --old-after | --new-after | --jobs | --first-row) words= files= ;;
+        --after | --old-after | --new-after) words='last mml mmwp rlb-clear' files= ;;
+        --jobs | --first-row) words= files= ;;
         --hart | --entries | --grain | --address-bits) words= files= ;;
     esac
     COMPREPLY=($(compgen -W "$words" -- "$word"))

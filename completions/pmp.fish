@@ -16,7 +16,7 @@ complete -c pmp -n __fish_use_subcommand -f -a help -d 'tell of a command'
 complete -c pmp -n '__fish_seen_subcommand_from help' -f -a "$commands script trace rows"
 complete -c pmp -n "__fish_seen_subcommand_from $commands" -l explain -d 'explain a refusal'
 complete -c pmp -n '__fish_seen_subcommand_from check dump map picture entries' -l after -x \
-    -d 'take the first N publications'
+    -a 'last mml mmwp rlb-clear' -d 'take the first N publications'
 complete -c pmp -n '__fish_seen_subcommand_from dump' -l script -d 'write a script of these registers'
 complete -c pmp -n '__fish_seen_subcommand_from check' -l expect -x -a 'allow fault' \
     -d 'end with status 0 where this is the answer'
@@ -28,9 +28,9 @@ complete -c pmp -n '__fish_seen_subcommand_from audit' -l first-row -x \
     -d "give a long trace's first row the number N"
 complete -c pmp -n '__fish_seen_subcommand_from policy' -l each-write -d 'ask after each write too'
 complete -c pmp -n '__fish_seen_subcommand_from diff' -l old-after -x \
-    -d 'take the first N publications of the old script'
+    -a 'last mml mmwp rlb-clear' -d 'take the first N publications of the old script'
 complete -c pmp -n '__fish_seen_subcommand_from diff' -l new-after -x \
-    -d 'take the first M publications of the new script'
+    -a 'last mml mmwp rlb-clear' -d 'take the first M publications of the new script'
 complete -c pmp -n '__fish_seen_subcommand_from diff' -l only -x -a 'more less' -d 'write the rows that change so'
 complete -c pmp -n '__fish_seen_subcommand_from import' -a 'qemu gdb openocd spike dump'
 complete -c pmp -n '__fish_seen_subcommand_from import' -l hart -x -d 'take the registers of hart N'

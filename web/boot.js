@@ -54,6 +54,24 @@ class Boot {
         return this.singly;
     }
 
+    get moments() {
+        this.known ??= new Moments(this.mseccfg(), namesIn(this.script));
+        return this.known;
+    }
+
+    // What mseccfg keeps after each number of publications.
+    mseccfg() {
+        const registers = linesOf(this.unit.registers(this.script, 0).text, ' ');
+        let kept = BigInt(registers.find(([name]) => name === 'mseccfg')[1]);
+        return this.ends.map((end, done) => {
+            for (const {register, after} of this.events.slice(done === 0 ? 0 : this.ends[done - 1], end)) {
+                if (register === 'mseccfg') kept = BigInt(after);
+                else if (register === 'reset') kept = 0n;
+            }
+            return kept;
+        });
+    }
+
     // The script with a publish behind each event, and no other. Its head stays, and its expectations go.
     eachWrite() {
         const statements = this.events.map((event) => `${event.statement}\npublish\n`);
@@ -61,11 +79,15 @@ class Boot {
     }
 }
 
+// The words of a script's lines, but of comments and of lines without words.
+function significantLines(script) {
+    const lines = decodeText(script).split('\n').map((line) => line.match(/[^ \t\r]+/g) ?? []);
+    return lines.filter((words) => words.length > 0 && !words[0].startsWith('#'));
+}
+
 // The lines of a script that say which unit it has, and what that holds at first: its version, and `hart` and `set`.
 function headOf(script) {
-    const lines = decodeText(script).split('\n').map((line) => line.match(/[^ \t\r]+/g) ?? []);
-    const significant = lines.filter((words) => words.length > 0 && !words[0].startsWith('#'));
-    const head = significant.filter(([word], place) => place === 0 || word === 'hart' || word === 'set');
+    const head = significantLines(script).filter(([word], place) => place === 0 || word === 'hart' || word === 'set');
     return head.map((words) => `${words.join(' ')}\n`).join('');
 }
 
@@ -75,9 +97,9 @@ function isEvent(fields) {
 }
 
 function readEvent(fields) {
-    const [, publication, line, register, written, , , effect] = fields;
+    const [, publication, line, register, written, , after, effect] = fields;
     const statement = register === 'reset' ? 'reset' : `write ${register} ${shortNumber(written)}`;
-    return {fields, publication: Number(publication), line: Number(line), register, effect, statement};
+    return {fields, publication: Number(publication), line: Number(line), register, after, effect, statement};
 }
 
 // 0x0000000000000019 as 0x19, so that scripts of single writes stay short.

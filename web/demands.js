@@ -67,8 +67,9 @@ class Demands {
         this.turn += 1;
         this.boot = boot;
         this.lines = [];
+        this.broken = 0;
         const asked = boot !== null && this.area.value !== '';
-        const {rows, fault} = asked ? readPolicy(this.area.value, boot.publications, data.limits.MAX_TRACE)
+        const {rows, fault} = asked ? readPolicy(this.area.value, boot.moments, data.limits.MAX_TRACE)
             : {rows: [], fault: null};
         this.showFault(fault);
         byId('verdicts-region').hidden = rows.length === 0;
@@ -88,16 +89,23 @@ class Demands {
                 if (turn !== this.turn) return;
                 until = performance.now() + SLICE;
             }
-            const answer = this.unit.verdict(this.boot.script, {...row, pace: PACES[by]});
+            const answer = this.answerOf(row, by);
             if (answer.status !== 0) {
                 this.showFault({...answer, row: Number(row.number), place: row.place, wanted: sayAdvice(answer)});
                 break;
             }
             this.lines.push([...linesOf(answer.text, ',')[0], sayDemand(row)]);
+            if (!row.isWaived && this.lines.at(-1)[1] !== 'holds') this.broken += 1;
         }
         this.draw(by);
         if (this.fault === null) this.showNote(rows);
         byId('verdicts').setAttribute('aria-busy', 'false');
+    }
+
+    // The module's, or where the row's moments don't come, that it is unmet.
+    answerOf(row, by) {
+        if (row.isUnmet) return {status: 0, line: 0, text: `${row.number},unmet,,,,\n`};
+        return this.unit.verdict(this.boot.script, {...row, pace: PACES[by]});
     }
 
     draw(by) {
@@ -107,8 +115,8 @@ class Demands {
             byId('verdicts-count').textContent = '';
             return;
         }
-        const broken = this.lines.filter((fields) => fields[1] !== 'holds');
-        byId('verdicts-count').textContent = `${broken.length} of ${counted(this.lines.length, 'row')} broken`
+        const unmet = this.lines.some((fields) => fields[1] === 'unmet') ? ' or unmet' : '';
+        byId('verdicts-count').textContent = `${this.broken} of ${counted(this.lines.length, 'row')} broken${unmet}`
             + (this.lines.length > MOST_DEMANDS ? `; the first ${MOST_DEMANDS} rows:` : '.');
         table.caption.textContent = 'Each row of the policy with its first breach, in time and then in address: '
             + `after so many ${by === 'write' ? 'events' : 'publications'}. Entry - is none.`;

@@ -259,8 +259,10 @@ class Page {
     sayMoment() {
         const {by, at} = this.moment;
         const last = by === 'write' && at > 0 ? ` (${sayEvent(this.boot.events[at - 1])})` : '';
+        const names = by === 'write' ? [] : this.boot.moments.namesAt(at);
+        const called = names.length === 0 ? '' : ` (${names.join(', ')})`;
         const frozen = byId('entries-count').textContent;
-        byId('moment').textContent = `After ${by} ${at}${last}: ${frozen}`;
+        byId('moment').textContent = `After ${by} ${at}${last}${called}: ${frozen}`;
     }
 
     showRuns() {

@@ -6,6 +6,8 @@ const BAD_ROW = 21;
 const BAD_AFTER = 22;
 const PAST_END = 4;
 const END_OF_MEMORY = 1n << 56n;
+const WANTED_MOMENT = 'a number of publications, or with pmp 3 last, last-N, mml, mmwp, rlb-clear or a name that the '
+    + 'script gives a moment';
 const FIELDS = ['from', 'to', 'modes', 'kind', 'first', 'last', 'demand'];
 const LABELED_FIELDS = ['name', ...FIELDS, 'comment'];
 const MODE_BITS = {U: 1, S: 2, M: 8};
@@ -68,10 +70,10 @@ class Records {
     }
 }
 
-// The policy of a text over a script with so many publications: {rows, fault}. Each row is what the module takes, with
-// its words, and its name and comment, which may be empty; a fault is {status, row, place, wanted}, with row 0 where it
-// is none of a row.
-function readPolicy(text, publications, mostBytes) {
+// The policy of a text over a script with these moments: {rows, fault}. Each row is what the module takes, with its
+// words, and its name and comment, which may be empty; a fault is {status, row, place, wanted}, with row 0 where it is
+// none of a row.
+function readPolicy(text, moments, mostBytes) {
     if (encodeText(text).length > mostBytes) {
         return {rows: [], fault: {status: TOO_LONG, row: 0, place: 0, wanted: ''}};
     }
@@ -83,7 +85,7 @@ function readPolicy(text, publications, mostBytes) {
     }
     const rows = [];
     for (const {fields, place} of records) {
-        const read = readRow(fields, names, BigInt(publications));
+        const read = readRow(fields, names, moments);
         const row = rows.length + 1;
         if (read.wanted) return {rows: [], fault: {status: read.status, row, place, wanted: read.wanted}};
         rows.push({...read, number: BigInt(row), place});
@@ -96,14 +98,14 @@ function isHeader(header, names) {
 }
 
 // A row by its fields of these names, or {status, wanted} of the first rule that it breaks.
-function readRow(fields, names, publications) {
+function readRow(fields, names, moments) {
     if (fields.length !== names.length) {
         return {status: BAD_ROW, wanted: `Wanted: the ${names.length} fields ${names.join()}. Here: ${fields.length}.`};
     }
     const [name, words, comment] = names === FIELDS ? ['', fields, '']
         : [fields[0], fields.slice(1, -1), fields.at(-1)];
     if (hasControl(name)) return {status: BAD_ROW, wanted: 'name has to be a text without control characters.'};
-    return {...readDemand(words, comment, publications), words, name, comment};
+    return {...readDemand(words, comment, moments), words, name, comment};
 }
 
 function hasControl(text) {
@@ -111,14 +113,15 @@ function hasControl(text) {
 }
 
 // What seven words demand, or the first rule that they or the comment break.
-function readDemand(fields, comment, publications) {
+function readDemand(fields, comment, moments) {
     const bad = (wanted, status = BAD_ROW) => ({status, wanted});
-    const [from, first, last] = [fields[0], fields[4], fields[5]].map(readNumber);
-    const to = fields[1] === '' ? publications : readNumber(fields[1]);
+    const [first, last] = [fields[4], fields[5]].map(readNumber);
+    const from = moments.read(fields[0]);
+    const to = moments.read(fields[1] === '' ? `${moments.last}` : fields[1]);
     const [modes, kind, demand] = [readModes(fields[2]), wordIn(POLICY_KINDS, fields[3]), wordIn(DEMANDS, fields[6])];
-    if (from === null) return bad('from has to be a number of publications; names of moments are for pmp policy.');
-    if (to === null) return bad('to has to be a number of publications, or empty for all; names of moments are for pmp policy.');
-    if (fields[1] !== '' && to < from) return bad('to has to be at least from.');
+    if (from.status) return bad(`from has to be ${WANTED_MOMENT}.`, from.status);
+    if (to.status) return bad(`to has to be ${WANTED_MOMENT}, or empty for all.`, to.status);
+    if (fields[1] !== '' && from.isNumber && to.isNumber && to.at < from.at) return bad('to has to be at least from.');
     if (modes === null) return bad('modes has to be one to three of the letters M, S and U, none twice.');
     if (kind === null) return bad('kind has to be fetch, load, store or any.');
     if (first === null) return bad('first has to be a byte address, a number.');
@@ -126,11 +129,12 @@ function readDemand(fields, comment, publications) {
     if (last < first) return bad('last has to be at least first.');
     if (demand === null) return bad('demand has to be never, always or held.');
     if (hasControl(comment)) return bad('comment has to be a text without control characters.');
-    if (from > publications || to > publications) {
-        return bad(`The script has no more than ${counted(Number(publications), 'publication')}.`, BAD_AFTER);
+    const asked = momentsBetween(from, to, moments.last);
+    if (asked.from > moments.last || asked.to > moments.last) {
+        return bad(`The script has no more than ${counted(Number(moments.last), 'publication')}.`, BAD_AFTER);
     }
     if (last >= END_OF_MEMORY) return bad('last has to be below 2^56.', PAST_END);
-    return {from, to, first, last, modes, kind, demand};
+    return {...asked, first, last, modes, kind, demand};
 }
 
 function readModes(word) {

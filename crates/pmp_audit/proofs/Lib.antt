@@ -22,7 +22,7 @@ pub mod FaultyInputs
 pub mod WrittenAnswers
 pub mod WrittenEvents
 pub mod PolicyAnswers
-pub mod PolicyMoments
+pub mod LastingMoments
 pub mod PolicySteps
 pub mod PolicySweep
 pub mod PolicyVerdicts

@@ -17,6 +17,7 @@ use Rattle.pmp_text.specs.LongTraces.{is_bare_record, row_records}
 use Rattle.pmp_text.specs.Flaws.{at_row}
 use Rattle.pmp_text.specs.Traces.{after_of, first_bare, first_row_fault, is_header, row_fault, row_fields, row_of_record, row_in}
 use Rattle.pmp_text.proofs.PieceFaults.{behind, in_turn, places_in_turn}
+use Rattle.pmp_text.specs.Moments.{KnownMoments, moments_in}
 use Rattle.pmp_audit.specs.declared.standing.Standing.{Standing}
 use Rattle.pmp_audit.specs.LongAudit.{IsFrontReport}
 use Rattle.pmp_audit.specs.LongPieces.{IsPieceText}
@@ -29,7 +30,7 @@ pub record Stands (script : ScriptContents) (first : ℕ) (records : Records) (s
     : Type 0
   where
     pub report : IsFrontReport script first records text
-    pub place : standing.place ≡ place_behind (beginning first) records
+    pub place : standing.place ≡ place_behind (moments_in script) (beginning first) records
     pub counted : standing.faults ≡ refused_count report.decisions
 
 module _ (script : ScriptContents) (first : ℕ) where
@@ -43,58 +44,58 @@ module _ (script : ScriptContents) (first : ℕ) where
         counted = faults;
       }
 
-module _ (publications : ℕ) where
+module _ (moments : KnownMoments) where
   -- the rows that records say are as bare as the records
   bare_as_said : (rows : Records) (read : List Row) (last : Option ℕ) (next number : ℕ)
-      → first_row_fault publications last next rows ≡ None → map row_fields read ≡ filter_map row_of_record rows
-      → first_bare number read ≡ position_from is_bare_record number rows
+      → first_row_fault moments last next rows ≡ None → map row_fields read ≡ filter_map (row_of_record moments) rows
+      → first_bare number read ≡ position_from (is_bare_record moments) number rows
   bare_as_said [] [] last next number fine said = refl
   bare_as_said [] (one ∷ read) last next number fine said = absurd cc
-  bare_as_said (row ∷ more) read last next number fine said = by (row_in row) read refl said (bare_as_said more)
+  bare_as_said (row ∷ more) read last next number fine said = by (row_in moments row) read refl said (bare_as_said more)
     where
-      by : (says : Result RowFields Flaw) (read : List Row) → row_in row ≡ says
-          → map row_fields read ≡ filter_map row_of_record (row ∷ more)
+      by : (says : Result RowFields Flaw) (read : List Row) → row_in moments row ≡ says
+          → map row_fields read ≡ filter_map (row_of_record moments) (row ∷ more)
           → ((read : List Row) (last : Option ℕ) (next number : ℕ)
-          → first_row_fault publications last next more ≡ None → map row_fields read ≡ filter_map row_of_record more
-          → first_bare number read ≡ position_from is_bare_record number more)
-          → first_bare number read ≡ position_from is_bare_record number (row ∷ more)
+          → first_row_fault moments last next more ≡ None → map row_fields read ≡ filter_map (row_of_record moments) more
+          → first_bare number read ≡ position_from (is_bare_record moments) number more)
+          → first_bare number read ≡ position_from (is_bare_record moments) number (row ∷ more)
       by (Err flaw) read is said later =
           let own : Some (at_row next flaw) ≡ None = (neither (Some (at_row next flaw))
-          (first_row_fault publications None (next + 1) more) (rw is at fine)).0 in
+          (first_row_fault moments None (next + 1) more) (rw is at fine)).0 in
           absurd cc
       by (Ok fields) [] is said later =
-          let none : [] ≡ fields ∷ filter_map row_of_record more = rw is at said in absurd cc
+          let none : [] ≡ fields ∷ filter_map (row_of_record moments) more = rw is at said in absurd cc
       by (Ok fields) (one ∷ read) is said later =
-          let both : row_fields one ∷ map row_fields read ≡ fields ∷ filter_map row_of_record more = rw is at said in
+          let both : row_fields one ∷ map row_fields read ≡ fields ∷ filter_map (row_of_record moments) more = rw is at said in
           let here : row_fields one ≡ fields = cc in
-          let there : map row_fields read ≡ filter_map row_of_record more = cc in
+          let there : map row_fields read ≡ filter_map (row_of_record moments) more = cc in
           let bare : one.is_bare ≡ fields.is_bare = ap (λ (f : RowFields). f.is_bare) here in
-          let rest = (neither (option_map (at_row next) (row_fault publications last (row_in row)))
-          (first_row_fault publications (after_of (row_of_record row)) (next + 1) more) fine).1 in
-          let after = later read (after_of (row_of_record row)) (next + 1) (number + 1) rest there in
+          let rest = (neither (option_map (at_row next) (row_fault moments.publications last (row_in moments row)))
+          (first_row_fault moments (after_of (row_of_record moments row)) (next + 1) more) fine).1 in
+          let after = later read (after_of (row_of_record moments row)) (next + 1) (number + 1) rest there in
           rw (is_bare_record, is) (λ i. cond (bare i) (Some number) (after i))
 
   pub all_bare : (records : Records) (read : List Row) (last : Option ℕ) (next : ℕ)
-      → first_fault_at publications false last next records ≡ None
-      → map row_fields read ≡ filter_map row_of_record (row_records false records)
-      → first_bare next read ≡ position_from is_bare_record next (row_records false records)
+      → first_fault_at moments false last next records ≡ None
+      → map row_fields read ≡ filter_map (row_of_record moments) (row_records false records)
+      → first_bare next read ≡ position_from (is_bare_record moments) next (row_records false records)
   all_bare [] [] last next fine said = refl
   all_bare [] (one ∷ read) last next fine said = absurd cc
   all_bare (header ∷ rows) read last next fine said =
-      bare_as_said rows read last next next (behind publications (is_header header) last next rows fine) said
+      bare_as_said rows read last next next (behind moments (is_header header) last next rows fine) said
 
 module _ (script : ScriptContents) (first : ℕ) (records : Records) (old : Standing) (text : List ℕ)
     (stands : Stands script first records old text) where
-  abbrev publications : ℕ
-  publications = length script.batches
+  abbrev moments : KnownMoments
+  moments = moments_in script
 
   -- the fault of records behind these is theirs, where they stand
-  pub fault_behind : (more : Records) → piece_fault publications (beginning first) (records ++ more)
-      ≡ piece_fault publications old.place more
-  fault_behind more = in_turn publications None first false records more
+  pub fault_behind : (more : Records) → piece_fault moments (beginning first) (records ++ more)
+      ≡ piece_fault moments old.place more
+  fault_behind more = in_turn moments None first false records more
       ∙ ap (λ (x : Option TraceFault). option_or x
-      (piece_fault publications (place_behind (beginning first) records) more)) stands.report.fine
-      ∙ ap (λ (p : Place). piece_fault publications p more) (sym stands.place)
+      (piece_fault moments (place_behind moments (beginning first) records) more)) stands.report.fine
+      ∙ ap (λ (p : Place). piece_fault moments p more) (sym stands.place)
 
   abbrev says_so_far : IsPieceText script records (record { place = beginning first; faults = 0 }) old.faults text
   says_so_far = record {
@@ -110,16 +111,16 @@ module _ (script : ScriptContents) (first : ℕ) (records : Records) (old : Stan
   pub few_refused : old.faults ≤ old.place.next
   few_refused =
       let few = few script records (record { place = beginning first; faults = 0 }) old.faults text says_so_far in
-      let next : old.place.next ≡ (place_behind (beginning first) records).next =
+      let next : old.place.next ≡ (place_behind moments (beginning first) records).next =
       ap (λ (p : Place). p.next) stands.place in
       omega arith
 
   -- the count of what was reported
   pub summed : old.place.next - first ≡ length stands.report.decisions
   summed =
-      let next : old.place.next ≡ (place_behind (beginning first) records).next =
+      let next : old.place.next ≡ (place_behind moments (beginning first) records).next =
       ap (λ (p : Place). p.next) stands.place in
-      let number : (place_behind (beginning first) records).next ≡ first + length stands.report.rows =
+      let number : (place_behind moments (beginning first) records).next ≡ first + length stands.report.rows =
       numbered script records (record { place = beginning first; faults = 0 }) old.faults text says_so_far in
       let one_each = AllZip-long (Decides script) stands.report.rows stands.report.decisions stands.report.decided in
       omega arith
@@ -127,14 +128,14 @@ module _ (script : ScriptContents) (first : ℕ) (records : Records) (old : Stan
   -- the first bare row of what was reported
   pub bare_so_far : old.place.bare ≡ first_bare first stands.report.rows
   bare_so_far = ap (λ (p : Place). p.bare) stands.place
-      ∙ sym (all_bare publications records stands.report.rows None first stands.report.fine stands.report.said)
+      ∙ sym (all_bare moments records stands.report.rows None first stands.report.fine stands.report.said)
 
   pub one_piece : (more : Records) (new : Standing) (faults : ℕ) (piece : List ℕ)
-      → IsPieceText script more old faults piece → new.place ≡ place_behind old.place more
+      → IsPieceText script more old faults piece → new.place ≡ place_behind moments old.place more
       → new.faults ≡ old.faults + faults → Stands script first (records ++ more) new (text ++ piece)
   one_piece more new faults piece says place refused =
-      let meets : old.place ≡ record (place_behind (beginning first) records) { bare = old.place.bare } =
-      stands.place ∙ ap (λ (bare : Option ℕ). record (place_behind (beginning first) records) { bare = bare })
+      let meets : old.place ≡ record (place_behind moments (beginning first) records) { bare = old.place.bare } =
+      stands.place ∙ ap (λ (bare : Option ℕ). record (place_behind moments (beginning first) records) { bare = bare })
       (sym (ap (λ (p : Place). p.bare) stands.place)) in
       let both = joined_texts script records (record { place = beginning first; faults = 0 }) old.faults text says_so_far
       more old meets faults piece says in
@@ -147,7 +148,7 @@ module _ (script : ScriptContents) (first : ℕ) (records : Records) (old : Stan
           decided = both.decided;
           report = both.report;
         };
-        place = place ∙ ap (λ (p : Place). place_behind p more) stands.place
-            ∙ sym (places_in_turn (beginning first) records more);
+        place = place ∙ ap (λ (p : Place). place_behind moments p more) stands.place
+            ∙ sym (places_in_turn moments (beginning first) records more);
         counted = refused ∙ both.counted;
       }

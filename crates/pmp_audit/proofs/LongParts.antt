@@ -14,6 +14,7 @@ use Rattle.pmp_text.specs.Contents.{ScriptContents}
 use Rattle.pmp_text.specs.LongTraces.{Records, place_behind}
 use Rattle.pmp_text.specs.Tables.{is_line_end, records_of}
 use Rattle.pmp_text.proofs.PieceFaults.{apart, places_in_turn}
+use Rattle.pmp_text.specs.Moments.{moments_in}
 use Rattle.pmp_audit.specs.declared.fault.AuditFault.{AuditFault}
 use Rattle.pmp_audit.specs.declared.piece.PieceReport.{PieceReport}
 use Rattle.pmp_audit.specs.declared.standing.Standing.{Standing}
@@ -58,9 +59,9 @@ module _ (script : ScriptContents) (standing middle : Standing) (front back both
       meets = ap (λ (s : Standing). s.place) fresh
           ∙ sym (ap (λ (p : Place). record p { bare = None }) joined.meets)
 
-      behind_low : middle.place ≡ record (place_behind standing.place low) { bare = middle.place.bare }
+      behind_low : middle.place ≡ record (place_behind (moments_in script) standing.place low) { bare = middle.place.bare }
       behind_low = meets ∙ ap (λ (p : Place). record p { bare = None }) here.place
-          ∙ ap (λ (bare : Option ℕ). record (place_behind standing.place low) { bare = bare })
+          ∙ ap (λ (bare : Option ℕ). record (place_behind (moments_in script) standing.place low) { bare = bare })
           (sym (ap (λ (s : Standing). s.place.bare) fresh))
 
       pub both_reported : IsPieceReported script (low ++ high) standing both
@@ -71,8 +72,8 @@ module _ (script : ScriptContents) (standing middle : Standing) (front back both
             there.faults (items_of back.texts.items) there.says);
         place = joined.place
             ∙ ap (λ (p : Place). record p { bare = option_or front.behind.place.bare p.bare })
-            (there.place ∙ ap (λ (p : Place). place_behind p high) meets)
-            ∙ ap (λ (p : Place). place_behind p high) here.place ∙ sym (places_in_turn standing.place low high);
+            (there.place ∙ ap (λ (p : Place). place_behind (moments_in script) p high) meets)
+            ∙ ap (λ (p : Place). place_behind (moments_in script) p high) here.place ∙ sym (places_in_turn (moments_in script) standing.place low high);
         refused =
             let a = here.refused in
             let b = there.refused in
@@ -100,7 +101,7 @@ module _ (script : ScriptContents) (standing middle : Standing)
       ∙ ap (λ (l : List ℕ). before ++ l) (drop_more text end 0 inside) in
       let front_is = rw low_ends at here in
       let back_is = rw high_begins at there in
-      rw (whole, apart (length script.batches) standing.place before e ends front_is.says.fine behind)
+      rw (whole, apart (moments_in script) standing.place before e ends front_is.says.fine behind)
       (both_reported script standing middle front back both joined fresh (records_of (before ++ e ∷ []))
       (records_of (e ∷ behind)) front_is back_is)
   parts_reported (Ok front) (Err fault) here there joined = absurd joined

@@ -12,6 +12,7 @@ use Rattle.pmp_text.specs.LongTraces.{Records, beginning, piece_fault}
 use Rattle.pmp_text.specs.Scripts.{script_meaning}
 use Rattle.pmp_text.specs.Tables.{records_of}
 use Rattle.pmp_text.proofs.PieceFaults as pieces
+use Rattle.pmp_text.specs.Moments.{moments_in}
 use Rattle.pmp_audit.specs.declared.standing.Standing.{Standing}
 use Rattle.pmp_audit.specs.LongAudit.{IsFrontOf}
 use Rattle.pmp_audit.specs.LongPieces.{IsPieceWritten}
@@ -56,9 +57,9 @@ module _ {script : ScriptContents} {first count limit : ℕ} {in_old in_mid in_n
         → Going script first (count + 1) in_old in_new left out_old out_new new
     goes_on {new = new} piece_written =
         let here = records_of piece in
-        let fine = ap (λ (l : List ℕ). piece_fault (length script.batches) old.place (records_of l)) (sym cut.piece_is)
+        let fine = ap (λ (l : List ℕ). piece_fault (moments_in script) old.place (records_of l)) (sym cut.piece_is)
         ∙ piece_written.says.fine in
-        let in_two = pieces.apart (length script.batches) old.place cut.before cut.line_end cut.ends fine in
+        let in_two = pieces.apart (moments_in script) old.place cut.before cut.line_end cut.ends fine in
         record {
           done = going.done ++ cut.before;
           records = going.records ++ here;

@@ -16,6 +16,7 @@ use Rattle.pmp_text.specs.Scripts.{script_meaning}
 use Rattle.pmp_text.specs.Tables.{records_of}
 use Rattle.pmp_text.specs.Flaws.{at_row, as_whole}
 use Rattle.pmp_text.proofs.CutTexts.{few_records}
+use Rattle.pmp_text.specs.Moments.{KnownMoments, moments_in}
 use Rattle.pmp_audit.specs.declared.fault.AuditFault.{AuditFault}
 use Rattle.pmp_audit.specs.declared.fault.AuditFault.TheVariants.{Trace, Memory}
 use Rattle.pmp_audit.specs.declared.fault.AuditFault.TheVariants.{Output}
@@ -28,12 +29,12 @@ use Rattle.pmp_text.proofs.WholeTraces.{faulty_records, fewer_rows, fine_records
 use Rattle.pmp_audit.proofs.LongSteps.{front_of}
 
 -- the piece stands behind these records of the trace, whatever follows it
-pub record IsPieceOf (publications : ℕ) (place : Place) (records : Records) (piece trace : List ℕ) : Type 0 where
+pub record IsPieceOf (moments : KnownMoments) (place : Place) (records : Records) (piece trace : List ℕ) : Type 0 where
   pub tail : Records
   pub are : records_of trace ≡ records ++ tail
-  pub stays : (fault : TraceFault) → piece_fault publications place (records_of piece) ≡ Some fault
-      → piece_fault publications place tail ≡ Some fault
-  pub apart : piece_fault publications place (records_of piece) ≡ None
+  pub stays : (fault : TraceFault) → piece_fault moments place (records_of piece) ≡ Some fault
+      → piece_fault moments place tail ≡ Some fault
+  pub apart : piece_fault moments place (records_of piece) ≡ None
       → (behind : Records) × (tail ≡ records_of piece ++ behind)
   pub within : length piece ≤ length trace
 
@@ -48,8 +49,8 @@ module _ (script : List ℕ) {contents : ScriptContents} (means : script_meaning
     {first : ℕ} {records : Records} {old : Standing} {text : List ℕ}
     (stands : Stands contents first records old text) (out_old out_mid out_new : Option (List ℕ))
     (written : Appends out_old out_mid text) where
-  abbrev publications : ℕ
-  publications = length contents.batches
+  abbrev moments : KnownMoments
+  moments = moments_in contents
 
   -- nothing more was written
   module _ (trace : List ℕ) (behind : Records) (are : records_of trace ≡ records ++ behind) where
@@ -75,14 +76,14 @@ module _ (script : List ℕ) {contents : ScriptContents} (means : script_meaning
 
   -- ---- a piece that isn't written
 
-  module _ (piece trace : List ℕ) (here : IsPieceOf (length contents.batches) old.place records piece trace) where
-    faulty : (fault : TraceFault) → piece_fault publications old.place (records_of piece) ≡ Some fault
-        → long_meaning publications first (records_of trace) ≡ Err fault
-    faulty fault found = faulty_records publications first (records_of trace) fault
-        (ap (piece_fault publications (beginning first)) here.are
+  module _ (piece trace : List ℕ) (here : IsPieceOf (moments_in contents) old.place records piece trace) where
+    faulty : (fault : TraceFault) → piece_fault moments old.place (records_of piece) ≡ Some fault
+        → long_meaning moments first (records_of trace) ≡ Err fault
+    faulty fault found = faulty_records moments first (records_of trace) fault
+        (ap (piece_fault moments (beginning first)) here.are
         ∙ fault_behind contents first records old text stands here.tail ∙ here.stays fault found)
 
-    too_many : 2 ^ 64 ≤ (place_behind old.place (records_of piece)).next → 2 ^ 64 ≤ first + 4 * (length trace + 1)
+    too_many : 2 ^ 64 ≤ (place_behind moments old.place (records_of piece)).next → 2 ^ 64 ≤ first + 4 * (length trace + 1)
     too_many many =
         let all = few_records trace in
         let some = few_records piece in
@@ -97,12 +98,12 @@ module _ (script : List ℕ) {contents : ScriptContents} (means : script_meaning
         omega arith
 
     abbrev Why : TraceFault → Type 0
-    Why fault = (long_meaning publications first (records_of trace) ≡ Err fault) ⊎ (fault ≡ no_input_for_rows)
+    Why fault = (long_meaning moments first (records_of trace) ≡ Err fault) ⊎ (fault ≡ no_input_for_rows)
         ⊎ ((fault ≡ too_long_for_rows) × IsTooLong limit first trace)
 
-    why : (fault : TraceFault) → (piece_fault publications old.place (records_of piece) ≡ Some fault)
+    why : (fault : TraceFault) → (piece_fault moments old.place (records_of piece) ≡ Some fault)
         ⊎ (fault ≡ no_input_for_rows)
-        ⊎ ((fault ≡ too_long_for_rows) × (2 ^ 64 ≤ (place_behind old.place (records_of piece)).next)) → Why fault
+        ⊎ ((fault ≡ too_long_for_rows) × (2 ^ 64 ≤ (place_behind moments old.place (records_of piece)).next)) → Why fault
     why fault (inl found) = inl (faulty fault found)
     why fault (inr (inl failed)) = inr (inl failed)
     why fault (inr (inr (long, many))) = inr (inr (long, inr (too_many many)))
@@ -116,7 +117,7 @@ module _ (script : List ℕ) {contents : ScriptContents} (means : script_meaning
     piece_stops Memory kept = inr (wrote_front trace here.tail here.are kept)
     piece_stops Output (faults, more, says, (front, rest, split, wrote)) =
         let new : Standing =
-        record { place = place_behind old.place (records_of piece); faults = old.faults + faults } in
+        record { place = place_behind moments old.place (records_of piece); faults = old.faults + faults } in
         let later =
         one_piece contents first records old text stands (records_of piece) new faults more says refl refl in
         let (behind, tail_is) = here.apart says.fine in
@@ -149,8 +150,8 @@ module _ (script : List ℕ) {contents : ScriptContents} (means : script_meaning
           report = record {
             rows = done.rows;
             decisions = done.decisions;
-            records_mean = ap (long_meaning publications first) are
-                ∙ fine_records publications first records done.fine read ∙ ap Ok (sym done.said);
+            records_mean = ap (long_meaning moments first) are
+                ∙ fine_records moments first records done.fine read ∙ ap Ok (sym done.said);
             decided = done.decided;
             report = done.report;
           };
@@ -163,6 +164,6 @@ module _ (script : List ℕ) {contents : ScriptContents} (means : script_meaning
         }
 
     pub no_header : old.place.begun ≡ false
-        → long_meaning publications first (records_of trace) ≡ Err (at_row 0 (as_whole BadHeader))
-    no_header begun = ap (long_meaning publications first) (are
+        → long_meaning moments first (records_of trace) ≡ Err (at_row 0 (as_whole BadHeader))
+    no_header begun = ap (long_meaning moments first) (are
         ∙ no_records records (sym (ap (λ (p : Place). p.begun) stands.place) ∙ begun))

@@ -18,6 +18,7 @@ use Rattle.pmp_text.specs.Scripts.{script_meaning}
 use Rattle.pmp_text.specs.Tables.{records_of}
 use Rattle.pmp_text.specs.Flaws.{as_whole, at_row}
 use Rattle.pmp_text.proofs.PieceFaults as pieces
+use Rattle.pmp_text.specs.Moments.{moments_in}
 use Rattle.pmp_audit.specs.declared.fault.AuditFault.{AuditFault}
 use Rattle.pmp_audit.specs.declared.fault.AuditFault.TheVariants.{Trace}
 use Rattle.pmp_audit.specs.declared.standing.Standing.{Standing}
@@ -100,25 +101,25 @@ module _ {script : ScriptContents} {first count : ℕ} {in_old in_mid : Option (
           )
 
     module _ (left piece : List ℕ) (cut : IsFront limit held in_mid in_new left piece) where
-      pub front_piece : IsPieceOf (length script.batches) old.place going.records piece
+      pub front_piece : IsPieceOf (moments_in script) old.place going.records piece
           (trace_taken cut.taken cut.consumed)
       front_piece =
           let rest = unwrap_or in_new [] in
-          let publications = length script.batches in
+          let moments = moments_in script in
           let later = cut.behind ++ rest in
           let joined : held ++ (cut.taken ++ rest) ≡ cut.before ++ cut.line_end ∷ later =
           sym (append_assoc held cut.taken rest) ∙ ap (λ (l : List ℕ). l ++ rest) cut.split
           ∙ append_assoc cut.before (cut.line_end ∷ cut.behind) rest in
-          let found_in = ap (λ (l : List ℕ). piece_fault publications old.place (records_of l)) (sym cut.piece_is) in
+          let found_in = ap (λ (l : List ℕ). piece_fault moments old.place (records_of l)) (sym cut.piece_is) in
           record {
             tail = records_of (cut.before ++ cut.line_end ∷ later);
             are = going.apart (cut.taken ++ rest) ∙ ap (λ (l : List ℕ). going.records ++ records_of l) joined;
             stays = λ fault found.
-                pieces.fault_stays publications old.place cut.before cut.line_end cut.ends fault (found_in ∙ found)
+                pieces.fault_stays moments old.place cut.before cut.line_end cut.ends fault (found_in ∙ found)
                 later;
             apart = λ fine. (
               records_of (cut.line_end ∷ later),
-              pieces.apart publications old.place cut.before cut.line_end cut.ends (found_in ∙ fine) later
+              pieces.apart moments old.place cut.before cut.line_end cut.ends (found_in ∙ fine) later
                   ∙ ap (λ (l : List ℕ). records_of l ++ records_of (cut.line_end ∷ later)) (sym cut.piece_is),
             );
             within =
@@ -146,7 +147,7 @@ module _ {script : ScriptContents} {first count : ℕ} {in_old in_mid : Option (
       pub all_are : records_of trace_all ≡ going.records ++ records_of piece
       all_are = going.apart cut.taken ∙ ap (λ (l : List ℕ). going.records ++ records_of l) (sym cut.piece_is)
 
-      pub last_piece : IsPieceOf (length script.batches) old.place going.records piece trace_all
+      pub last_piece : IsPieceOf (moments_in script) old.place going.records piece trace_all
       last_piece = record {
         tail = records_of piece;
         are = all_are;

@@ -13,7 +13,8 @@ use Rattle.pmp_text.specs.EntryRows.{entry_row, no_since}
 use Rattle.pmp_text.specs.Reports.{file_of_script}
 use Rattle.pmp_audit.specs.EntryList.{IsEntryList}
 use Rattle.pmp_audit.specs.Laws.{OneEntryListLaw}
-use Rattle.pmp_audit.specs.AskedFile.{asked_count}
+use Rattle.pmp_audit.specs.AskedFile.{IsAsked}
+use Rattle.pmp_audit.proofs.LastingMoments.{one_count}
 use Rattle.pmp_audit.specs.Since.{IsFrom, IsSince}
 use Rattle.pmp_core.specs.RegisterFile.{IsLegal}
 use Rattle.pmp_text.proofs.Starts.{legal_start}
@@ -68,5 +69,8 @@ module _ (one_span : OneSpanLaw) where
   pub one_entry_list : OneEntryListLaw
   one_entry_list script after text other one two =
       let same : two.contents ≡ one.contents = let both = sym two.script_means ∙ one.script_means in cc in
-      let two_is = subst (λ contents. IsEntryList contents (asked_count after contents) other) same two.text_is in
-      same_list one.contents (legal_start script one.contents one.script_means) (asked_count after one.contents) text other one.text_is two_is
+      let asked = subst (λ (s : ScriptContents). IsAsked after s two.done) same two.asked in
+      let done = one_count one.contents after two.done one.done asked one.asked in
+      let in_one = subst (λ (s : ScriptContents). IsEntryList s two.done other) same two.text_is in
+      let two_is = subst (λ (n : ℕ). IsEntryList one.contents n other) done in_one in
+      same_list one.contents (legal_start script one.contents one.script_means) one.done text other one.text_is two_is

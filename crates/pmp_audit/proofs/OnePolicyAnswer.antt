@@ -28,7 +28,7 @@ use Rattle.pmp_audit.specs.PolicyCheck.{IsFirstRun, IsNotHeld}
 use Rattle.pmp_audit.specs.PolicyCheck.{IsBreachOf, IsVerdict, IsVerdictBy, IsVerdictOn, policy_summary, state_after}
 use Rattle.pmp_audit.specs.PolicyCheck.{step_count, verdicts_text}
 use Rattle.pmp_audit.proofs.Lists.{one_list}
-use Rattle.pmp_audit.proofs.PolicyMoments.{one_moments}
+use Rattle.pmp_audit.proofs.LastingMoments.{one_moments}
 
 -- ---- one run
 
@@ -217,7 +217,7 @@ pub one_policy_answer : OnePolicyAnswerLaw
 one_policy_answer pace script policy one other text another said too =
     let contents : said.contents ≡ too.contents = cc (said.script_means, too.script_means) in
     let moments : said.moments ≡ too.moments =
-    one_moments script too.contents said.moments too.moments (rw contents at said.moments_are) too.moments_are in
+    one_moments too.contents said.moments too.moments (rw contents at said.moments_are) too.moments_are in
     let fields : map policy_fields said.rows ≡ map policy_fields too.rows =
     cc (moments, said.policy_means, too.policy_means) in
     let rows = same_rows said.rows too.rows fields in

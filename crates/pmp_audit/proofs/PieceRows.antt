@@ -1,7 +1,7 @@
 -- The report of a piece, one row after another.
 use Rattle.std.proofs.Common.{◌≡◌, ◌⊎◌, ℕ, ◌+◌, ◌^◌, ◌≤◌, Bool, true, false, cond, List, [], ◌∷◌}
 use Rattle.std.proofs.Common.{◌++◌, length, Option, Some, None, Ok, refl, sym, ap, ◌∙◌, inl, inr, append_assoc}
-use Rattle.std.proofs.Common.{append-nil, arith}
+use Rattle.std.proofs.Common.{append-nil, arith, subst}
 use Rattle.std.specs.Prelude.{IfErr, IfOk, Result, Err, filter_map}
 use Rattle.std.specs.Option.{option_or}
 use Rattle.std.proofs.lemmas.List.{length-append}
@@ -21,6 +21,7 @@ use Rattle.pmp_text.specs.Traces.{first_row_fault, row_fault, row_fields, row_in
 use Rattle.pmp_text.proofs.LeastRows.{least_of, rows_in_order}
 use Rattle.pmp_text.proofs.PieceFaults.{in_turn, places_in_turn}
 use Rattle.pmp_text.proofs.WholeTraces.{fewer_rows}
+use Rattle.pmp_text.specs.Moments.{KnownMoments, moments_in}
 use Rattle.pmp_audit.specs.declared.fault.AuditFault.{AuditFault}
 use Rattle.pmp_audit.specs.declared.fault.AuditFault.TheVariants.{Trace, Memory}
 use Rattle.pmp_audit.specs.declared.piece.PieceReport.{PieceReport}
@@ -39,20 +40,20 @@ pub record Reported (script : ScriptContents) (standing : Standing) (records : R
   pub here : ℕ
   pub says : IsPieceText script done standing here text
   pub counted : faults ≡ standing.faults + here
-  pub place : left.place ≡ place_behind standing.place done
-  pub same : left.publications ≡ length script.batches
+  pub place : left.place ≡ place_behind (moments_in script) standing.place done
+  pub same : left.moments ≡ moments_in script
 
 -- ---- why a piece isn't reported
 
 module _ (script : ScriptContents) (records : Records) (standing : Standing) (fault : TraceFault) where
-  by_kind : (kind : Refusal) → piece_fault (length script.batches) standing.place records ≡ Some fault
+  by_kind : (kind : Refusal) → piece_fault (moments_in script) standing.place records ≡ Some fault
       → PieceFails script records standing (trace_fault_as kind fault)
   by_kind kinds.Memory e = tt
   by_kind kind e = inl e
 
-  pub piece_fails : (piece_fault (length script.batches) standing.place records ≡ Some fault)
+  pub piece_fails : (piece_fault (moments_in script) standing.place records ≡ Some fault)
       ⊎ (fault ≡ no_memory_for_rows) ⊎ (fault ≡ no_input_for_rows)
-      ⊎ ((fault ≡ too_long_for_rows) × (2 ^ 64 ≤ (place_behind standing.place records).next))
+      ⊎ ((fault ≡ too_long_for_rows) × (2 ^ 64 ≤ (place_behind (moments_in script) standing.place records).next))
       → PieceFails script records standing (fault_of_trace fault)
   piece_fails (inl e) = by_kind fault.kind e
   piece_fails (inr (inl memory)) = rw memory tt
@@ -80,30 +81,30 @@ or_none : (bare : Option ℕ) → bare ≡ option_or bare None
 or_none None = refl
 or_none (Some number) = refl
 
-at_start : (begun : Bool) (last : Option ℕ) (next : ℕ) (bare : Option ℕ)
+at_start : (moments : KnownMoments) (begun : Bool) (last : Option ℕ) (next : ℕ) (bare : Option ℕ)
     → record { begun = begun; last = last; next = next; bare = bare }
-    ≡ place_behind (record { begun = begun; last = last; next = next; bare = bare }) []
-at_start begun last next bare = by begun
+    ≡ place_behind moments (record { begun = begun; last = last; next = next; bare = bare }) []
+at_start moments begun last next bare = by begun
   where
     number : next ≡ next + 0
     number = omega arith
 
     by : (begun : Bool) → record { begun = begun; last = last; next = next; bare = bare }
-        ≡ place_behind (record { begun = begun; last = last; next = next; bare = bare }) []
+        ≡ place_behind moments (record { begun = begun; last = last; next = next; bare = bare }) []
     by true = λ i. record { begun = true; last = last; next = number i; bare = or_none bare i }
     by false = λ i. record { begun = false; last = last; next = number i; bare = or_none bare i }
 
-no_fault : (publications : ℕ) (last : Option ℕ) (next : ℕ) (begun : Bool)
-    → first_fault_at publications begun last next [] ≡ None
-no_fault publications last next true = refl
-no_fault publications last next false = refl
+no_fault : (moments : KnownMoments) (last : Option ℕ) (next : ℕ) (begun : Bool)
+    → first_fault_at moments begun last next [] ≡ None
+no_fault moments last next true = refl
+no_fault moments last next false = refl
 
-none_said : (begun : Bool) → [] ≡ filter_map row_of_record (row_records begun [])
-none_said true = refl
-none_said false = refl
+none_said : (moments : KnownMoments) (begun : Bool) → [] ≡ filter_map (row_of_record moments) (row_records begun [])
+none_said moments true = refl
+none_said moments false = refl
 
 pub none_reported : (script : ScriptContents) (standing : Standing) (left : RowsLeft) → left.place ≡ standing.place
-    → left.publications ≡ length script.batches → Reported script standing left.records left standing.faults []
+    → left.moments ≡ moments_in script → Reported script standing left.records left standing.faults []
 unfolding report_text_from
 none_reported script standing left here same =
     let start = standing.place in record {
@@ -111,24 +112,24 @@ none_reported script standing left here same =
       all = refl;
       here = 0;
       says = record {
-        fine = no_fault (length script.batches) start.last start.next start.begun;
+        fine = no_fault (moments_in script) start.last start.next start.begun;
         rows = [];
         decisions = [];
-        said = none_said start.begun;
+        said = none_said (moments_in script) start.begun;
         decided = tt;
         report = refl;
         counted = refl;
       };
       counted = omega arith;
-      place = here ∙ at_start start.begun start.last start.next start.bare;
+      place = here ∙ at_start (moments_in script) start.begun start.last start.next start.bare;
       same = same;
     }
 
 -- ---- one row more
 
-row_place : (place : Place) (fields : List (List ℕ)) (row : Row) → place.begun ≡ true
-    → row_in fields ≡ Ok (row_fields row) → place_after place row ≡ place_behind place (fields ∷ [])
-row_place place fields row begun said = rw (begun, is_bare_record, said) refl
+row_place : (moments : KnownMoments) (place : Place) (fields : List (List ℕ)) (row : Row) → place.begun ≡ true
+    → row_in moments fields ≡ Ok (row_fields row) → place_after place row ≡ place_behind moments place (fields ∷ [])
+row_place moments place fields row begun said = rw (begun, is_bare_record, said) refl
 
 module _ {script : ScriptContents} {standing : Standing} {records : Records} {left : RowsLeft} {faults : ℕ}
     {text : List ℕ} (so_far : Reported script standing records left faults text)
@@ -137,7 +138,7 @@ module _ {script : ScriptContents} {standing : Standing} {records : Records} {le
   pub few : standing.faults ≤ standing.place.next → faults ≤ left.place.next
   few within =
       let here = few_refused script so_far.done standing so_far.here text so_far.says in
-      let next : left.place.next ≡ (place_behind standing.place so_far.done).next =
+      let next : left.place.next ≡ (place_behind (moments_in script) standing.place so_far.done).next =
       ap (λ (p : Place). p.next) so_far.place in
       let counted = so_far.counted in
       omega arith
@@ -150,17 +151,21 @@ module _ {script : ScriptContents} {standing : Standing} {records : Records} {le
       ap (λ (p : Place). p.begun) so_far.place ∙ ap (λ (b : Bool). has_begun b so_far.done) first
 
   module _ {row : Row} {after : RowsLeft} (is : IsNextRow left row after) where
-    fault_here : row_fault (length script.batches) left.place.last (row_in is.fields) ≡ None
-    fault_here = rw so_far.same at is.fine
+    said_here : row_in (moments_in script) is.fields ≡ Ok (row_fields row)
+    said_here = subst (λ (m : KnownMoments). row_in m is.fields ≡ Ok (row_fields row)) so_far.same is.said
 
-    no_row_fault : first_row_fault (length script.batches) left.place.last left.place.next (is.fields ∷ []) ≡ None
+    fault_here : row_fault (length script.batches) left.place.last (row_in (moments_in script) is.fields) ≡ None
+    fault_here = subst (λ (m : KnownMoments). row_fault m.publications left.place.last (row_in m is.fields) ≡ None)
+        so_far.same is.fine
+
+    no_row_fault : first_row_fault (moments_in script) left.place.last left.place.next (is.fields ∷ []) ≡ None
     no_row_fault = rw fault_here refl
 
     -- it asks for no fewer publications than the row before, and for no more than there are
-    pub in_order : (least_of (length script.batches) left.place.last ≤ row.after) × (row.after ≤ length script.batches)
+    pub in_order : (least_of (moments_in script) left.place.last ≤ row.after) × (row.after ≤ length script.batches)
     in_order =
-        let order = rw is.said at
-        (rows_in_order (length script.batches) (is.fields ∷ []) left.place.last left.place.next no_row_fault) in
+        let order = rw said_here at
+        (rows_in_order (moments_in script) (is.fields ∷ []) left.place.last left.place.next no_row_fault) in
         (order.0, order.1)
 
     pub last_is : after.place.last ≡ Some row.after
@@ -182,13 +187,13 @@ module _ {script : ScriptContents} {standing : Standing} {records : Records} {le
           fine = rw begun no_row_fault;
           rows = row ∷ [];
           decisions = decision ∷ [];
-          said = rw (begun, is.said) refl;
+          said = rw (begun, said_here) refl;
           decided = (by_bytes, tt);
           report = sym (append-nil line);
           counted = let pushed = refused-push [] decision in omega arith;
         } in
-        let meets : left.place ≡ record (place_behind start so_far.done) { bare = left.place.bare } =
-        so_far.place ∙ ap (λ (bare : Option ℕ). record (place_behind start so_far.done) { bare = bare })
+        let meets : left.place ≡ record (place_behind (moments_in script) start so_far.done) { bare = left.place.bare } =
+        so_far.place ∙ ap (λ (bare : Option ℕ). record (place_behind (moments_in script) start so_far.done) { bare = bare })
         (sym (ap (λ (p : Place). p.bare) so_far.place)) in
         record {
           done = so_far.done ++ is.fields ∷ [];
@@ -198,33 +203,33 @@ module _ {script : ScriptContents} {standing : Standing} {records : Records} {le
           says = rw written_is (joined_texts script so_far.done standing so_far.here text so_far.says (is.fields ∷ [])
               mid meets own line one);
           counted = let counted = so_far.counted in omega arith;
-          place = is.place ∙ row_place left.place is.fields row begun is.said
-              ∙ ap (λ (p : Place). place_behind p (is.fields ∷ [])) so_far.place
-              ∙ sym (places_in_turn start so_far.done (is.fields ∷ []));
-          same = is.publications ∙ so_far.same;
+          place = is.place ∙ row_place (moments_in script) left.place is.fields row begun said_here
+              ∙ ap (λ (p : Place). place_behind (moments_in script) p (is.fields ∷ [])) so_far.place
+              ∙ sym (places_in_turn (moments_in script) start so_far.done (is.fields ∷ []));
+          same = is.moments ∙ so_far.same;
         }
 
   -- ---- the end
 
   rows_alone : (begun : Bool) (rows : Records)
       → ((fields : List (List ℕ)) (behind : Records) → rows ≡ fields ∷ behind → begun ≡ true)
-      → first_fault_at (length script.batches) begun left.place.last left.place.next rows
-      ≡ first_row_fault (length script.batches) left.place.last left.place.next rows
+      → first_fault_at (moments_in script) begun left.place.last left.place.next rows
+      ≡ first_row_fault (moments_in script) left.place.last left.place.next rows
   rows_alone true rows header = refl
   rows_alone false [] header = refl
   rows_alone false (fields ∷ behind) header =
       let absent : false ≡ true = header fields behind refl in absurd cc
 
-  fault_left : piece_fault (length script.batches) standing.place records
-      ≡ first_row_fault (length script.batches) left.place.last left.place.next left.records
+  fault_left : piece_fault (moments_in script) standing.place records
+      ≡ first_row_fault (moments_in script) left.place.last left.place.next left.records
   fault_left =
-      let publications = length script.batches in
+      let moments = moments_in script in
       let start = standing.place in
-      ap (piece_fault publications start) so_far.all
-      ∙ in_turn publications start.last start.next start.begun so_far.done left.records
+      ap (piece_fault moments start) so_far.all
+      ∙ in_turn moments start.last start.next start.begun so_far.done left.records
       ∙ ap (λ (x : Option TraceFault). option_or x
-      (piece_fault publications (place_behind start so_far.done) left.records)) so_far.says.fine
-      ∙ ap (λ (p : Place). piece_fault publications p left.records) (sym so_far.place)
+      (piece_fault moments (place_behind (moments_in script) start so_far.done) left.records)) so_far.says.fine
+      ∙ ap (λ (p : Place). piece_fault moments p left.records) (sym so_far.place)
       ∙ rows_alone left.place.begun left.records begun_before
 
   pub all_reported : (report : PieceReport) → left.records ≡ [] → items_of report.texts.items ≡ text
@@ -236,20 +241,22 @@ module _ {script : ScriptContents} {standing : Standing} {records : Records} {le
       record {
         faults = so_far.here;
         says = rw (texts, ← done) so_far.says;
-        place = ap (λ (s : Standing). s.place) behind ∙ so_far.place ∙ ap (place_behind standing.place) done;
+        place = ap (λ (s : Standing). s.place) behind ∙ so_far.place ∙ ap (place_behind (moments_in script) standing.place) done;
         refused = ap (λ (s : Standing). s.faults) behind ∙ so_far.counted;
       }
 
   pub row_fails : (fault : TraceFault)
-      → (first_row_fault left.publications left.place.last left.place.next left.records ≡ Some fault)
+      → (first_row_fault left.moments left.place.last left.place.next left.records ≡ Some fault)
       ⊎ (fault ≡ no_memory_for_rows) ⊎ (fault ≡ no_input_for_rows)
       ⊎ ((fault ≡ too_long_for_rows) × (2 ^ 64 ≤ left.place.next + length left.records))
       → PieceFails script records standing (fault_of_trace fault)
-  row_fails fault (inl e) = piece_fails script records standing fault (inl (fault_left ∙ rw so_far.same at e))
+  row_fails fault (inl e) = piece_fails script records standing fault (inl (fault_left
+      ∙ subst (λ (m : KnownMoments). first_row_fault m left.place.last left.place.next left.records ≡ Some fault)
+      so_far.same e))
   row_fails fault (inr (inl memory)) = piece_fails script records standing fault (inr (inl memory))
   row_fails fault (inr (inr (inl input))) = piece_fails script records standing fault (inr (inr (inl input)))
   row_fails fault (inr (inr (inr (long, many)))) =
-      let next : left.place.next ≡ (place_behind standing.place so_far.done).next =
+      let next : left.place.next ≡ (place_behind (moments_in script) standing.place so_far.done).next =
       ap (λ (p : Place). p.next) so_far.place in
       let fewer = fewer_rows standing.place.begun so_far.done in
       let all = ap (λ (l : Records). length l) so_far.all in
@@ -265,20 +272,20 @@ rows_as_left true records = refl
 rows_as_left false [] = refl
 rows_as_left false (header ∷ rows) = refl
 
-fault_as_left : (publications : ℕ) (last : Option ℕ) (next : ℕ) (begun : Bool) (records : Records)
-    → first_fault_at publications (has_begun begun records) last next (row_records begun records)
-    ≡ first_row_fault publications last next (row_records begun records)
-fault_as_left publications last next true records = refl
-fault_as_left publications last next false [] = refl
-fault_as_left publications last next false (header ∷ rows) = refl
+fault_as_left : (moments : KnownMoments) (last : Option ℕ) (next : ℕ) (begun : Bool) (records : Records)
+    → first_fault_at moments (has_begun begun records) last next (row_records begun records)
+    ≡ first_row_fault moments last next (row_records begun records)
+fault_as_left moments last next true records = refl
+fault_as_left moments last next false [] = refl
+fault_as_left moments last next false (header ∷ rows) = refl
 
-place_as_left : (begun : Bool) (last : Option ℕ) (next : ℕ) (bare : Option ℕ) (records : Records)
-    → place_behind (record { begun = has_begun begun records; last = last; next = next; bare = bare })
+place_as_left : (moments : KnownMoments) (begun : Bool) (last : Option ℕ) (next : ℕ) (bare : Option ℕ) (records : Records)
+    → place_behind moments (record { begun = has_begun begun records; last = last; next = next; bare = bare })
     (row_records begun records)
-    ≡ place_behind (record { begun = begun; last = last; next = next; bare = bare }) records
-place_as_left true last next bare records = refl
-place_as_left false last next bare [] = refl
-place_as_left false last next bare (header ∷ rows) = refl
+    ≡ place_behind moments (record { begun = begun; last = last; next = next; bare = bare }) records
+place_as_left moments true last next bare records = refl
+place_as_left moments false last next bare [] = refl
+place_as_left moments false last next bare (header ∷ rows) = refl
 
 pub none_without_header : (begun : Bool) (records : Records) → has_begun begun records ≡ false
     → row_records begun records ≡ []
@@ -294,16 +301,16 @@ module _ (script : ScriptContents) (standing : Standing) (records : Records) whe
   abbrev pub behind : Standing
   behind = record standing { place = record standing.place { begun = has_begun standing.place.begun records } }
 
-  module _ (opened : piece_fault (length script.batches) standing.place records
-      ≡ first_row_fault (length script.batches) standing.place.last standing.place.next rows)
+  module _ (opened : piece_fault (moments_in script) standing.place records
+      ≡ first_row_fault (moments_in script) standing.place.last standing.place.next rows)
     where
-      same_fault : piece_fault (length script.batches) standing.place records
-          ≡ piece_fault (length script.batches) behind.place rows
-      same_fault = opened ∙ sym (fault_as_left (length script.batches) standing.place.last standing.place.next
+      same_fault : piece_fault (moments_in script) standing.place records
+          ≡ piece_fault (moments_in script) behind.place rows
+      same_fault = opened ∙ sym (fault_as_left (moments_in script) standing.place.last standing.place.next
           standing.place.begun records)
 
-      same_place : place_behind behind.place rows ≡ place_behind standing.place records
-      same_place = place_as_left standing.place.begun standing.place.last standing.place.next standing.place.bare
+      same_place : place_behind (moments_in script) behind.place rows ≡ place_behind (moments_in script) standing.place records
+      same_place = place_as_left (moments_in script) standing.place.begun standing.place.last standing.place.next standing.place.bare
           records
 
       pub with_header : (answer : Result PieceReport AuditFault) → IfOk answer (IsPieceReported script rows behind)
@@ -317,7 +324,7 @@ module _ (script : ScriptContents) (standing : Standing) (records : Records) whe
               fine = same_fault ∙ says.fine;
               rows = says.rows;
               decisions = says.decisions;
-              said = says.said ∙ ap (filter_map row_of_record) (rows_as_left standing.place.begun records);
+              said = says.said ∙ ap (filter_map (row_of_record (moments_in script))) (rows_as_left standing.place.begun records);
               decided = says.decided;
               report = says.report;
               counted = says.counted;

@@ -18,6 +18,7 @@ use Rattle.pmp_text.specs.Flaws.{at_row}
 use Rattle.pmp_text.specs.LongTraces.{Records, first_fault_at, piece_fault, place_behind, report_text_from, row_records}
 use Rattle.pmp_text.specs.Traces.{after_of, first_row_fault, is_header, row_fault, row_fields, row_in, row_of_record}
 use Rattle.pmp_text.proofs.PieceFaults.{behind, in_turn, rows_in_two}
+use Rattle.pmp_text.specs.Moments.{KnownMoments, moments_in}
 use Rattle.pmp_audit.specs.declared.standing.Standing.{Standing}
 use Rattle.pmp_audit.specs.LongPieces.{IsPieceText}
 use Rattle.pmp_audit.specs.Report.{refused_count}
@@ -30,50 +31,50 @@ neither (Some fault) later e = absurd cc
 
 -- ---- each record without a fault says a row
 
-module _ (publications : ℕ) where
-  all_say : (rows : Records) (last : Option ℕ) (next : ℕ) → first_row_fault publications last next rows ≡ None
-      → length (filter_map row_of_record rows) ≡ length rows
+module _ (moments : KnownMoments) where
+  all_say : (rows : Records) (last : Option ℕ) (next : ℕ) → first_row_fault moments last next rows ≡ None
+      → length (filter_map (row_of_record moments) rows) ≡ length rows
   all_say [] last next fine = refl
-  all_say (row ∷ more) last next fine = by (row_in row) refl (all_say more)
+  all_say (row ∷ more) last next fine = by (row_in moments row) refl (all_say more)
     where
-      by : (said : Result RowFields Flaw) → row_in row ≡ said
-          → ((last : Option ℕ) (next : ℕ) → first_row_fault publications last next more ≡ None
-          → length (filter_map row_of_record more) ≡ length more)
-          → length (filter_map row_of_record (row ∷ more)) ≡ length (row ∷ more)
+      by : (said : Result RowFields Flaw) → row_in moments row ≡ said
+          → ((last : Option ℕ) (next : ℕ) → first_row_fault moments last next more ≡ None
+          → length (filter_map (row_of_record moments) more) ≡ length more)
+          → length (filter_map (row_of_record moments) (row ∷ more)) ≡ length (row ∷ more)
       by (Err flaw) is later =
           let own : Some (at_row next flaw) ≡ None = (neither (Some (at_row next flaw))
-          (first_row_fault publications None (next + 1) more) (rw is at fine)).0 in
+          (first_row_fault moments None (next + 1) more) (rw is at fine)).0 in
           absurd cc
       by (Ok fields) is later =
-          let rest = (neither (option_map (at_row next) (row_fault publications last (row_in row)))
-          (first_row_fault publications (after_of (row_of_record row)) (next + 1) more) fine).1 in
-          let count = later (after_of (row_of_record row)) (next + 1) rest in
+          let rest = (neither (option_map (at_row next) (row_fault moments.publications last (row_in moments row)))
+          (first_row_fault moments (after_of (row_of_record moments row)) (next + 1) more) fine).1 in
+          let count = later (after_of (row_of_record moments row)) (next + 1) rest in
           rw is (omega arith)
 
   all_rows_say : (begun : Bool) (records : Records) (last : Option ℕ) (next : ℕ)
-      → first_fault_at publications begun last next records ≡ None
-      → length (filter_map row_of_record (row_records begun records)) ≡ length (row_records begun records)
+      → first_fault_at moments begun last next records ≡ None
+      → length (filter_map (row_of_record moments) (row_records begun records)) ≡ length (row_records begun records)
   all_rows_say true records last next fine = all_say records last next fine
   all_rows_say false [] last next fine = refl
   all_rows_say false (header ∷ rows) last next fine =
-      all_say rows last next (behind publications (is_header header) last next rows fine)
+      all_say rows last next (behind moments (is_header header) last next rows fine)
 
 module _ (script : ScriptContents) (records : Records) (old : Standing) (faults : ℕ) (text : List ℕ)
     (says : IsPieceText script records old faults text) where
-  abbrev publications : ℕ
-  publications = length script.batches
+  abbrev moments : KnownMoments
+  moments = moments_in script
 
   one_each : length says.decisions ≡ length says.rows
   one_each = AllZip-long (Decides script) says.rows says.decisions says.decided
 
-  pub numbered : (place_behind old.place records).next ≡ old.place.next + length says.rows
+  pub numbered : (place_behind moments old.place records).next ≡ old.place.next + length says.rows
   numbered =
-      let said = all_rows_say publications old.place.begun records old.place.last old.place.next says.fine in
-      let same : length says.rows ≡ length (filter_map row_of_record (row_records old.place.begun records)) =
+      let said = all_rows_say moments old.place.begun records old.place.last old.place.next says.fine in
+      let same : length says.rows ≡ length (filter_map (row_of_record moments) (row_records old.place.begun records)) =
       sym (length-map says.rows row_fields) ∙ ap (λ (l : List RowFields). length l) says.said in
       omega arith
 
-  pub few_refused : old.place.next + faults ≤ (place_behind old.place records).next
+  pub few_refused : old.place.next + faults ≤ (place_behind moments old.place records).next
   few_refused =
       let next = numbered in
       let same = one_each in
@@ -92,23 +93,23 @@ module _ (script : ScriptContents) (records : Records) (old : Standing) (faults 
       (here.0, all_zipped rows more decisions others here.1 there)
 
   module _ (more : Records) (mid : Standing)
-      (meets : mid.place ≡ record (place_behind old.place records) { bare = mid.place.bare }) (others : ℕ)
+      (meets : mid.place ≡ record (place_behind moments old.place records) { bare = mid.place.bare }) (others : ℕ)
       (later : List ℕ) (behind : IsPieceText script more mid others later)
     where
       pub joined_texts : IsPieceText script (records ++ more) old (faults + others) (text ++ later)
       joined_texts = record {
-        fine = in_turn publications old.place.last old.place.next old.place.begun records more
+        fine = in_turn moments old.place.last old.place.next old.place.begun records more
             ∙ ap (λ (x : Option TraceFault). option_or x
-            (piece_fault publications (place_behind old.place records) more)) says.fine
-            ∙ ap (λ (p : Place). piece_fault publications p more) (sym meets) ∙ behind.fine;
+            (piece_fault moments (place_behind moments old.place records) more)) says.fine
+            ∙ ap (λ (p : Place). piece_fault moments p more) (sym meets) ∙ behind.fine;
         rows = says.rows ++ behind.rows;
         decisions = says.decisions ++ behind.decisions;
         said = map-append row_fields says.rows behind.rows
             ∙ ap (λ (l : List RowFields). l ++ map row_fields behind.rows) says.said
             ∙ ap (λ (l : List RowFields).
-            filter_map row_of_record (row_records old.place.begun records) ++ l)
-            (behind.said ∙ ap (λ (p : Place). filter_map row_of_record (row_records p.begun more)) meets)
-            ∙ sym (rows_in_two old.place.begun records more);
+            filter_map (row_of_record moments) (row_records old.place.begun records) ++ l)
+            (behind.said ∙ ap (λ (p : Place). filter_map (row_of_record moments) (row_records p.begun more)) meets)
+            ∙ sym (rows_in_two moments old.place.begun records more);
         decided = all_zipped says.rows behind.rows says.decisions behind.decisions says.decided behind.decided;
         report = ap (λ (l : List ℕ). l ++ later) says.report
             ∙ ap (λ (l : List ℕ). report_text_from old.place.next says.rows says.decisions ++ l)

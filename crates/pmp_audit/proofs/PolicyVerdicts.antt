@@ -20,7 +20,7 @@ use Rattle.pmp_audit.specs.declared.policy_check.PolicySummary.{PolicySummary}
 use Rattle.pmp_audit.specs.declared.policy_check.steps.Pace.{Pace}
 use Rattle.pmp_audit.specs.PolicyCheck.{IsVerdict, PolicySays, policy_summary, verdicts_text}
 use Rattle.pmp_audit.specs.declared.policy_check.sweep.Judged.{Judged}
-use Rattle.pmp_audit.specs.PolicyMoments.{AreMoments}
+use Rattle.pmp_audit.specs.Moments.{AreMoments}
 use Rattle.pmp_audit.specs.PolicyRows.{AreWritten}
 use Rattle.pmp_audit.specs.PolicySweep.{rows_of, told_of, verdicts_of}
 
@@ -130,7 +130,7 @@ each_judged R (one ∷ judged) all = (
 
 pub policy_says : (pace : Pace) (script policy : List ℕ) (contents : ScriptContents) (rows : List PolicyRow)
     (judged : List Judged) (before after text : List ℕ) (summary : PolicySummary) (moments : KnownMoments)
-    → script_meaning script ≡ Ok contents → AreMoments script contents moments
+    → script_meaning script ≡ Ok contents → AreMoments contents moments
     → policy_meaning moments policy ≡ Ok (map policy_fields rows) → rows_of judged ≡ rows
     → All (λ one. IsVerdict pace contents one.row (told_of one)) judged
     → AreWritten judged (policy_labels policy) before after summary → before ≡ [] → text ≡ after

@@ -13,6 +13,7 @@ use Rattle.pmp_text.specs.Reports.{file_of_script, report_text}
 use Rattle.pmp_text.specs.Scripts.{script_meaning}
 use Rattle.pmp_text.specs.Traces.{first_bare, trace_meaning}
 use Rattle.pmp_text.specs.Traces.{row_fields}
+use Rattle.pmp_text.specs.Moments.{moments_in}
 use Rattle.pmp_audit.specs.declared.trace_audit.Summary.{Summary}
 use Rattle.pmp_audit.specs.Report.{IsListed, refused_count}
 use Rattle.pmp_audit.specs.TraceAudit.{AuditSays}
@@ -46,7 +47,7 @@ module _ (script : ScriptContents) where
 
 pub audit_says : (script trace : List ℕ) (contents : ScriptContents) (rows : List Row) (before after text : List ℕ)
     (faults : ℕ) (summary : Summary) → script_meaning script ≡ Ok contents
-    → trace_meaning (length contents.batches) trace ≡ Ok (map row_fields rows)
+    → trace_meaning (moments_in contents) trace ≡ Ok (map row_fields rows)
     → IsListed contents rows 1 before after faults → before ≡ [] → text ≡ after
     → summary ≡ record { rows = length rows; faults = faults; bare = first_bare 1 rows }
     → AuditSays script trace summary text

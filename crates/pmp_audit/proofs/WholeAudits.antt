@@ -15,6 +15,7 @@ use Rattle.pmp_text.specs.Tables.{records_of}
 use Rattle.pmp_text.specs.Traces.{is_header, rows_meaning, trace_meaning}
 use Rattle.pmp_text.proofs.Rows.{long_text, trace_is}
 use Rattle.pmp_text.proofs.WholeTraces.{few_rows, found, meaning_is, without_header}
+use Rattle.pmp_text.specs.Moments.{moments_in}
 use Rattle.pmp_audit.specs.declared.fault.AuditFault.{AuditFault}
 use Rattle.pmp_audit.specs.declared.fault.AuditFault.TheVariants.{Trace, Memory}
 use Rattle.pmp_audit.specs.declared.piece.PieceReport.{PieceReport}
@@ -37,7 +38,7 @@ says_short script trace summary text short says = record {
   report = record {
     rows = says.report.rows;
     decisions = says.report.decisions;
-    trace_means = meaning_is (length says.contents.batches) trace short ∙ says.report.records_mean;
+    trace_means = meaning_is (moments_in says.contents) trace short ∙ says.report.records_mean;
     decided = says.report.decided;
     report = says.report.report;
   };
@@ -48,26 +49,26 @@ module _ (script trace : List ℕ) (contents : ScriptContents) (means : script_m
   abbrev Refused : Option (List ℕ) → Option (List ℕ) → AuditFault → Type 0
   Refused before after = IsRefused (AuditSays script trace) before after (AuditRefuses script trace)
 
-  refuses : (fault : TraceFault) → trace_meaning (length contents.batches) trace ≡ Err fault → (out : Option (List ℕ))
+  refuses : (fault : TraceFault) → trace_meaning (moments_in contents) trace ≡ Err fault → (out : Option (List ℕ))
       → Refused out out (Trace fault)
   refuses fault e out = (record { contents = contents; script_means = means; trace_means = inl e }, Keeps-refl out)
 
   pub too_long : MAX_TRACE < length trace → (out : Option (List ℕ))
       → Refused out out (Trace (at_row 0 (as_whole TooLong)))
-  too_long long out = refuses (at_row 0 (as_whole TooLong)) (trace_is (length contents.batches) trace
-      ∙ long_text is_header (rows_meaning (length contents.batches)) trace long) out
+  too_long long out = refuses (at_row 0 (as_whole TooLong)) (trace_is (moments_in contents) trace
+      ∙ long_text is_header (rows_meaning (moments_in contents)) trace long) out
 
   module _ (short : length trace ≤ MAX_TRACE) (standing : Standing) (place : standing.place ≡ beginning 1)
       (fresh : standing.faults ≡ 0)
     where
       pub fails : (fault : AuditFault) → PieceFails contents (records_of trace) standing fault
           → (out : Option (List ℕ)) → Refused out out fault
-      fails (Trace fault) (inl e) out = refuses fault (found (length contents.batches) trace short fault
-          (ap (λ (p : Place). piece_fault (length contents.batches) p (records_of trace)) (sym place) ∙ e)) out
+      fails (Trace fault) (inl e) out = refuses fault (found (moments_in contents) trace short fault
+          (ap (λ (p : Place). piece_fault (moments_in contents) p (records_of trace)) (sym place) ∙ e)) out
       fails (Trace fault) (inr (inl input)) out =
           (record { contents = contents; script_means = means; trace_means = inr input }, Keeps-refl out)
       fails (Trace fault) (inr (inr (long, many))) out =
-          absurd (few_rows (length contents.batches) trace short (rw place at many))
+          absurd (few_rows (moments_in contents) trace short (rw place at many))
       fails Memory why out = Keeps-refl out
       fails fault why out = absurd why
 
@@ -87,5 +88,5 @@ module _ (script trace : List ℕ) (contents : ScriptContents) (means : script_m
 
         pub no_header : report.behind.place.begun ≡ false → (out : Option (List ℕ))
             → Refused out out (Trace (at_row 0 (as_whole BadHeader)))
-        no_header begun out = refuses (at_row 0 (as_whole BadHeader)) (without_header (length contents.batches) trace
+        no_header begun out = refuses (at_row 0 (as_whole BadHeader)) (without_header (moments_in contents) trace
             short (sym (ap (λ (p : Place). p.begun) whole.place) ∙ begun)) out

@@ -1,30 +1,54 @@
 -- What is said of the register file after the publications that are asked for, and when that is refused.
-use Rattle.std.specs.Prelude.{◌≡◌, ℕ, ◌<◌, ◌≤◌, List, length, Option, Ok, Err, unwrap_or}
+use Rattle.std.specs.Prelude.{◌≡◌, ℕ, ◌<◌, ◌≤◌, List, length, Option, Some, None, Ok, Err}
+use Rattle.pmp_text.specs.declared.moments.When.{When}
+use Rattle.pmp_text.specs.declared.moments.When.TheVariants.{Number, Labelled}
+use Rattle.pmp_text.specs.declared.refusal.Refusal.{Refusal}
 use Rattle.pmp_text.specs.Contents.{ScriptContents}
+use Rattle.pmp_text.specs.Moments.{KnownMoments, when_place}
 use Rattle.pmp_text.specs.Scripts.{script_meaning}
 use Rattle.pmp_audit.specs.declared.fault.AuditFault.{AuditFault}
-use Rattle.pmp_audit.specs.declared.fault.AuditFault.TheVariants.{Script, BadAfter}
+use Rattle.pmp_audit.specs.declared.fault.AuditFault.TheVariants.{Script, BadAfter, NoMoment}
+use Rattle.pmp_audit.specs.Moments.{AreMoments}
 
--- how many publications are asked for: all of them where no number is given
-abbrev pub asked_count : Option ℕ → ScriptContents → ℕ
-asked_count after script = unwrap_or after (length script.batches)
+-- so many publications are asked for: all of them where nothing is said
+abbrev pub IsAsked : Option When → ScriptContents → (done : ℕ) → Type 0
+IsAsked None script done = done ≡ length script.batches
+IsAsked (Some (Number number)) script done = done ≡ number
+IsAsked (Some (Labelled label)) script done =
+    (moments : KnownMoments) × AreMoments script moments × (when_place moments (Labelled label) ≡ Ok done)
+
+-- the script has no such moment
+abbrev pub HasNone : Option When → ScriptContents → Type 0
+HasNone (Some (Labelled label)) script =
+    (moments : KnownMoments) × AreMoments script moments
+    × ((kind : Refusal) × (when_place moments (Labelled label) ≡ Err kind))
+HasNone _ script = ⊥
 
 -- the script means this, no more publications are asked for than it has, and the text is one of so many of them
 pub record SaysOfScript (IsTextOf : ScriptContents → (done : ℕ) → List ℕ → Type 0) (script : List ℕ)
-    (after : Option ℕ) (text : List ℕ) : Type 0 where
+    (after : Option When) (text : List ℕ) : Type 0 where
   pub contents : ScriptContents
   pub script_means : script_meaning script ≡ Ok contents
-  pub within : asked_count after contents ≤ length contents.batches
-  pub text_is : IsTextOf contents (asked_count after contents) text
+  pub done : ℕ
+  pub asked : IsAsked after contents done
+  pub within : done ≤ length contents.batches
+  pub text_is : IsTextOf contents done text
 
--- more publications are asked for than there are
-pub record AsksTooMuch (script : List ℕ) (after : Option ℕ) : Type 0 where
+-- why the script doesn't have what is asked for: it has fewer publications, or no such moment
+abbrev pub IsLacking : Option When → ScriptContents → AuditFault → Type 0
+IsLacking after script BadAfter = (done : ℕ) × IsAsked after script done × (length script.batches < done)
+IsLacking after script NoMoment = HasNone after script
+IsLacking after script _ = ⊥
+
+-- the script means this, and doesn't have what is asked for
+pub record AsksTooMuch (script : List ℕ) (after : Option When) (fault : AuditFault) : Type 0 where
   pub contents : ScriptContents
   pub script_means : script_meaning script ≡ Ok contents
-  pub beyond : length contents.batches < asked_count after contents
+  pub lacking : IsLacking after contents fault
 
--- the script's own fault, or too many publications are asked for
-abbrev pub FileRefuses : (script : List ℕ) → (after : Option ℕ) → AuditFault → Type 0
+-- the script's own fault, or it doesn't have what is asked for
+abbrev pub FileRefuses : (script : List ℕ) → (after : Option When) → AuditFault → Type 0
 FileRefuses script after (Script fault) = script_meaning script ≡ Err fault
-FileRefuses script after BadAfter = AsksTooMuch script after
+FileRefuses script after BadAfter = AsksTooMuch script after BadAfter
+FileRefuses script after NoMoment = AsksTooMuch script after NoMoment
 FileRefuses script after _ = ⊥

@@ -7,7 +7,8 @@ use Rattle.pmp_text.specs.declared.refusal.Refusal.TheVariants as kind
 use Rattle.pmp_text.specs.declared.trace.TraceFault.{TraceFault}
 use Rattle.pmp_audit.specs.declared.fault.AuditFault.{AuditFault}
 use Rattle.pmp_audit.specs.declared.fault.AuditFault.TheVariants.{Script, ScriptOf, Trace, Policy, Share}
-use Rattle.pmp_audit.specs.declared.fault.AuditFault.TheVariants.{BadAfter, BadAfterOf, Moved, Memory, Output}
+use Rattle.pmp_audit.specs.declared.fault.AuditFault.TheVariants.{BadAfter, BadAfterOf, NoMoment, NoMomentOf, Moved}
+use Rattle.pmp_audit.specs.declared.fault.AuditFault.TheVariants.{Memory, Output}
 
 -- want of memory is the same in every layer
 abbrev pub script_fault_as : Refusal → ScriptFault → AuditFault
@@ -48,5 +49,7 @@ refusal_of (Share share.Memory) = kind.Memory
 refusal_of (Moved moved) = kind.Moved
 refusal_of BadAfter = kind.BadAfter
 refusal_of (BadAfterOf side) = kind.BadAfter
+refusal_of NoMoment = kind.NoMoment
+refusal_of (NoMomentOf side) = kind.NoMoment
 refusal_of Memory = kind.Memory
 refusal_of Output = kind.Output

@@ -5,6 +5,7 @@ use Rattle.pmp_core.specs.declared.event.Event.{Event}
 use Rattle.pmp_core.specs.RegisterFile.{RegisterFile, IsLegal, is_frozen, is_held}
 use Rattle.pmp_core.specs.LockLaw.{StaysFrozen}
 use Rattle.pmp_core.specs.ProtectionLaw.{StaysProtected}
+use Rattle.pmp_text.specs.declared.moments.When.{When}
 use Rattle.pmp_text.specs.declared.lines.since.Since.{Since}
 use Rattle.pmp_text.specs.declared.trace.Row.{Row}
 use Rattle.pmp_text.specs.Contents.{ScriptContents}
@@ -37,12 +38,12 @@ OnePolicyAnswerLaw = (pace : Pace) (script policy : List ℕ) (one other : Polic
 
 -- two scripts have one list of differences, and one number of its rows
 abbrev pub OneDifferenceLaw : Type 0
-OneDifferenceLaw = (old : List ℕ) (old_after : Option ℕ) (new : List ℕ) (new_after : Option ℕ) (only : Option Only)
+OneDifferenceLaw = (old : List ℕ) (old_after : Option When) (new : List ℕ) (new_after : Option When) (only : Option Only)
     (one other : ℕ) (text another : List ℕ) → DiffSays old old_after new new_after only one text
     → DiffSays old old_after new new_after only other another → (one ≡ other) × (text ≡ another)
 
 abbrev pub OneEntryListLaw : Type 0
-OneEntryListLaw = (script : List ℕ) (after : Option ℕ) (text other : List ℕ)
+OneEntryListLaw = (script : List ℕ) (after : Option When) (text other : List ℕ)
     → SaysOfScript IsEntryList script after text → SaysOfScript IsEntryList script after other → text ≡ other
 
 -- with no number the entry isn't frozen in the end; with one, it is frozen after the first k batches and after any

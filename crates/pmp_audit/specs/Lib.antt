@@ -11,7 +11,7 @@ pub mod Expectations
 pub mod WriteList
 pub mod Since
 pub mod EntryList
-pub mod PolicyMoments
+pub mod Moments
 pub mod PolicyCheck
 pub mod Fault
 -- Laws of these definitions, which are proved.

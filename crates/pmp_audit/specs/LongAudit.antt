@@ -7,6 +7,7 @@ use Rattle.pmp_text.specs.declared.trace.Row.{Row}
 use Rattle.pmp_text.specs.declared.trace.TraceFault.{TraceFault}
 use Rattle.pmp_text.specs.Bytes.{AppendsBeginning}
 use Rattle.pmp_text.specs.Contents.{ScriptContents}
+use Rattle.pmp_text.specs.Moments.{moments_in}
 use Rattle.pmp_text.specs.LongTraces.{HasLongLine, IsReportOf, Records, beginning, long_meaning, piece_fault}
 use Rattle.pmp_text.specs.LongTraces.{report_text_from, row_records, too_long_for_rows}
 use Rattle.pmp_text.specs.Outcomes.{no_input_for_rows}
@@ -32,10 +33,10 @@ pub record LongAuditSays (script : List ℕ) (first : ℕ) (trace : List ℕ) (s
 
 -- the records have no fault, and the text reports the decisions of their rows
 pub record IsFrontReport (script : ScriptContents) (first : ℕ) (records : Records) (text : List ℕ) : Type 0 where
-  pub fine : piece_fault (length script.batches) (beginning first) records ≡ None
+  pub fine : piece_fault (moments_in script) (beginning first) records ≡ None
   pub rows : List Row
   pub decisions : List Decision
-  pub said : map row_fields rows ≡ filter_map row_of_record (row_records false records)
+  pub said : map row_fields rows ≡ filter_map (row_of_record (moments_in script)) (row_records false records)
   pub decided : AreDecided script rows decisions
   pub report : text ≡ report_text_from first rows decisions
 
@@ -56,7 +57,7 @@ IsTooLong limit first trace = HasLongLine trace (limit - 1) ⊎ (2 ^ 64 ≤ firs
 pub record IsFaultyLong (limit : ℕ) (script : List ℕ) (first : ℕ) (trace : List ℕ) (fault : TraceFault) : Type 0 where
   pub contents : ScriptContents
   pub script_means : script_meaning script ≡ Ok contents
-  pub why : (long_meaning (length contents.batches) first (records_of trace) ≡ Err fault)
+  pub why : (long_meaning (moments_in contents) first (records_of trace) ≡ Err fault)
       ⊎ (fault ≡ no_input_for_rows) ⊎ ((fault ≡ too_long_for_rows) × IsTooLong limit first trace)
 
 module _ (limit : ℕ) (script : List ℕ) (first : ℕ) (trace : List ℕ) (before after : Option (List ℕ)) where

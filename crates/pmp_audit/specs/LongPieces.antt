@@ -9,6 +9,7 @@ use Rattle.pmp_audit.specs.Fault.{fault_of_trace}
 use Rattle.pmp_text.specs.declared.trace.Row.{Row}
 use Rattle.pmp_text.specs.Bytes.{AppendsBeginning}
 use Rattle.pmp_text.specs.Contents.{ScriptContents}
+use Rattle.pmp_text.specs.Moments.{moments_in}
 use Rattle.pmp_text.specs.LongTraces.{Records, piece_fault, place_behind, report_text_from, row_records}
 use Rattle.pmp_text.specs.LongTraces.{too_long_for_rows}
 use Rattle.pmp_text.specs.Outcomes.{no_input_for_rows}
@@ -25,10 +26,10 @@ use Rattle.pmp_audit.specs.Report.{refused_count}
 pub record IsPieceText (script : ScriptContents) (records : Records) (old : Standing) (faults : ℕ) (text : List ℕ)
     : Type 0
   where
-    pub fine : piece_fault (length script.batches) old.place records ≡ None
+    pub fine : piece_fault (moments_in script) old.place records ≡ None
     pub rows : List Row
     pub decisions : List Decision
-    pub said : map row_fields rows ≡ filter_map row_of_record (row_records old.place.begun records)
+    pub said : map row_fields rows ≡ filter_map (row_of_record (moments_in script)) (row_records old.place.begun records)
     pub decided : AreDecided script rows decisions
     pub report : text ≡ report_text_from old.place.next rows decisions
     pub counted : faults ≡ refused_count decisions
@@ -39,7 +40,7 @@ pub record IsPieceReported (script : ScriptContents) (records : Records) (old : 
   where
     pub faults : ℕ
     pub says : IsPieceText script records old faults (items_of report.texts.items)
-    pub place : report.behind.place ≡ place_behind old.place records
+    pub place : report.behind.place ≡ place_behind (moments_in script) old.place records
     pub refused : report.behind.faults ≡ old.faults + faults
 
 -- the text was written, and the next piece stands there
@@ -50,14 +51,14 @@ pub record IsPieceWritten (script : ScriptContents) (records : Records) (old : S
   pub faults : ℕ
   pub says : IsPieceText script records old faults text
   pub written : Appends before after text
-  pub place : new.place ≡ place_behind old.place records
+  pub place : new.place ≡ place_behind (moments_in script) old.place records
   pub refused : new.faults ≡ old.faults + faults
 
 -- why records that stand there have no report
 abbrev pub PieceFails : (script : ScriptContents) (records : Records) (old : Standing) → AuditFault → Type 0
-PieceFails script records old (Trace fault) = (piece_fault (length script.batches) old.place records ≡ Some fault)
+PieceFails script records old (Trace fault) = (piece_fault (moments_in script) old.place records ≡ Some fault)
     ⊎ (fault ≡ no_input_for_rows)
-    ⊎ ((fault ≡ too_long_for_rows) × (2 ^ 64 ≤ (place_behind old.place records).next))
+    ⊎ ((fault ≡ too_long_for_rows) × (2 ^ 64 ≤ (place_behind (moments_in script) old.place records).next))
 PieceFails script records old Memory = ⊤
 PieceFails script records old _ = ⊥
 

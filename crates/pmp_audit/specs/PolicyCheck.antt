@@ -35,7 +35,7 @@ use Rattle.pmp_audit.specs.declared.fault.AuditFault.TheVariants.{Policy, Script
 use Rattle.pmp_audit.specs.declared.policy_check.PolicySummary.{PolicySummary}
 use Rattle.pmp_audit.specs.declared.policy_check.steps.Pace.{Pace}
 use Rattle.pmp_audit.specs.declared.policy_check.steps.Pace.TheVariants.{Publications, Events}
-use Rattle.pmp_audit.specs.PolicyMoments.{AreMoments}
+use Rattle.pmp_audit.specs.Moments.{AreMoments}
 
 -- ---- the states that are asked
 
@@ -159,7 +159,7 @@ pub record PolicySays (pace : Pace) (script policy : List ℕ) (summary : Policy
   pub contents : ScriptContents
   pub script_means : script_meaning script ≡ Ok contents
   pub moments : KnownMoments
-  pub moments_are : AreMoments script contents moments
+  pub moments_are : AreMoments contents moments
   pub rows : List PolicyRow
   pub policy_means : policy_meaning moments policy ≡ Ok (map policy_fields rows)
   pub verdicts : List Verdict
@@ -191,7 +191,7 @@ pub record IsFaultyPolicy (script policy : List ℕ) (fault : TraceFault) : Type
   pub contents : ScriptContents
   pub script_means : script_meaning script ≡ Ok contents
   pub moments : KnownMoments
-  pub moments_are : AreMoments script contents moments
+  pub moments_are : AreMoments contents moments
   pub policy_means : (policy_meaning moments policy ≡ Err fault) ⊎ (fault ≡ no_input_for_rows)
 
 -- the script's own fault, then the policy's

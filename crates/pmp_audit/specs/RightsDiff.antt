@@ -4,21 +4,24 @@ use Rattle.pmp_core.specs.RegisterFile.{RegisterFile}
 use Rattle.pmp_map.specs.declared.rights_run.RightsRun.{RightsRun}
 use Rattle.pmp_map.specs.RightsRuns.{AreRightsRuns}
 use Rattle.pmp_text.specs.declared.lines.changes.Only.{Only}
+use Rattle.pmp_text.specs.declared.moments.When.{When}
 use Rattle.pmp_text.specs.Changes.{change_count, change_rows}
 use Rattle.pmp_text.specs.Contents.{ScriptContents}
 use Rattle.pmp_text.specs.Reports.{file_of_script}
 use Rattle.pmp_text.specs.Scripts.{script_meaning}
 use Rattle.pmp_audit.specs.declared.fault.AuditFault.{AuditFault}
-use Rattle.pmp_audit.specs.declared.fault.AuditFault.TheVariants.{Script, BadAfter, ScriptOf, BadAfterOf}
+use Rattle.pmp_audit.specs.declared.fault.AuditFault.TheVariants.{Script, BadAfter, NoMoment, ScriptOf, BadAfterOf, NoMomentOf}
 use Rattle.pmp_audit.specs.declared.fault.Side.TheVariants.{Old, New}
-use Rattle.pmp_audit.specs.AskedFile.{FileRefuses, asked_count}
+use Rattle.pmp_audit.specs.AskedFile.{FileRefuses, IsAsked}
 
 -- the script means this, no more publications are asked for than it has, and so many of them give the file
-pub record GivesFile (script : List ℕ) (after : Option ℕ) (file : RegisterFile) : Type 0 where
+pub record GivesFile (script : List ℕ) (after : Option When) (file : RegisterFile) : Type 0 where
   pub contents : ScriptContents
   pub script_means : script_meaning script ≡ Ok contents
-  pub within : asked_count after contents ≤ length contents.batches
-  pub file_is : file ≡ file_of_script contents (asked_count after contents)
+  pub done : ℕ
+  pub asked : IsAsked after contents done
+  pub within : done ≤ length contents.batches
+  pub file_is : file ≡ file_of_script contents done
 
 -- the text has a row for each of the longest ranges of bytes where the files differ as is asked, and they are counted
 pub record ChangesSay (old new : RegisterFile) (only : Option Only) (rows : ℕ) (text : List ℕ) : Type 0 where
@@ -28,7 +31,7 @@ pub record ChangesSay (old new : RegisterFile) (only : Option Only) (rows : ℕ)
   pub counted : rows ≡ change_count only runs
 
 -- both scripts give a file, and the text says where these differ as is asked
-pub record DiffSays (old : List ℕ) (old_after : Option ℕ) (new : List ℕ) (new_after : Option ℕ) (only : Option Only)
+pub record DiffSays (old : List ℕ) (old_after : Option When) (new : List ℕ) (new_after : Option When) (only : Option Only)
     (rows : ℕ) (text : List ℕ) : Type 0 where
   pub old_file : RegisterFile
   pub new_file : RegisterFile
@@ -37,16 +40,18 @@ pub record DiffSays (old : List ℕ) (old_after : Option ℕ) (new : List ℕ) (
   pub changes : ChangesSay old_file new_file only rows text
 
 -- the new script is refused as any is, where the old one gives a file
-abbrev pub NewRefuses : (old : List ℕ) → (old_after : Option ℕ) → (new : List ℕ) → (new_after : Option ℕ)
+abbrev pub NewRefuses : (old : List ℕ) → (old_after : Option When) → (new : List ℕ) → (new_after : Option When)
     → AuditFault → Type 0
 NewRefuses old old_after new new_after fault =
     ((file : RegisterFile) × GivesFile old old_after file) × FileRefuses new new_after fault
 
--- the old script's own fault, or too many of its publications are asked for; then the same of the new one
-abbrev pub DiffRefuses : (old : List ℕ) → (old_after : Option ℕ) → (new : List ℕ) → (new_after : Option ℕ)
+-- the old script's own fault, or it doesn't have what is asked for; then the same of the new one
+abbrev pub DiffRefuses : (old : List ℕ) → (old_after : Option When) → (new : List ℕ) → (new_after : Option When)
     → AuditFault → Type 0
 DiffRefuses old old_after new new_after (ScriptOf Old fault) = FileRefuses old old_after (Script fault)
 DiffRefuses old old_after new new_after (BadAfterOf Old) = FileRefuses old old_after BadAfter
+DiffRefuses old old_after new new_after (NoMomentOf Old) = FileRefuses old old_after NoMoment
 DiffRefuses old old_after new new_after (ScriptOf New fault) = NewRefuses old old_after new new_after (Script fault)
 DiffRefuses old old_after new new_after (BadAfterOf New) = NewRefuses old old_after new new_after BadAfter
+DiffRefuses old old_after new new_after (NoMomentOf New) = NewRefuses old old_after new new_after NoMoment
 DiffRefuses old old_after new new_after _ = ⊥

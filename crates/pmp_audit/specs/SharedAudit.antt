@@ -4,6 +4,7 @@ use Rattle.pmp_share.specs.declared.fault.ShareFault.TheVariants.{NoPlace}
 use Rattle.pmp_share.specs.Batches.{Batches, event_count}
 use Rattle.pmp_text.specs.declared.trace.row_fields.RowFields.{RowFields}
 use Rattle.pmp_text.specs.Contents.{ScriptContents}
+use Rattle.pmp_text.specs.Moments.{moments_in}
 use Rattle.pmp_text.specs.Scripts.{script_meaning}
 use Rattle.pmp_text.specs.Traces.{trace_meaning}
 use Rattle.pmp_audit.specs.declared.fault.AuditFault.{AuditFault}
@@ -15,7 +16,7 @@ pub record AreFaultless (script trace : List ℕ) : Type 0 where
   pub contents : ScriptContents
   pub rows : List RowFields
   pub script_means : script_meaning script ≡ Ok contents
-  pub trace_means : trace_meaning (length contents.batches) trace ≡ Ok rows
+  pub trace_means : trace_meaning (moments_in contents) trace ≡ Ok rows
 
 -- more events were seen than the publications have that some row asks for
 abbrev pub SawMore : Batches → List RowFields → (seen : ℕ) → Type 0

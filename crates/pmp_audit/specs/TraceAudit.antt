@@ -4,6 +4,7 @@ use Rattle.pmp_core.specs.declared.decision.Decision.{Decision}
 use Rattle.pmp_text.specs.declared.trace.Row.{Row}
 use Rattle.pmp_text.specs.declared.trace.TraceFault.{TraceFault}
 use Rattle.pmp_text.specs.Contents.{ScriptContents}
+use Rattle.pmp_text.specs.Moments.{moments_in}
 use Rattle.pmp_text.specs.Outcomes.{no_input_for_rows}
 use Rattle.pmp_text.specs.Reports.{IsReport}
 use Rattle.pmp_text.specs.Scripts.{script_meaning}
@@ -32,7 +33,7 @@ pub record AuditSays (script trace : List ℕ) (summary : Summary) (text : List 
 pub record IsFaultyTrace (script trace : List ℕ) (fault : TraceFault) : Type 0 where
   pub contents : ScriptContents
   pub script_means : script_meaning script ≡ Ok contents
-  pub trace_means : (trace_meaning (length contents.batches) trace ≡ Err fault) ⊎ (fault ≡ no_input_for_rows)
+  pub trace_means : (trace_meaning (moments_in contents) trace ≡ Err fault) ⊎ (fault ≡ no_input_for_rows)
 
 -- the script's own fault, then the trace's
 abbrev pub AuditRefuses : (script trace : List ℕ) → AuditFault → Type 0

@@ -1,5 +1,6 @@
 -- What is shown of the register file after the publications that are asked for.
 use Rattle.std.specs.Prelude.{◌≡◌, ℕ, List, Option}
+use Rattle.pmp_text.specs.declared.moments.When.{When}
 use Rattle.pmp_text.specs.Contents.{ScriptContents}
 use Rattle.pmp_text.specs.Dumps.{dump_text}
 use Rattle.pmp_text.specs.GivenBack.{GivesBack}
@@ -20,5 +21,5 @@ IsViewText Picture script done text = IsPicture (file_of_script script done) don
 IsViewText Entries script done text = IsEntryList script done text
 
 -- it is of as many as are asked for
-abbrev pub ViewSays : View → (script : List ℕ) → (after : Option ℕ) → Unit {0} → (text : List ℕ) → Type 0
+abbrev pub ViewSays : View → (script : List ℕ) → (after : Option When) → Unit {0} → (text : List ℕ) → Type 0
 ViewSays view script after _ text = SaysOfScript (IsViewText view) script after text

@@ -10,12 +10,12 @@ use crate::asked_count::asked_count;
 use crate::fault::AuditFault;
 use crate::replay::Replay;
 use pmp_core::{Access, Decision};
-use pmp_text::{EventLog, GrowingLog, Sink, read_script, write_row};
+use pmp_text::{EventLog, GrowingLog, Sink, When, read_script, write_row};
 use std::alloc::Global;
 use std::io::Write;
 
-/// Decides the access after the first `after` publications of the script, or after all of them where that is none, and
-/// writes its report row, with the number 1.
+/// Decides the access after the publications of the script that are done then, or after all of them where that is none,
+/// and writes its report row, with the number 1.
 ///
 /// The row is whole before its first byte is written, so every refusal but `Output` leaves the output untouched.
 #[inline(never)]
@@ -23,7 +23,7 @@ pub fn check<W: Write>(
     alloc: Global,
     script: &[u8],
     access: &Access,
-    after: Option<u64>,
+    after: Option<When>,
     writer: &mut W,
 ) -> Result<Decision, AuditFault>
     ensures ok { IfOk result
@@ -43,7 +43,7 @@ pub fn append_check<L: EventLog, S: Sink>(
     log: &mut L,
     script: &[u8],
     access: &Access,
-    after: Option<u64>,
+    after: Option<When>,
     out: &mut S,
 ) -> Result<Decision, AuditFault>
     ensures ok { IfOk result

@@ -1,20 +1,37 @@
 //! How many of a script's publications are asked for.
 
-ghost use Rattle.std.specs.Prelude.{◌≡◌, ◌<◌, ◌≤◌, IfOk, IfErr, length};
-ghost use Rattle.pmp_audit.specs.AskedFile.{asked_count};
-ghost use Rattle.pmp_audit.specs.declared.fault.AuditFault.TheVariants.{BadAfter};
+ghost use Rattle.std.specs.Prelude.{◌≤◌, IfOk, IfErr, Some, length};
+ghost use Rattle.pmp_audit.specs.AskedFile.{IsAsked, IsLacking};
 
 use crate::fault::AuditFault;
-use pmp_text::Script;
+use crate::moments::moments_of;
+use pmp_text::{Script, When};
 
-/// The first `after` publications, or all of them where that is none; `BadAfter` where there are fewer.
-pub fn asked_count(script: &Script, after: Option<u64>) -> Result<u64, AuditFault>
-    ensures within { IfOk result (λ count. count ≤ length script.now.batches) }
-    ensures count { IfOk result (λ count. count ≡ asked_count after script.now) }
-    ensures beyond { IfErr result
-        (λ fault. (fault ≡ BadAfter) × (length script.now.batches < asked_count after script.now)) }
+/// Those that are done then; `NoMoment` where the script has no such moment.
+fn count_at(script: &Script, when: When) -> Result<u64, AuditFault>
+    ensures ok { IfOk result (IsAsked (Some when) script.now) }
+    ensures err { IfErr result (IsLacking (Some when) script.now) }
 {
-    let count = after.unwrap_or(script.batches());
+    if let When::Number(count) = when {
+        return Ok(count);
+    }
+    match moments_of(script).after(when) {
+        Ok(count) => Ok(count),
+        Err(_) => Err(AuditFault::NoMoment),
+    }
+}
+
+/// Those that are done then, or all of them where that is none; `BadAfter` where there are fewer, and `NoMoment` where
+/// the script has no such moment.
+pub fn asked_count(script: &Script, after: Option<When>) -> Result<u64, AuditFault>
+    ensures within { IfOk result (λ count. count ≤ length script.now.batches) }
+    ensures count { IfOk result (IsAsked after script.now) }
+    ensures lacking { IfErr result (IsLacking after script.now) }
+{
+    let count = match after {
+        Some(when) => count_at(script, when)?,
+        None => script.batches(),
+    };
     if count > script.batches() {
         return Err(AuditFault::BadAfter);
     }

@@ -39,12 +39,18 @@ pub enum AuditFault {
     /// The script has fewer publications than were asked for.
     #[error("the script has fewer publications than were asked for")]
     BadAfter,
+    /// The script has no such moment as was asked for.
+    #[error("the script has no such moment as was asked for")]
+    NoMoment,
     /// The fault of one of two scripts, which isn't `Memory`.
     #[error("one of the scripts has a fault")]
     ScriptOf(Side, ScriptFault),
     /// One of two scripts has fewer publications than were asked for.
     #[error("one of the scripts has fewer publications than were asked for")]
     BadAfterOf(Side),
+    /// One of two scripts has no such moment as was asked for.
+    #[error("one of the scripts has no such moment as was asked for")]
+    NoMomentOf(Side),
     /// No memory.
     #[error("out of memory")]
     Memory,
@@ -65,6 +71,7 @@ impl AuditFault {
             AuditFault::Share(ShareFault::Full) => Refusal::Full,
             AuditFault::Moved(_) => Refusal::Moved,
             AuditFault::BadAfter | AuditFault::BadAfterOf(_) => Refusal::BadAfter,
+            AuditFault::NoMoment | AuditFault::NoMomentOf(_) => Refusal::NoMoment,
             AuditFault::Memory | AuditFault::Share(ShareFault::Memory) => Refusal::Memory,
             AuditFault::Output => Refusal::Output,
         }
@@ -77,6 +84,7 @@ impl AuditFault {
         match self {
             AuditFault::Script(fault) => AuditFault::ScriptOf(side, fault),
             AuditFault::BadAfter => AuditFault::BadAfterOf(side),
+            AuditFault::NoMoment => AuditFault::NoMomentOf(side),
             fault => fault,
         }
     }

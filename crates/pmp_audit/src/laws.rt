@@ -27,7 +27,6 @@ pub fn law_one_policy_answer()
 {}
 
 /// Two scripts have one list of differences.
-#[tactic(auto, using(crate::proofs::OneDifference::one_difference))]
 pub fn law_one_difference()
     ensures { OneDifferenceLaw }
 {

@@ -9,6 +9,7 @@ mod fault;
 mod gate;
 pub mod laws;
 mod long_audit;
+mod moments;
 mod piece;
 mod policy_check;
 mod replay;

@@ -1,6 +1,7 @@
 //! The report of a piece of a trace, each row decided as soon as it is read.
 
-ghost use Rattle.std.specs.Prelude.{◌≡◌, ◌≤◌, [], IfErr, IfOk, false, length};
+ghost use Rattle.std.specs.Prelude.{◌≡◌, ◌≤◌, [], IfErr, IfOk, false};
+ghost use Rattle.pmp_text.specs.Moments.{moments_in};
 ghost use Rattle.pmp_text.specs.Tables.{records_of};
 ghost use Rattle.pmp_audit.specs.LongPieces.{IsPieceReported, PieceFails};
 
@@ -25,7 +26,7 @@ fn report_rows(
     rows: &mut RowReader<'_>,
     standing: Standing,
 ) -> Result<PieceReport, AuditFault>
-    requires publications { rows.old.publications ≡ length script.now.batches }
+    requires moments { rows.old.moments ≡ moments_in script.now }
     requires place { rows.old.place ≡ standing.place }
     requires header { standing.place.begun ≡ false → rows.old.records ≡ [] }
     requires faults { standing.faults ≤ standing.place.next }
@@ -63,7 +64,8 @@ pub fn report_piece(
     ensures ok { IfOk result (IsPieceReported script.now (records_of text.now) standing) }
     ensures err { IfErr result (PieceFails script.now (records_of text.now) standing) }
 {
-    let mut rows = RowReader::open(alloc, text, script.batches(), standing.place)?;
+    let moments = script.moments();
+    let mut rows = RowReader::open(alloc, text, &moments, standing.place)?;
     let behind_header = Standing {
         place: rows.place(),
         ..standing

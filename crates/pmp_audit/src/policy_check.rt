@@ -10,7 +10,6 @@ ghost use Rattle.pmp_audit.specs.Fault.{fault_of_policy};
 ghost use Rattle.pmp_audit.specs.PolicyCheck.{PolicySays, PolicyRefuses, VerdictRefuses, VerdictSays};
 ghost use Rattle.pmp_audit.specs.PolicyRows.{AreWritten};
 
-mod moments;
 mod question;
 mod search;
 mod steps;
@@ -18,7 +17,7 @@ mod sweep;
 
 use crate::answer::write_answer;
 use crate::fault::AuditFault;
-use crate::policy_check::moments::moments_of;
+use crate::moments::moments_of;
 use crate::policy_check::steps::Steps;
 use crate::policy_check::sweep::{Judged, judge, unjudged};
 use pmp_text::{
@@ -62,7 +61,7 @@ pub fn check_policy<W: Write>(
 {
     let mut log = GrowingLog::new(alloc);
     let read = read_script(&mut log, script)?;
-    let policy = match read_policy(alloc, policy, &moments_of(script, &read)) {
+    let policy = match read_policy(alloc, policy, &moments_of(&read)) {
         Ok(policy) => policy,
         Err(fault) => return Err(AuditFault::of_policy(fault)),
     };

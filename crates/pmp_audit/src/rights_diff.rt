@@ -12,13 +12,14 @@ use crate::fault::{AuditFault, Side};
 use crate::replay::Replay;
 use pmp_core::{ADDRESS_LIMIT, RegFile, Registers};
 use pmp_map::rights_run_from;
-use pmp_text::{EventLog, GrowingLog, Only, Sink, read_script, write_change};
+use pmp_text::{EventLog, GrowingLog, Only, Sink, When, read_script, write_change};
 use std::alloc::{AllocError, Global};
 use std::io::Write;
 
 /// Writes a row for each of the longest ranges of bytes where the two register files differ in what they let the modes
-/// do, whoever owns the bytes, and answers how many rows these are. The old file is that after the first `old_after`
-/// publications of the script `old`, or after all of them where that is none; the new one the same of `new`. With
+/// do, whoever owns the bytes, and answers how many rows these are. The old file is that after the
+/// publications of the script `old` that are done at `old_after`, or after all of them where that is none; the new one the
+/// same of `new`. With
 /// `only`, rows that only gain, or only lose, are left out.
 ///
 /// The old script's fault comes first. The text is whole before its first byte is written, so every refusal but
@@ -27,9 +28,9 @@ use std::io::Write;
 pub fn diff<W: Write>(
     alloc: Global,
     old: &[u8],
-    old_after: Option<u64>,
+    old_after: Option<When>,
     new: &[u8],
-    new_after: Option<u64>,
+    new_after: Option<When>,
     only: Option<Only>,
     writer: &mut W,
 ) -> Result<u64, AuditFault>
@@ -51,9 +52,9 @@ pub fn diff<W: Write>(
 pub fn append_diff<L: EventLog, S: Sink>(
     log: &mut L,
     old: &[u8],
-    old_after: Option<u64>,
+    old_after: Option<When>,
     new: &[u8],
-    new_after: Option<u64>,
+    new_after: Option<When>,
     only: Option<Only>,
     out: &mut S,
 ) -> Result<u64, AuditFault>
@@ -94,11 +95,11 @@ fn write_differences<S: Sink>(
     Ok(rows)
 }
 
-/// The register file after the first `after` publications of the script, or after all of them where that is none.
+/// The register file after the publications of the script that are done then, or after all of them where that is none.
 fn file_after<L: EventLog>(
     log: &mut L,
     script: &[u8],
-    after: Option<u64>,
+    after: Option<When>,
 ) -> Result<RegFile, AuditFault>
     ensures ok { IfOk result (λ file. GivesFile script.now after file) }
     ensures err { IfErr result (FailsFile script.now after) }

@@ -58,7 +58,7 @@ pub fn audit_shared<R: Threads + Wait + Sync, G: Gate + Sync, W: Write>(
 {
     let mut log = GrowingLog::new(alloc);
     let script = read_script(&mut log, script)?;
-    let rows = read_trace(alloc, trace, script.batches())?;
+    let rows = read_trace(alloc, trace, &script.moments())?;
     law_script_size();
     let decisions = decide_shared(rt, alloc, gate, k, &script, &rows)?;
     law_legal_start();

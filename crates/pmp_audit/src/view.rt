@@ -15,8 +15,8 @@ use crate::since::since_of;
 use pmp_map::RunMap;
 use pmp_text::laws::law_legal_start;
 use pmp_text::{
-    EventLog, GrowingLog, Script, Sink, read_script, write_entries, write_picture, write_registers,
-    write_runs, write_script,
+    EventLog, GrowingLog, Script, Sink, When, read_script, write_entries, write_picture,
+    write_registers, write_runs, write_script,
 };
 use std::alloc::{AllocError, Global};
 use std::io::Write;
@@ -38,7 +38,7 @@ pub enum View {
 pub fn dump<W: Write>(
     alloc: Global,
     script: &[u8],
-    after: Option<u64>,
+    after: Option<When>,
     writer: &mut W,
 ) -> Result<(), AuditFault>
     ensures ok { IfOk result
@@ -54,7 +54,7 @@ pub fn dump<W: Write>(
 pub fn map_of<W: Write>(
     alloc: Global,
     script: &[u8],
-    after: Option<u64>,
+    after: Option<When>,
     writer: &mut W,
 ) -> Result<(), AuditFault>
     ensures ok { IfOk result
@@ -66,8 +66,8 @@ pub fn map_of<W: Write>(
     show(alloc, View::Runs, script, after, writer)
 }
 
-/// Writes this of the register file after the first `after` publications of the script, or after all of them where that
-/// is none.
+/// Writes this of the register file after the publications of the script that are done then, or after all of them where
+/// that is none.
 ///
 /// The text is whole before its first byte is written, so every refusal but `Output` leaves the output untouched.
 #[inline(never)]
@@ -75,7 +75,7 @@ pub fn show<W: Write>(
     alloc: Global,
     view: View,
     script: &[u8],
-    after: Option<u64>,
+    after: Option<When>,
     writer: &mut W,
 ) -> Result<(), AuditFault>
     ensures ok { IfOk result
@@ -95,7 +95,7 @@ pub fn append_view<L: EventLog, S: Sink>(
     log: &mut L,
     view: View,
     script: &[u8],
-    after: Option<u64>,
+    after: Option<When>,
     out: &mut S,
 ) -> Result<(), AuditFault>
     ensures ok { IfOk result (IsAppended (ViewSays view script.now after) (S.text out.old) (S.text out.new)) }

@@ -1,7 +1,8 @@
 //! Readers that never end, and readers that fail.
 
 use pmp_text::{
-    GrowingLog, MAX_SCRIPT, MAX_TRACE, Refusal, ScriptFault, read_bytes, read_script, read_trace,
+    GrowingLog, MAX_SCRIPT, MAX_TRACE, Moments, Refusal, ScriptFault, read_bytes, read_script,
+    read_trace,
 };
 use std::alloc::Global;
 use std::io;
@@ -83,5 +84,12 @@ fn longer_texts_are_too_long(rt: HostRuntime) {
             })
     );
     let trace = line_feeds(&rt, rt.alloc(), MAX_TRACE / 4096);
-    assert!(rt; read_trace(rt.alloc(), trace.as_slice(), 0).err() == Some(kind.whole().at_row(0)));
+    let moments = Moments {
+        publications: 0,
+        marks: None,
+        lasting: None,
+    };
+    assert!(rt;
+        read_trace(rt.alloc(), trace.as_slice(), &moments).err() == Some(kind.whole().at_row(0))
+    );
 }

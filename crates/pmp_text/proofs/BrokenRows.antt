@@ -1,7 +1,7 @@
 -- A record that has a line end in a field is neither a row nor a header.
 use Rattle.std.proofs.Common.{◌≡◌, ℕ, Bool, true, false, cond, List, [], ◌∷◌, ◌++◌, Option, rules}
 use Rattle.std.proofs.Common.{Some, None, Result, Ok, Err, refl, sym, ap, ◌∙◌, inl, inr}
-use Rattle.std.specs.Prelude.{◌&&◌, ◌||◌, bytes_eq, codes, drop, take, length, nat_lt, nat_le, ◌^◌}
+use Rattle.std.specs.Prelude.{◌&&◌, ◌||◌, bytes_eq, codes, drop, take, length, nat_lt, nat_le, not, option_map, ◌^◌}
 use Rattle.std.specs.Str.Parse.{digits_value}
 use Rattle.std.specs.Char.{is_digit}
 use Rattle.std.specs.List.{list_all, list_any}
@@ -10,10 +10,18 @@ use Rattle.std.proofs.lemmas.List.Folds.{list_any-append}
 use Rattle.std.proofs.lemmas.Slice.Eq.{bytes_eq-Decides}
 use Rattle.pmp_text.specs.AccessWords.{kind_named, mode_named}
 use Rattle.pmp_text.specs.Tables.{is_line_end}
+use Rattle.pmp_text.specs.Marks.{begins_with_letter, is_name_byte, is_taken, name_said}
+use Rattle.pmp_text.specs.Moments.{KnownMoments, after_said, label_said, when_place, when_said}
 use Rattle.pmp_text.specs.Numbers.{is_numeral, numeral, word_number}
-use Rattle.pmp_text.specs.Flaws.{of_part, as_whole}
+use Rattle.pmp_text.specs.Flaws.{in_part, of_part, as_whole}
 use Rattle.pmp_text.specs.Traces.{FiveFields, five_fields, is_header, row_in, row_of_fields}
 use Rattle.pmp_text.specs.declared.flaw.Flaw.{Flaw}
+use Rattle.pmp_text.specs.declared.mark.TheConstants.{NAME_BYTES}
+use Rattle.pmp_text.specs.declared.moments.Label.{Label}
+use Rattle.pmp_text.specs.declared.moments.Label.TheVariants.{Last, Marked}
+use Rattle.pmp_text.specs.declared.moments.When.{When}
+use Rattle.pmp_text.specs.declared.moments.When.TheVariants.{Labelled, Number}
+use Rattle.pmp_text.specs.declared.refusal.Refusal.{Refusal}
 use Rattle.pmp_text.specs.declared.refusal.Refusal.TheVariants.{BadRow}
 use Rattle.pmp_text.specs.declared.trace.row_fields.RowFields.{RowFields}
 use Rattle.pmp_text.proofs.LineCuts.{line_ends}
@@ -70,17 +78,23 @@ other_word word known ends none = by (bytes_eq word known) refl
         absurd cc
     by false e = e
 
+end_behind : (count : ℕ) (word front : List ℕ) → bytes_eq (take count word) front ≡ true → has_end front ≡ false
+    → has_end word ≡ true → has_end (drop count word) ≡ true
+end_behind count word front e none ends =
+    let fine : has_end (take count word) ≡ false =
+    ap has_end ((bytes_eq-Decides (take count word) front).0 e) ∙ none in
+    let both : has_end (take count word ++ drop count word) ≡ true =
+    ap has_end (take-append-drop count word) ∙ ends in
+    let split : (has_end (take count word) || has_end (drop count word)) ≡ true =
+    sym (list_any-append is_line_end (take count word) (drop count word)) ∙ both in
+    rw fine at split
+
 no_number : (word : List ℕ) → has_end word ≡ true → word_number word ≡ None
 no_number word ends = by (bytes_eq (take 2 word) (codes "0x")) refl
   where
     by : (hexadecimal : Bool) → bytes_eq (take 2 word) (codes "0x") ≡ hexadecimal
         → cond hexadecimal (numeral 16 16 (drop 2 word)) (numeral 10 20 word) ≡ None
-    by true e =
-        let front : has_end (take 2 word) ≡ false = ap has_end ((bytes_eq-Decides (take 2 word) (codes "0x")).0 e) in
-        let both : has_end (take 2 word ++ drop 2 word) ≡ true = ap has_end (take-append-drop 2 word) ∙ ends in
-        let split : (has_end (take 2 word) || has_end (drop 2 word)) ≡ true =
-        sym (list_any-append is_line_end (take 2 word) (drop 2 word)) ∙ both in
-        no_hexadecimal (drop 2 word) (rw front at split)
+    by true e = no_hexadecimal (drop 2 word) (end_behind 2 word (codes "0x") e refl ends)
     by false e = no_decimal word ends
 
 no_mode : (word : List ℕ) → has_end word ≡ true → mode_named word ≡ None
@@ -113,17 +127,74 @@ part_says : {X Y : Type 0} (index : ℕ) (says : Option X) (next : X → Result 
 part_says index None next y e = absurd cc
 part_says index (Some x) next y e = (x, refl, e)
 
+in_part_says : {X Y : Type 0} (index : ℕ) (says : Result X Refusal) (next : X → Result Y Flaw) (y : Y)
+    → in_part index says next ≡ Ok y → (x : X) × (says ≡ Ok x) × (next x ≡ Ok y)
+in_part_says index (Err kind) next y e = absurd cc
+in_part_says index (Ok x) next y e = (x, refl, e)
+
+unnamed : {X : Type 0} (begins are short : Bool) (name : X) → are ≡ false
+    → cond (begins && (are && short)) (Some name) None ≡ None
+unnamed true are short name e = rw e refl
+unnamed false are short name e = refl
+
+no_name : (word : List ℕ) → has_end word ≡ true → name_said word ≡ None
+no_name word ends = unnamed (begins_with_letter word) (list_all is_name_byte word)
+    (nat_le (length word) NAME_BYTES && not (is_taken word)) _ (not_all is_name_byte refl refl word ends)
+
+none_of : {X : Type 0} (a b c d : Bool) (w x y z rest : Option X) → a ≡ false → b ≡ false → c ≡ false → d ≡ false
+    → rest ≡ None → cond a w (cond b x (cond c y (cond d z rest))) ≡ None
+none_of a b c d w x y z rest ea eb ec ed e = rw (ea, eb, ec, ed) e
+
+no_label : (word : List ℕ) → has_end word ≡ true → label_said word ≡ None
+unfolding label_said
+no_label word ends = none_of (bytes_eq word (codes "last")) (bytes_eq word (codes "mml"))
+    (bytes_eq word (codes "mmwp")) (bytes_eq word (codes "rlb-clear")) _ _ _ _ _
+    (other_word word (codes "last") ends refl) (other_word word (codes "mml") ends refl)
+    (other_word word (codes "mmwp") ends refl) (other_word word (codes "rlb-clear") ends refl)
+    (by (bytes_eq (take 5 word) (codes "last-")) refl)
+  where
+    by : (back : Bool) → bytes_eq (take 5 word) (codes "last-") ≡ back
+        → cond back (option_map (λ back. Last back) (word_number (drop 5 word)))
+        (option_map (λ name. Marked name) (name_said word)) ≡ None
+    by true e = (rw (no_number (drop 5 word) (end_behind 5 word (codes "last-") e refl ends)) refl)
+    by false e = (rw (no_name word ends) refl)
+
+neither : (number : Option ℕ) (label : Option Label) → number ≡ None → label ≡ None → ◌≡◌ {A = Option When} (elim number [
+  | Some number ↦ Some (Number number)
+  | None ↦ option_map (λ label. Labelled label) label
+]) None
+neither None None e f = refl
+neither None (Some label) e f = absurd cc
+neither (Some number) label e f = absurd cc
+
+no_when : (word : List ℕ) → has_end word ≡ true → when_said word ≡ None
+no_when word ends = neither (word_number word) (label_said word) (no_number word ends) (no_label word ends)
+
+module _ (moments : KnownMoments) (word : List ℕ) (after : ℕ) where
+  said_so : (said : Option When) → ◌≡◌ {A = Result ℕ Refusal}
+      (elim said [ Some when ↦ when_place moments when | None ↦ Err BadRow ]) (Ok after) → said ≡ None → ⊥
+  said_so None e none = absurd cc
+  said_so (Some when) e none = absurd cc
+
+  after_in_one_line : after_said moments word ≡ Ok after → has_end word ≡ false
+  unfolding after_said
+  after_in_one_line is = by (has_end word) refl
+    where
+      by : (ends : Bool) → has_end word ≡ ends → has_end word ≡ false
+      by false e = e
+      by true e = absurd (said_so (when_said word) is (no_when word e))
+
 -- five fields that say a row have no line end
-pub in_one_line : (five : FiveFields) (row : RowFields) → row_of_fields five ≡ Ok row
+pub in_one_line : (moments : KnownMoments) (five : FiveFields) (row : RowFields) → row_of_fields moments five ≡ Ok row
     → is_broken (five.after ∷ five.mode ∷ five.kind ∷ five.start ∷ five.length ∷ []) ≡ false
-in_one_line five row e =
-    let (after, after_is, e1) = part_says 0 (word_number five.after) _ row e in
+in_one_line moments five row e =
+    let (after, after_is, e1) = in_part_says 0 (after_said moments five.after) _ row e in
     let (mode, mode_is, e2) = part_says 1 (mode_named five.mode) _ row e1 in
     let (kind, kind_is, e3) = part_says 2 (kind_named five.kind) _ row e2 in
     let (start, start_is, e4) = part_says 3 (word_number five.start) _ row e3 in
     let (length, length_is, e5) = part_says 4 (word_number five.length) _ row e4 in
     rw (
-      no_end word_number no_number five.after after after_is,
+      after_in_one_line moments five.after after after_is,
       no_end mode_named no_mode five.mode mode mode_is,
       no_end kind_named no_kind five.kind kind kind_is,
       no_end word_number no_number five.start start start_is,
@@ -142,8 +213,9 @@ are_five (after ∷ mode ∷ kind ∷ start ∷ length ∷ []) five e = search r
 are_five (after ∷ mode ∷ kind ∷ start ∷ length ∷ other ∷ more) five e = absurd cc
 
 -- a record that goes over several lines is at fault as a whole
-pub no_row : (fields : List (List ℕ)) → is_broken fields ≡ true → row_in fields ≡ Err (as_whole BadRow)
-no_row fields e = rw e refl
+pub no_row : (moments : KnownMoments) (fields : List (List ℕ)) → is_broken fields ≡ true
+    → row_in moments fields ≡ Err (as_whole BadRow)
+no_row moments fields e = rw e refl
 
 -- ---- a header
 

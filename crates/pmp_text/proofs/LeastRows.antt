@@ -10,6 +10,7 @@ use Rattle.pmp_text.specs.declared.flaw.Flaw.{Flaw}
 use Rattle.pmp_text.specs.declared.refusal.Refusal.TheVariants.{BadAfter, BadHeader, Order, TooLong}
 use Rattle.pmp_text.specs.declared.trace.TraceFault.{TraceFault}
 use Rattle.pmp_text.specs.Faults.{IsLeastFault}
+use Rattle.pmp_text.specs.Moments.{KnownMoments}
 use Rattle.pmp_text.specs.Tables.{fault_or_rows, records_of}
 use Rattle.pmp_text.specs.Traces.{access_flaw, after_of, falls_behind, fields_fault, row_in}
 use Rattle.pmp_text.specs.Traces.{first_row_fault, is_header, records_meaning, row_fault, row_of_record}
@@ -23,63 +24,63 @@ use Rattle.pmp_text.specs.Flaws.{at_row, part, as_whole}
 abbrev pub Records : Type 0
 Records = List (List (List ℕ))
 
-module _ (publications : ℕ) where
+module _ (moments : KnownMoments) where
   -- the fault of a row behind one that asks for `last`, the first with this number
   abbrev fault_behind : (last : Option ℕ) (number : ℕ) → Records → ℕ → Option TraceFault
   fault_behind last number rows index = option_and_then {T = List (List ℕ)} {U = TraceFault}
-      (λ row. option_map (at_row (number + index)) (row_fault publications (after_before last rows index) (row_in row))) (slice_get rows index)
+      (λ row. option_map (at_row (number + index)) (row_fault moments.publications (after_before moments last rows index) (row_in moments row))) (slice_get rows index)
 
   one_behind : (last : Option ℕ) (number : ℕ) (row : List (List ℕ)) (more : Records) (index : ℕ)
       → fault_behind last number (row ∷ more) (suc index)
-      ≡ fault_behind (after_of (row_of_record row)) (number + 1) more index
+      ≡ fault_behind (after_of (row_of_record moments row)) (number + 1) more index
   one_behind last number row more zero =
       let same : number + 1 ≡ number + 1 + 0 = omega arith in
       ap (λ (n : ℕ). option_and_then {T = List (List ℕ)} {U = TraceFault}
-      (λ next. option_map (at_row n) (row_fault publications (after_of (row_of_record row)) (row_in next)))
+      (λ next. option_map (at_row n) (row_fault moments.publications (after_of (row_of_record moments row)) (row_in moments next)))
       (slice_get more 0)) same
   one_behind last number row more (suc index) =
       let same : number + suc (suc index) ≡ number + 1 + suc index = omega arith in
       ap (λ (n : ℕ). option_and_then {T = List (List ℕ)} {U = TraceFault}
-      (λ next. option_map (at_row n) (row_fault publications (after_before last (row ∷ more) (suc (suc index)))
-      (row_in next))) (slice_get more (suc index))) same
+      (λ next. option_map (at_row n) (row_fault moments.publications (after_before moments last (row ∷ more) (suc (suc index)))
+      (row_in moments next))) (slice_get more (suc index))) same
 
   here : (last : Option ℕ) (number : ℕ) (row : List (List ℕ)) (more : Records)
       → fault_behind last number (row ∷ more) 0 ≡ option_map (at_row number)
-      (row_fault publications last (row_in row))
+      (row_fault moments.publications last (row_in moments row))
   here last number row more = let same : number + 0 ≡ number = omega arith in
-      ap (λ (n : ℕ). option_map (at_row n) (row_fault publications last (row_in row))) same
+      ap (λ (n : ℕ). option_map (at_row n) (row_fault moments.publications last (row_in moments row))) same
 
   judged_behind : (rows : Records) (last : Option ℕ) (number : ℕ)
-      → Judges (fault_behind last number rows) (first_row_fault publications last number rows)
+      → Judges (fault_behind last number rows) (first_row_fault moments last number rows)
   judged_behind [] = λ last number index. refl
   judged_behind (row ∷ more) = λ last number.
       judged_here (fault_behind last number (row ∷ more))
-      (fault_behind (after_of (row_of_record row)) (number + 1) more) (one_behind last number row more)
-      (option_map (at_row number) (row_fault publications last (row_in row)))
-      (first_row_fault publications (after_of (row_of_record row)) (number + 1) more) (here last number row more)
-      (judged_behind more (after_of (row_of_record row)) (number + 1))
+      (fault_behind (after_of (row_of_record moments row)) (number + 1) more) (one_behind last number row more)
+      (option_map (at_row number) (row_fault moments.publications last (row_in moments row)))
+      (first_row_fault moments (after_of (row_of_record moments row)) (number + 1) more) (here last number row more)
+      (judged_behind more (after_of (row_of_record moments row)) (number + 1))
 
   counted_from_one : (rows : Records) (index : ℕ)
-      → row_fault_at publications rows index ≡ fault_behind None 1 rows index
+      → row_fault_at moments rows index ≡ fault_behind None 1 rows index
   counted_from_one rows index =
       let same : index + 1 ≡ 1 + index = omega arith in
       ap (λ (n : ℕ). option_and_then {T = List (List ℕ)} {U = TraceFault}
-      (λ row. option_map (at_row n) (row_fault publications (after_before None rows index) (row_in row)))
+      (λ row. option_map (at_row n) (row_fault moments.publications (after_before moments None rows index) (row_in moments row)))
       (slice_get rows index)) same
 
   pub first_row_is_least : (rows : Records)
-      → Judges (row_fault_at publications rows) (first_row_fault publications None 1 rows)
-  first_row_is_least rows = judged_as (fault_behind None 1 rows) (row_fault_at publications rows)
-      (first_row_fault publications None 1 rows) (counted_from_one rows) (judged_behind rows None 1)
+      → Judges (row_fault_at moments rows) (first_row_fault moments None 1 rows)
+  first_row_is_least rows = judged_as (fault_behind None 1 rows) (row_fault_at moments rows)
+      (first_row_fault moments None 1 rows) (counted_from_one rows) (judged_behind rows None 1)
 
   pub least_row_is_answered : (text : List ℕ) (header : List (List ℕ)) (rows : Records) (fault : TraceFault)
       → length text ≤ MAX_TRACE → records_of text ≡ header ∷ rows → is_header header ≡ true
-      → IsLeastFault (row_fault_at publications rows) fault → trace_meaning publications text ≡ Err fault
+      → IsLeastFault (row_fault_at moments rows) fault → trace_meaning moments text ≡ Err fault
   least_row_is_answered text header rows fault short records named least =
-      trace_is publications text ∙ by_records is_header (rows_meaning publications) text short
-      ∙ this_header is_header (rows_meaning publications) (records_of text) header rows records named
-      ∙ ap (λ (first : Option TraceFault). fault_or_rows first (filter_map row_of_record rows))
-      (the_first (row_fault_at publications rows) (first_row_fault publications None 1 rows) fault
+      trace_is moments text ∙ by_records is_header (rows_meaning moments) text short
+      ∙ this_header is_header (rows_meaning moments) (records_of text) header rows records named
+      ∙ ap (λ (first : Option TraceFault). fault_or_rows first (filter_map (row_of_record moments) rows))
+      (the_first (row_fault_at moments rows) (first_row_fault moments None 1 rows) fault
       (first_row_is_least rows) least)
 
   -- ---- order
@@ -100,34 +101,34 @@ module _ (publications : ℕ) where
   no_kind number (Some kind) e = absurd cc
 
   module _ (last : Option ℕ) (row : RowFields) where
-    in_time : (beyond behind : Bool) → nat_lt publications row.after ≡ beyond → falls_behind last row.after ≡ behind
+    in_time : (beyond behind : Bool) → nat_lt moments.publications row.after ≡ beyond → falls_behind last row.after ≡ behind
         → cond beyond (Some (part 0 BadAfter)) (cond behind (Some (part 0 Order)) (option_map access_flaw (access_fault row.start row.length)))
-        ≡ None → (least_of last ≤ row.after) × (row.after ≤ publications)
+        ≡ None → (least_of last ≤ row.after) × (row.after ≤ moments.publications)
     in_time true behind e f fine = absurd cc
     in_time false true e f fine = absurd cc
-    in_time false false e f fine = (not_behind last row.after f, ltb-false publications row.after e)
+    in_time false false e f fine = (not_behind last row.after f, ltb-false moments.publications row.after e)
 
   pub rows_in_order : (rows : Records) (last : Option ℕ) (number : ℕ)
-      → first_row_fault publications last number rows ≡ None
-      → IsInOrder publications (least_of last) (afters (filter_map row_of_record rows))
+      → first_row_fault moments last number rows ≡ None
+      → IsInOrder moments.publications (least_of last) (afters (filter_map (row_of_record moments) rows))
   rows_in_order [] = λ last number e. tt
-  rows_in_order (row ∷ more) = λ last number e. by (row_in row) refl last number e (rows_in_order more)
+  rows_in_order (row ∷ more) = λ last number e. by (row_in moments row) refl last number e (rows_in_order more)
     where
-      by : (said : Result RowFields Flaw) → row_in row ≡ said → (last : Option ℕ) (number : ℕ)
-          → first_row_fault publications last number (row ∷ more) ≡ None
-          → ((last : Option ℕ) (number : ℕ) → first_row_fault publications last number more ≡ None
-          → IsInOrder publications (least_of last) (afters (filter_map row_of_record more)))
-          → IsInOrder publications (least_of last) (afters (filter_map row_of_record (row ∷ more)))
+      by : (said : Result RowFields Flaw) → row_in moments row ≡ said → (last : Option ℕ) (number : ℕ)
+          → first_row_fault moments last number (row ∷ more) ≡ None
+          → ((last : Option ℕ) (number : ℕ) → first_row_fault moments last number more ≡ None
+          → IsInOrder moments.publications (least_of last) (afters (filter_map (row_of_record moments) more)))
+          → IsInOrder moments.publications (least_of last) (afters (filter_map (row_of_record moments) (row ∷ more)))
       by (Err flaw) says last number e later =
           let own : Some flaw ≡ None = no_kind number (Some flaw)
-          (no_fault (Some (at_row number flaw)) (first_row_fault publications None (number + 1) more)
+          (no_fault (Some (at_row number flaw)) (first_row_fault moments None (number + 1) more)
           (rw says at e)).0 in
           absurd cc
       by (Ok fields) says last number e later =
-          let (own, rest) = no_fault (option_map (at_row number) (fields_fault publications last fields))
-          (first_row_fault publications (Some fields.after) (number + 1) more) (rw says at e) in
-          let time = in_time last fields (nat_lt publications fields.after) (falls_behind last fields.after) refl refl
-          (no_kind number (fields_fault publications last fields) own) in
+          let (own, rest) = no_fault (option_map (at_row number) (fields_fault moments.publications last fields))
+          (first_row_fault moments (Some fields.after) (number + 1) more) (rw says at e) in
+          let time = in_time last fields (nat_lt moments.publications fields.after) (falls_behind last fields.after) refl refl
+          (no_kind number (fields_fault moments.publications last fields) own) in
           rw says (time.0, time.1, later (Some fields.after) (number + 1) rest)
 
   judged_ok : (first : Option TraceFault) (said rows : List RowFields) → fault_or_rows first said ≡ Ok rows
@@ -136,31 +137,31 @@ module _ (publications : ℕ) where
   judged_ok (Some fault) said rows e = absurd cc
 
   module _ (rows : List RowFields) where
-    from_rows : (records : Records) → rows_meaning publications records ≡ Ok rows
-        → IsInOrder publications 0 (afters rows)
+    from_rows : (records : Records) → rows_meaning moments records ≡ Ok rows
+        → IsInOrder moments.publications 0 (afters rows)
     from_rows records e =
-        let (first, same) = judged_ok (first_row_fault publications None 1 records) (filter_map row_of_record records)
+        let (first, same) = judged_ok (first_row_fault moments None 1 records) (filter_map (row_of_record moments) records)
         rows e in
         rw (← same) (rows_in_order records None 1 first)
 
     from_header : (named : Bool) (records : Records)
-        → cond named (rows_meaning publications records) (Err (at_row 0 (as_whole BadHeader))) ≡ Ok rows
-        → IsInOrder publications 0 (afters rows)
+        → cond named (rows_meaning moments records) (Err (at_row 0 (as_whole BadHeader))) ≡ Ok rows
+        → IsInOrder moments.publications 0 (afters rows)
     from_header true records e = from_rows records e
     from_header false records e = absurd cc
 
-    from_records : (records : Records) → records_meaning publications records ≡ Ok rows
-        → IsInOrder publications 0 (afters rows)
+    from_records : (records : Records) → records_meaning moments records ≡ Ok rows
+        → IsInOrder moments.publications 0 (afters rows)
     from_records [] e = absurd cc
     from_records (header ∷ records) e = from_header (is_header header) records e
 
     from_text : (long : Bool) (text : List ℕ)
-        → cond long (Err (at_row 0 (as_whole TooLong))) (records_meaning publications (records_of text)) ≡ Ok rows
-        → IsInOrder publications 0 (afters rows)
+        → cond long (Err (at_row 0 (as_whole TooLong))) (records_meaning moments (records_of text)) ≡ Ok rows
+        → IsInOrder moments.publications 0 (afters rows)
     from_text true text e = absurd cc
     from_text false text e = from_records (records_of text) e
 
-    pub trace_in_order : (text : List ℕ) → trace_meaning publications text ≡ Ok rows
-        → IsInOrder publications 0 (afters rows)
+    pub trace_in_order : (text : List ℕ) → trace_meaning moments text ≡ Ok rows
+        → IsInOrder moments.publications 0 (afters rows)
     unfolding trace_meaning
     trace_in_order text e = from_text (nat_lt MAX_TRACE (length text)) text e

@@ -44,7 +44,7 @@ module _ (first : Line) (more : List Line) (script : ScriptContents) where
     batches = published.batches;
     lines = published.lines;
     expectations = expectations;
-    marks = marks;
+    marks = Some marks;
   }
 
   abbrev begun : Result RegisterFile ScriptFault → Publications → List Expectation → List Mark

@@ -31,7 +31,7 @@ use Rattle.pmp_text.specs.Scripts.{most_bytes, script_meaning}
 use Rattle.pmp_text.specs.Steps.Progress.{Read, nothing_begun}
 use Rattle.pmp_text.specs.Steps.Progress.{resumed}
 use Rattle.pmp_text.specs.Steps.Progress.{concluded}
-use Rattle.pmp_text.proofs.NoExpectations.{expects_nothing, names_nothing}
+use Rattle.pmp_text.proofs.NoExpectations.{expects_nothing}
 use Rattle.pmp_text.proofs.Known.{Knows}
 use Rattle.pmp_text.proofs.Resumed.{meant_from-nothing, read_of, reading_means}
 use Rattle.pmp_text.specs.Flaws.{at_line, part, as_whole}
@@ -66,12 +66,12 @@ module _ (published : Publications) (head : List HeadLine) where
   whole expectations marks =
       record { published = published; head = head; expectations = expectations; marks = marks }
 
-  sized_as_concluded : (size : Size) (fault : Option ScriptFault) (unpublished : Option ℕ)
+  sized_as_concluded : (size : Size) (marks : List Mark) (fault : Option ScriptFault) (unpublished : Option ℕ)
       → for_unit size (fault_or_publications fault unpublished published)
-      ≡ concluded (Sized size) (fault_or_publications fault unpublished (whole [] []))
-  sized_as_concluded size (Some fault) unpublished = refl
-  sized_as_concluded size None (Some number) = refl
-  sized_as_concluded size None None = refl
+      ≡ concluded (Sized size) (fault_or_publications fault unpublished (whole [] marks))
+  sized_as_concluded size marks (Some fault) unpublished = refl
+  sized_as_concluded size marks None (Some number) = refl
+  sized_as_concluded size marks None None = refl
 
   headed_as_concluded : (expectations : List Expectation) (marks : List Mark) (fault : Option ScriptFault)
       (unpublished : Option ℕ)
@@ -87,11 +87,11 @@ as_concluded : (version : Version) (first : Line) (more : List Line) → meaning
     (marks_from version 0 more)))
 as_concluded (Sized size) first more =
     sized_as_concluded (publications (Sized size) more) (head_lines (Sized size) more) size
-    (first_fault (first ∷ []) more) (first_unpublished (Sized size) more)
+    (marks_from (Sized size) 0 more) (first_fault (first ∷ []) more) (first_unpublished (Sized size) more)
     ∙ (λ i. concluded (Sized size) (fault_or_publications (first_fault (first ∷ []) more)
     (first_unpublished (Sized size) more)
     (whole (publications (Sized size) more) (head_lines (Sized size) more) (sym (expects_nothing size more 0) i)
-    (sym (names_nothing size more 0) i))))
+    (marks_from (Sized size) 0 more))))
 as_concluded Headed first more =
     headed_as_concluded (publications Headed more) (head_lines Headed more) (expected_from Headed 0 more)
     (marks_from Headed 0 more)

@@ -1,4 +1,4 @@
--- Scripts of versions without a head expect nothing, and name no moment.
+-- Scripts of versions without a head expect nothing.
 use Rattle.std.proofs.Common.{◌≡◌, ℕ, ◌+◌, Bool, true, false, cond, List, [], ◌∷◌}
 use Rattle.std.proofs.Common.{None, Result, Some, Ok, Err, refl}
 use Rattle.std.specs.Prelude.{codes, bytes_eq, ⊤}
@@ -8,21 +8,19 @@ use Rattle.pmp_text.specs.declared.refusal.Refusal.TheVariants.{BadLine}
 use Rattle.pmp_text.specs.declared.script.statement.Statement.{Statement}
 use Rattle.pmp_text.specs.declared.script.statement.Statement.TheVariants as statement
 use Rattle.pmp_text.specs.declared.expectation.Expectation.{Expectation}
-use Rattle.pmp_text.specs.declared.mark.Mark.{Mark}
 use Rattle.pmp_text.specs.declared.script.version.Version.TheVariants.{Sized}
 use Rattle.pmp_core.specs.declared.csr.Csr.{Csr}
 use Rattle.pmp_core.specs.declared.event.Event.TheVariants.{Write, Reset}
 use Rattle.pmp_text.specs.Statements.{assignment, statement_of, without_operands, write_statement}
 use Rattle.pmp_text.specs.Flaws.{part}
 use Rattle.pmp_text.specs.ScriptLines.{Line, said_by}
-use Rattle.pmp_text.specs.ScriptEvents.{expected_by, expected_from, marks_by, marks_from}
+use Rattle.pmp_text.specs.ScriptEvents.{expected_by, expected_from}
 
 abbrev ExpectsNone : Result Statement Flaw → Type 0
 ExpectsNone (Ok (statement.Expect register value)) = ⊥
 ExpectsNone (Ok (statement.Event event)) = ⊤
-ExpectsNone (Ok (statement.Publish None)) = ⊤
-ExpectsNone (Ok (statement.Publish (Some name))) = ⊥
-ExpectsNone (Ok (statement.Mark name)) = ⊥
+ExpectsNone (Ok (statement.Publish name)) = ⊤
+ExpectsNone (Ok (statement.Mark name)) = ⊤
 ExpectsNone (Ok (statement.Head says)) = ⊤
 ExpectsNone (Err kind) = ⊤
 
@@ -59,7 +57,7 @@ none_by : (events number : ℕ) (says : Result Statement Flaw) (rest : ℕ → L
     → ((events : ℕ) → rest events ≡ []) → expected_by events number says rest ≡ []
 none_by events number (Ok (statement.Event event)) rest none same = same (events + 1)
 none_by events number (Ok (statement.Publish name)) rest none same = same events
-none_by events number (Ok (statement.Mark name)) rest none same = absurd none
+none_by events number (Ok (statement.Mark name)) rest none same = same events
 none_by events number (Ok (statement.Head says)) rest none same = same events
 none_by events number (Ok (statement.Expect register value)) rest none same = absurd none
 none_by events number (Err kind) rest none same = same events
@@ -69,19 +67,3 @@ expects_nothing size [] events = refl
 expects_nothing size (line ∷ more) events =
     none_by events line.number (said_by (Sized size) line) (λ n. expected_from (Sized size) n more)
     (line_expects_none size line) (expects_nothing size more)
-
-unnamed_by : (done : ℕ) (says : Result Statement Flaw) (rest : ℕ → List Mark) → ExpectsNone says
-    → ((done : ℕ) → rest done ≡ []) → marks_by done says rest ≡ []
-unnamed_by done (Ok (statement.Event event)) rest none same = same done
-unnamed_by done (Ok (statement.Publish None)) rest none same = same (done + 1)
-unnamed_by done (Ok (statement.Publish (Some name))) rest none same = absurd none
-unnamed_by done (Ok (statement.Mark name)) rest none same = absurd none
-unnamed_by done (Ok (statement.Head says)) rest none same = same done
-unnamed_by done (Ok (statement.Expect register value)) rest none same = absurd none
-unnamed_by done (Err kind) rest none same = same done
-
-pub names_nothing : (size : Size) (lines : List Line) (done : ℕ) → marks_from (Sized size) done lines ≡ []
-names_nothing size [] done = refl
-names_nothing size (line ∷ more) done =
-    unnamed_by done (said_by (Sized size) line) (λ n. marks_from (Sized size) n more)
-    (line_expects_none size line) (names_nothing size more)

@@ -12,6 +12,7 @@ use Rattle.pmp_text.specs.declared.trace.rows.Place.{Place}
 use Rattle.pmp_text.specs.LongTraces.{Records, first_fault_at, has_begun, is_bare_record, last_after}
 use Rattle.pmp_text.specs.Tables.{is_line_end}
 use Rattle.pmp_text.specs.LongTraces.{piece_fault, place_behind, row_records}
+use Rattle.pmp_text.specs.Moments.{KnownMoments}
 use Rattle.pmp_text.specs.Tables.{records_of}
 use Rattle.pmp_text.specs.Traces.{after_of, first_row_fault, is_header, row_fault, row_of_record, row_in}
 use Rattle.pmp_text.proofs.BrokenRows.{no_row, no_header}
@@ -23,53 +24,53 @@ or_assoc : {X : Type 0} (x y z : Option X) → option_or x (option_or y z) ≡ o
 or_assoc None y z = refl
 or_assoc (Some fault) y z = refl
 
-module _ (publications : ℕ) where
+module _ (moments : KnownMoments) where
   pub behind : (named : Bool) (last : Option ℕ) (next : ℕ) (rows : Records)
-      → cond named (first_row_fault publications last next rows) (Some (at_row 0 (as_whole BadHeader))) ≡ None
-      → first_row_fault publications last next rows ≡ None
+      → cond named (first_row_fault moments last next rows) (Some (at_row 0 (as_whole BadHeader))) ≡ None
+      → first_row_fault moments last next rows ≡ None
   behind true last next rows e = e
   behind false last next rows e = absurd cc
 
   -- ---- records after records
 
   from_next : (rows : Records) (last : Option ℕ) (next : ℕ)
-      → first_row_fault publications last next rows ≡ first_row_fault publications last (next + 0) rows
+      → first_row_fault moments last next rows ≡ first_row_fault moments last (next + 0) rows
   from_next rows last next = let same : next ≡ next + 0 = omega arith in
-      ap (λ (n : ℕ). first_row_fault publications last n rows) same
+      ap (λ (n : ℕ). first_row_fault moments last n rows) same
 
   pub rows_in_turn : (rows more : Records) (last : Option ℕ) (next : ℕ)
-      → first_row_fault publications last next (rows ++ more)
-      ≡ option_or (first_row_fault publications last next rows)
-      (first_row_fault publications (last_after last rows) (next + length rows) more)
+      → first_row_fault moments last next (rows ++ more)
+      ≡ option_or (first_row_fault moments last next rows)
+      (first_row_fault moments (last_after moments last rows) (next + length rows) more)
   rows_in_turn [] more last next = from_next more last next
   rows_in_turn (row ∷ rows) more last next =
-      let here = option_map (at_row next) (row_fault publications last (row_in row)) in
-      let after = after_of (row_of_record row) in
+      let here = option_map (at_row next) (row_fault moments.publications last (row_in moments row)) in
+      let after = after_of (row_of_record moments row) in
       let number : next + 1 + length rows ≡ next + suc (length rows) = omega arith in
       ap (option_or here) (rows_in_turn rows more after (next + 1))
-      ∙ or_assoc here (first_row_fault publications after (next + 1) rows)
-      (first_row_fault publications (last_after after rows) (next + 1 + length rows) more)
-      ∙ ap (λ (n : ℕ). option_or (option_or here (first_row_fault publications after (next + 1) rows))
-      (first_row_fault publications (last_after after rows) n more)) number
+      ∙ or_assoc here (first_row_fault moments after (next + 1) rows)
+      (first_row_fault moments (last_after moments after rows) (next + 1 + length rows) more)
+      ∙ ap (λ (n : ℕ). option_or (option_or here (first_row_fault moments after (next + 1) rows))
+      (first_row_fault moments (last_after moments after rows) n more)) number
 
   module _ (last : Option ℕ) (next : ℕ) where
     abbrev next_fault : Bool → Records → Records → Option TraceFault
-    next_fault begun records more = first_fault_at publications (has_begun begun records)
-        (last_after last (row_records begun records)) (next + length (row_records begun records)) more
+    next_fault begun records more = first_fault_at moments (has_begun begun records)
+        (last_after moments last (row_records begun records)) (next + length (row_records begun records)) more
 
     by_header : (named : Bool) (rows more : Records)
-        → cond named (first_row_fault publications last next (rows ++ more)) (Some (at_row 0 (as_whole BadHeader)))
-        ≡ option_or (cond named (first_row_fault publications last next rows) (Some (at_row 0 (as_whole BadHeader))))
-        (first_row_fault publications (last_after last rows) (next + length rows) more)
+        → cond named (first_row_fault moments last next (rows ++ more)) (Some (at_row 0 (as_whole BadHeader)))
+        ≡ option_or (cond named (first_row_fault moments last next rows) (Some (at_row 0 (as_whole BadHeader))))
+        (first_row_fault moments (last_after moments last rows) (next + length rows) more)
     by_header true rows more = rows_in_turn rows more last next
     by_header false rows more = refl
 
     pub in_turn : (begun : Bool) (records more : Records)
-        → first_fault_at publications begun last next (records ++ more)
-        ≡ option_or (first_fault_at publications begun last next records) (next_fault begun records more)
+        → first_fault_at moments begun last next (records ++ more)
+        ≡ option_or (first_fault_at moments begun last next records) (next_fault begun records more)
     in_turn true records more = rows_in_turn records more last next
     in_turn false [] more = let same : next ≡ next + 0 = omega arith in
-        ap (λ (n : ℕ). first_fault_at publications false last n more) same
+        ap (λ (n : ℕ). first_fault_at moments false last n more) same
     in_turn false (header ∷ rows) more = by_header (is_header header) rows more
 
   -- ---- a broken record
@@ -79,20 +80,20 @@ module _ (publications : ℕ) where
 
   broken_here : (begun : Bool) (last : Option ℕ) (next : ℕ) (one : List (List ℕ)) (rest : Records)
       → is_broken one ≡ true
-      → first_fault_at publications begun last next (one ∷ rest) ≡ Some (broken_fault begun next)
-  broken_here true last next one rest e = rw (no_row one e) refl
+      → first_fault_at moments begun last next (one ∷ rest) ≡ Some (broken_fault begun next)
+  broken_here true last next one rest e = rw (no_row moments one e) refl
   broken_here false last next one rest e = rw (no_header one e) refl
 
   abbrev fault_with : Place → Records → Option TraceFault
-  fault_with place front = option_or (piece_fault publications place front)
+  fault_with place front = option_or (piece_fault moments place front)
       (Some (broken_fault (has_begun place.begun front) (place.next + length (row_records place.begun front))))
 
   -- a broken record has the same fault, however it goes on
   pub broken_in_turn : (place : Place) (front : Records) (one : List (List ℕ)) (rest : Records)
-      → is_broken one ≡ true → piece_fault publications place (front ++ one ∷ rest) ≡ fault_with place front
+      → is_broken one ≡ true → piece_fault moments place (front ++ one ∷ rest) ≡ fault_with place front
   broken_in_turn place front one rest e = in_turn place.last place.next place.begun front (one ∷ rest)
-      ∙ ap (option_or (piece_fault publications place front)) (broken_here (has_begun place.begun front)
-      (last_after place.last (row_records place.begun front))
+      ∙ ap (option_or (piece_fault moments place front)) (broken_here (has_begun place.begun front)
+      (last_after moments place.last (row_records place.begun front))
       (place.next + length (row_records place.begun front)) one rest e)
 
   some_or : (x : Option TraceFault) (fault : TraceFault) → option_or x (Some fault) ≡ None → ⊥
@@ -102,27 +103,27 @@ module _ (publications : ℕ) where
   -- ---- a piece that ends at a line's end
 
   module _ (place : Place) (bytes : List ℕ) (e : ℕ) (ends : is_line_end e ≡ true) where
-    pub apart : piece_fault publications place (records_of (bytes ++ e ∷ [])) ≡ None → IsApart bytes e
+    pub apart : piece_fault moments place (records_of (bytes ++ e ∷ [])) ≡ None → IsApart bytes e
     apart fine = elim (cut_in_two bytes e ends) [
       | inl in_two ↦ in_two
       | inr (front, goes_on) ↦
           let (one, rest, are, broken) = goes_on [] in
-          absurd (some_or (piece_fault publications place front) _
-          (sym (ap (piece_fault publications place) are ∙ broken_in_turn place front one rest broken) ∙ fine))
+          absurd (some_or (piece_fault moments place front) _
+          (sym (ap (piece_fault moments place) are ∙ broken_in_turn place front one rest broken) ∙ fine))
     ]
 
-    pub fault_stays : (fault : TraceFault) → piece_fault publications place (records_of (bytes ++ e ∷ [])) ≡ Some fault
-        → (more : List ℕ) → piece_fault publications place (records_of (bytes ++ e ∷ more)) ≡ Some fault
+    pub fault_stays : (fault : TraceFault) → piece_fault moments place (records_of (bytes ++ e ∷ [])) ≡ Some fault
+        → (more : List ℕ) → piece_fault moments place (records_of (bytes ++ e ∷ more)) ≡ Some fault
     fault_stays fault found more = elim (cut_in_two bytes e ends) [
-      | inl in_two ↦ ap (piece_fault publications place) (in_two more)
+      | inl in_two ↦ ap (piece_fault moments place) (in_two more)
           ∙ in_turn place.last place.next place.begun (records_of (bytes ++ e ∷ [])) (records_of (e ∷ more))
           ∙ ap (λ (x : Option TraceFault). option_or x (next_fault place.last place.next place.begun
           (records_of (bytes ++ e ∷ [])) (records_of (e ∷ more)))) found
       | inr (front, goes_on) ↦
           let (one, rest, are, broken) = goes_on [] in
           let (other, others, are_now, is_broken) = goes_on more in
-          ap (piece_fault publications place) are_now ∙ broken_in_turn place front other others is_broken
-          ∙ sym (ap (piece_fault publications place) are ∙ broken_in_turn place front one rest broken) ∙ found
+          ap (piece_fault moments place) are_now ∙ broken_in_turn place front other others is_broken
+          ∙ sym (ap (piece_fault moments place) are ∙ broken_in_turn place front one rest broken) ∙ found
     ]
 
 -- ---- places
@@ -139,10 +140,10 @@ begun_apart true records more = refl
 begun_apart false [] more = refl
 begun_apart false (header ∷ rows) more = refl
 
-last_apart : (rows more : Records) (last : Option ℕ)
-    → last_after last (rows ++ more) ≡ last_after (last_after last rows) more
-last_apart [] more last = refl
-last_apart (row ∷ rows) more last = last_apart rows more (after_of (row_of_record row))
+last_apart : (moments : KnownMoments) (rows more : Records) (last : Option ℕ)
+    → last_after moments last (rows ++ more) ≡ last_after moments (last_after moments last rows) more
+last_apart moments [] more last = refl
+last_apart moments (row ∷ rows) more last = last_apart moments rows more (after_of (row_of_record moments row))
 
 -- ---- the first place that passes
 
@@ -178,35 +179,36 @@ module _ {X : Type 0} (test : X → Bool) where
           later ∙ ap (λ (n : ℕ). position_from test n xs) number
 
 -- where records stand that follow on records
-pub places_in_turn : (place : Place) (records more : Records)
-    → place_behind place (records ++ more) ≡ place_behind (place_behind place records) more
-places_in_turn place records more =
+pub places_in_turn : (moments : KnownMoments) (place : Place) (records more : Records)
+    → place_behind moments place (records ++ more) ≡ place_behind moments (place_behind moments place records) more
+places_in_turn moments place records more =
+    let is_bare = is_bare_record moments in
     let begun = has_begun place.begun records in
     let rows = row_records place.begun records in
     let later = row_records begun more in
     let all : row_records place.begun (records ++ more) ≡ rows ++ later = rows_apart place.begun records more in
     let number : place.next + length (rows ++ later) ≡ place.next + length rows + length later =
     let many = length-append rows later in omega arith in
-    let bare : option_or place.bare (position_from is_bare_record place.next (rows ++ later))
-    ≡ option_or (option_or place.bare (position_from is_bare_record place.next rows))
-    (position_from is_bare_record (place.next + length rows) later) =
-    ap (option_or place.bare) (position_apart is_bare_record rows later place.next) ∙ or_assoc place.bare _ _ in
+    let bare : option_or place.bare (position_from is_bare place.next (rows ++ later))
+    ≡ option_or (option_or place.bare (position_from is_bare place.next rows))
+    (position_from is_bare (place.next + length rows) later) =
+    ap (option_or place.bare) (position_apart is_bare rows later place.next) ∙ or_assoc place.bare _ _ in
     (λ i. record {
       begun = begun_apart place.begun records more i;
-      last = last_after place.last (all i);
+      last = last_after moments place.last (all i);
       next = place.next + length (all i);
-      bare = option_or place.bare (position_from is_bare_record place.next (all i));
+      bare = option_or place.bare (position_from is_bare place.next (all i));
     })
     ∙ (λ i. record {
       begun = has_begun begun more;
-      last = last_apart rows later place.last i;
+      last = last_apart moments rows later place.last i;
       next = number i;
       bare = bare i;
     })
 
-pub rows_in_two : (begun : Bool) (records more : Records)
-    → filter_map row_of_record (row_records begun (records ++ more))
-    ≡ filter_map row_of_record (row_records begun records)
-    ++ filter_map row_of_record (row_records (has_begun begun records) more)
-rows_in_two begun records more = ap (filter_map row_of_record) (rows_apart begun records more)
-    ∙ filter_map-append row_of_record (row_records begun records) (row_records (has_begun begun records) more)
+pub rows_in_two : (moments : KnownMoments) (begun : Bool) (records more : Records)
+    → filter_map (row_of_record moments) (row_records begun (records ++ more))
+    ≡ filter_map (row_of_record moments) (row_records begun records)
+    ++ filter_map (row_of_record moments) (row_records (has_begun begun records) more)
+rows_in_two moments begun records more = ap (filter_map (row_of_record moments)) (rows_apart begun records more)
+    ∙ filter_map-append (row_of_record moments) (row_records begun records) (row_records (has_begun begun records) more)

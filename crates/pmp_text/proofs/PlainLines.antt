@@ -8,6 +8,7 @@ use Rattle.csv.specs.Machine.{next_record}
 use Rattle.csv.specs.Reading.{default_config, records, strip_bom}
 use Rattle.csv.specs.Writing.{default_writer, fields_text, is_blank, needs_quotes, row_text}
 use Rattle.csv.proofs.RoundTrip.{read-write-many}
+use Rattle.pmp_text.specs.Moments.{KnownMoments}
 use Rattle.pmp_text.specs.Tables.{is_broken, is_line_end, records_of}
 use Rattle.pmp_text.specs.Steps.Views.{five_words}
 use Rattle.pmp_text.specs.Traces.{FiveFields, five_fields, is_header, row_in, row_of_fields}
@@ -96,7 +97,7 @@ header_line tail = (
 
 -- ---- what the words of a line say
 
-pub line_says : (words : FiveFields) → is_broken (five_words words) ≡ false
-    → row_in (five_words words) ≡ row_of_fields words
+pub line_says : (moments : KnownMoments) (words : FiveFields) → is_broken (five_words words) ≡ false
+    → row_in moments (five_words words) ≡ row_of_fields moments words
 unfolding five_fields
-line_says words whole = rw whole refl
+line_says moments words whole = rw whole refl

@@ -57,10 +57,10 @@ module _ {X : Type 0} (is_header : List (List ℕ) → Bool) (meaning : List (Li
 
 -- ---- of a trace, and of a policy
 
-pub trace_is : (publications : ℕ) (text : List ℕ) → trace_meaning publications text
-    ≡ within_limit (behind_header is_header (rows_meaning publications)) text
+pub trace_is : (moments : KnownMoments) (text : List ℕ) → trace_meaning moments text
+    ≡ within_limit (behind_header is_header (rows_meaning moments)) text
 unfolding trace_meaning
-trace_is publications text = refl
+trace_is moments text = refl
 
 pub policy_is : (moments : KnownMoments) (text : List ℕ) → policy_meaning moments text
     ≡ within_limit (behind_header is_policy_header (policy_rows_meaning (is_labeled (records_of text)) moments)) text

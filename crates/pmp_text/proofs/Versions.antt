@@ -214,7 +214,7 @@ of_size size all = record {
   batches = all.published.batches;
   lines = all.published.lines;
   expectations = all.expectations;
-  marks = all.marks;
+  marks = None;
 }
 
 -- what was read of a script of version 1

@@ -1,6 +1,6 @@
 -- A piece of a trace that is the whole of it.
 use Rattle.std.proofs.Common.{◌≡◌, ◌⊎◌, ℕ, ◌+◌, ◌^◌, ◌<◌, ◌≤◌, Bool, true, false, cond, List, [], ◌∷◌, ◌++◌, length, map}
-use Rattle.std.proofs.Common.{Option, Some, None, Ok, Err, refl, sym, ap, ◌∙◌, inl, inr, arith, append_assoc}
+use Rattle.std.proofs.Common.{Option, Some, None, Ok, Err, refl, sym, ap, subst, ◌∙◌, inl, inr, arith, append_assoc}
 use Rattle.std.proofs.Common.{append-nil}
 use Rattle.std.proofs.lemmas.List.{map-append}
 use Rattle.std.specs.Prelude.{filter_map}
@@ -12,6 +12,7 @@ use Rattle.pmp_text.specs.declared.trace.reader.TheConstants.{MAX_TRACE}
 use Rattle.pmp_text.specs.Flaws.{as_whole, at_row}
 use Rattle.pmp_text.specs.LongTraces.{Records, beginning, has_begun, long_meaning, long_rows_meaning}
 use Rattle.pmp_text.specs.LongTraces.{piece_fault, row_records, too_long_for_rows}
+use Rattle.pmp_text.specs.Moments.{KnownMoments}
 use Rattle.pmp_text.specs.Outcomes.{no_input_for_rows, no_memory_for_rows}
 use Rattle.pmp_text.specs.RowsLeft.{IsNextRow, RowsLeft}
 use Rattle.pmp_text.specs.Tables.{fault_or_rows, records_of}
@@ -22,29 +23,29 @@ use Rattle.pmp_text.proofs.CutTexts.{few_records}
 use Rattle.pmp_text.proofs.Rows.{by_records, trace_is}
 
 -- the first fault of all records is what they mean
-pub faulty_records : (publications first : ℕ) (records : Records) (fault : TraceFault)
-    → piece_fault publications (beginning first) records ≡ Some fault
-    → long_meaning publications first records ≡ Err fault
-faulty_records publications first [] fault e = absurd cc
-faulty_records publications first (header ∷ rows) fault e = by (is_header header) e
+pub faulty_records : (moments : KnownMoments) (first : ℕ) (records : Records) (fault : TraceFault)
+    → piece_fault moments (beginning first) records ≡ Some fault
+    → long_meaning moments first records ≡ Err fault
+faulty_records moments first [] fault e = absurd cc
+faulty_records moments first (header ∷ rows) fault e = by (is_header header) e
   where
     by : (named : Bool)
-        → cond named (first_row_fault publications None first rows) (Some (at_row 0 (as_whole BadHeader))) ≡ Some fault
-        → cond named (long_rows_meaning publications first rows) (Err (at_row 0 (as_whole BadHeader))) ≡ Err fault
-    by true e = ap (λ (f : Option TraceFault). fault_or_rows f (filter_map row_of_record rows)) e
+        → cond named (first_row_fault moments None first rows) (Some (at_row 0 (as_whole BadHeader))) ≡ Some fault
+        → cond named (long_rows_meaning moments first rows) (Err (at_row 0 (as_whole BadHeader))) ≡ Err fault
+    by true e = ap (λ (f : Option TraceFault). fault_or_rows f (filter_map (row_of_record moments) rows)) e
     by false e = let same : at_row 0 (as_whole BadHeader) ≡ fault = cc in ap Err same
 
-pub fine_records : (publications first : ℕ) (records : Records)
-    → piece_fault publications (beginning first) records ≡ None → has_begun false records ≡ true
-    → long_meaning publications first records ≡ Ok (filter_map row_of_record (row_records false records))
-fine_records publications first [] e begun = absurd cc
-fine_records publications first (header ∷ rows) e begun = by (is_header header) e
+pub fine_records : (moments : KnownMoments) (first : ℕ) (records : Records)
+    → piece_fault moments (beginning first) records ≡ None → has_begun false records ≡ true
+    → long_meaning moments first records ≡ Ok (filter_map (row_of_record moments) (row_records false records))
+fine_records moments first [] e begun = absurd cc
+fine_records moments first (header ∷ rows) e begun = by (is_header header) e
   where
     by : (named : Bool)
-        → cond named (first_row_fault publications None first rows) (Some (at_row 0 (as_whole BadHeader))) ≡ None
-        → cond named (long_rows_meaning publications first rows) (Err (at_row 0 (as_whole BadHeader)))
-        ≡ Ok (filter_map row_of_record rows)
-    by true e = ap (λ (f : Option TraceFault). fault_or_rows f (filter_map row_of_record rows)) e
+        → cond named (first_row_fault moments None first rows) (Some (at_row 0 (as_whole BadHeader))) ≡ None
+        → cond named (long_rows_meaning moments first rows) (Err (at_row 0 (as_whole BadHeader)))
+        ≡ Ok (filter_map (row_of_record moments) rows)
+    by true e = ap (λ (f : Option TraceFault). fault_or_rows f (filter_map (row_of_record moments) rows)) e
     by false e = absurd cc
 
 pub no_records : (records : Records) → has_begun false records ≡ false → records ≡ []
@@ -57,39 +58,43 @@ fewer_rows false [] = omega arith
 fewer_rows false (header ∷ rows) = omega arith
 
 -- these rows were read of some records, and these are left
-pub record ReadSoFar (publications first : ℕ) (all : Records) (rows : List Row) (left : RowsLeft) : Type 0 where
-  pub same : left.publications ≡ publications
-  pub fault : first_row_fault publications None first all
-      ≡ first_row_fault publications left.place.last left.place.next left.records
-  pub said : filter_map row_of_record all ≡ map row_fields rows ++ filter_map row_of_record left.records
+pub record ReadSoFar (moments : KnownMoments) (first : ℕ) (all : Records) (rows : List Row) (left : RowsLeft) : Type 0 where
+  pub same : left.moments ≡ moments
+  pub fault : first_row_fault moments None first all
+      ≡ first_row_fault moments left.place.last left.place.next left.records
+  pub said : filter_map (row_of_record moments) all ≡ map row_fields rows ++ filter_map (row_of_record moments) left.records
   pub count : first + length all ≡ left.place.next + length left.records
 
 pub none_read : (left : RowsLeft) → left.place.last ≡ None
-    → ReadSoFar left.publications left.place.next left.records [] left
+    → ReadSoFar left.moments left.place.next left.records [] left
 none_read left first = record {
   same = refl;
-  fault = ap (λ (last : Option ℕ). first_row_fault left.publications last left.place.next left.records) (sym first);
+  fault = ap (λ (last : Option ℕ). first_row_fault left.moments last left.place.next left.records) (sym first);
   said = refl;
   count = refl;
 }
 
-pub one_row_more : (publications first : ℕ) (all : Records) (rows : List Row) (before after : RowsLeft) (row : Row)
-    → ReadSoFar publications first all rows before → IsNextRow before row after
-    → ReadSoFar publications first all (rows ++ row ∷ []) after
-one_row_more publications first all rows before after row read is =
-    let here = first_row_fault publications before.place.last before.place.next in
-    let fine : row_fault publications before.place.last (row_in is.fields) ≡ None = rw read.same at is.fine in
+pub one_row_more : (moments : KnownMoments) (first : ℕ) (all : Records) (rows : List Row) (before after : RowsLeft) (row : Row)
+    → ReadSoFar moments first all rows before → IsNextRow before row after
+    → ReadSoFar moments first all (rows ++ row ∷ []) after
+one_row_more moments first all rows before after row read is =
+    let here = first_row_fault moments before.place.last before.place.next in
+    let fine : row_fault moments.publications before.place.last (row_in moments is.fields) ≡ None =
+    subst (λ (m : KnownMoments). row_fault m.publications before.place.last (row_in m is.fields) ≡ None) read.same is.fine
+    in
+    let said : row_in moments is.fields ≡ Ok (row_fields row) =
+    subst (λ (m : KnownMoments). row_in m is.fields ≡ Ok (row_fields row)) read.same is.said in
     let later : here (is.fields ∷ after.records)
-    ≡ first_row_fault publications (Some row.after) (before.place.next + 1) after.records =
-    rw (fine, is.said) refl in
-    let others = filter_map row_of_record after.records in
-    let row_said : filter_map row_of_record (is.fields ∷ after.records) ≡ row_fields row ∷ others =
-    rw is.said refl in
+    ≡ first_row_fault moments (Some row.after) (before.place.next + 1) after.records =
+    rw (fine, said) refl in
+    let others = filter_map (row_of_record moments) after.records in
+    let row_said : filter_map (row_of_record moments) (is.fields ∷ after.records) ≡ row_fields row ∷ others =
+    rw said refl in
     record {
-      same = is.publications ∙ read.same;
+      same = is.moments ∙ read.same;
       fault = read.fault ∙ ap here is.next ∙ later
-          ∙ ap (λ (p : Place). first_row_fault publications p.last p.next after.records) (sym is.place);
-      said = read.said ∙ ap (λ (l : Records). map row_fields rows ++ filter_map row_of_record l) is.next
+          ∙ ap (λ (p : Place). first_row_fault moments p.last p.next after.records) (sym is.place);
+      said = read.said ∙ ap (λ (l : Records). map row_fields rows ++ filter_map (row_of_record moments) l) is.next
           ∙ ap (λ (l : List RowFields). map row_fields rows ++ l) row_said
           ∙ sym (ap (λ (l : List RowFields). l ++ others) (map-append row_fields rows (row ∷ []))
           ∙ append_assoc (map row_fields rows) (row_fields row ∷ []) others);
@@ -101,24 +106,24 @@ one_row_more publications first all rows before after row read is =
     }
 
 -- the rows are read to their end, or to a fault
-module _ (publications first : ℕ) (all : Records) (numbered : first + length all < 2 ^ 64) (rows : List Row)
-    (left : RowsLeft) (read : ReadSoFar publications first all rows left) where
-  pub with_rows : left.records ≡ [] → long_rows_meaning publications first all ≡ Ok (map row_fields rows)
+module _ (moments : KnownMoments) (first : ℕ) (all : Records) (numbered : first + length all < 2 ^ 64) (rows : List Row)
+    (left : RowsLeft) (read : ReadSoFar moments first all rows left) where
+  pub with_rows : left.records ≡ [] → long_rows_meaning moments first all ≡ Ok (map row_fields rows)
   with_rows none =
-      let fine = read.fault ∙ ap (first_row_fault publications left.place.last left.place.next) none in
-      let said = read.said ∙ ap (λ (l : Records). map row_fields rows ++ filter_map row_of_record l) none
+      let fine = read.fault ∙ ap (first_row_fault moments left.place.last left.place.next) none in
+      let said = read.said ∙ ap (λ (l : Records). map row_fields rows ++ filter_map (row_of_record moments) l) none
       ∙ append-nil (map row_fields rows) in
-      ap (λ (f : Option TraceFault). fault_or_rows f (filter_map row_of_record all)) fine ∙ ap Ok said
+      ap (λ (f : Option TraceFault). fault_or_rows f (filter_map (row_of_record moments) all)) fine ∙ ap Ok said
 
   pub not_read : (fault : TraceFault)
-      → (first_row_fault left.publications left.place.last left.place.next left.records ≡ Some fault)
+      → (first_row_fault left.moments left.place.last left.place.next left.records ≡ Some fault)
       ⊎ (fault ≡ no_memory_for_rows) ⊎ (fault ≡ no_input_for_rows)
       ⊎ ((fault ≡ too_long_for_rows) × (2 ^ 64 ≤ left.place.next + length left.records))
-      → (long_rows_meaning publications first all ≡ Err fault) ⊎ (fault ≡ no_memory_for_rows)
+      → (long_rows_meaning moments first all ≡ Err fault) ⊎ (fault ≡ no_memory_for_rows)
       ⊎ (fault ≡ no_input_for_rows)
   not_read fault (inl e) =
       let found = read.fault ∙ rw read.same at e in
-      inl (ap (λ (f : Option TraceFault). fault_or_rows f (filter_map row_of_record all)) found)
+      inl (ap (λ (f : Option TraceFault). fault_or_rows f (filter_map (row_of_record moments) all)) found)
   not_read fault (inr (inl memory)) = inr (inl memory)
   not_read fault (inr (inr (inl input))) = inr (inr input)
   not_read fault (inr (inr (inr (long, many)))) =
@@ -126,24 +131,24 @@ module _ (publications first : ℕ) (all : Records) (numbered : first + length a
       absurd (omega arith)
 
 -- the rows behind a header mean what the records do
-behind_is : (publications first : ℕ) (records : Records) → has_begun false records ≡ true
-    → piece_fault publications (beginning first) records
-    ≡ first_row_fault publications None first (row_records false records)
-    → long_meaning publications first records ≡ long_rows_meaning publications first (row_records false records)
-behind_is publications first [] begun opened = absurd cc
-behind_is publications first (header ∷ rows) begun opened = by (is_header header) opened
+behind_is : (moments : KnownMoments) (first : ℕ) (records : Records) → has_begun false records ≡ true
+    → piece_fault moments (beginning first) records
+    ≡ first_row_fault moments None first (row_records false records)
+    → long_meaning moments first records ≡ long_rows_meaning moments first (row_records false records)
+behind_is moments first [] begun opened = absurd cc
+behind_is moments first (header ∷ rows) begun opened = by (is_header header) opened
   where
     by : (named : Bool)
-        → cond named (first_row_fault publications None first rows) (Some (at_row 0 (as_whole BadHeader)))
-        ≡ first_row_fault publications None first rows
-        → cond named (long_rows_meaning publications first rows) (Err (at_row 0 (as_whole BadHeader)))
-        ≡ long_rows_meaning publications first rows
+        → cond named (first_row_fault moments None first rows) (Some (at_row 0 (as_whole BadHeader)))
+        ≡ first_row_fault moments None first rows
+        → cond named (long_rows_meaning moments first rows) (Err (at_row 0 (as_whole BadHeader)))
+        ≡ long_rows_meaning moments first rows
     by true e = refl
-    by false e = ap (λ (f : Option TraceFault). fault_or_rows f (filter_map row_of_record rows)) e
+    by false e = ap (λ (f : Option TraceFault). fault_or_rows f (filter_map (row_of_record moments) rows)) e
 
-module _ (publications : ℕ) (text : List ℕ) (short : length text ≤ MAX_TRACE) where
-  pub meaning_is : trace_meaning publications text ≡ long_meaning publications 1 (records_of text)
-  meaning_is = trace_is publications text ∙ by_records is_header (rows_meaning publications) text short
+module _ (moments : KnownMoments) (text : List ℕ) (short : length text ≤ MAX_TRACE) where
+  pub meaning_is : trace_meaning moments text ≡ long_meaning moments 1 (records_of text)
+  meaning_is = trace_is moments text ∙ by_records is_header (rows_meaning moments) text short
 
   abbrev all : Records
   all = records_of text
@@ -152,16 +157,16 @@ module _ (publications : ℕ) (text : List ℕ) (short : length text ≤ MAX_TRA
   rows_behind_header = row_records false all
 
   pub without_header : has_begun false all ≡ false
-      → trace_meaning publications text ≡ Err (at_row 0 (as_whole BadHeader))
-  without_header begun = meaning_is ∙ ap (long_meaning publications 1) (no_records all begun)
+      → trace_meaning moments text ≡ Err (at_row 0 (as_whole BadHeader))
+  without_header begun = meaning_is ∙ ap (long_meaning moments 1) (no_records all begun)
 
-  pub found : (fault : TraceFault) → piece_fault publications (beginning 1) all ≡ Some fault
-      → trace_meaning publications text ≡ Err fault
-  found fault e = meaning_is ∙ faulty_records publications 1 all fault e
+  pub found : (fault : TraceFault) → piece_fault moments (beginning 1) all ≡ Some fault
+      → trace_meaning moments text ≡ Err fault
+  found fault e = meaning_is ∙ faulty_records moments 1 all fault e
 
-  pub not_opened : (fault : TraceFault) → (piece_fault publications (beginning 1) all ≡ Some fault)
+  pub not_opened : (fault : TraceFault) → (piece_fault moments (beginning 1) all ≡ Some fault)
       ⊎ (fault ≡ no_memory_for_rows) ⊎ (fault ≡ no_input_for_rows)
-      → (trace_meaning publications text ≡ Err fault) ⊎ (fault ≡ no_memory_for_rows) ⊎ (fault ≡ no_input_for_rows)
+      → (trace_meaning moments text ≡ Err fault) ⊎ (fault ≡ no_memory_for_rows) ⊎ (fault ≡ no_input_for_rows)
   not_opened fault (inl e) = inl (found fault e)
   not_opened fault (inr refused) = inr refused
 
@@ -174,6 +179,6 @@ module _ (publications : ℕ) (text : List ℕ) (short : length text ≤ MAX_TRA
       omega arith
 
   pub behind_header : has_begun false all ≡ true
-      → piece_fault publications (beginning 1) all ≡ first_row_fault publications None 1 rows_behind_header
-      → trace_meaning publications text ≡ long_rows_meaning publications 1 rows_behind_header
-  behind_header begun opened = meaning_is ∙ behind_is publications 1 all begun opened
+      → piece_fault moments (beginning 1) all ≡ first_row_fault moments None 1 rows_behind_header
+      → trace_meaning moments text ≡ long_rows_meaning moments 1 rows_behind_header
+  behind_header begun opened = meaning_is ∙ behind_is moments 1 all begun opened

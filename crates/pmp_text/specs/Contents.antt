@@ -1,5 +1,5 @@
 -- What contracts see of a script.
-use Rattle.std.specs.Prelude.{ℕ, List}
+use Rattle.std.specs.Prelude.{ℕ, List, Option}
 use Rattle.pmp_core.specs.declared.event.Event.{Event}
 use Rattle.pmp_core.specs.declared.size.Size.{Size}
 use Rattle.pmp_core.specs.RegisterFile.{RegisterFile}
@@ -12,11 +12,11 @@ pub record Publications : Type 0 where
   pub lines : List (List ℕ)
 
 -- the size of the unit that it is for, the register file before the first event, its publications, the lines of their
--- events, what it expects of registers, and the moments that it names
+-- events, what it expects of registers, and the moments that it names, where its version names any
 pub record ScriptContents : Type 0 where
   pub size : Size
   pub start : RegisterFile
   pub batches : List (List Event)
   pub lines : List (List ℕ)
   pub expectations : List Expectation
-  pub marks : List Mark
+  pub marks : Option (List Mark)

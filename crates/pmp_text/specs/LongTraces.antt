@@ -11,6 +11,7 @@ use Rattle.pmp_text.specs.declared.refusal.Refusal.TheVariants.{BadHeader, TooLo
 use Rattle.pmp_text.specs.declared.trace.rows.Place.{Place}
 use Rattle.pmp_text.specs.declared.trace.row_fields.RowFields.{RowFields}
 use Rattle.pmp_text.specs.Contents.{ScriptContents}
+use Rattle.pmp_text.specs.Moments.{KnownMoments, moments_in}
 use Rattle.pmp_text.specs.Reports.{AreDecided, report_row}
 use Rattle.pmp_text.specs.Tables.{behind_header, fault_or_rows, is_line_end}
 use Rattle.pmp_text.specs.Traces.{after_of, first_row_fault, is_header, row_fields, row_of_record}
@@ -22,13 +23,13 @@ Records = List (List (List ℕ))
 -- ---- the whole
 
 -- what the rows of a trace mean, numbered from `first`
-abbrev pub long_rows_meaning : (publications first : ℕ) → Records → Result (List RowFields) TraceFault
-long_rows_meaning publications first rows =
-    fault_or_rows (first_row_fault publications None first rows) (filter_map row_of_record rows)
+abbrev pub long_rows_meaning : KnownMoments → (first : ℕ) → Records → Result (List RowFields) TraceFault
+long_rows_meaning moments first rows =
+    fault_or_rows (first_row_fault moments None first rows) (filter_map (row_of_record moments) rows)
 
 -- what the records of a trace mean, of any number of bytes: as those of a text within the limit, numbered from 1
-abbrev pub long_meaning : (publications first : ℕ) → Records → Result (List RowFields) TraceFault
-long_meaning publications first = behind_header is_header (long_rows_meaning publications first)
+abbrev pub long_meaning : KnownMoments → (first : ℕ) → Records → Result (List RowFields) TraceFault
+long_meaning moments first = behind_header is_header (long_rows_meaning moments first)
 
 -- a report row for each decision, numbered from `first`
 unfoldable pub report_text_from : (first : ℕ) → List Row → List Decision → List ℕ
@@ -39,7 +40,7 @@ report_text_from first rows decisions = flat_map (λ (number, (row, decision)). 
 pub record IsReportOf (script : ScriptContents) (first : ℕ) (records : Records) (text : List ℕ) : Type 0 where
   pub rows : List Row
   pub decisions : List Decision
-  pub records_mean : long_meaning (length script.batches) first records ≡ Ok (map row_fields rows)
+  pub records_mean : long_meaning (moments_in script) first records ≡ Ok (map row_fields rows)
   pub decided : AreDecided script rows decisions
   pub report : text ≡ report_text_from first rows decisions
 
@@ -65,42 +66,42 @@ has_begun false [] = false
 has_begun false (header ∷ rows) = true
 
 -- how many publications the last of these rows asks for; where there is none, that is `last`
-abbrev pub last_after : (last : Option ℕ) → Records → Option ℕ
-last_after last [] = last
-last_after last (row ∷ more) = last_after (after_of (row_of_record row)) more
+abbrev pub last_after : KnownMoments → (last : Option ℕ) → Records → Option ℕ
+last_after moments last [] = last
+last_after moments last (row ∷ more) = last_after moments (after_of (row_of_record moments row)) more
 
 -- the record is a row, and its start is bare
-abbrev pub is_bare_record : List (List ℕ) → Bool
-is_bare_record fields = elim (row_of_record fields) [ Some row ↦ row.is_bare | None ↦ false ]
+abbrev pub is_bare_record : KnownMoments → List (List ℕ) → Bool
+is_bare_record moments fields = elim (row_of_record moments fields) [ Some row ↦ row.is_bare | None ↦ false ]
 
 -- where the records stand that follow on rows
-abbrev pub rows_behind : Place → Records → Place
-rows_behind place rows = record {
+abbrev pub rows_behind : KnownMoments → Place → Records → Place
+rows_behind moments place rows = record {
   begun = true;
-  last = last_after place.last rows;
+  last = last_after moments place.last rows;
   next = place.next + length rows;
-  bare = option_or place.bare (position_from is_bare_record place.next rows);
+  bare = option_or place.bare (position_from (is_bare_record moments) place.next rows);
 }
 
 -- where the records stand that follow on these
-abbrev pub place_behind : Place → Records → Place
-place_behind place records = record {
+abbrev pub place_behind : KnownMoments → Place → Records → Place
+place_behind moments place records = record {
   begun = has_begun place.begun records;
-  last = last_after place.last (row_records place.begun records);
+  last = last_after moments place.last (row_records place.begun records);
   next = place.next + length (row_records place.begun records);
-  bare = option_or place.bare (position_from is_bare_record place.next (row_records place.begun records));
+  bare = option_or place.bare (position_from (is_bare_record moments) place.next (row_records place.begun records));
 }
 
 -- the first fault of records that stand there; of no header only the end of a trace tells
-abbrev pub first_fault_at : (publications : ℕ) → (begun : Bool) → (last : Option ℕ) → (next : ℕ) → Records
+abbrev pub first_fault_at : KnownMoments → (begun : Bool) → (last : Option ℕ) → (next : ℕ) → Records
     → Option TraceFault
-first_fault_at publications true last next rows = first_row_fault publications last next rows
-first_fault_at publications false last next [] = None
-first_fault_at publications false last next (header ∷ rows) =
-    if is_header header then first_row_fault publications last next rows else Some (at_row 0 (as_whole BadHeader))
+first_fault_at moments true last next rows = first_row_fault moments last next rows
+first_fault_at moments false last next [] = None
+first_fault_at moments false last next (header ∷ rows) =
+    if is_header header then first_row_fault moments last next rows else Some (at_row 0 (as_whole BadHeader))
 
-abbrev pub piece_fault : (publications : ℕ) → Place → Records → Option TraceFault
-piece_fault publications place = first_fault_at publications place.begun place.last place.next
+abbrev pub piece_fault : KnownMoments → Place → Records → Option TraceFault
+piece_fault moments place = first_fault_at moments place.begun place.last place.next
 
 -- where a trace begins whose first row has this number
 abbrev pub beginning : (first : ℕ) → Place

@@ -1,7 +1,7 @@
 -- The names that a script gives its moments.
-use Rattle.std.specs.Prelude.{ℕ, List, [], ◌∷◌, ◌++◌, length, drop, replicate, Bool, true, false, ◌&&◌, ◌||◌, ◌==◌, not}
-use Rattle.std.specs.Prelude.{Option, Some, None, nat_le, codes, bytes_eq, slice_index, if◌then◌else◌}
-use Rattle.std.specs.List.{list_all, list_any}
+use Rattle.std.specs.Prelude.{ℕ, List, [], ◌∷◌, ◌++◌, length, drop, take, replicate, Bool, true, false, ◌&&◌, ◌||◌, ◌==◌, not}
+use Rattle.std.specs.Prelude.{Option, Some, None, unwrap_or, nat_le, codes, bytes_eq, slice_index, if◌then◌else◌}
+use Rattle.std.specs.List.{list_all, list_any, position_from}
 use Rattle.pmp_text.specs.declared.mark.Mark.{Mark}
 use Rattle.pmp_text.specs.declared.mark.Name.{Name}
 use Rattle.pmp_text.specs.declared.mark.TheConstants.{NAME_BYTES}
@@ -31,6 +31,13 @@ is_name word = begins_with_letter word
 abbrev pub name_said : List ℕ → Option Name
 name_said word =
     if is_name word then Some (record { bytes = word ++ drop (length word) (replicate NAME_BYTES 0) }) else None
+
+abbrev pub zero_place : List ℕ → Option ℕ
+zero_place bytes = position_from (λ byte. byte == 0) 0 bytes
+
+-- a name's bytes, without the zeros behind it
+abbrev pub name_bytes : Name → List ℕ
+name_bytes name = take (unwrap_or (zero_place name.bytes) NAME_BYTES) name.bytes
 
 abbrev pub same_name : Name → Name → Bool
 same_name name other = bytes_eq name.bytes other.bytes

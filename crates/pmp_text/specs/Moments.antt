@@ -1,24 +1,59 @@
--- The moments of a script, each of them how many publications are done, as the words of a policy say them.
+-- The moments of a script, each of them how many publications are done, as words say them.
 use Rattle.std.specs.Prelude.{ℕ, ◌-◌, List, [], ◌∷◌, length, take, drop, Bool, true, false, ◌&&◌, ◌||◌, Option, Some, None, Result, Ok, Err}
 use Rattle.std.specs.Prelude.{find, option_map, nat_le, nat_lt, codes, bytes_eq, if◌then◌else◌}
 use Rattle.pmp_text.specs.declared.moments.Asked.{Asked}
 use Rattle.pmp_text.specs.declared.moments.Coming.TheVariants as coming
+use Rattle.pmp_text.specs.declared.moments.Label.{Label}
+use Rattle.pmp_text.specs.declared.moments.Label.TheVariants.{Last, Mml, Mmwp, RlbClear, Marked}
 use Rattle.pmp_text.specs.declared.moments.Lasting.{Lasting}
 use Rattle.pmp_text.specs.declared.moments.Moment.{Moment}
 use Rattle.pmp_text.specs.declared.moments.Moment.TheVariants.{Named, Numbered}
+use Rattle.pmp_text.specs.declared.moments.When.{When}
+use Rattle.pmp_text.specs.declared.moments.When.TheVariants.{Number, Labelled}
 use Rattle.pmp_text.specs.declared.mark.Mark.{Mark}
 use Rattle.pmp_text.specs.declared.mark.Name.{Name}
 use Rattle.pmp_text.specs.declared.refusal.Refusal.{Refusal}
 use Rattle.pmp_text.specs.declared.refusal.Refusal.TheVariants.{BadRow, NoMoment}
+use Rattle.pmp_text.specs.Contents.{ScriptContents}
 use Rattle.pmp_text.specs.Marks.{name_said, same_name}
 use Rattle.pmp_text.specs.Numbers.{word_number}
 
--- how many publications a script has, from when on its bits of mseccfg hold to the end, where words may say that, and
--- the moments that it names
+-- how many publications a script has, the moments that it names, where its version names any, and from when on its bits
+-- of mseccfg hold to the end, where words may say that
 pub record KnownMoments : Type 0 where
   pub publications : ℕ
+  pub marks : Option (List Mark)
   pub lasting : Option Lasting
-  pub marks : List Mark
+
+-- those that the script's own text tells
+abbrev pub moments_in : ScriptContents → KnownMoments
+moments_in script = record { publications = length script.batches; marks = script.marks; lasting = None }
+
+-- those of a script whose version names none
+abbrev pub unnamed_moments : (publications : ℕ) → KnownMoments
+unnamed_moments publications = record { publications = publications; marks = None; lasting = None }
+
+-- ---- what a word says
+
+-- no number: the last moment, one so many before it, the first from which MML or MMWP is set, or RLB clear, to the end
+-- (Smepmp, mseccfg), or one that the script names
+unfoldable pub label_said : List ℕ → Option Label
+label_said word =
+    if bytes_eq word (codes "last") then Some (Last 0)
+    else (if bytes_eq word (codes "mml") then Some Mml
+    else (if bytes_eq word (codes "mmwp") then Some Mmwp
+    else (if bytes_eq word (codes "rlb-clear") then Some RlbClear
+    else (if bytes_eq (take 5 word) (codes "last-") then option_map (λ back. Last back) (word_number (drop 5 word))
+    else option_map (λ name. Marked name) (name_said word)))))
+
+-- a number, or what is none
+abbrev pub when_said : List ℕ → Option When
+when_said word = elim (word_number word) [
+  | Some number ↦ Some (Number number)
+  | None ↦ option_map (λ label. Labelled label) (label_said word)
+]
+
+-- ---- when that is
 
 -- so many before the last one, where there are as many
 abbrev pub back_from : (publications back : ℕ) → Option ℕ
@@ -28,26 +63,39 @@ back_from publications back = if nat_le back publications then Some (publication
 abbrev pub done_at : List Mark → Name → Option ℕ
 done_at marks name = option_map (λ mark. mark.done) (find (λ mark. same_name name mark.name) marks)
 
-abbrev pub place_marked : List Mark → List ℕ → Result (Option ℕ) Refusal
-place_marked marks word = elim (name_said word) [
-  | Some name ↦ elim (done_at marks name) [ Some done ↦ Ok (Some done) | None ↦ Err NoMoment ]
-  | None ↦ Err BadRow
-]
+abbrev pub mark_place : List Mark → Name → Result (Option ℕ) Refusal
+mark_place marks name = elim (done_at marks name) [ Some done ↦ Ok (Some done) | None ↦ Err NoMoment ]
 
-abbrev pub place_back : (publications : ℕ) → Option ℕ → Result (Option ℕ) Refusal
-place_back publications (Some back) = Ok (back_from publications back)
-place_back publications None = Err BadRow
+abbrev pub lasting_place : Option Lasting → (Lasting → Option ℕ) → Result (Option ℕ) Refusal
+lasting_place lasting first = elim lasting [ Some lasting ↦ Ok (first lasting) | None ↦ Err BadRow ]
 
--- what a word names: the last moment, one so many before it, the first from which MML or MMWP is set, or RLB clear, to
--- the end (Smepmp, mseccfg), or one that the script names; it may be one that never comes
-unfoldable pub place_named : KnownMoments → Lasting → List ℕ → Result (Option ℕ) Refusal
-place_named moments lasting word =
-    if bytes_eq word (codes "last") then Ok (Some moments.publications)
-    else (if bytes_eq word (codes "mml") then Ok lasting.mml
-    else (if bytes_eq word (codes "mmwp") then Ok lasting.mmwp
-    else (if bytes_eq word (codes "rlb-clear") then Ok lasting.rlb_clear
-    else (if bytes_eq (take 5 word) (codes "last-")
-    then place_back moments.publications (word_number (drop 5 word)) else place_marked moments.marks word))))
+abbrev pub place_among : KnownMoments → List Mark → Label → Result (Option ℕ) Refusal
+place_among moments marks (Last back) = Ok (back_from moments.publications back)
+place_among moments marks Mml = lasting_place moments.lasting (λ lasting. lasting.mml)
+place_among moments marks Mmwp = lasting_place moments.lasting (λ lasting. lasting.mmwp)
+place_among moments marks RlbClear = lasting_place moments.lasting (λ lasting. lasting.rlb_clear)
+place_among moments marks (Marked name) = mark_place marks name
+
+-- a moment, or one that never comes, where the script's version names any
+abbrev pub label_place : KnownMoments → Label → Result (Option ℕ) Refusal
+label_place moments label =
+    elim moments.marks [ Some marks ↦ place_among moments marks label | None ↦ Err BadRow ]
+
+-- it has to come
+abbrev pub that_comes : Result (Option ℕ) Refusal → Result ℕ Refusal
+that_comes (Ok (Some place)) = Ok place
+that_comes (Ok None) = Err NoMoment
+that_comes (Err kind) = Err kind
+
+abbrev pub when_place : KnownMoments → When → Result ℕ Refusal
+when_place moments (Number number) = Ok number
+when_place moments (Labelled label) = that_comes (label_place moments label)
+
+-- how many publications are done when a word says
+unfoldable pub after_said : KnownMoments → List ℕ → Result ℕ Refusal
+after_said moments word = elim (when_said word) [ Some when ↦ when_place moments when | None ↦ Err BadRow ]
+
+-- ---- the rows of a policy
 
 -- the word ends with ` if-any`, and what stands before that
 abbrev pub is_waived : List ℕ → Bool
@@ -60,10 +108,10 @@ abbrev pub named_at : (waived : Bool) → Result (Option ℕ) Refusal → Result
 named_at waived (Ok place) = Ok (Named place waived)
 named_at waived (Err kind) = Err kind
 
--- what a word says that is no number, where words may name moments
+-- what a word says that is no number
 unfoldable pub moment_named : KnownMoments → List ℕ → Result Moment Refusal
-moment_named moments word = elim moments.lasting [
-  | Some lasting ↦ named_at (is_waived word) (place_named moments lasting (name_in word))
+moment_named moments word = elim (label_said (name_in word)) [
+  | Some label ↦ named_at (is_waived word) (label_place moments label)
   | None ↦ Err BadRow
 ]
 

@@ -14,6 +14,7 @@ use Rattle.pmp_core.specs.RegisterFile.{RegisterFile}
 use Rattle.pmp_core.specs.RegisterWrite.{step}
 use Rattle.pmp_text.specs.declared.trace.Row.{Row}
 use Rattle.pmp_text.specs.Contents.{ScriptContents}
+use Rattle.pmp_text.specs.Moments.{moments_in}
 use Rattle.pmp_text.specs.Traces.{row_fields, trace_meaning}
 
 abbrev pub answer_text : Bool → List ℕ
@@ -76,6 +77,6 @@ report_text rows decisions =
 pub record IsReport (script : ScriptContents) (trace text : List ℕ) : Type 0 where
   pub rows : List Row
   pub decisions : List Decision
-  pub trace_means : trace_meaning (length script.batches) trace ≡ Ok (map row_fields rows)
+  pub trace_means : trace_meaning (moments_in script) trace ≡ Ok (map row_fields rows)
   pub decided : AreDecided script rows decisions
   pub report : text ≡ report_text rows decisions

@@ -4,12 +4,13 @@ use Rattle.std.specs.Option.{option_or}
 use Rattle.pmp_text.specs.declared.trace.Row.{Row}
 use Rattle.pmp_text.specs.declared.trace.rows.Place.{Place}
 use Rattle.pmp_text.specs.LongTraces.{Records}
+use Rattle.pmp_text.specs.Moments.{KnownMoments}
 use Rattle.pmp_text.specs.Traces.{row_fault, row_fields, row_in}
 
--- the records that rows are still read from, beside a script with so many publications, and where they stand
+-- the records that rows are still read from, beside a script with these moments, and where they stand
 pub record RowsLeft : Type 0 where
   pub records : Records
-  pub publications : ℕ
+  pub moments : KnownMoments
   pub place : Place
 
 -- the place behind a row that stands at a place
@@ -25,8 +26,8 @@ place_after place row = record {
 pub record IsNextRow (before : RowsLeft) (row : Row) (after : RowsLeft) : Type 0 where
   pub fields : List (List ℕ)
   pub next : before.records ≡ fields ∷ after.records
-  pub said : row_in fields ≡ Ok (row_fields row)
-  pub fine : row_fault before.publications before.place.last (row_in fields) ≡ None
-  pub publications : after.publications ≡ before.publications
+  pub said : row_in before.moments fields ≡ Ok (row_fields row)
+  pub fine : row_fault before.moments.publications before.place.last (row_in before.moments fields) ≡ None
+  pub moments : after.moments ≡ before.moments
   pub place : after.place ≡ place_after before.place row
   pub numbered : before.place.next + 1 < 2 ^ 64

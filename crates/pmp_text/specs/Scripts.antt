@@ -33,7 +33,7 @@ for_unit size (Ok published) = Ok (record {
   batches = published.batches;
   lines = published.lines;
   expectations = [];
-  marks = [];
+  marks = None;
 })
 for_unit size (Err fault) = Err fault
 
@@ -47,7 +47,7 @@ for_head head expectations marks (Ok published) = elim (started head expectation
     batches = published.batches;
     lines = published.lines;
     expectations = expectations;
-    marks = marks;
+    marks = Some marks;
   })
   | Err fault ↦ Err fault
 ]

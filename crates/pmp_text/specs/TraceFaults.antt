@@ -4,35 +4,37 @@ use Rattle.std.specs.Prelude.{MatchOption, option_map, option_and_then, slice_ge
 use Rattle.pmp_text.specs.declared.trace.row_fields.RowFields.{RowFields}
 use Rattle.pmp_text.specs.declared.trace.TraceFault.{TraceFault}
 use Rattle.pmp_text.specs.Faults.{IsLeastFault}
+use Rattle.pmp_text.specs.Moments.{KnownMoments}
 use Rattle.pmp_text.specs.Tables.{records_of}
 use Rattle.pmp_text.specs.Traces.{after_of, first_row_fault, is_header, row_fault, row_in, row_of_record, trace_meaning}
 use Rattle.pmp_text.specs.declared.trace.reader.TheConstants.{MAX_TRACE}
 use Rattle.pmp_text.specs.Flaws.{at_row}
 
 -- how many publications the row before this one asks for; before the first row that is `last`
-abbrev pub after_before : (last : Option ℕ) → List (List (List ℕ)) → (index : ℕ) → Option ℕ
-after_before last rows zero = last
-after_before last rows (suc index) = option_and_then (λ row. after_of (row_of_record row)) (slice_get rows index)
+abbrev pub after_before : KnownMoments → (last : Option ℕ) → List (List (List ℕ)) → (index : ℕ) → Option ℕ
+after_before moments last rows zero = last
+after_before moments last rows (suc index) = option_and_then (λ row. after_of (row_of_record moments row)) (slice_get rows index)
 
 -- the fault of the row with this index, by itself and the row before
-abbrev pub row_fault_at : (publications : ℕ) → List (List (List ℕ)) → (index : ℕ) → Option TraceFault
-row_fault_at publications rows index = option_and_then
-    (λ row. option_map (at_row (index + 1)) (row_fault publications (after_before None rows index) (row_in row)))
+abbrev pub row_fault_at : KnownMoments → List (List (List ℕ)) → (index : ℕ) → Option TraceFault
+row_fault_at moments rows index = option_and_then
+    (λ row. option_map (at_row (index + 1))
+    (row_fault moments.publications (after_before moments None rows index) (row_in moments row)))
     (slice_get rows index)
 
 -- the first fault is that of the least faulty row, and where there is none, no row is faulty
 abbrev pub FirstRowFaultLaw : Type 0
-FirstRowFaultLaw = (publications : ℕ) (rows : List (List (List ℕ)))
-    → MatchOption (first_row_fault publications None 1 rows)
-    ((index : ℕ) → row_fault_at publications rows index ≡ None)
-    (λ fault. IsLeastFault (row_fault_at publications rows) fault)
+FirstRowFaultLaw = (moments : KnownMoments) (rows : List (List (List ℕ)))
+    → MatchOption (first_row_fault moments None 1 rows)
+    ((index : ℕ) → row_fault_at moments rows index ≡ None)
+    (λ fault. IsLeastFault (row_fault_at moments rows) fault)
 
 -- a text with a header that isn't too long is refused with the fault of its least faulty row, where it has one
 abbrev pub LeastRowFaultLaw : Type 0
-LeastRowFaultLaw = (publications : ℕ) (text : List ℕ) (header : List (List ℕ)) (rows : List (List (List ℕ)))
+LeastRowFaultLaw = (moments : KnownMoments) (text : List ℕ) (header : List (List ℕ)) (rows : List (List (List ℕ)))
     (fault : TraceFault)
     → length text ≤ MAX_TRACE → records_of text ≡ header ∷ rows → is_header header ≡ true
-    → IsLeastFault (row_fault_at publications rows) fault → trace_meaning publications text ≡ Err fault
+    → IsLeastFault (row_fault_at moments rows) fault → trace_meaning moments text ≡ Err fault
 
 -- each asks for at least as many publications as the one before, the first for `least`, and for no more than there are
 abbrev pub IsInOrder : (publications : ℕ) → (least : ℕ) → List ℕ → Type 0
@@ -46,5 +48,5 @@ afters rows = map (λ row. row.after) rows
 
 -- the rows of a trace without a fault are in order
 abbrev pub RowOrderLaw : Type 0
-RowOrderLaw = (publications : ℕ) (text : List ℕ) (rows : List RowFields) → trace_meaning publications text ≡ Ok rows
-    → IsInOrder publications 0 (afters rows)
+RowOrderLaw = (moments : KnownMoments) (text : List ℕ) (rows : List RowFields) → trace_meaning moments text ≡ Ok rows
+    → IsInOrder moments.publications 0 (afters rows)

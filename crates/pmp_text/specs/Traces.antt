@@ -13,9 +13,10 @@ use Rattle.pmp_text.specs.declared.flaw.Flaw.{Flaw}
 use Rattle.pmp_text.specs.declared.refusal.Refusal.TheVariants.{BadRow, BadAfter, Order, BadLength, PastEnd}
 use Rattle.pmp_text.specs.declared.trace.TraceFault.{TraceFault}
 use Rattle.pmp_text.specs.AccessWords.{mode_named, kind_named}
+use Rattle.pmp_text.specs.Moments.{KnownMoments, after_said}
 use Rattle.pmp_text.specs.Numbers.{is_bare, word_number}
 use Rattle.pmp_text.specs.Tables.{behind_header, fault_or_rows, is_broken, within_limit}
-use Rattle.pmp_text.specs.Flaws.{at_row, of_part, part, as_whole}
+use Rattle.pmp_text.specs.Flaws.{at_row, in_part, of_part, part, as_whole}
 
 -- the fields of a record that has five
 pub record FiveFields : Type 0 where
@@ -55,10 +56,10 @@ row_fields row = record {
 abbrev pub first_bare : (first : ℕ) → List Row → Option ℕ
 first_bare = position_from (λ row. row.is_bare)
 
--- what five words say: a number, a mode, a kind and two numbers
-abbrev pub row_of_fields : FiveFields → Result RowFields Flaw
-row_of_fields words =
-    of_part 0 (word_number words.after) (λ after. of_part 1 (mode_named words.mode) (λ mode.
+-- what five words say: a moment, a mode, a kind and two numbers
+abbrev pub row_of_fields : KnownMoments → FiveFields → Result RowFields Flaw
+row_of_fields moments words =
+    in_part 0 (after_said moments words.after) (λ after. of_part 1 (mode_named words.mode) (λ mode.
     of_part 2 (kind_named words.kind) (λ kind. of_part 3 (word_number words.start) (λ start.
     of_part 4 (word_number words.length) (λ length.
     Ok (record {
@@ -71,13 +72,13 @@ row_of_fields words =
     }))))))
 
 -- what a record says as a row, or what of it says nothing: the whole where it goes over several lines
-abbrev pub row_in : List (List ℕ) → Result RowFields Flaw
-row_in fields =
+abbrev pub row_in : KnownMoments → List (List ℕ) → Result RowFields Flaw
+row_in moments fields =
     if is_broken fields then Err (as_whole BadRow)
-    else elim (five_fields fields) [ Some words ↦ row_of_fields words | None ↦ Err (as_whole BadRow) ]
+    else elim (five_fields fields) [ Some words ↦ row_of_fields moments words | None ↦ Err (as_whole BadRow) ]
 
-abbrev pub row_of_record : List (List ℕ) → Option RowFields
-row_of_record fields = result_ok (row_in fields)
+abbrev pub row_of_record : KnownMoments → List (List ℕ) → Option RowFields
+row_of_record moments fields = result_ok (row_in moments fields)
 
 -- how many publications a row asks for
 abbrev pub after_of : Option RowFields → Option ℕ
@@ -108,22 +109,22 @@ row_fault publications last (Ok row) = fields_fault publications last row
 -- ---- all rows
 
 -- the fault of the first row that has one; the first row has this number, and the row before asks for `last`
-abbrev pub first_row_fault : (publications : ℕ) → (last : Option ℕ) → (number : ℕ) → List (List (List ℕ))
+abbrev pub first_row_fault : KnownMoments → (last : Option ℕ) → (number : ℕ) → List (List (List ℕ))
     → Option TraceFault
-first_row_fault publications last number [] = None
-first_row_fault publications last number (row ∷ more) =
-    option_or (option_map (at_row number) (row_fault publications last (row_in row)))
-    (first_row_fault publications (after_of (row_of_record row)) (number + 1) more)
+first_row_fault moments last number [] = None
+first_row_fault moments last number (row ∷ more) =
+    option_or (option_map (at_row number) (row_fault moments.publications last (row_in moments row)))
+    (first_row_fault moments (after_of (row_of_record moments row)) (number + 1) more)
 
 -- the rows are numbered from 1, and no row stands before the first one
-abbrev pub rows_meaning : (publications : ℕ) → List (List (List ℕ)) → Result (List RowFields) TraceFault
-rows_meaning publications rows =
-    fault_or_rows (first_row_fault publications None 1 rows) (filter_map row_of_record rows)
+abbrev pub rows_meaning : KnownMoments → List (List (List ℕ)) → Result (List RowFields) TraceFault
+rows_meaning moments rows =
+    fault_or_rows (first_row_fault moments None 1 rows) (filter_map (row_of_record moments) rows)
 
 -- the rows stand behind the header
-abbrev pub records_meaning : (publications : ℕ) → List (List (List ℕ)) → Result (List RowFields) TraceFault
-records_meaning publications = behind_header is_header (rows_meaning publications)
+abbrev pub records_meaning : KnownMoments → List (List (List ℕ)) → Result (List RowFields) TraceFault
+records_meaning moments = behind_header is_header (rows_meaning moments)
 
--- what a text means beside a script with so many publications
-unfoldable pub trace_meaning : (publications : ℕ) → List ℕ → Result (List RowFields) TraceFault
-trace_meaning publications text = within_limit (records_meaning publications) text
+-- what a text means beside a script with these moments
+unfoldable pub trace_meaning : KnownMoments → List ℕ → Result (List RowFields) TraceFault
+trace_meaning moments text = within_limit (records_meaning moments) text

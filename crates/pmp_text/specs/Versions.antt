@@ -1,6 +1,6 @@
 -- What the version of a script makes of it.
 use Rattle.std.specs.Prelude.{◌≡◌, ◌↔◌, ℕ, List, [], ◌∷◌, ◌++◌, All, length, map, take, Bool, true, false, ◌&&◌}
-use Rattle.std.specs.Prelude.{Result, Ok, Err, Some, nat_lt, codes, bytes_eq, if◌then◌else◌}
+use Rattle.std.specs.Prelude.{Result, Ok, Err, Some, None, nat_lt, codes, bytes_eq, if◌then◌else◌}
 use Rattle.std.specs.List.{AllZip, list_all}
 use Rattle.pmp_core.specs.declared.decision.Decision.{Decision}
 use Rattle.pmp_core.specs.declared.event.Event.{Event}
@@ -18,6 +18,7 @@ use Rattle.pmp_text.specs.declared.trace.Row.{Row}
 use Rattle.pmp_text.specs.Contents.{Publications, ScriptContents}
 use Rattle.pmp_text.specs.declared.script.reader.TheConstants.{MAX_SCRIPT}
 use Rattle.pmp_text.specs.Lines.{words, lines}
+use Rattle.pmp_text.specs.Moments.{unnamed_moments}
 use Rattle.pmp_text.specs.Reports.{IsReport, file_of_script, report_text}
 use Rattle.pmp_text.specs.ScriptLines.{Line, counts, significant_lines, version_flaw}
 use Rattle.pmp_text.specs.Scripts.{published_behind, for_unit}
@@ -59,7 +60,7 @@ pub record IsVersionOne (text : List ℕ) : Type 0 where
 pub record IsReportInOne (batches : List (List Event)) (trace text : List ℕ) : Type 0 where
   pub rows : List Row
   pub decisions : List Decision
-  pub trace_means : trace_meaning (length batches) trace ≡ Ok (map row_fields rows)
+  pub trace_means : trace_meaning (unnamed_moments (length batches)) trace ≡ Ok (map row_fields rows)
   pub decided : AllZip (λ row decision. IsDecision (file_after (profile_of Sixteen) (take row.after batches)) row.access decision)
       rows decisions
   pub report : text ≡ report_text rows decisions
@@ -72,7 +73,7 @@ in_sixteen batches lines = record {
   batches = batches;
   lines = lines;
   expectations = [];
-  marks = [];
+  marks = None;
 }
 
 -- it has the fault or the publications that it has where that version is the only one, these are done in a unit of
@@ -132,7 +133,7 @@ pub record HasNoHead (size : Size) (script : ScriptContents) : Type 0 where
   pub sized : script.size ≡ size
   pub start : script.start ≡ reset_file (profile_of size)
   pub nothing : script.expectations ≡ []
-  pub unnamed : script.marks ≡ []
+  pub unnamed : script.marks ≡ None
 
 abbrev pub NoHeadLaw : Type 0
 NoHeadLaw = (text : List ℕ) (size : Size) (script : ScriptContents) → IsSized text size

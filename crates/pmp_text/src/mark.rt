@@ -1,8 +1,9 @@
 //! The names that a script gives its moments.
 
-ghost use Rattle.std.specs.Prelude.{◌≡◌};
+ghost use Rattle.std.specs.Prelude.{◌≡◌, ◌<◌, IfSome, length};
 ghost use Rattle.std.specs.List.{list_all};
-ghost use Rattle.pmp_text.specs.Marks.{begins_with_letter, is_letter, is_name, is_name_byte, is_taken, name_said, same_name};
+ghost use Rattle.pmp_text.specs.Marks.{begins_with_letter, is_letter, is_name, is_name_byte, is_taken, name_bytes};
+ghost use Rattle.pmp_text.specs.Marks.{name_said, same_name, zero_place};
 
 /// The most bytes of a name.
 pub const NAME_BYTES: usize = 64;
@@ -74,6 +75,14 @@ fn is_name(word: &[u8]) -> bool
     begins_with_letter(word) && are_name_bytes(word) && word.len() <= NAME_BYTES && !is_taken(word)
 }
 
+/// Where the first zero stands.
+fn zero_place(bytes: &[u8]) -> Option<usize>
+    ensures place { result ≡ zero_place bytes.now }
+    ensures inside { IfSome result (λ place. place < length bytes.now) }
+{
+    bytes.iter().position(|byte| *byte == 0)
+}
+
 impl Name {
     /// The name that a word is.
     pub fn read(word: &[u8]) -> Option<Name>
@@ -85,6 +94,14 @@ impl Name {
         let mut bytes = [0; NAME_BYTES];
         bytes[..word.len()].copy_from_slice(word);
         Some(Name { bytes })
+    }
+
+    /// Its bytes, without the zeros behind it.
+    pub fn as_bytes(&self) -> &[u8]
+        ensures { result.now ≡ name_bytes self.now }
+    {
+        let end = zero_place(&self.bytes).unwrap_or(NAME_BYTES);
+        &self.bytes[..end]
     }
 
     /// Whether they are the same.

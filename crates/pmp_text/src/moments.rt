@@ -1,8 +1,9 @@
-//! The moments of a script, as the words of a policy say them.
+//! The moments of a script, as words say them.
 
 ghost use Rattle.std.specs.Prelude.{◌≡◌, ◌≤◌};
-ghost use Rattle.pmp_text.specs.Moments.{asked_between, done_at, is_backward, moment_named, moment_said, place_marked, place_named};
-ghost use Rattle.pmp_text.specs.Moments.{place_of, to_said, unasked, waives};
+ghost use Rattle.pmp_text.specs.Moments.{after_said, asked_between, done_at, is_backward, label_place, label_said};
+ghost use Rattle.pmp_text.specs.Moments.{moment_named, moment_said, place_of, to_said, unasked, waives, when_place};
+ghost use Rattle.pmp_text.specs.Moments.{when_said};
 
 use crate::mark::{Mark, Name};
 use crate::numbers::read_word_number;
@@ -26,25 +27,49 @@ pub struct Lasting {
 pub struct Moments<'a> {
     /// How many publications the script has.
     pub publications: u64,
-    /// What words may name in version 3. In versions 1 and 2 they are numbers.
+    /// Those that the script names. In versions 1 and 2 words are numbers.
+    pub marks: Option<&'a [Mark]>,
+    /// Where words may say that, from when on bits of `mseccfg` hold to the end.
     pub lasting: Option<Lasting>,
-    /// Those that the script names.
-    pub marks: &'a [Mark],
 }
 
 impl<'a> Model for Moments<'a> {
+    ghost use Rattle.std.specs.Prelude.{option_map};
     ghost use Rattle.pmp_text.specs.Moments.{KnownMoments};
 
     ghost Value = { KnownMoments };
 
     ghost view = { λ moments. record {
       publications = moments.publications;
+      marks = option_map (λ marks. marks.now) moments.marks;
       lasting = moments.lasting;
-      marks = moments.marks.now;
     } };
 }
 
-/// The moment that a word says.
+/// What a word says of a moment that is no number.
+#[derive(Clone, Copy, Debug, PartialEq, Eq)]
+pub enum Label {
+    /// So many publications before the last moment.
+    Last(u64),
+    /// The first one from which MML is set to the end.
+    Mml,
+    /// The same of MMWP.
+    Mmwp,
+    /// The first one from which RLB is clear to the end.
+    RlbClear,
+    /// The one that the script names so.
+    Marked(Name),
+}
+
+/// What a word says of a moment.
+#[derive(Clone, Copy, Debug, PartialEq, Eq)]
+pub enum When {
+    /// After so many publications.
+    Number(u64),
+    Labelled(Label),
+}
+
+/// A moment from which a policy's row asks, or up to which.
 #[derive(Clone, Copy)]
 pub enum Moment {
     /// After so many publications, by their number.
@@ -129,53 +154,89 @@ impl Moment {
     }
 }
 
-impl Moments<'_> {
-    /// The moment that the script gives this name.
-    fn marked(&self, word: &[u8]) -> Result<Option<u64>, Refusal>
-        ensures { result ≡ place_marked self.now.marks word.now }
-    {
-        let name = Name::read(word).ok_or(Refusal::BadRow)?;
-        let done = done_at(self.marks, &name).ok_or(Refusal::NoMoment)?;
-        Ok(Some(done))
-    }
-
-    /// What a word names: a moment, or one that never comes.
-    #[tactic(auto, unfolding(crate::specs::Moments::place_named))]
-    fn place(&self, lasting: &Lasting, word: &[u8]) -> Result<Option<u64>, Refusal>
-        ensures { result ≡ place_named self.now lasting.now word.now }
+impl Label {
+    /// What a word says that is no number: `last`, `last-N`, `mml`, `mmwp`, `rlb-clear` or a name.
+    #[tactic(auto, unfolding(crate::specs::Moments::label_said))]
+    fn read(word: &[u8]) -> Option<Label>
+        ensures { result ≡ label_said word.now }
     {
         if word == b"last".as_slice() {
-            return Ok(Some(self.publications));
+            return Some(Label::Last(0));
         }
         if word == b"mml".as_slice() {
-            return Ok(lasting.mml);
+            return Some(Label::Mml);
         }
         if word == b"mmwp".as_slice() {
-            return Ok(lasting.mmwp);
+            return Some(Label::Mmwp);
         }
         if word == b"rlb-clear".as_slice() {
-            return Ok(lasting.rlb_clear);
+            return Some(Label::RlbClear);
         }
         match word.strip_prefix(b"last-") {
-            Some(back) => {
-                let back = read_word_number(back).ok_or(Refusal::BadRow)?;
-                Ok(self.publications.checked_sub(back))
-            }
-            None => self.marked(word),
+            Some(back) => read_word_number(back).map(Label::Last),
+            None => Name::read(word).map(Label::Marked),
+        }
+    }
+}
+
+impl When {
+    /// What a word says: a number, `last`, `last-N`, `mml`, `mmwp`, `rlb-clear` or a name.
+    pub fn read(word: &[u8]) -> Option<When>
+        ensures { result ≡ when_said word.now }
+    {
+        match read_word_number(word) {
+            Some(number) => Some(When::Number(number)),
+            None => Label::read(word).map(When::Labelled),
+        }
+    }
+}
+
+impl Moments<'_> {
+    /// How many publications are done there, or none where it never comes. `BadRow` where words may not say that of the
+    /// script, and `NoMoment` where it has no such name.
+    fn place(&self, label: Label) -> Result<Option<u64>, Refusal>
+        ensures { result ≡ label_place self.now label }
+    {
+        let marks = self.marks.ok_or(Refusal::BadRow)?;
+        match label {
+            Label::Last(back) => Ok(self.publications.checked_sub(back)),
+            Label::Mml => Ok(self.lasting.ok_or(Refusal::BadRow)?.mml),
+            Label::Mmwp => Ok(self.lasting.ok_or(Refusal::BadRow)?.mmwp),
+            Label::RlbClear => Ok(self.lasting.ok_or(Refusal::BadRow)?.rlb_clear),
+            Label::Marked(name) => Ok(Some(done_at(marks, &name).ok_or(Refusal::NoMoment)?)),
         }
     }
 
-    /// What a word names where words may.
+    /// How many publications are done then. `NoMoment` where that never comes.
+    pub fn after(&self, when: When) -> Result<u64, Refusal>
+        ensures { result ≡ when_place self.now when }
+    {
+        match when {
+            When::Number(number) => Ok(number),
+            When::Labelled(label) => self.place(label)?.ok_or(Refusal::NoMoment),
+        }
+    }
+
+    /// How many publications are done when a word says.
+    #[tactic(auto, unfolding(crate::specs::Moments::after_said))]
+    pub fn read_after(&self, word: &[u8]) -> Result<u64, Refusal>
+        ensures { result ≡ after_said self.now word.now }
+    {
+        let when = When::read(word).ok_or(Refusal::BadRow)?;
+        self.after(when)
+    }
+
+    /// What a word that is no number says of a policy's row.
     #[tactic(auto, unfolding(crate::specs::Moments::moment_named))]
     fn named(&self, word: &[u8]) -> Result<Moment, Refusal>
         ensures { result ≡ moment_named self.now word.now }
     {
-        let lasting = self.lasting.ok_or(Refusal::BadRow)?;
         let (word, is_waived) = match word.strip_suffix(b" if-any") {
             Some(word) => (word, true),
             None => (word, false),
         };
-        let place = self.place(&lasting, word)?;
+        let label = Label::read(word).ok_or(Refusal::BadRow)?;
+        let place = self.place(label)?;
         Ok(Moment::Named(place, is_waived))
     }
 

@@ -198,7 +198,8 @@ impl Refusal {
             Refusal::BadMark =>
                 "a name of 1 to 64 bytes: a letter, then letters, digits, _ and ., and none of last, mml, mmwp and rlb",
             Refusal::OpenMark => "mark between publications",
-            Refusal::NoMoment => "a name that mark or publish gives a moment of the script",
+            Refusal::NoMoment =>
+                "a moment that the script has: a name that mark or publish gives it, or one that comes",
             Refusal::BadEntry =>
                 "an entry 0 to 63 and a range that it can have here: na4 4 bytes, napot a power of two of 8 or more, each at a multiple of its size, tor from where the entry before it ends to a higher multiple of 4; all below 2^56, with hart xlen 32 below 2^34",
             Refusal::BadEvent =>
@@ -251,7 +252,7 @@ impl Refusal {
             Refusal::BadMark => "give the moment another name",
             Refusal::OpenMark => "put it behind the publish, or name that, as by publish NAME",
             Refusal::NoMoment =>
-                "look for the script's mark lines, and for publish lines with a name",
+                "look for the script's mark lines and publish lines with a name; pmp writes says when MML, MMWP and RLB change",
             Refusal::BadEntry =>
                 "write the entry before it first, whose address a tor entry begins at, or take napot or na4; give sizes in bytes",
             Refusal::BadEvent =>

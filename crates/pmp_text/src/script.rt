@@ -1,11 +1,12 @@
 //! Scripts: the publications that a text describes, and why a text describes none.
 
 ghost use Rattle.std.specs.Prelude.{◌≡◌, suc, ◌+◌, ◌<◌, ◌≤◌, [], length, take};
-ghost use Rattle.std.specs.Prelude.{slice_index_or};
+ghost use Rattle.std.specs.Prelude.{None, Some, if◌then◌else◌, slice_index_or};
 ghost use Rattle.pmp_core.specs.declared.event.TheConstants.{BATCH_EVENTS};
 ghost use Rattle.pmp_core.specs.Histories.{joined};
 ghost use Rattle.pmp_text.specs.Contents.{ScriptContents};
 ghost use Rattle.pmp_text.specs.Heads.{size_for};
+ghost use Rattle.pmp_text.specs.Moments.{moments_in};
 ghost use Rattle.pmp_text.specs.Steps.Cuts.{AreCut, AreEnds, cut_from, last_end};
 ghost use Rattle.pmp_text.specs.Outcomes.{out_of_memory};
 
@@ -26,6 +27,7 @@ mod words;
 use crate::event_log::EventLog;
 use crate::expectation::Expectation;
 use crate::mark::Mark;
+use crate::moments::Moments;
 use crate::refusal::{Refusal, ScriptKind};
 pub use lines::split_first_line;
 use pmp_core::{BATCH_EVENTS, ENTRIES, Event, RegFile, Size};
@@ -65,10 +67,15 @@ pub struct Script<'a> {
     /// How many events are published with each publication and those before it.
     ends: &'a [usize],
     expectations: &'a [Expectation],
-    marks: &'a [Mark],
+    /// None where the version names none.
+    marks: Option<&'a [Mark]>,
 }
 
 impl<'a> Model for Script<'a> {
+    ghost use Rattle.std.specs.Prelude.{length, option_map};
+    ghost use Rattle.pmp_text.specs.Contents.{ScriptContents};
+    ghost use Rattle.pmp_text.specs.Steps.Cuts.{AreCut, cut_from};
+
     ghost Value = { ScriptContents };
 
     ghost view = { λ script. record {
@@ -77,7 +84,7 @@ impl<'a> Model for Script<'a> {
       batches = cut_from 0 script.ends.now script.events.now;
       lines = cut_from 0 script.ends.now script.lines.now;
       expectations = script.expectations.now;
-      marks = script.marks.now;
+      marks = option_map (λ marks. marks.now) script.marks;
     } };
 
     ghost invariant = { λ script. AreCut script.ends.now (length script.events.now) (length script.lines.now) };
@@ -119,8 +126,13 @@ fn bounds_of(ends: &[usize], index: usize) -> (usize, usize)
 }
 
 impl<'a> Script<'a> {
-    /// The script that a log keeps, all of whose events are published.
-    pub(crate) fn new<L: EventLog>(size: Size, start: RegFile, log: &'a L) -> Script<'a>
+    /// The script that a log keeps, all of whose events are published, with names of moments where its version has them.
+    pub(crate) fn new<L: EventLog>(
+        size: Size,
+        start: RegFile,
+        log: &'a L,
+        has_names: bool,
+    ) -> Script<'a>
         requires { let kept = L.kept log.now in AreCut kept.ends (length kept.events) (length kept.lines) }
         ensures { let kept = L.kept log.now in result ≡ record {
           size = size;
@@ -128,7 +140,7 @@ impl<'a> Script<'a> {
           batches = cut_from 0 kept.ends kept.events;
           lines = cut_from 0 kept.ends kept.lines;
           expectations = kept.expectations;
-          marks = kept.marks;
+          marks = if has_names then Some kept.marks else None;
         } }
     {
         Script {
@@ -138,7 +150,7 @@ impl<'a> Script<'a> {
             lines: log.lines(),
             ends: log.ends(),
             expectations: log.expectations(),
-            marks: log.marks(),
+            marks: has_names.then_some(log.marks()),
         }
     }
 
@@ -164,11 +176,15 @@ impl<'a> Script<'a> {
         self.expectations
     }
 
-    /// The moments that have names, in the order of lines.
-    pub fn marks(&self) -> &[Mark]
-        ensures { result.now ≡ self.now.marks }
+    /// The moments that words may say of it. From when on a bit of `mseccfg` lasts it doesn't tell.
+    pub fn moments(&self) -> Moments<'a>
+        ensures { result ≡ moments_in self.now }
     {
-        self.marks
+        Moments {
+            publications: self.batches(),
+            marks: self.marks,
+            lasting: None,
+        }
     }
 
     /// How many publications there are.

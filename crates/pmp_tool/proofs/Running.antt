@@ -6,11 +6,13 @@ use Rattle.clap.specs.Words.{HasKind, IsAmong, Text, fault_of, kind_of}
 use Rattle.clap.specs.declared.error.Error.{Error}
 use Rattle.clap.specs.declared.error.kind.ErrorKind.{ErrorKind}
 use Rattle.clap.specs.declared.error.kind.ErrorKind.TheVariants.{DisplayHelp, DisplayVersion, OutOfMemory}
+use Rattle.pmp_text.specs.declared.moments.When.{When}
 use Rattle.pmp_text.specs.declared.refusal.Refusal.{Refusal}
 use Rattle.pmp_audit.specs.Answers.{IsRefused}
 use Rattle.pmp_audit.specs.declared.fault.Side.{Side}
 use Rattle.pmp_audit.specs.declared.fault.AuditFault.{AuditFault}
 use Rattle.pmp_audit.specs.declared.fault.AuditFault.TheVariants as audit
+use Rattle.pmp_tool.specs.declared.argument.Argument.{Argument}
 use Rattle.pmp_tool.specs.declared.command.Command.{Command}
 use Rattle.pmp_tool.specs.declared.failure.Failure.{Failure}
 use Rattle.pmp_tool.specs.declared.outcome.Outcome.{Outcome}
@@ -22,7 +24,7 @@ use Rattle.pmp_tool.specs.CommandLines.{AsksForPieces, MayAskForText, WordsAskFo
 use Rattle.pmp_tool.specs.Commands.{asked, task_of}
 use Rattle.pmp_tool.specs.Failures.{failure_status, unaudited, unparsed, unparsed_as}
 use Rattle.pmp_tool.specs.Inputs.{Inputs}
-use Rattle.pmp_tool.specs.Requests.{Declines, InputFails, RequestFails, taken, untaken}
+use Rattle.pmp_tool.specs.Requests.{Declines, InputFails, MomentFails, RequestFails, allowed, taken, unnamed, untaken}
 use Rattle.pmp_tool.specs.Runs.{CommandFails, Fails, TextFails}
 use Rattle.pmp_tool.specs.Runs.{no_script, of_script, no_room, no_output, refused_words, refused_word, no_memory, no_text, no_command}
 
@@ -89,6 +91,13 @@ input_keeps : {CantBeTaken : Refusal → Type 0} {known : Option (List ℕ)} {si
 input_keeps (untaken fault cant keeps) rest = keeps
 input_keeps (taken bytes failure are fails) rest = rest bytes fails
 
+-- nor did a word that names no moment
+moment_keeps : {script : List ℕ} {argument : Argument} {when : Option When} {Fails : Failure → Type 0}
+    {before after : Option (List ℕ)} {failure : Failure} → MomentFails before after script argument when Fails failure
+    → (Fails failure → Keeps before after) → Keeps before after
+moment_keeps (unnamed fault refuses keeps) rest = keeps
+moment_keeps (allowed failure allows fails) rest = rest fails
+
 -- the request is a long audit or an import
 abbrev IsLong : Request → Type 0
 IsLong asked = ((audit : LongAudit) × (asked ≡ request.LongAudit audit))
@@ -98,16 +107,19 @@ module _ (before after : Option (List ℕ)) (scripts traces : Inputs) where
   request_keeps : (script : List ℕ) (request : Request) (failure : Failure)
       → RequestFails before after scripts traces script request failure
       → failure_status failure ≡ 2 → IsLong request ⊎ Keeps before after
-  request_keeps script (request.Check check) failure fails two = inr (declines_keep fails two)
+  request_keeps script (request.Check check) failure fails two =
+      inr (moment_keeps fails (λ fails. declines_keep fails two))
   request_keeps script (request.Audit audit) failure fails two =
       inr (input_keeps fails (λ trace fails. declines_keep fails two))
   request_keeps script (request.LongAudit audit) failure fails two = inl (inl (audit, refl))
   request_keeps script (request.Policy path pace) failure fails two =
       inr (input_keeps fails (λ policy fails. declines_keep fails two))
-  request_keeps script (request.Show view count) failure fails two = inr (declines_keep fails two)
+  request_keeps script (request.Show view when) failure fails two =
+      inr (moment_keeps fails (λ fails. declines_keep fails two))
   request_keeps script request.Writes failure fails two = inr (declines_keep fails two)
   request_keeps script (request.Diff diff) failure fails two =
-      inr (input_keeps fails (λ new fails. declines_keep fails two))
+      inr (moment_keeps fails (λ fails. input_keeps fails (λ new fails.
+      moment_keeps fails (λ fails. declines_keep fails two))))
   request_keeps script (request.Import import) failure fails two = inl (inr (import, refl))
 
   command_keeps : (command : Command) (failure : Failure) → CommandFails scripts traces command before after failure

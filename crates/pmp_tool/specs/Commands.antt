@@ -14,6 +14,8 @@ use Rattle.pmp_import.specs.declared.options.Options.{Options}
 use Rattle.pmp_import.specs.Formats.{format_named}
 use Rattle.pmp_text.specs.AccessWords.{kind_named, mode_named}
 use Rattle.pmp_text.specs.declared.lines.changes.Only.{Only}
+use Rattle.pmp_text.specs.declared.moments.When.{When}
+use Rattle.pmp_text.specs.Moments.{when_said}
 use Rattle.pmp_text.specs.Numbers.{word_number}
 use Rattle.pmp_audit.specs.declared.policy_check.steps.Pace.{Pace}
 use Rattle.pmp_audit.specs.declared.policy_check.steps.Pace.TheVariants.{Events, Publications}
@@ -46,13 +48,13 @@ pub record AccessTask : Type 0 where
 
 -- what is asked for of a script, in plain values
 pub data Task : Type 0 where
-  Check : AccessTask → (after : Option ℕ) → Expected → (is_bare : Bool) → Task
+  Check : AccessTask → (after : Option When) → Expected → (is_bare : Bool) → Task
   Audit : (trace : Text) (checkers : Option ℕ) → Task
   LongAudit : (trace : Text) (jobs : Option ℕ) (first : ℕ) → Task
   Policy : (policy : Text) → Pace → Task
-  Show : View → (after : Option ℕ) → Task
+  Show : View → (after : Option When) → Task
   Writes : Task
-  Diff : (new : Text) (old_after new_after : Option ℕ) → Option Only → Task
+  Diff : (new : Text) (old_after new_after : Option When) → Option Only → Task
   Import : (log : Text) → Format → Options → Task
 
 abbrev pub access_task : Access → AccessTask
@@ -109,7 +111,7 @@ access_in rows =
 abbrev pub check_in : List Row → Result Task FaultLine
 check_in rows =
     and_then (asked_in expected_named argument.Expect rows) (λ expected.
-    and_then (asked_in word_number argument.After rows) (λ after.
+    and_then (asked_in when_said argument.After rows) (λ after.
     and_then (access_in rows) (λ access.
     Ok (Check access after (unwrap_or expected Allow) (is_bare_word argument.Start rows)))))
 
@@ -138,16 +140,16 @@ policy_in rows =
     and_then (second_in argument.Policy rows) (λ policy.
     Ok (Policy policy (if is_set argument.EachWrite rows then Events else Publications)))
 
--- all publications are taken where the option isn't used
+-- all publications are done where the option isn't used
 abbrev pub show_in : View → List Row → Result Task FaultLine
-show_in view rows = and_then (asked_in word_number argument.After rows) (λ after. Ok (Show view after))
+show_in view rows = and_then (asked_in when_said argument.After rows) (λ after. Ok (Show view after))
 
 -- the new script's place is read before the options
 abbrev pub diff_in : List Row → Result Task FaultLine
 diff_in rows =
     and_then (second_in argument.New rows) (λ new.
-    and_then (asked_in word_number argument.OldAfter rows) (λ old_after.
-    and_then (asked_in word_number argument.NewAfter rows) (λ new_after.
+    and_then (asked_in when_said argument.OldAfter rows) (λ old_after.
+    and_then (asked_in when_said argument.NewAfter rows) (λ new_after.
     and_then (asked_in only_named argument.Only rows) (λ only. Ok (Diff new old_after new_after only)))))
 
 -- the form of a log

@@ -18,6 +18,7 @@ place_of (audit.Trace fault) = if fault.row == 0 then Nowhere else TraceRow faul
 place_of (audit.Policy fault) = if fault.row == 0 then Nowhere else PolicyRow fault
 place_of (audit.ScriptOf side fault) = if fault.line == 0 then Script side else LineOf side fault
 place_of (audit.BadAfterOf side) = Script side
+place_of (audit.NoMomentOf side) = Script side
 place_of _ = Nowhere
 
 -- and of an import

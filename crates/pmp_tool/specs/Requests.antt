@@ -1,5 +1,7 @@
 -- What is said of a request, and why one gets no answer.
-use Rattle.std.specs.Prelude.{◌≡◌, ℕ, List, Option, Some, None, Ok, Err, true, false, codes, bytes_eq}
+use Rattle.std.specs.Prelude.{◌≡◌, ℕ, List, length, Bool, ◌&&◌, nat_le, Option, Some, None, Result, Ok, Err, true}
+use Rattle.std.specs.Prelude.{false}
+use Rattle.std.specs.Prelude.{codes, bytes_eq, if◌then◌else◌}
 use Rattle.std.specs.Io.KnownBytes.{Appends, Keeps}
 use Rattle.pmp_import.specs.declared.fault.ImportFault.{ImportFault}
 use Rattle.pmp_import.specs.declared.given.Given.{Given}
@@ -8,6 +10,9 @@ use Rattle.pmp_import.specs.Imported.{imported}
 use Rattle.pmp_import.specs.Imports.{Stops}
 use Rattle.pmp_import.specs.Surveys.{given_alone, given_for, surveyed}
 use Rattle.pmp_text.specs.Lines.{lines}
+use Rattle.pmp_text.specs.ScriptLines.{is_headed}
+use Rattle.pmp_text.specs.declared.moments.When.{When}
+use Rattle.pmp_text.specs.declared.moments.When.TheVariants.{Labelled, Number}
 use Rattle.pmp_text.specs.declared.refusal.Refusal.{Refusal}
 use Rattle.pmp_text.specs.declared.script.reader.TheConstants.{MAX_HEADED_SCRIPT}
 use Rattle.pmp_text.specs.declared.trace.reader.TheConstants.{MAX_TRACE}
@@ -25,7 +30,11 @@ use Rattle.pmp_audit.specs.SharedAudit.{SharedAuditRefuses}
 use Rattle.pmp_audit.specs.TraceAudit.{AuditRefuses, AuditSays}
 use Rattle.pmp_audit.specs.View.{ViewSays}
 use Rattle.pmp_audit.specs.WriteList.{WritesRefuse, WritesSay}
+use Rattle.pmp_tool.specs.declared.argument.Argument.{Argument}
+use Rattle.pmp_tool.specs.declared.argument.Argument.TheVariants as argument
 use Rattle.pmp_tool.specs.declared.failure.Failure.{Failure}
+use Rattle.pmp_tool.specs.declared.failure.Failure.TheVariants.{Refused}
+use Rattle.pmp_tool.specs.declared.fault_line.FaultLine.{FaultLine}
 use Rattle.pmp_tool.specs.declared.request.Request.{Request}
 use Rattle.pmp_tool.specs.declared.request.Request.TheVariants.{Check, Audit, LongAudit, Policy, Show, Writes, Diff}
 use Rattle.pmp_tool.specs.declared.request.Request.TheVariants.{Import as OfLog}
@@ -37,11 +46,22 @@ use Rattle.pmp_tool.specs.declared.note.Note.TheVariants.{Guessed, Taken}
 use Rattle.pmp_tool.specs.declared.request.Import.{Import}
 use Rattle.pmp_tool.specs.Failures.{refused, unaudited, unimported, unread}
 use Rattle.pmp_tool.specs.Inputs.{AreBytesOf, CantBeOpened, CantBeRead, Inputs}
+use Rattle.pmp_tool.specs.Words.{bad_word}
 
 -- which side the command's script is on, where there are two
 abbrev pub old_side : Request → Option Side
 old_side (Diff diff) = Some Old
 old_side _ = None
+
+-- words may name moments of the script
+abbrev pub has_names : (script : List ℕ) → Bool
+has_names script = nat_le (length script) MAX_SCRIPT && is_headed script
+
+-- the word of an argument names a moment only of a script whose version names any
+abbrev pub name_allowed : (script : List ℕ) → Argument → Option When → Result (Unit {0}) FaultLine
+name_allowed script argument None = Ok tt
+name_allowed script argument (Some (Number number)) = Ok tt
+name_allowed script argument (Some (Labelled label)) = if has_names script then Ok tt else Err (bad_word argument)
 
 -- ---- imports
 
@@ -134,6 +154,14 @@ module _ (before after : Option (List ℕ)) where
   abbrev pub ScriptFails : (known : Option (List ℕ)) → Option Side → (List ℕ → Failure → Type 0) → Failure → Type 0
   ScriptFails known = InputFails (CantBeRead MAX_HEADED_SCRIPT known) known
 
+  -- the word of an argument names a moment of a script whose version names none, or what is done then fails
+  pub data MomentFails (script : List ℕ) (argument : Argument) (when : Option When) (Fails : Failure → Type 0)
+      : Failure → Type 0 where
+    unnamed : (fault : FaultLine) → name_allowed script argument when ≡ Err fault → Keeps before after
+        → MomentFails script argument when Fails (Refused fault)
+    allowed : (failure : Failure) → name_allowed script argument when ≡ Ok tt → Fails failure
+        → MomentFails script argument when Fails failure
+
   -- a long audit stops, maybe behind whole rows
   pub record StopsInTrace (script : List ℕ) (first : ℕ) (trace : List ℕ) (failure : Failure) : Type 0 where
     pub fault : AuditFault
@@ -144,7 +172,8 @@ module _ (before after : Option (List ℕ)) where
     -- why what is asked for of a script gets no answer
     abbrev pub RequestFails : Request → Failure → Type 0
     RequestFails (Check check) =
-        Declines (CheckSays script check.access check.after) (FileRefuses script check.after)
+        MomentFails script argument.After check.after
+        (Declines (CheckSays script check.access check.after) (FileRefuses script check.after))
     RequestFails (Audit audit) =
         TraceFails (traces audit.trace.now)
         (λ trace. Declines (AuditSays script trace) (AuditByRefuses audit.checkers script trace))
@@ -152,10 +181,13 @@ module _ (before after : Option (List ℕ)) where
         InputFails CantBeOpened (traces audit.trace.now) None (StopsInTrace script audit.first)
     RequestFails (Policy path pace) =
         TraceFails (traces path.now) (λ policy. Declines (PolicySays pace script policy) (PolicyRefuses script policy))
-    RequestFails (Show view after_done) = Declines (ViewSays view script after_done) (FileRefuses script after_done)
+    RequestFails (Show view when) =
+        MomentFails script argument.After when (Declines (ViewSays view script when) (FileRefuses script when))
     RequestFails Writes = Declines (WritesSay script) (WritesRefuse script)
     RequestFails (Diff diff) =
-        ScriptFails (scripts diff.new.now) (Some New)
-        (λ new. Declines (DiffSays script diff.old_after new diff.new_after diff.only)
-        (DiffRefuses script diff.old_after new diff.new_after))
+        MomentFails script argument.OldAfter diff.old_after
+        (ScriptFails (scripts diff.new.now) (Some New)
+        (λ new. MomentFails new argument.NewAfter diff.new_after
+        (Declines (DiffSays script diff.old_after new diff.new_after diff.only)
+        (DiffRefuses script diff.old_after new diff.new_after))))
     RequestFails (OfLog import) = ImportFails (traces import.log.now) import before after

@@ -1,24 +1,28 @@
 //! What the program answers a command.
 
 ghost use Rattle.std.specs.Prelude.{◌≡◌, IfOk, IfErr, List, ℕ, Option};
-ghost use Rattle.pmp_tool.specs.Inputs.{AreBytesOf};
+ghost use Rattle.pmp_tool.specs.Inputs.{AreBytesOf, Inputs};
 ghost use Rattle.pmp_audit.specs.Answers.{IsWritten};
-ghost use Rattle.pmp_tool.specs.Requests.{ImportFails, IsGiven, IsUnread, RequestFails, RequestSays, old_side};
+ghost use Rattle.pmp_tool.specs.Requests.{ImportFails, IsGiven, IsUnread, RequestFails, RequestSays, has_names};
+ghost use Rattle.pmp_tool.specs.Requests.{name_allowed, old_side};
 ghost use Rattle.pmp_tool.specs.Runs.{CommandAnswers, CommandFails, IsScriptOf};
 ghost use Rattle.pmp_tool.specs.declared.request.Request.TheVariants as request;
 
+use crate::argument::Argument;
 use crate::command::Command;
 use crate::failure::Failure;
+use crate::fault_line::FaultLine;
 use crate::inputs::Inputs;
 use crate::jobs::processors;
 use crate::note::Note;
 use crate::outcome::Outcome;
-use crate::request::{Audit, Diff, Import, LongAudit, Request};
+use crate::request::{Audit, Check, Diff, Import, LongAudit, Request};
 use pmp_audit::{
-    OpenGate, PIECE, Pace, Side, audit, audit_long, audit_shared, check, check_policy, diff, show,
-    writes,
+    OpenGate, PIECE, Pace, Side, View, audit, audit_long, audit_shared, check, check_policy, diff,
+    show, writes,
 };
 use pmp_import::{Given, import, survey_log};
+use pmp_text::{MAX_SCRIPT, When, is_headed};
 use std::alloc::Global;
 use std::io::Write;
 use std::sync::Wait;
@@ -56,21 +60,67 @@ fn answer_request<R: Threads + Wait + Sync, I: Inputs, O: Write>(
         (I.traces inputs.old) script.now request.entry) }
 {
     match request {
-        Request::Check(asked) => {
-            let decision = check(alloc, script, &asked.access, asked.after, out)?;
-            Ok(Outcome::Decided(decision, asked))
-        }
+        Request::Check(asked) => answer_check(alloc, script, asked, out),
         Request::Audit(asked) => answer_audit(rt, alloc, script, asked, inputs, out),
         Request::LongAudit(asked) => answer_long_audit(rt, alloc, script, asked, inputs, out),
         Request::Policy(path, pace) => answer_policy(alloc, script, path, pace, inputs, out),
-        Request::Show(view, after) => {
-            show(alloc, view, script, after, out)?;
-            Ok(Outcome::Listed)
-        }
+        Request::Show(view, after) => answer_show(alloc, script, view, after, out),
         Request::Writes => Ok(Outcome::Replayed(writes(alloc, script, out)?)),
         Request::Diff(asked) => answer_diff(alloc, script, asked, inputs, out),
         Request::Import(asked) => answer_import(alloc, asked, inputs, out),
     }
+}
+
+/// Whether words may name moments of the script.
+fn has_names(script: &[u8]) -> bool
+    ensures { result ≡ has_names script.now }
+{
+    script.len() <= MAX_SCRIPT && is_headed(script)
+}
+
+/// Refuses the word of an argument that names a moment where the script's version names none.
+fn allow_name(script: &[u8], argument: Argument, after: Option<When>) -> Result<(), FaultLine>
+    ensures { result ≡ name_allowed script.now argument after }
+{
+    match after {
+        Some(When::Labelled(_)) if !has_names(script) => Err(FaultLine::of_word(argument)),
+        _ => Ok(()),
+    }
+}
+
+/// Decides an access.
+fn answer_check<O: Write>(
+    alloc: Global,
+    script: &[u8],
+    asked: Check,
+    out: &mut O,
+) -> Result<Outcome, Failure>
+    ensures ok { (scripts traces : Inputs) → IfOk result (IsWritten (RequestSays scripts traces script.now
+        (request.Check asked)) (O.contents out.old) (O.contents out.new)) }
+    ensures err { (scripts traces : Inputs) → IfErr result (RequestFails (O.contents out.old) (O.contents out.new)
+        scripts traces script.now (request.Check asked)) }
+{
+    allow_name(script, Argument::After, asked.after)?;
+    let decision = check(alloc, script, &asked.access, asked.after, out)?;
+    Ok(Outcome::Decided(decision, asked))
+}
+
+/// Shows something of a register file.
+fn answer_show<O: Write>(
+    alloc: Global,
+    script: &[u8],
+    view: View,
+    after: Option<When>,
+    out: &mut O,
+) -> Result<Outcome, Failure>
+    ensures ok { (scripts traces : Inputs) → IfOk result (IsWritten (RequestSays scripts traces script.now
+        (request.Show view after)) (O.contents out.old) (O.contents out.new)) }
+    ensures err { (scripts traces : Inputs) → IfErr result (RequestFails (O.contents out.old) (O.contents out.new)
+        scripts traces script.now (request.Show view after)) }
+{
+    allow_name(script, Argument::After, after)?;
+    show(alloc, view, script, after, out)?;
+    Ok(Outcome::Listed)
 }
 
 /// Audits a trace that is taken whole.
@@ -146,8 +196,10 @@ fn answer_diff<I: Inputs, O: Write>(
     ensures err { IfErr result (RequestFails (O.contents out.old) (O.contents out.new) (I.scripts inputs.old)
         (I.traces inputs.old) script.now (request.Diff asked.entry)) }
 {
-    let new = script_at(inputs, asked.new, Some(Side::New))?;
     let (old_after, new_after) = (asked.old_after, asked.new_after);
+    allow_name(script, Argument::OldAfter, old_after)?;
+    let new = script_at(inputs, asked.new, Some(Side::New))?;
+    allow_name(&new, Argument::NewAfter, new_after)?;
     let rows = diff(alloc, script, old_after, &new, new_after, asked.only, out)?;
     Ok(Outcome::Compared(rows))
 }

@@ -185,6 +185,9 @@ impl Argument {
     /// What its word has to be, where not every word will do.
     pub fn wanted(self) -> &'static str {
         match self {
+            Argument::After | Argument::OldAfter | Argument::NewAfter => {
+                "a number, or with pmp 3 last, last-N, mml, mmwp, rlb-clear or a name of the script's"
+            }
             Argument::Mode => "M, S or U",
             Argument::Kind => "fetch, load or store",
             Argument::Expect => "allow or fault",

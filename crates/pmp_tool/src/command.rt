@@ -168,7 +168,7 @@ fn read_policy<'a>(words: &ArgMatches<'a>) -> Result<Request<'a>, FaultLine>
     Ok(Request::Policy(policy, pace))
 }
 
-/// What is shown of the script, after all publications where the words don't say how many.
+/// What is shown of the script, after all publications where the words don't say when.
 fn read_show<'a>(view: View, words: &ArgMatches) -> Result<Request<'a>, FaultLine>
     ensures { result_map task_of result ≡ show_in view (rows_of (found_of words.now)) }
 {

@@ -6,6 +6,7 @@ ghost use Rattle.pmp_text.specs.Bytes.{AppendsBeginning};
 ghost use Rattle.pmp_tool.specs.Explanations.{TellsAndExplains, is_explain};
 
 mod fields;
+mod names;
 mod shown;
 mod spot;
 mod unread;
@@ -17,6 +18,7 @@ use crate::fault_line::{FaultLine, Place};
 use crate::inputs::Inputs;
 use crate::kept::{Kept, KeptInput};
 use fields::{is_policy_address, is_trace_address, policy_field, policy_place, trace_field};
+use names::write_names;
 use pmp_audit::Side;
 use pmp_text::{GrowingLog, Refusal, read_script, write_out};
 use shown::show_text;
@@ -88,10 +90,12 @@ fn write_explanation(
     kept: &Kept,
 ) -> Result<(), AllocError> {
     let in_input = write_spot(text, line, kept)?;
-    if line.refusal == Refusal::BadAfter
-        && let Some(script) = kept.inputs().get(usize::from(is_new(line.place)))
-    {
-        write_count(alloc, text, script)?;
+    if let Some(script) = kept.inputs().get(usize::from(is_new(line.place))) {
+        match line.refusal {
+            Refusal::BadAfter => write_count(alloc, text, script)?,
+            Refusal::NoMoment => write_names(alloc, text, script)?,
+            _ => {}
+        }
     }
     let in_word = write_asked_word(alloc, text, words, line)?;
     write_wanted(text, line)?;
@@ -193,7 +197,7 @@ fn input_of<'a>(line: &FaultLine, kept: &'a Kept) -> Option<&'a KeptInput> {
         (Place::Nowhere, Refusal::TooLong | Refusal::BadHeader | Refusal::Input) => kept
             .inputs()
             .last(),
-        (Place::Nowhere, Refusal::BadAfter) => kept.inputs().first(),
+        (Place::Nowhere, Refusal::BadAfter | Refusal::NoMoment) => kept.inputs().first(),
         (Place::Nowhere, Refusal::NoHart) | (Place::LogLine(_), _) => kept.inputs().last(),
         (Place::Nowhere | Place::Word(_), _) => None,
         _ => kept.inputs().get(1),

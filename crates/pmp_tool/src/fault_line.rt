@@ -49,7 +49,9 @@ impl Place {
             AuditFault::Trace(fault) if fault.row > 0 => Place::TraceRow(fault),
             AuditFault::Policy(fault) if fault.row > 0 => Place::PolicyRow(fault),
             AuditFault::ScriptOf(side, fault) if fault.line > 0 => Place::LineOf(side, fault),
-            AuditFault::ScriptOf(side, _) | AuditFault::BadAfterOf(side) => Place::Script(side),
+            AuditFault::ScriptOf(side, _)
+            | AuditFault::BadAfterOf(side)
+            | AuditFault::NoMomentOf(side) => Place::Script(side),
             _ => Place::Nowhere,
         }
     }

@@ -73,7 +73,8 @@ pub const EXPLAIN: &str =
     "Says behind the line of a refusal which input and line it is about, what was wanted there, and what to do";
 
 pub const AFTER: &str =
-    "Takes the first N publications, a number up to how many there are; all without this option";
+    "Takes the first N publications, a number up to how many there are, or with pmp 3 those up to the moment last, \
+    last-N, mml, mmwp, rlb-clear or MOMENT; all without this option";
 
 pub const EXPECT: &str =
     "Ends with status 0 where the answer is ANSWER, allow or fault, and with 1 where it is the other; allow without \

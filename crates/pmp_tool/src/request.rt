@@ -8,14 +8,14 @@ use pmp_audit::{Pace, View};
 use pmp_core::Access;
 use pmp_import::{Format, Options};
 use pmp_share::CHECKERS;
-use pmp_text::Only;
+use pmp_text::{Only, When};
 
 /// The decision on an access.
 #[derive(Clone, Copy)]
 pub struct Check {
     pub access: Access,
-    /// How many publications are taken before it, where not all are.
-    pub after: Option<u64>,
+    /// When it is decided, where not after all publications.
+    pub after: Option<When>,
     pub expected: Expected,
     /// Whether the word START has 14 digits and no `0x`.
     pub is_bare: bool,
@@ -56,10 +56,10 @@ pub struct Import<'a> {
 pub struct Diff<'a> {
     /// The path of the new script.
     pub new: &'a str,
-    /// How many publications of the old script are taken, where not all are.
-    pub old_after: Option<u64>,
-    /// How many of the new one.
-    pub new_after: Option<u64>,
+    /// When the old script is looked at, where not after all its publications.
+    pub old_after: Option<When>,
+    /// When the new one is.
+    pub new_after: Option<When>,
     /// Which changes are asked for, where not all are.
     pub only: Option<Only>,
 }
@@ -72,8 +72,8 @@ pub enum Request<'a> {
     LongAudit(LongAudit<'a>),
     /// The path of the policy, and how often it asks.
     Policy(&'a str, Pace),
-    /// What is shown, and how many publications are taken before it, where not all are.
-    Show(View, Option<u64>),
+    /// What is shown, and when, where not after all publications.
+    Show(View, Option<When>),
     Writes,
     Diff(Diff<'a>),
     Import(Import<'a>),

@@ -79,7 +79,8 @@ It is CSV of at most 16,777,216 bytes, and with `pmp audit --long` of any
 length. The first record is that header. Every later record is a row, numbered
 from 1, of five fields:
   after   how many publications of the script are done: a number, at most as
-          many as there are, and not below that of the row before
+          many as there are, and not below that of the row before; or with pmp 3
+          last, last-N or MOMENT, as policies name them
   mode    M, S or U
   kind    fetch, load or store
   start   the byte address of the access's first byte, a number; the access ends
@@ -282,8 +283,9 @@ row of its fields for each demand, numbered from 1:
           below 2^56
   demand  never, always or held
 
-Where the script is of version 3, `from` and `to` may name a moment too, so that
-a policy outlives a change of the firmware:
+Where the script is of version 3, `from` and `to`, and as well `--after` and,
+but for `mml`, `mmwp` and `rlb-clear`, the field `after` of a trace, may name a
+moment too, so that they outlive a change of the firmware:
   last         after the last publication
   last-N       so many publications before it, a number
   mml or mmwp  the first one from which that bit of mseccfg is set to the end
@@ -291,7 +293,8 @@ a policy outlives a change of the firmware:
   MOMENT       the one that the script names so; a name that it doesn't have is
                refused (58)
 
-A row is unmet where such a moment never comes, or `to` comes before `from`. A
+Where such a moment never comes, `--after` and a trace are refused (58), and a
+policy's row is unmet, as it is where `to` comes before `from`. In a policy a
 name may end with a blank and `if-any`: then the row need not be met.
 
 Each row may begin with a name and end with a comment, both for people, where

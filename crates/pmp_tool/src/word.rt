@@ -5,6 +5,7 @@ ghost use Rattle.clap.specs.Words.{found_of, rows_of};
 ghost use Rattle.pmp_core.specs.declared.access.Kind.{Kind};
 ghost use Rattle.pmp_core.specs.declared.access.Mode.{Mode};
 ghost use Rattle.pmp_text.specs.AccessWords.{kind_named, mode_named};
+ghost use Rattle.pmp_text.specs.Moments.{when_said};
 ghost use Rattle.pmp_text.specs.Numbers.{word_number};
 ghost use Rattle.pmp_tool.specs.Words.{expected_named, only_named, smepmp_named, xlen_named};
 ghost use Rattle.pmp_tool.specs.Words.{asked_in, bad_word, count_in, is_bare_word, is_set, is_used, needed_in};
@@ -15,7 +16,7 @@ use crate::expected::Expected;
 use crate::fault_line::{FaultLine, Place};
 use clap::ArgMatches;
 use pmp_core::{Kind, Mode};
-use pmp_text::{Only, Refusal, is_bare, read_kind, read_mode, read_word_number};
+use pmp_text::{Only, Refusal, When, is_bare, read_kind, read_mode, read_word_number};
 
 impl FaultLine {
     /// The argument's word isn't of its form.
@@ -43,6 +44,14 @@ impl Form for u64 {
 
     fn read(word: &str) -> Option<u64> {
         read_word_number(word.as_bytes())
+    }
+}
+
+impl Form for When {
+    ghost named = { when_said };
+
+    fn read(word: &str) -> Option<When> {
+        When::read(word.as_bytes())
     }
 }
 

@@ -9,7 +9,7 @@ use Rattle.pmp_text.specs.declared.refusal.Refusal.{Refusal}
 use Rattle.pmp_text.specs.declared.refusal.Refusal.TheVariants.{BadWord}
 use Rattle.pmp_audit.specs.Fault.{refusal_of}
 use Rattle.pmp_audit.specs.declared.fault.AuditFault.{AuditFault}
-use Rattle.pmp_audit.specs.declared.fault.AuditFault.TheVariants.{BadAfterOf, Script, ScriptOf}
+use Rattle.pmp_audit.specs.declared.fault.AuditFault.TheVariants.{BadAfterOf, NoMomentOf, Script, ScriptOf}
 use Rattle.pmp_audit.specs.declared.fault.Side.TheVariants.{New}
 use Rattle.pmp_audit.specs.declared.write_list.WriteSummary.{WriteSummary}
 use Rattle.pmp_audit.specs.AccessCheck.{CheckSays}
@@ -21,6 +21,7 @@ use Rattle.pmp_audit.specs.WriteList.{WritesSay}
 use Rattle.pmp_audit.specs.PolicyCheck.{VerdictRefuses, VerdictSays}
 use Rattle.pmp_audit.specs.RightsDiff.{DiffSays}
 use Rattle.pmp_text.specs.declared.lines.verdict.Verdict.{Verdict}
+use Rattle.pmp_text.specs.declared.moments.When.TheVariants.{Number}
 use Rattle.pmp_web.specs.declared.rooms.Answer.{Answer}
 use Rattle.pmp_web.specs.declared.request.Question.{Question}
 use Rattle.pmp_map.specs.Request.{IsNamed}
@@ -31,6 +32,7 @@ use Rattle.pmp_web.specs.Rooms.{text_in}
 abbrev pub side_number : AuditFault → ℕ
 side_number (ScriptOf New fault) = 256
 side_number (BadAfterOf New) = 256
+side_number (NoMomentOf New) = 256
 side_number _ = 0
 
 -- the number of a refusal, to which 256 is added where it is one of the new script
@@ -73,20 +75,21 @@ RowsSay script text = (summary : WriteSummary) × WritesSay script summary text
 
 -- the text has the row of the decision
 abbrev pub CheckAnswerSays : (script : List ℕ) → Access → (after : ℕ) → (text : List ℕ) → Type 0
-CheckAnswerSays script access after text = (decision : Decision) × CheckSays script access (Some after) decision text
+CheckAnswerSays script access after text = (decision : Decision)
+    × CheckSays script access (Some (Number after)) decision text
 
 -- the numbers name an access, and it is answered, or they name none
 abbrev pub AnswersCheck : (script : List ℕ) → (after mode kind start length status : ℕ) → Answer → Type 0
 AnswersCheck script after mode kind start length status answer =
     ((access : Access) × IsNamed access mode kind start length
-    × Answers (CheckAnswerSays script access after) (FileRefuses script (Some after)) status answer)
+    × Answers (CheckAnswerSays script access after) (FileRefuses script (Some (Number after))) status answer)
     ⊎ ((refusal : Refusal) × NamesNone mode kind start length refusal × IsUnasked refusal status answer)
 
 -- what the number asks for is shown, or it names nothing
 abbrev pub AnswersView : (script : List ℕ) → (after : ℕ) → Option View → (status : ℕ) → Answer → Type 0
 AnswersView script after None status answer = IsUnasked BadWord status answer
 AnswersView script after (Some view) status answer =
-    Answers (ViewSays view script (Some after) tt) (FileRefuses script (Some after)) status answer
+    Answers (ViewSays view script (Some (Number after)) tt) (FileRefuses script (Some (Number after))) status answer
 
 -- the text has the verdict on the row
 abbrev pub VerdictAnswerSays : (script : List ℕ) → Question → (text : List ℕ) → Type 0
@@ -103,4 +106,4 @@ AnswersVerdict script (Some it) status answer =
 abbrev pub DiffAnswerSays : (old : List ℕ) → (old_after : ℕ) → (new : List ℕ) → (new_after : ℕ) → (text : List ℕ)
     → Type 0
 DiffAnswerSays old old_after new new_after text =
-    (rows : ℕ) × DiffSays old (Some old_after) new (Some new_after) None rows text
+    (rows : ℕ) × DiffSays old (Some (Number old_after)) new (Some (Number new_after)) None rows text

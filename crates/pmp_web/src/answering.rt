@@ -65,7 +65,9 @@ fn told_number(fault: &AuditFault) -> u32
 {
     let number = u32::from(fault.refusal().number());
     match fault {
-        AuditFault::ScriptOf(Side::New, _) | AuditFault::BadAfterOf(Side::New) => OF_NEW + number,
+        AuditFault::ScriptOf(Side::New, _)
+        | AuditFault::BadAfterOf(Side::New)
+        | AuditFault::NoMomentOf(Side::New) => OF_NEW + number,
         _ => number,
     }
 }

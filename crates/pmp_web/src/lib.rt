@@ -11,6 +11,7 @@
 
 ghost use Rattle.std.specs.Prelude.{Some};
 ghost use Rattle.pmp_audit.specs.WriteList.{WritesRefuse};
+ghost use Rattle.pmp_text.specs.declared.moments.When.TheVariants.{Number};
 ghost use Rattle.pmp_audit.specs.RightsDiff.{DiffRefuses};
 ghost use Rattle.pmp_web.specs.Answers.{Answers, AnswersCheck, AnswersVerdict, AnswersView, CountSays, DiffAnswerSays, RowsSay};
 ghost use Rattle.pmp_web.specs.Demand.{question_of};
@@ -23,7 +24,7 @@ mod rooms;
 
 use answering::{ANSWERED, Log, append_count, refuse, refuse_question, tell};
 use pmp_audit::{append_check, append_diff, append_verdict, append_view, append_writes};
-use pmp_text::Refusal;
+use pmp_text::{Refusal, When};
 pub use rooms::{Answer, Demand, Script};
 
 /// How many publications the script has, in decimal.
@@ -49,7 +50,7 @@ pub extern "C" fn tilvenka_page_view(
     match request::view_of(view) {
         Some(view) => tell!(
             answer,
-            append_view(&mut Log::new(), view, script.text(), Some(after), answer)
+            append_view(&mut Log::new(), view, script.text(), Some(When::Number(after)), answer)
         ),
         None => refuse_question(answer, Refusal::BadWord),
     }
@@ -82,7 +83,7 @@ pub extern "C" fn tilvenka_page_check(
     match request::access_of(mode, kind, start, length) {
         Ok(access) => tell!(
             answer,
-            append_check(&mut Log::new(), script.text(), &access, Some(after), answer)
+            append_check(&mut Log::new(), script.text(), &access, Some(When::Number(after)), answer)
         ),
         Err(refusal) => refuse_question(answer, refusal),
     }
@@ -127,16 +128,16 @@ pub extern "C" fn tilvenka_page_diff(
 ) -> u32
     ensures { let old = script_in old.now in let new = script_in new.now in
         Answers (DiffAnswerSays old old_after new new_after)
-        (DiffRefuses old (Some old_after) new (Some new_after)) result answer.new }
+        (DiffRefuses old (Some (Number old_after)) new (Some (Number new_after))) result answer.new }
 {
     tell!(
         answer,
         append_diff(
             &mut Log::new(),
             old.text(),
-            Some(old_after),
+            Some(When::Number(old_after)),
             new.text(),
-            Some(new_after),
+            Some(When::Number(new_after)),
             None,
             answer,
         )

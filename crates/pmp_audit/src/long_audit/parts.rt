@@ -9,7 +9,7 @@ ghost use Rattle.pmp_audit.specs.LongPieces.{IsPieceReported, PieceFails};
 use crate::fault::AuditFault;
 use crate::piece::{PieceReport, report_piece};
 use crate::standing::Standing;
-use pmp_text::{Place, Script, read_word_number};
+use pmp_text::{Moments, Place, Script};
 use std::alloc::{AllocError, Global};
 use std::thread;
 use std::thread::Threads;
@@ -38,7 +38,7 @@ pub fn report_parts<T: Threads + Sync>(
     let half = parts / 2;
     let low = &text[..=end];
     let high = &text[end..];
-    let middle = likely_behind(standing.place, low);
+    let middle = likely_behind(&script.moments(), standing.place, low);
     let front = move || -> Result<PieceReport, AuditFault>
         requires { IsSync T.row × (0 < half) × (standing.faults ≤ standing.place.next) }
         ensures { IfOk result (IsPieceReported script.entry.now (records_of low.entry.now) standing) }
@@ -67,7 +67,7 @@ fn middle_line_end(text: &[u8]) -> Option<usize>
 }
 
 /// Where a part is likely to stand behind this text at a place: it does where each line of the text is a plain row.
-fn likely_behind(place: Place, text: &[u8]) -> Standing
+fn likely_behind(moments: &Moments<'_>, place: Place, text: &[u8]) -> Standing
     ensures { result ≡ record { place = record result.place { bare = None }; faults = 0 } }
 {
     let mut lines: u64 = 0;
@@ -77,7 +77,7 @@ fn likely_behind(place: Place, text: &[u8]) -> Standing
     Standing {
         place: Place {
             begun: true,
-            last: last_after(text),
+            last: last_after(moments, text),
             next: place.next.saturating_add(lines.saturating_sub(1)),
             bare: None,
         },
@@ -86,11 +86,11 @@ fn likely_behind(place: Place, text: &[u8]) -> Standing
 }
 
 /// How many publications the last line of a text asks for, where it is a plain row.
-fn last_after(text: &[u8]) -> Option<u64> {
+fn last_after(moments: &Moments<'_>, text: &[u8]) -> Option<u64> {
     let (_, lines) = text.split_last()?;
     let line = lines.iter().rposition(|byte| *byte == b'\n')?;
     let end = lines[line..].iter().position(|byte| *byte == b',')?;
-    read_word_number(&lines[line + 1..line + end])
+    moments.read_after(&lines[line + 1..line + end]).ok()
 }
 
 /// The reports of two parts as one, where both were made, and the back one from where the front one ends.

@@ -219,6 +219,6 @@ concluded (Sized size) (Ok read) = Ok (record {
   batches = read.published.batches;
   lines = read.published.lines;
   expectations = read.expectations;
-  marks = read.marks;
+  marks = None;
 })
 concluded Headed (Ok read) = for_head read.head read.expectations read.marks (Ok read.published)

@@ -7,6 +7,7 @@ use Rattle.csv.specs.declared.reader.Trim.TheVariants as trim
 use Rattle.csv.specs.Reading.{Ready, default_config, reader_config, reader_state, reader_trim, records_from, source_of}
 use Rattle.pmp_text.specs.declared.flaw.Flaw.{Flaw}
 use Rattle.pmp_text.specs.declared.trace.row_fields.RowFields.{RowFields}
+use Rattle.pmp_text.specs.Moments.{KnownMoments}
 use Rattle.pmp_text.specs.Tables.{records_of}
 use Rattle.pmp_text.specs.Traces.{row_in}
 
@@ -42,6 +43,8 @@ abbrev pub lines_or : Option (Bor (List ℕ)) → (left : List (List (List ℕ))
 lines_or (Some lines) left = records_of lines.now
 lines_or None left = left
 
--- the next record says this, and the others come behind it
-abbrev pub IsNext : (before : List (List (List ℕ))) → Result RowFields Flaw → (after : List (List (List ℕ))) → Type 0
-IsNext before said after = (fields : List (List ℕ)) × (before ≡ fields ∷ after) × (row_in fields ≡ said)
+-- beside a script with these moments the next record says this, and the others come behind it
+abbrev pub IsNext : KnownMoments → (before : List (List (List ℕ))) → Result RowFields Flaw
+    → (after : List (List (List ℕ))) → Type 0
+IsNext moments before said after =
+    (fields : List (List ℕ)) × (before ≡ fields ∷ after) × (row_in moments fields ≡ said)

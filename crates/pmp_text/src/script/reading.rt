@@ -290,9 +290,9 @@ impl ScriptReading {
             return Err(Refusal::Unpublished.whole().at_line(line));
         }
         match version {
-            Version::Sized(size) => Ok(Script::new(size, RegFile::reset_of(size), log)),
+            Version::Sized(size) => Ok(Script::new(size, RegFile::reset_of(size), log, false)),
             Version::Headed => match start(&self.head, log.expectations()) {
-                Ok(file) => Ok(Script::new(shown_size(&file), file, log)),
+                Ok(file) => Ok(Script::new(shown_size(&file), file, log, true)),
                 Err(fault) => Err(fault),
             },
         }

@@ -6,6 +6,7 @@ ghost use Rattle.pmp_text.specs.Outcomes.{GivesRows};
 ghost use Rattle.pmp_text.specs.TraceFaults.{IsInOrder, afters};
 ghost use Rattle.pmp_text.specs.Traces.{row_fields, trace_meaning};
 
+use crate::moments::Moments;
 use crate::refusal::Refusal;
 use crate::trace::rows::{Place, RowReader};
 use crate::trace::{Row, TraceFault};
@@ -19,7 +20,7 @@ fn read_rows(alloc: Global, left: &mut RowReader<'_>) -> Result<Vec<Row>, TraceF
     requires first { left.old.place.last ≡ None }
     requires numbered { left.old.place.next + length left.old.records < 2 ^ 64 }
     ensures { GivesRows (λ rows. map row_fields rows.items) result
-        (long_rows_meaning left.old.publications left.old.place.next left.old.records) }
+        (long_rows_meaning left.old.moments left.old.place.next left.old.records) }
 {
     let mut rows = Vec::new(alloc);
     while let Some(row) = left.next()? {
@@ -28,17 +29,17 @@ fn read_rows(alloc: Global, left: &mut RowReader<'_>) -> Result<Vec<Row>, TraceF
     Ok(rows)
 }
 
-/// The rows of the trace that a text describes, beside a script with so many publications, else its first fault. The
+/// The rows of the trace that a text describes, beside a script with these moments, else its first fault. The
 /// time is linear in the text, and only the rows and one record take memory: where they can't grow, `Memory` is
 /// answered in place of any fault further on.
-pub fn read_trace(alloc: Global, text: &[u8], publications: u64) -> Result<Vec<Row>, TraceFault>
-    ensures given { GivesRows (λ rows. map row_fields rows.items) result (trace_meaning publications text.now) }
-    ensures ordered { IfOk result (λ rows. IsInOrder publications 0 (afters (map row_fields rows.items))) }
+pub fn read_trace(alloc: Global, text: &[u8], moments: &Moments<'_>) -> Result<Vec<Row>, TraceFault>
+    ensures given { GivesRows (λ rows. map row_fields rows.items) result (trace_meaning moments.now text.now) }
+    ensures ordered { IfOk result (λ rows. IsInOrder moments.now.publications 0 (afters (map row_fields rows.items))) }
 {
     if text.len() > MAX_TRACE {
         return Err(Refusal::TooLong.whole().at_row(0));
     }
-    let mut left = RowReader::open(alloc, text, publications, Place::beginning(1))?;
+    let mut left = RowReader::open(alloc, text, moments, Place::beginning(1))?;
     if left.place().begun {
         read_rows(alloc, &mut left)
     } else {

@@ -10,6 +10,7 @@ ghost use Rattle.pmp_text.specs.Steps.Views.{seen_five};
 
 use crate::access_words::{read_kind, read_mode};
 use crate::flaw::Flaw;
+use crate::moments::Moments;
 use crate::numbers::{is_bare, read_word_number};
 use crate::refusal::Refusal;
 use crate::trace::Row;
@@ -92,11 +93,11 @@ impl Words<'_> {
 
 impl RowFields {
     /// What a record says as a row, or which field says nothing: all of them where the record goes over several lines.
-    pub fn read(fields: &ByteRecord) -> Result<RowFields, Flaw>
-        ensures { result ≡ row_in (fields_of fields.now) }
+    pub fn read(fields: &ByteRecord, moments: &Moments<'_>) -> Result<RowFields, Flaw>
+        ensures { result ≡ row_in moments.now (fields_of fields.now) }
     {
         let words = five_fields(fields).ok_or(Refusal::BadRow.whole())?;
-        match RowFields::of_words(words) {
+        match RowFields::of_words(words, moments) {
             Ok(row) => Ok(row),
             Err(_) if words.have_line_end() => Err(Refusal::BadRow.whole()),
             Err(flaw) => Err(flaw),
@@ -104,11 +105,14 @@ impl RowFields {
     }
 
     /// What the five fields of a record say, or which one says nothing.
-    pub fn of_words(words: Words<'_>) -> Result<RowFields, Flaw>
-        ensures { result ≡ row_of_fields (seen_five words.entry) }
+    pub fn of_words(words: Words<'_>, moments: &Moments<'_>) -> Result<RowFields, Flaw>
+        ensures { result ≡ row_of_fields moments.now (seen_five words.entry) }
     {
+        let after = moments
+            .read_after(words.after)
+            .map_err(|kind| kind.part(0))?;
         Ok(RowFields {
-            after: read_word_number(words.after).ok_or(Refusal::BadRow.part(0))?,
+            after,
             mode: read_mode(words.mode).ok_or(Refusal::BadRow.part(1))?,
             kind: read_kind(words.kind).ok_or(Refusal::BadRow.part(2))?,
             start: read_word_number(words.start).ok_or(Refusal::BadRow.part(3))?,

@@ -11,6 +11,7 @@ ghost use Rattle.pmp_text.specs.Tables.{records_of};
 ghost use Rattle.pmp_text.specs.Traces.{first_row_fault, row_fault, row_fields, row_in};
 
 use crate::flaw::Flaw;
+use crate::moments::Moments;
 use crate::refusal::Refusal;
 use crate::trace::plain::{behind_plain_header, plain_line};
 use crate::trace::records::Records;
@@ -66,8 +67,8 @@ impl Place {
 /// What a record says as a row, or what of it says nothing.
 type Said = Result<RowFields, Flaw>;
 
-/// The rows that a piece has left. A contract sees their records, beside how many publications of a script they stand,
-/// and where.
+/// The rows that a piece has left. A contract sees their records, beside which moments of a script they stand, and
+/// where.
 #[derive(Drop)]
 pub struct RowReader<'a> {
     alloc: Global,
@@ -75,7 +76,7 @@ pub struct RowReader<'a> {
     lines: Option<&'a [u8]>,
     /// What is left once a line isn't plain.
     records: Records<'a>,
-    publications: u64,
+    moments: &'a Moments<'a>,
     place: Place,
 }
 
@@ -88,50 +89,51 @@ impl<'a> Model for RowReader<'a> {
 
     ghost view = { λ r. record {
       records = lines_or r.lines r.records.left;
-      publications = r.publications;
+      moments = r.moments.now;
       place = r.place;
     } };
 }
 
 /// What the next record says, if there is one.
-fn next_said(records: &mut Records<'_>) -> Result<Option<Said>, TraceFault>
-    ensures some { IfOk result (λ found. IfSome found (λ said. IsNext records.old.left said records.new.left)) }
+fn next_said(records: &mut Records<'_>, moments: &Moments<'_>) -> Result<Option<Said>, TraceFault>
+    ensures some { IfOk result (λ found. IfSome found (λ said.
+        IsNext moments.now records.old.left said records.new.left)) }
     ensures end { result ≡ Ok None → (records.old.left ≡ []) × (records.new.left ≡ []) }
     ensures failed { IfErr result (λ fault. (fault ≡ no_memory_for_rows) ⊎ (fault ≡ no_input_for_rows)) }
 {
     if records.read()? {
-        Ok(Some(RowFields::read(records.fields())))
+        Ok(Some(RowFields::read(records.fields(), moments)))
     } else {
         Ok(None)
     }
 }
 
 impl<'a> RowReader<'a> {
-    /// The rows of a piece that stands there, beside a script with so many publications, else the header's fault.
+    /// The rows of a piece that stands there, beside a script with these moments, else the header's fault.
     ///
     /// A piece that isn't the first one begins with the line's end before it, since a byte-order mark counts where a
     /// text begins.
     pub fn open(
         alloc: Global,
         text: &'a [u8],
-        publications: u64,
+        moments: &'a Moments<'a>,
         place: Place,
     ) -> Result<RowReader<'a>, TraceFault>
-        ensures fault { IfOk result (λ rows. piece_fault publications place (records_of text.now)
-            ≡ first_row_fault publications place.last place.next rows.records) }
+        ensures fault { IfOk result (λ rows. piece_fault moments.now place (records_of text.now)
+            ≡ first_row_fault moments.now place.last place.next rows.records) }
         ensures rows { IfOk result (λ rows. rows ≡ record {
           records = row_records place.begun (records_of text.now);
-          publications = publications;
+          moments = moments.now;
           place = record place { begun = has_begun place.begun (records_of text.now) };
         }) }
-        ensures err { IfErr result (λ fault. (piece_fault publications place (records_of text.now) ≡ Some fault)
+        ensures err { IfErr result (λ fault. (piece_fault moments.now place (records_of text.now) ≡ Some fault)
             ⊎ (fault ≡ no_memory_for_rows) ⊎ (fault ≡ no_input_for_rows)) }
     {
         let mut rows = RowReader {
             alloc,
             lines: Some(text),
             records: Records::open(alloc, text),
-            publications,
+            moments,
             place,
         };
         if place.begun {
@@ -160,20 +162,20 @@ impl<'a> RowReader<'a> {
     /// What the next record says, if there is one.
     fn next_fields(&mut self) -> Result<Option<Said>, TraceFault>
         ensures some { IfOk result (λ found. IfSome found (λ said.
-            IsNext self.old.records said self.new.records)) }
+            IsNext self.old.moments self.old.records said self.new.records)) }
         ensures end { result ≡ Ok None → (self.old.records ≡ []) × (self.new.records ≡ []) }
         ensures failed { IfErr result (λ fault. (fault ≡ no_memory_for_rows) ⊎ (fault ≡ no_input_for_rows)) }
-        ensures publications { self.new.publications ≡ self.old.publications }
+        ensures moments { self.new.moments ≡ self.old.moments }
         ensures place { self.new.place ≡ self.old.place }
     {
         let Some(text) = self.lines else {
-            return next_said(&mut self.records);
+            return next_said(&mut self.records, self.moments);
         };
         let Some((words, rest)) = plain_line(text) else {
             return self.leave_lines(text);
         };
         self.lines = Some(rest);
-        Ok(Some(RowFields::of_words(words)))
+        Ok(Some(RowFields::of_words(words, self.moments)))
     }
 
     /// What the next record says, if there is one, where what is left is no plain line. It stands alone since each row
@@ -183,15 +185,15 @@ impl<'a> RowReader<'a> {
     fn leave_lines(&mut self, text: &'a [u8]) -> Result<Option<Said>, TraceFault>
         requires { self.old.records ≡ records_of text.now }
         ensures some { IfOk result (λ found. IfSome found (λ said.
-            IsNext self.old.records said self.new.records)) }
+            IsNext self.old.moments self.old.records said self.new.records)) }
         ensures end { result ≡ Ok None → (self.old.records ≡ []) × (self.new.records ≡ []) }
         ensures failed { IfErr result (λ fault. (fault ≡ no_memory_for_rows) ⊎ (fault ≡ no_input_for_rows)) }
-        ensures publications { self.new.publications ≡ self.old.publications }
+        ensures moments { self.new.moments ≡ self.old.moments }
         ensures place { self.new.place ≡ self.old.place }
     {
         self.records = Records::open(self.alloc, text);
         self.lines = None;
-        next_said(&mut self.records)
+        next_said(&mut self.records, self.moments)
     }
 
     /// The next row, if there is one. After an error no more is said of what is left.
@@ -199,15 +201,16 @@ impl<'a> RowReader<'a> {
         ensures row { IfOk result (λ found. IfSome found (λ row. IsNextRow self.old row self.new)) }
         ensures end { result ≡ Ok None → (self.old.records ≡ []) × (self.new ≡ self.old) }
         ensures err { IfErr result (λ fault.
-            (first_row_fault self.old.publications self.old.place.last self.old.place.next self.old.records
+            (first_row_fault self.old.moments self.old.place.last self.old.place.next self.old.records
             ≡ Some fault) ⊎ (fault ≡ no_memory_for_rows) ⊎ (fault ≡ no_input_for_rows)
             ⊎ ((fault ≡ too_long_for_rows) × (2 ^ 64 ≤ self.old.place.next + length self.old.records))) }
     {
         let Some(said) = self.next_fields()? else {
             return Ok(None);
         };
+        let moments = self.moments;
         let checked = match said {
-            Ok(fields) => fields.check(self.publications, self.place.last),
+            Ok(fields) => fields.check(moments.publications, self.place.last),
             Err(flaw) => Err(flaw),
         };
         match checked {

@@ -4,7 +4,7 @@ use pmp_text::{COMMENT, NAME};
 
 /// Those of a trace.
 const TRACE: [&str; 5] = [
-    "after: a number of publications",
+    "after: a number of publications, or with pmp 3 last, last-N or a name of the script's",
     "mode: M, S or U",
     "kind: fetch, load or store",
     "start: a byte address, in decimal or with 0x",

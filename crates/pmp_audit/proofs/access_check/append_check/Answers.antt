@@ -8,8 +8,10 @@ returns-clause-ok g c = record {
   says = record {
     contents = c.in_ok-script.script;
     script_means = c.in_ok-script.ensures;
-    within = rw c.in_ok-count.ensures.count at c.in_ok-count.ensures.within;
-    by_bytes = rw (c.after.ensures, c.in_ok-count.ensures.count) at c.decide-decision.ensures.by_bytes;
+    done = c.in_ok-count.count;
+    asked = c.in_ok-count.ensures.count;
+    within = c.in_ok-count.ensures.within;
+    by_bytes = rw c.after.ensures at c.decide-decision.ensures.by_bytes;
     row = refl;
   };
   appended = c.in_ok-write_row.ensures.ok;

@@ -10,7 +10,7 @@ use Rattle.pmp_audit.proofs.piece.report_rows.Goals as goal
 pub loop-report-init : goal.loop-report-init
 loop-report-init c = record {
   reported = rw c.new-report.ensures.items (none_reported c.args.script.now c.args.standing c.args.rows.now
-      c.requires.place c.requires.publications);
+      c.requires.place c.requires.moments);
   place = sym c.requires.place;
   script = rw c.new-replay.ensures refl;
   done = rw c.new-replay.ensures (omega arith);

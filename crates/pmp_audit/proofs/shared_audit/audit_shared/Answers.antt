@@ -1,5 +1,6 @@
 use Rattle.std.proofs.KnownBytes.{Keeps-refl}
 use Rattle.std.proofs.lemmas.List.{length-map}
+use Rattle.pmp_text.specs.Moments.{moments_in}
 use Rattle.pmp_audit.proofs.FaultyInputs.{script_refused, trace_refused}
 use Rattle.std.proofs.lemmas.Result.{IfOk-from_err}
 use Rattle.std.proofs.Common.{◌≡◌, ◌∙◌, length, map, ap, sym, subst, Ok}
@@ -23,8 +24,8 @@ says g c =
     let script = c.in_ok-script.script in
     let rows = c.in_ok-rows.rows.items in
     let decisions = c.in_ok-decisions.decisions.items in
-    let trace_means : trace_meaning (length script.batches) c.args.trace.now ≡ Ok (map row_fields rows) =
-    rw (← c.batches.ensures) c.in_ok-rows.ensures.given in
+    let trace_means : trace_meaning (moments_in script) c.args.trace.now ≡ Ok (map row_fields rows) =
+    rw (← c.moments.ensures) c.in_ok-rows.ensures.given in
     let made : decisions ≡ map (decision_for script) rows =
     c.in_ok-decisions.ensures.decided ∙ ap (map (decision_for script)) c.deref.ensures.value in
     let decided : AreDecided script rows decisions =
@@ -56,7 +57,7 @@ returns-in_err-decisions-clause-err g c =
       contents = script;
       rows = map row_fields c.in_ok-rows.rows.items;
       script_means = c.in_ok-script.ensures;
-      trace_means = rw (← c.batches.ensures) c.in_ok-rows.ensures.given;
+      trace_means = rw (← c.moments.ensures) c.in_ok-rows.ensures.given;
     } in
     let p = err_from_is_err_and c.from_residual-in_err-decisions.result c.from_residual-in_err-decisions.ensures.1 in
     rw (p.1, p.2) (refused_so (AuditSays c.args.script.now c.args.trace.now) _ c.args.script.now c.args.trace.now
@@ -87,7 +88,7 @@ returns-in_err-rows-clause-err g c =
     rw (p.1, p.2) (trace_refused (AuditSays c.args.script.now c.args.trace.now) _
     (SharedAuditRefuses c.args.script.now c.args.trace.now) c.in_err-rows.field-0.0 _
     (λ why. record { contents = script; script_means = c.in_ok-script.ensures; trace_means = why })
-    (rw c.batches.ensures at c.in_err-rows.ensures.given))
+    (rw c.moments.ensures at c.in_err-rows.ensures.given))
 
 pub returns-in_err-faults-clause-err : goal.returns-in_err-faults-clause-err
 returns-in_err-faults-clause-err g c =

@@ -3,28 +3,26 @@ use Rattle.pmp_tool.specs.Failures.{unaudited}
 use Rattle.pmp_tool.proofs.Answering.{declined, refused_so}
 use Rattle.pmp_tool.proofs.answer.answer_request.Goals as goal
 
-pub returns-in_err-decision-in-Check-clause-err : goal.returns-in_err-decision-in-Check-clause-err
-returns-in_err-decision-in-Check-clause-err g c =
-    let fault = c.in_err-decision-in-Check.field-0.0 in
-    let exit = c.from_residual in
-    rw c.in-Check.is
-    (refused_so _ _ (g.I.Inputs.scripts c.args.inputs.now) (g.I.Inputs.traces c.args.inputs.now) c.args.script.now
-    (request.Check c.in-Check.asked) exit.result (unaudited fault) exit.ensures.1
-    (declined fault c.in_err-decision-in-Check.ensures.err))
+pub returns-in-Check-clause-ok : goal.returns-in-Check-clause-ok
+returns-in-Check-clause-ok g c = rw c.in-Check.is
+    (c.answer_check.ensures.ok (g.I.Inputs.scripts c.args.inputs.now) (g.I.Inputs.traces c.args.inputs.now))
 
-pub returns-in_err-show-in-Show-clause-err : goal.returns-in_err-show-in-Show-clause-err
-returns-in_err-show-in-Show-clause-err g c =
-    let fault = c.in_err-show-in-Show.field-0.0 in
-    let exit = c.from_residual-in_err-show-in-Show in
-    rw c.in-Show.is
-    (refused_so _ _ (g.I.Inputs.scripts c.args.inputs.now) (g.I.Inputs.traces c.args.inputs.now) c.args.script.now
-    (request.Show c.in-Show.view c.in-Show.after) exit.result (unaudited fault) exit.ensures.1
-    (declined fault c.in_err-show-in-Show.ensures.err))
+pub returns-in-Check-clause-err : goal.returns-in-Check-clause-err
+returns-in-Check-clause-err g c = rw c.in-Check.is
+    (c.answer_check.ensures.err (g.I.Inputs.scripts c.args.inputs.now) (g.I.Inputs.traces c.args.inputs.now))
+
+pub returns-in-Show-clause-ok : goal.returns-in-Show-clause-ok
+returns-in-Show-clause-ok g c = rw c.in-Show.is
+    (c.answer_show.ensures.ok (g.I.Inputs.scripts c.args.inputs.now) (g.I.Inputs.traces c.args.inputs.now))
+
+pub returns-in-Show-clause-err : goal.returns-in-Show-clause-err
+returns-in-Show-clause-err g c = rw c.in-Show.is
+    (c.answer_show.ensures.err (g.I.Inputs.scripts c.args.inputs.now) (g.I.Inputs.traces c.args.inputs.now))
 
 pub returns-in_err-writes-in-Writes-clause-err : goal.returns-in_err-writes-in-Writes-clause-err
 returns-in_err-writes-in-Writes-clause-err g c =
     let fault = c.in_err-writes-in-Writes.field-0.0 in
-    let exit = c.from_residual-in_err-writes-in-Writes in
+    let exit = c.from_residual in
     rw c.in-Writes.is
     (refused_so _ _ (g.I.Inputs.scripts c.args.inputs.now) (g.I.Inputs.traces c.args.inputs.now) c.args.script.now
     request.Writes exit.result (unaudited fault) exit.ensures.1

@@ -3,6 +3,7 @@ use Rattle.std.specs.Prelude.{IfOk}
 use Rattle.std.proofs.lemmas.Result.{err_from_is_err_and}
 use Rattle.pmp_text.specs.declared.trace.Row.{Row}
 use Rattle.pmp_text.specs.declared.trace.TraceFault.{TraceFault}
+use Rattle.pmp_text.specs.Moments.{KnownMoments}
 use Rattle.pmp_text.specs.Outcomes.{GivesRows}
 use Rattle.pmp_text.specs.TraceFaults.{IsInOrder, afters}
 use Rattle.pmp_text.specs.Traces.{is_header, row_fields, rows_meaning, trace_meaning}
@@ -13,13 +14,13 @@ use Rattle.pmp_text.proofs.trace.reader.read_trace.Goals as goal
 
 pub returns-then-text-gt-MAX_TRACE-clause-given : goal.returns-then-text-gt-MAX_TRACE-clause-given
 returns-then-text-gt-MAX_TRACE-clause-given c =
-    rw (c.at_row.ensures, c.whole.ensures) (inl (trace_is c.args.publications c.args.text.now
-    ∙ long_text is_header (rows_meaning c.args.publications) c.args.text.now (omega arith)))
+    rw (c.at_row.ensures, c.whole.ensures) (inl (trace_is c.args.moments.now c.args.text.now
+    ∙ long_text is_header (rows_meaning c.args.moments.now) c.args.text.now (omega arith)))
 
 pub returns-in_err-left-clause-given : goal.returns-in_err-left-clause-given
 returns-in_err-left-clause-given c =
     let p = err_from_is_err_and c.from_residual.result c.from_residual.ensures.1 in
-    rw (p.1, p.2) (not_opened c.args.publications c.args.text.now (omega arith) c.in_err-left.field-0.0
+    rw (p.1, p.2) (not_opened c.args.moments.now c.args.text.now (omega arith) c.in_err-left.field-0.0
     (rw c.beginning.ensures at c.in_err-left.ensures.err))
 
 pub read_rows-requires-clause-first : goal.read_rows-requires-clause-first
@@ -27,7 +28,7 @@ read_rows-requires-clause-first c = rw (c.in_ok-left.ensures.rows, c.beginning.e
 
 pub read_rows-requires-clause-numbered : goal.read_rows-requires-clause-numbered
 read_rows-requires-clause-numbered c =
-    let few = few_rows c.args.publications c.args.text.now (omega arith) in
+    let few = few_rows c.args.moments.now c.args.text.now (omega arith) in
     rw (c.in_ok-left.ensures.rows, c.beginning.ensures) (omega (arith, few))
 
 pub returns-then-place-clause-given : goal.returns-then-place-clause-given
@@ -35,22 +36,22 @@ returns-then-place-clause-given c =
     let rows = rw c.beginning.ensures at c.in_ok-left.ensures.rows in
     let opened = rw (c.beginning.ensures, rows) at c.in_ok-left.ensures.fault in
     let begun = sym (ap (λ r. r.place.begun) rows) ∙ (rw c.place.ensures at c.if-place.true) in
-    rw (behind_header c.args.publications c.args.text.now (omega arith) begun opened)
+    rw (behind_header c.args.moments.now c.args.text.now (omega arith) begun opened)
     (rw rows at c.read_rows.ensures)
 
-in_order : (publications : ℕ) (text : List ℕ) (answer : Result (Vec Row Global) TraceFault)
-    → GivesRows (λ rows. map row_fields rows.items) answer (trace_meaning publications text)
-    → IfOk answer (λ rows. IsInOrder publications 0 (afters (map row_fields rows.items)))
-in_order publications text (Ok rows) given = trace_in_order publications _ text given
-in_order publications text (Err fault) given = tt
+in_order : (moments : KnownMoments) (text : List ℕ) (answer : Result (Vec Row Global) TraceFault)
+    → GivesRows (λ rows. map row_fields rows.items) answer (trace_meaning moments text)
+    → IfOk answer (λ rows. IsInOrder moments.publications 0 (afters (map row_fields rows.items)))
+in_order moments text (Ok rows) given = trace_in_order moments _ text given
+in_order moments text (Err fault) given = tt
 
 pub returns-then-place-clause-ordered : goal.returns-then-place-clause-ordered
 returns-then-place-clause-ordered c =
-    in_order c.args.publications c.args.text.now c.read_rows.result (returns-then-place-clause-given c)
+    in_order c.args.moments.now c.args.text.now c.read_rows.result (returns-then-place-clause-given c)
 
 pub returns-clause-given : goal.returns-clause-given
 returns-clause-given c =
     let rows = rw c.beginning.ensures at c.in_ok-left.ensures.rows in
     let begun = sym (ap (λ r. r.place.begun) rows) ∙ (rw c.place.ensures at c.if-place.false) in
     rw (c.at_row-else-place.ensures, c.whole-else-place.ensures)
-    (inl (without_header c.args.publications c.args.text.now (omega arith) begun))
+    (inl (without_header c.args.moments.now c.args.text.now (omega arith) begun))

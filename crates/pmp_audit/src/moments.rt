@@ -1,11 +1,11 @@
-//! The moments of a script that a policy may name.
+//! The moments of a script that words may say.
 
-ghost use Rattle.std.specs.Prelude.{◌≡◌, ◌<◌, ◌^◌, length};
-ghost use Rattle.pmp_audit.specs.PolicyMoments.{AllLast, AreMoments, lasting_with, since};
+ghost use Rattle.std.specs.Prelude.{◌≡◌, length};
+ghost use Rattle.pmp_audit.specs.Moments.{AllLast, AreMoments, lasting_with, since};
 
 use crate::replay::Replay;
 use pmp_core::{Csr, RegFile};
-use pmp_text::{Lasting, Moments, Script, is_headed};
+use pmp_text::{Lasting, Moments, Script};
 
 /// From when on it holds once so many publications are done, where it held from `before` on until then.
 fn since(before: Option<u64>, holds: bool, done: u64) -> Option<u64>
@@ -43,19 +43,13 @@ fn lasting(script: &Script<'_>) -> Lasting
     lasting
 }
 
-/// The moments of the script that the text means.
-pub fn moments_of<'a>(text: &[u8], script: &'a Script<'_>) -> Moments<'a>
-    requires { length text.now < 2 ^ 63 }
-    ensures { AreMoments text.now script.now result }
+/// The moments of a script that words may say.
+pub fn moments_of<'a>(script: &Script<'a>) -> Moments<'a>
+    ensures { AreMoments script.now result }
 {
-    let lasting = if is_headed(text) {
-        Some(lasting(script))
-    } else {
-        None
-    };
-    Moments {
-        publications: script.batches(),
-        lasting,
-        marks: script.marks(),
+    let mut moments = script.moments();
+    if moments.marks.is_some() {
+        moments.lasting = Some(lasting(script));
     }
+    moments
 }

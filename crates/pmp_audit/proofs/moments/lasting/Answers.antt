@@ -1,8 +1,8 @@
 use Rattle.std.proofs.Common.{◌≡◌, ◌+◌, ◌∙◌, ap, arith, length}
 use Rattle.pmp_text.specs.Reports.{file_of_script}
 use Rattle.pmp_audit.specs.Replay.{file_at}
-use Rattle.pmp_audit.proofs.PolicyMoments.{all_more}
-use Rattle.pmp_audit.proofs.policy_check.moments.lasting.Goals as goal
+use Rattle.pmp_audit.proofs.LastingMoments.{all_more}
+use Rattle.pmp_audit.proofs.moments.lasting.Goals as goal
 
 pub loop-done-preserved : goal.loop-done-preserved
 loop-done-preserved c =

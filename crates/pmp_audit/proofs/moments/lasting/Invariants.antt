@@ -1,6 +1,6 @@
 use Rattle.std.proofs.Common.{◌≡◌}
-use Rattle.pmp_audit.specs.PolicyMoments.{AllLast}
-use Rattle.pmp_audit.proofs.policy_check.moments.lasting.Given as goal
+use Rattle.pmp_audit.specs.Moments.{AllLast}
+use Rattle.pmp_audit.proofs.moments.lasting.Given as goal
 
 -- so many publications are done, and from when on it lasts is known of them
 abbrev pub invariant-loop-done : goal.invariant-loop-done

@@ -1,13 +1,16 @@
 -- From when on a thing lasts, publication by publication.
-use Rattle.std.proofs.Common.{◌≡◌, ℕ, ◌+◌, ◌≤◌, Bool, true, false, not, Option, Some, None, refl, sym, ap, subst}
+use Rattle.std.proofs.Common.{◌≡◌, ℕ, ◌+◌, ◌≤◌, Bool, true, false, not, List, Option, Some, None, Ok, refl, sym, ap, subst}
 use Rattle.std.proofs.Common.{◌-◌, ◌∙◌, inl, inr, arith, length}
 use Rattle.std.proofs.lemmas.Bool.{cases_lt, false≢true}
 use Rattle.pmp_text.specs.declared.moments.Lasting.{Lasting}
-use Rattle.pmp_text.specs.Moments.{KnownMoments}
+use Rattle.pmp_text.specs.declared.moments.When.{When}
+use Rattle.pmp_text.specs.declared.moments.When.TheVariants.{Labelled, Number}
+use Rattle.pmp_text.specs.Moments.{KnownMoments, when_place}
 use Rattle.pmp_text.specs.Contents.{ScriptContents}
 use Rattle.pmp_text.specs.Reports.{file_of_script}
-use Rattle.pmp_text.specs.ScriptLines.{is_headed}
-use Rattle.pmp_audit.specs.PolicyMoments.{AllLast, AreMoments, LastsFrom, MayName, lasting_with, since}
+use Rattle.pmp_text.specs.declared.mark.Mark.{Mark}
+use Rattle.pmp_audit.specs.AskedFile.{IsAsked}
+use Rattle.pmp_audit.specs.Moments.{AllLast, AreMoments, LastsFrom, MayLast, lasting_with, since}
 
 module _ (holds : ℕ → Bool) where
   -- ---- one moment more
@@ -94,18 +97,32 @@ module _ (script : ScriptContents) where
       let clear = lasts_once clear_at last one.rlb_clear other.rlb_clear is.rlb_clear too.rlb_clear in
       (λ i. record { mml = mml i; mmwp = mmwp i; rlb_clear = clear i })
 
-  names_once : (headed : Bool) (one other : Option Lasting) → MayName headed script one → MayName headed script other
-      → one ≡ other
-  names_once false one other is too = is ∙ sym too
-  names_once true None other is too = absurd is
-  names_once true (Some one) None is too = absurd too
-  names_once true (Some one) (Some other) is too = ap Some (all_once (length script.batches) one other is too)
+  lasting_once : (marks : Option (List Mark)) (one other : Option Lasting) → MayLast marks script one
+      → MayLast marks script other → one ≡ other
+  lasting_once None one other is too = is ∙ sym too
+  lasting_once (Some marks) None other is too = absurd is
+  lasting_once (Some marks) (Some one) None is too = absurd too
+  lasting_once (Some marks) (Some one) (Some other) is too = ap Some (all_once (length script.batches) one other is too)
 
 -- a script's moments are these
-pub one_moments : (text : _) (script : ScriptContents) (one other : KnownMoments) → AreMoments text script one
-    → AreMoments text script other → one ≡ other
-one_moments text script one other is too =
+pub one_moments : (script : ScriptContents) (one other : KnownMoments) → AreMoments script one → AreMoments script other
+    → one ≡ other
+one_moments script one other is too =
     let publications = is.publications ∙ sym too.publications in
-    let names = names_once script (is_headed text) one.lasting other.lasting is.names too.names in
     let marks = is.marks ∙ sym too.marks in
-    (λ i. record { publications = publications i; lasting = names i; marks = marks i })
+    let lasting = lasting_once script script.marks one.lasting other.lasting is.lasting too.lasting in
+    (λ i. record { publications = publications i; marks = marks i; lasting = lasting i })
+
+-- so many publications are asked for
+module _ (script : ScriptContents) where
+  same_place : (when : When) (one other : KnownMoments) (done too_done : ℕ) → one ≡ other
+      → when_place one when ≡ Ok done → when_place other when ≡ Ok too_done → done ≡ too_done
+  same_place when one other done too_done same is too =
+      let both : Ok done ≡ Ok too_done = sym is ∙ ap (λ (m : KnownMoments). when_place m when) same ∙ too in cc
+
+  pub one_count : (after : Option When) (done other : ℕ) → IsAsked after script done → IsAsked after script other
+      → done ≡ other
+  one_count None done other is too = is ∙ sym too
+  one_count (Some (Number number)) done other is too = is ∙ sym too
+  one_count (Some (Labelled label)) done other (one, are, is) (another, are_too, too) =
+      same_place (Labelled label) one another done other (one_moments script one another are are_too) is too

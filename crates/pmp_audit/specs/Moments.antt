@@ -1,12 +1,12 @@
--- The moments of a script that a policy may name (Smepmp, mseccfg).
+-- The moments of a script that words may say (Smepmp, mseccfg).
 use Rattle.std.specs.Prelude.{◌≡◌, ℕ, ◌+◌, ◌≤◌, Bool, true, false, not, List, length, Option, Some, None, unwrap_or}
 use Rattle.std.specs.Prelude.{if◌then◌else◌}
 use Rattle.pmp_core.specs.RegisterFile.{RegisterFile}
+use Rattle.pmp_text.specs.declared.mark.Mark.{Mark}
 use Rattle.pmp_text.specs.declared.moments.Lasting.{Lasting}
 use Rattle.pmp_text.specs.Contents.{ScriptContents}
 use Rattle.pmp_text.specs.Moments.{KnownMoments}
 use Rattle.pmp_text.specs.Reports.{file_of_script}
-use Rattle.pmp_text.specs.ScriptLines.{is_headed}
 
 -- it holds from this moment to the last one, and in none right before; or it doesn't hold in the last one
 abbrev pub LastsFrom : (holds : ℕ → Bool) → (last : ℕ) → Option ℕ → Type 0
@@ -21,17 +21,17 @@ pub record AllLast (script : ScriptContents) (last : ℕ) (lasting : Lasting) : 
   pub mmwp : LastsFrom (λ done. (file_of_script script done).mseccfg.mmwp) last lasting.mmwp
   pub rlb_clear : LastsFrom (λ done. not (file_of_script script done).mseccfg.rlb) last lasting.rlb_clear
 
--- words may name moments in version 3 alone
-abbrev pub MayName : (headed : Bool) → ScriptContents → Option Lasting → Type 0
-MayName true script None = ⊥
-MayName true script (Some lasting) = AllLast script (length script.batches) lasting
-MayName false script lasting = lasting ≡ None
+-- words may say that where the script's version names moments
+abbrev pub MayLast : Option (List Mark) → ScriptContents → Option Lasting → Type 0
+MayLast (Some marks) script None = ⊥
+MayLast (Some marks) script (Some lasting) = AllLast script (length script.batches) lasting
+MayLast None script lasting = lasting ≡ None
 
--- the moments of the script that this text means
-pub record AreMoments (text : List ℕ) (script : ScriptContents) (moments : KnownMoments) : Type 0 where
+-- the moments of the script that words may say
+pub record AreMoments (script : ScriptContents) (moments : KnownMoments) : Type 0 where
   pub publications : moments.publications ≡ length script.batches
   pub marks : moments.marks ≡ script.marks
-  pub names : MayName (is_headed text) script moments.lasting
+  pub lasting : MayLast script.marks script moments.lasting
 
 -- from when on it holds once so many publications are done, where it held from then on before
 abbrev pub since : (before : Option ℕ) → (holds : Bool) → (done : ℕ) → Option ℕ
