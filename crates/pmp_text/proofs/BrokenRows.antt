@@ -17,8 +17,8 @@ use Rattle.pmp_text.specs.Flaws.{in_part, of_part, as_whole}
 use Rattle.pmp_text.specs.Traces.{FiveFields, five_fields, is_header, row_in, row_of_fields}
 use Rattle.pmp_text.specs.declared.flaw.Flaw.{Flaw}
 use Rattle.pmp_text.specs.declared.mark.TheConstants.{NAME_BYTES}
-use Rattle.pmp_text.specs.declared.moments.Label.{Label}
-use Rattle.pmp_text.specs.declared.moments.Label.TheVariants.{Last, Marked}
+use Rattle.pmp_text.specs.declared.moments.MomentName.{MomentName}
+use Rattle.pmp_text.specs.declared.moments.MomentName.TheVariants.{Last, Marked}
 use Rattle.pmp_text.specs.declared.moments.When.{When}
 use Rattle.pmp_text.specs.declared.moments.When.TheVariants.{Labelled, Number}
 use Rattle.pmp_text.specs.declared.refusal.Refusal.{Refusal}
@@ -159,7 +159,7 @@ no_label word ends = none_of (bytes_eq word (codes "last")) (bytes_eq word (code
     by true e = (rw (no_number (drop 5 word) (end_behind 5 word (codes "last-") e refl ends)) refl)
     by false e = (rw (no_name word ends) refl)
 
-neither : (number : Option ℕ) (label : Option Label) → number ≡ None → label ≡ None → ◌≡◌ {A = Option When} (elim number [
+neither : (number : Option ℕ) (label : Option MomentName) → number ≡ None → label ≡ None → ◌≡◌ {A = Option When} (elim number [
   | Some number ↦ Some (Number number)
   | None ↦ option_map (λ label. Labelled label) label
 ]) None

@@ -3,8 +3,8 @@ use Rattle.std.specs.Prelude.{ℕ, ◌-◌, List, [], ◌∷◌, length, take, d
 use Rattle.std.specs.Prelude.{find, option_map, nat_le, nat_lt, codes, bytes_eq, if◌then◌else◌}
 use Rattle.pmp_text.specs.declared.moments.Asked.{Asked}
 use Rattle.pmp_text.specs.declared.moments.Coming.TheVariants as coming
-use Rattle.pmp_text.specs.declared.moments.Label.{Label}
-use Rattle.pmp_text.specs.declared.moments.Label.TheVariants.{Last, Mml, Mmwp, RlbClear, Marked}
+use Rattle.pmp_text.specs.declared.moments.MomentName.{MomentName}
+use Rattle.pmp_text.specs.declared.moments.MomentName.TheVariants.{Last, Mml, Mmwp, RlbClear, Marked}
 use Rattle.pmp_text.specs.declared.moments.Lasting.{Lasting}
 use Rattle.pmp_text.specs.declared.moments.Moment.{Moment}
 use Rattle.pmp_text.specs.declared.moments.Moment.TheVariants.{Named, Numbered}
@@ -37,7 +37,7 @@ unnamed_moments publications = record { publications = publications; marks = Non
 
 -- no number: the last moment, one so many before it, the first from which MML or MMWP is set, or RLB clear, to the end
 -- (Smepmp, mseccfg), or one that the script names
-unfoldable pub label_said : List ℕ → Option Label
+unfoldable pub label_said : List ℕ → Option MomentName
 label_said word =
     if bytes_eq word (codes "last") then Some (Last 0)
     else (if bytes_eq word (codes "mml") then Some Mml
@@ -69,7 +69,7 @@ mark_place marks name = elim (done_at marks name) [ Some done ↦ Ok (Some done)
 abbrev pub lasting_place : Option Lasting → (Lasting → Option ℕ) → Result (Option ℕ) Refusal
 lasting_place lasting first = elim lasting [ Some lasting ↦ Ok (first lasting) | None ↦ Err BadRow ]
 
-abbrev pub place_among : KnownMoments → List Mark → Label → Result (Option ℕ) Refusal
+abbrev pub place_among : KnownMoments → List Mark → MomentName → Result (Option ℕ) Refusal
 place_among moments marks (Last back) = Ok (back_from moments.publications back)
 place_among moments marks Mml = lasting_place moments.lasting (λ lasting. lasting.mml)
 place_among moments marks Mmwp = lasting_place moments.lasting (λ lasting. lasting.mmwp)
@@ -77,7 +77,7 @@ place_among moments marks RlbClear = lasting_place moments.lasting (λ lasting. 
 place_among moments marks (Marked name) = mark_place marks name
 
 -- a moment, or one that never comes, where the script's version names any
-abbrev pub label_place : KnownMoments → Label → Result (Option ℕ) Refusal
+abbrev pub label_place : KnownMoments → MomentName → Result (Option ℕ) Refusal
 label_place moments label =
     elim moments.marks [ Some marks ↦ place_among moments marks label | None ↦ Err BadRow ]
 

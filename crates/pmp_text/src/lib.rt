@@ -32,7 +32,7 @@ pub use lines::{
     write_runs, write_script, write_verdict,
 };
 pub use mark::{Mark, NAME_BYTES, Name};
-pub use moments::{Coming, Label, Lasting, Moments, When};
+pub use moments::{Coming, Lasting, MomentName, Moments, When};
 pub use names::{RegisterName, read_plain_number, read_register, read_register_number};
 pub use numbers::{is_bare, read_numeral, read_word_number};
 pub use output::{OutputFault, write_out};

@@ -48,7 +48,7 @@ impl<'a> Model for Moments<'a> {
 
 /// What a word says of a moment that is no number.
 #[derive(Clone, Copy, Debug, PartialEq, Eq)]
-pub enum Label {
+pub enum MomentName {
     /// So many publications before the last moment.
     Last(u64),
     /// The first one from which MML is set to the end.
@@ -66,7 +66,7 @@ pub enum Label {
 pub enum When {
     /// After so many publications.
     Number(u64),
-    Labelled(Label),
+    Labelled(MomentName),
 }
 
 /// A moment from which a policy's row asks, or up to which.
@@ -154,27 +154,27 @@ impl Moment {
     }
 }
 
-impl Label {
+impl MomentName {
     /// What a word says that is no number: `last`, `last-N`, `mml`, `mmwp`, `rlb-clear` or a name.
     #[tactic(auto, unfolding(crate::specs::Moments::label_said))]
-    fn read(word: &[u8]) -> Option<Label>
+    fn read(word: &[u8]) -> Option<MomentName>
         ensures { result ≡ label_said word.now }
     {
         if word == b"last".as_slice() {
-            return Some(Label::Last(0));
+            return Some(MomentName::Last(0));
         }
         if word == b"mml".as_slice() {
-            return Some(Label::Mml);
+            return Some(MomentName::Mml);
         }
         if word == b"mmwp".as_slice() {
-            return Some(Label::Mmwp);
+            return Some(MomentName::Mmwp);
         }
         if word == b"rlb-clear".as_slice() {
-            return Some(Label::RlbClear);
+            return Some(MomentName::RlbClear);
         }
         match word.strip_prefix(b"last-") {
-            Some(back) => read_word_number(back).map(Label::Last),
-            None => Name::read(word).map(Label::Marked),
+            Some(back) => read_word_number(back).map(MomentName::Last),
+            None => Name::read(word).map(MomentName::Marked),
         }
     }
 }
@@ -186,7 +186,7 @@ impl When {
     {
         match read_word_number(word) {
             Some(number) => Some(When::Number(number)),
-            None => Label::read(word).map(When::Labelled),
+            None => MomentName::read(word).map(When::Labelled),
         }
     }
 }
@@ -194,16 +194,16 @@ impl When {
 impl Moments<'_> {
     /// How many publications are done there, or none where it never comes. `BadRow` where words may not say that of the
     /// script, and `NoMoment` where it has no such name.
-    fn place(&self, label: Label) -> Result<Option<u64>, Refusal>
+    fn place(&self, label: MomentName) -> Result<Option<u64>, Refusal>
         ensures { result ≡ label_place self.now label }
     {
         let marks = self.marks.ok_or(Refusal::BadRow)?;
         match label {
-            Label::Last(back) => Ok(self.publications.checked_sub(back)),
-            Label::Mml => Ok(self.lasting.ok_or(Refusal::BadRow)?.mml),
-            Label::Mmwp => Ok(self.lasting.ok_or(Refusal::BadRow)?.mmwp),
-            Label::RlbClear => Ok(self.lasting.ok_or(Refusal::BadRow)?.rlb_clear),
-            Label::Marked(name) => Ok(Some(done_at(marks, &name).ok_or(Refusal::NoMoment)?)),
+            MomentName::Last(back) => Ok(self.publications.checked_sub(back)),
+            MomentName::Mml => Ok(self.lasting.ok_or(Refusal::BadRow)?.mml),
+            MomentName::Mmwp => Ok(self.lasting.ok_or(Refusal::BadRow)?.mmwp),
+            MomentName::RlbClear => Ok(self.lasting.ok_or(Refusal::BadRow)?.rlb_clear),
+            MomentName::Marked(name) => Ok(Some(done_at(marks, &name).ok_or(Refusal::NoMoment)?)),
         }
     }
 
@@ -235,7 +235,7 @@ impl Moments<'_> {
             Some(word) => (word, true),
             None => (word, false),
         };
-        let label = Label::read(word).ok_or(Refusal::BadRow)?;
+        let label = MomentName::read(word).ok_or(Refusal::BadRow)?;
         let place = self.place(label)?;
         Ok(Moment::Named(place, is_waived))
     }

@@ -99,3 +99,7 @@ pub list_decisions-requires : goal.list_decisions-requires
 list_decisions-requires g c =
     rw (c.deref-3.ensures.value, c.deref-2.ensures.value, c.in_ok-decisions.ensures.decided, c.deref.ensures.value)
     (length-map _ _)
+
+pub decide_shared-requires-clause-size : goal.decide_shared-requires-clause-size
+decide_shared-requires-clause-size g c =
+    c.law_script_size.ensures c.args.script.now c.in_ok-script.script c.in_ok-script.ensures
