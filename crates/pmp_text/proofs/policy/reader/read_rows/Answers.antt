@@ -1,4 +1,4 @@
-use Rattle.std.proofs.Common.{◌≡◌, ◌+◌, ◌≤◌, ◌∷◌, [], true, Ok, length, map, ap, sym, ◌∙◌, arith}
+use Rattle.std.proofs.Common.{◌≡◌, ◌+◌, ◌≤◌, ◌∷◌, [], true, Ok, length, map, ap, sym, ◌∙◌, arith, rules}
 use Rattle.std.proofs.lemmas.List.{length-append, map-append}
 use Rattle.std.proofs.lemmas.List.Elements.{All-push}
 use Rattle.pmp_text.specs.Policies.{policy_fields}
@@ -25,3 +25,6 @@ loop-rows-preserved c =
           ∙ (λ i. with_policy_read moments (count i) (said i) left),
       rw more (All-push (λ row. row.to ≤ moments.publications) rows row c.loop-rows.invariant.1 c.in-Ok.ensures.within),
     )
+
+pub returns-in-Err-clause-given : goal.returns-in-Err-clause-given
+returns-in-Err-clause-given c = search rules
