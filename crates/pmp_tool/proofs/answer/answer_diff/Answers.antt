@@ -1,3 +1,4 @@
+use Rattle.std.proofs.Common.{rules}
 use Rattle.std.proofs.KnownBytes.{Keeps-refl}
 use Rattle.pmp_tool.specs.declared.request.Request.TheVariants as request
 use Rattle.pmp_tool.specs.Failures.{unaudited}
@@ -21,3 +22,6 @@ returns-in_err-rows-clause-err g c =
     refused_so _ _ (g.I.Inputs.scripts c.args.inputs.now) (g.I.Inputs.traces c.args.inputs.now) c.args.script.now
     (request.Diff c.args.asked) exit.result (unaudited fault) exit.ensures.1
     (taken new.new.items _ new.ensures.read (declined fault refused))
+
+pub returns-clause-ok : goal.returns-clause-ok
+returns-clause-ok g c = search rules
