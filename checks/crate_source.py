@@ -14,6 +14,7 @@ class Source:
 
     FN = re.compile(r'^([ \t]*)(?:pub(?:\(\w+\))? )?(?:const )?(?:extern "C" )?fn (\w+)', re.M)
     ATTRIBUTES = re.compile(r"(?:^[ \t]*#\[.*\]\n)*\Z", re.M)
+    CYCLE = re.compile(r"^[ \t]*#\[cycle\(.*\n", re.M)
     OWNER = re.compile(
         r"^impl(?:<[^{]*?>)? (?:([\w:]+)(?:<([\w:]+)[^{]*>)?\s+for )?([\w:]+)|^(?:pub )?trait (\w+)|^}", re.M
     )
@@ -80,14 +81,14 @@ class Source:
 
     def called(self, place):
         """What a function becomes that is only called: where it stands, and its contract over a body that nothing
-        proves. None where it has to stay as it is."""
+        proves, and which calls nothing. None where it has to stay as it is."""
         file, start, body, end, _ = self.places[place]
         at, to, head = self.open_head(place)
         signature = self.texts[file][to:body]
         is_whole = signature.endswith("{") and signature.count("{") == signature.count("}") + 1
         if not is_whole or self.BODY_COUNTS.search(signature):
             return None
-        return file, at, end, f"{head}{signature}\n    unreachable!()\n}}"
+        return file, at, end, f"{self.CYCLE.sub('', head)}{signature}\n    unreachable!()\n}}"
 
     def proof_of(self, place):
         """The files of the function's proof, but for one that another names."""

@@ -1,3 +1,4 @@
+use Rattle.std.proofs.Common.{rules}
 use Rattle.pmp_share.proofs.RuleFacts.{admits, tells, hears}
 use Rattle.pmp_share.proofs.writer_state.WriterState.reader_state.Goals as goal
 
@@ -9,3 +10,6 @@ tell-requires c = tells _ _
 
 pub learn-requires-clause-rule : goal.learn-requires-clause-rule
 learn-requires-clause-rule c = rw c.in-Ok.ensures.view (hears c.in-Ok.reader.place.id c.tell.result.id _)
+
+pub of-requires : goal.of-requires
+of-requires c = search rules
