@@ -3,7 +3,8 @@ use Rattle.std.proofs.lemmas.List.{length-map}
 use Rattle.pmp_text.specs.Moments.{moments_in}
 use Rattle.pmp_audit.proofs.FaultyInputs.{script_refused, trace_refused}
 use Rattle.std.proofs.lemmas.Result.{IfOk-from_err}
-use Rattle.std.proofs.Common.{◌≡◌, ◌∙◌, length, map, ap, sym, subst, Ok}
+use Rattle.std.proofs.Common.{◌≡◌, ◌∙◌, length, map, ap, sym, subst, Ok, rules}
+use Rattle.pmp_text.specs.Sizes.{IsInLimits}
 use Rattle.std.proofs.lemmas.Result.{err_from_is_err_and}
 use Rattle.pmp_text.specs.Traces.{row_fields, trace_meaning}
 use Rattle.pmp_audit.specs.Rounds.{decision_for}
@@ -102,4 +103,6 @@ list_decisions-requires g c =
 
 pub decide_shared-requires-clause-size : goal.decide_shared-requires-clause-size
 decide_shared-requires-clause-size g c =
-    c.law_script_size.ensures c.args.script.now c.in_ok-script.script c.in_ok-script.ensures
+    let limits : IsInLimits c.in_ok-script.script.batches =
+    c.law_script_size.ensures c.args.script.now c.in_ok-script.script c.in_ok-script.ensures in
+    search rules

@@ -1,8 +1,16 @@
 use Rattle.std.proofs.Common.{arith}
 use Rattle.std.proofs.lemmas.Result.{err_from_is_err_and}
 use Rattle.pmp_audit.specs.LongParts.{items_of}
+use Rattle.pmp_audit.specs.TraceAudit.{AuditRefuses, AuditSays}
+use Rattle.pmp_audit.proofs.FaultyInputs.{script_refused}
 use Rattle.pmp_audit.proofs.WholeAudits.{fails, no_header, says, too_long}
 use Rattle.pmp_audit.proofs.trace_audit.audit.Goals as goal
+
+pub returns-in_err-script-clause-err : goal.returns-in_err-script-clause-err
+returns-in_err-script-clause-err g c =
+    let p = err_from_is_err_and c.from_residual.result c.from_residual.ensures.1 in
+    rw (p.1, p.2) (script_refused (AuditSays c.args.script.now c.args.trace.now) _
+    (AuditRefuses c.args.script.now c.args.trace.now) c.in_err-script.field-0.0 c.in_err-script.ensures)
 
 pub returns-then-trace-gt-MAX_TRACE-clause-err : goal.returns-then-trace-gt-MAX_TRACE-clause-err
 returns-then-trace-gt-MAX_TRACE-clause-err g c =
