@@ -56,7 +56,8 @@ module _ (moments : KnownMoments) where
       by : (says : Result RowFields Flaw) (read : List Row) → row_in moments row ≡ says
           → map row_fields read ≡ filter_map (row_of_record moments) (row ∷ more)
           → ((read : List Row) (last : Option ℕ) (next number : ℕ)
-          → first_row_fault moments last next more ≡ None → map row_fields read ≡ filter_map (row_of_record moments) more
+          → first_row_fault moments last next more ≡ None → map row_fields read
+          ≡ filter_map (row_of_record moments) more
           → first_bare number read ≡ position_from (is_bare_record moments) number more)
           → first_bare number read ≡ position_from (is_bare_record moments) number (row ∷ more)
       by (Err flaw) read is said later =
@@ -66,7 +67,8 @@ module _ (moments : KnownMoments) where
       by (Ok fields) [] is said later =
           let none : [] ≡ fields ∷ filter_map (row_of_record moments) more = rw is at said in absurd cc
       by (Ok fields) (one ∷ read) is said later =
-          let both : row_fields one ∷ map row_fields read ≡ fields ∷ filter_map (row_of_record moments) more = rw is at said in
+          let both : row_fields one ∷ map row_fields read ≡ fields ∷ filter_map
+          (row_of_record moments) more = rw is at said in
           let here : row_fields one ≡ fields = cc in
           let there : map row_fields read ≡ filter_map (row_of_record moments) more = cc in
           let bare : one.is_bare ≡ fields.is_bare = ap (λ (f : RowFields). f.is_bare) here in

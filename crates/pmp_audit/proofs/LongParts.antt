@@ -59,7 +59,10 @@ module _ (script : ScriptContents) (standing middle : Standing) (front back both
       meets = ap (λ (s : Standing). s.place) fresh
           ∙ sym (ap (λ (p : Place). record p { bare = None }) joined.meets)
 
-      behind_low : middle.place ≡ record (place_behind (moments_in script) standing.place low) { bare = middle.place.bare }
+      behind_low : middle.place ≡ record (place_behind (moments_in script) standing.place low) {
+        bare =
+            middle.place.bare;
+      }
       behind_low = meets ∙ ap (λ (p : Place). record p { bare = None }) here.place
           ∙ ap (λ (bare : Option ℕ). record (place_behind (moments_in script) standing.place low) { bare = bare })
           (sym (ap (λ (s : Standing). s.place.bare) fresh))
@@ -73,7 +76,8 @@ module _ (script : ScriptContents) (standing middle : Standing) (front back both
         place = joined.place
             ∙ ap (λ (p : Place). record p { bare = option_or front.behind.place.bare p.bare })
             (there.place ∙ ap (λ (p : Place). place_behind (moments_in script) p high) meets)
-            ∙ ap (λ (p : Place). place_behind (moments_in script) p high) here.place ∙ sym (places_in_turn (moments_in script) standing.place low high);
+            ∙ ap (λ (p : Place). place_behind (moments_in script) p high) here.place
+            ∙ sym (places_in_turn (moments_in script) standing.place low high);
         refused =
             let a = here.refused in
             let b = there.refused in

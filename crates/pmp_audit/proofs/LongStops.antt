@@ -83,7 +83,8 @@ module _ (script : List ℕ) {contents : ScriptContents} (means : script_meaning
         (ap (piece_fault moments (beginning first)) here.are
         ∙ fault_behind contents first records old text stands here.tail ∙ here.stays fault found)
 
-    too_many : 2 ^ 64 ≤ (place_behind moments old.place (records_of piece)).next → 2 ^ 64 ≤ first + 4 * (length trace + 1)
+    too_many : 2 ^ 64 ≤ (place_behind moments old.place (records_of piece)).next
+        → 2 ^ 64 ≤ first + 4 * (length trace + 1)
     too_many many =
         let all = few_records trace in
         let some = few_records piece in
@@ -103,7 +104,8 @@ module _ (script : List ℕ) {contents : ScriptContents} (means : script_meaning
 
     why : (fault : TraceFault) → (piece_fault moments old.place (records_of piece) ≡ Some fault)
         ⊎ (fault ≡ no_input_for_rows)
-        ⊎ ((fault ≡ too_long_for_rows) × (2 ^ 64 ≤ (place_behind moments old.place (records_of piece)).next)) → Why fault
+        ⊎ ((fault ≡ too_long_for_rows) × (2 ^ 64 ≤ (place_behind moments old.place (records_of piece)).next))
+        → Why fault
     why fault (inl found) = inl (faulty fault found)
     why fault (inr (inl failed)) = inr (inl failed)
     why fault (inr (inr (long, many))) = inr (inr (long, inr (too_many many)))

@@ -192,8 +192,10 @@ module _ {script : ScriptContents} {standing : Standing} {records : Records} {le
           report = sym (append-nil line);
           counted = let pushed = refused-push [] decision in omega arith;
         } in
-        let meets : left.place ≡ record (place_behind (moments_in script) start so_far.done) { bare = left.place.bare } =
-        so_far.place ∙ ap (λ (bare : Option ℕ). record (place_behind (moments_in script) start so_far.done) { bare = bare })
+        let meets : left.place
+        ≡ record (place_behind (moments_in script) start so_far.done) { bare = left.place.bare } =
+        so_far.place ∙ ap (λ (bare : Option ℕ).
+        record (place_behind (moments_in script) start so_far.done) { bare = bare })
         (sym (ap (λ (p : Place). p.bare) so_far.place)) in
         record {
           done = so_far.done ++ is.fields ∷ [];
@@ -241,7 +243,8 @@ module _ {script : ScriptContents} {standing : Standing} {records : Records} {le
       record {
         faults = so_far.here;
         says = rw (texts, ← done) so_far.says;
-        place = ap (λ (s : Standing). s.place) behind ∙ so_far.place ∙ ap (place_behind (moments_in script) standing.place) done;
+        place = ap (λ (s : Standing). s.place) behind ∙ so_far.place
+            ∙ ap (place_behind (moments_in script) standing.place) done;
         refused = ap (λ (s : Standing). s.faults) behind ∙ so_far.counted;
       }
 
@@ -279,7 +282,8 @@ fault_as_left moments last next true records = refl
 fault_as_left moments last next false [] = refl
 fault_as_left moments last next false (header ∷ rows) = refl
 
-place_as_left : (moments : KnownMoments) (begun : Bool) (last : Option ℕ) (next : ℕ) (bare : Option ℕ) (records : Records)
+place_as_left : (moments : KnownMoments) (begun : Bool) (last : Option ℕ) (next : ℕ) (bare : Option ℕ)
+    (records : Records)
     → place_behind moments (record { begun = has_begun begun records; last = last; next = next; bare = bare })
     (row_records begun records)
     ≡ place_behind moments (record { begun = begun; last = last; next = next; bare = bare }) records
@@ -309,8 +313,10 @@ module _ (script : ScriptContents) (standing : Standing) (records : Records) whe
       same_fault = opened ∙ sym (fault_as_left (moments_in script) standing.place.last standing.place.next
           standing.place.begun records)
 
-      same_place : place_behind (moments_in script) behind.place rows ≡ place_behind (moments_in script) standing.place records
-      same_place = place_as_left (moments_in script) standing.place.begun standing.place.last standing.place.next standing.place.bare
+      same_place : place_behind (moments_in script) behind.place rows
+          ≡ place_behind (moments_in script) standing.place records
+      same_place = place_as_left (moments_in script) standing.place.begun standing.place.last standing.place.next
+          standing.place.bare
           records
 
       pub with_header : (answer : Result PieceReport AuditFault) → IfOk answer (IsPieceReported script rows behind)
@@ -324,7 +330,8 @@ module _ (script : ScriptContents) (standing : Standing) (records : Records) whe
               fine = same_fault ∙ says.fine;
               rows = says.rows;
               decisions = says.decisions;
-              said = says.said ∙ ap (filter_map (row_of_record (moments_in script))) (rows_as_left standing.place.begun records);
+              said = says.said ∙ ap (filter_map (row_of_record (moments_in script)))
+                  (rows_as_left standing.place.begun records);
               decided = says.decided;
               report = says.report;
               counted = says.counted;

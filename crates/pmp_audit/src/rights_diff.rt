@@ -17,10 +17,9 @@ use std::alloc::{AllocError, Global};
 use std::io::Write;
 
 /// Writes a row for each of the longest ranges of bytes where the two register files differ in what they let the modes
-/// do, whoever owns the bytes, and answers how many rows these are. The old file is that after the
-/// publications of the script `old` that are done at `old_after`, or after all of them where that is none; the new one the
-/// same of `new`. With
-/// `only`, rows that only gain, or only lose, are left out.
+/// do, whoever owns the bytes, and answers how many rows these are. The old file is that after the publications of the
+/// script `old` that are done at `old_after`, or after all of them where that is none; the new one the same of `new`.
+/// With `only`, rows that only gain, or only lose, are left out.
 ///
 /// The old script's fault comes first. The text is whole before its first byte is written, so every refusal but
 /// `Output` leaves the output untouched.

@@ -159,10 +159,11 @@ no_label word ends = none_of (bytes_eq word (codes "last")) (bytes_eq word (code
     by true e = (rw (no_number (drop 5 word) (end_behind 5 word (codes "last-") e refl ends)) refl)
     by false e = (rw (no_name word ends) refl)
 
-neither : (number : Option ℕ) (label : Option MomentName) → number ≡ None → label ≡ None → ◌≡◌ {A = Option When} (elim number [
-  | Some number ↦ Some (Number number)
-  | None ↦ option_map (λ label. Labelled label) label
-]) None
+neither : (number : Option ℕ) (label : Option MomentName) → number ≡ None → label ≡ None
+    → ◌≡◌ {A = Option When} (elim number [
+      | Some number ↦ Some (Number number)
+      | None ↦ option_map (λ label. Labelled label) label
+    ]) None
 neither None None e f = refl
 neither None (Some label) e f = absurd cc
 neither (Some number) label e f = absurd cc

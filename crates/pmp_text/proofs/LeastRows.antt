@@ -28,7 +28,8 @@ module _ (moments : KnownMoments) where
   -- the fault of a row behind one that asks for `last`, the first with this number
   abbrev fault_behind : (last : Option ℕ) (number : ℕ) → Records → ℕ → Option TraceFault
   fault_behind last number rows index = option_and_then {T = List (List ℕ)} {U = TraceFault}
-      (λ row. option_map (at_row (number + index)) (row_fault moments.publications (after_before moments last rows index) (row_in moments row))) (slice_get rows index)
+      (λ row. option_map (at_row (number + index)) (row_fault moments.publications
+      (after_before moments last rows index) (row_in moments row))) (slice_get rows index)
 
   one_behind : (last : Option ℕ) (number : ℕ) (row : List (List ℕ)) (more : Records) (index : ℕ)
       → fault_behind last number (row ∷ more) (suc index)
@@ -36,12 +37,14 @@ module _ (moments : KnownMoments) where
   one_behind last number row more zero =
       let same : number + 1 ≡ number + 1 + 0 = omega arith in
       ap (λ (n : ℕ). option_and_then {T = List (List ℕ)} {U = TraceFault}
-      (λ next. option_map (at_row n) (row_fault moments.publications (after_of (row_of_record moments row)) (row_in moments next)))
+      (λ next. option_map (at_row n) (row_fault moments.publications (after_of (row_of_record moments row))
+      (row_in moments next)))
       (slice_get more 0)) same
   one_behind last number row more (suc index) =
       let same : number + suc (suc index) ≡ number + 1 + suc index = omega arith in
       ap (λ (n : ℕ). option_and_then {T = List (List ℕ)} {U = TraceFault}
-      (λ next. option_map (at_row n) (row_fault moments.publications (after_before moments last (row ∷ more) (suc (suc index)))
+      (λ next. option_map (at_row n) (row_fault moments.publications
+      (after_before moments last (row ∷ more) (suc (suc index)))
       (row_in moments next))) (slice_get more (suc index))) same
 
   here : (last : Option ℕ) (number : ℕ) (row : List (List ℕ)) (more : Records)
@@ -65,7 +68,8 @@ module _ (moments : KnownMoments) where
   counted_from_one rows index =
       let same : index + 1 ≡ 1 + index = omega arith in
       ap (λ (n : ℕ). option_and_then {T = List (List ℕ)} {U = TraceFault}
-      (λ row. option_map (at_row n) (row_fault moments.publications (after_before moments None rows index) (row_in moments row)))
+      (λ row. option_map (at_row n) (row_fault moments.publications (after_before moments None rows index)
+      (row_in moments row)))
       (slice_get rows index)) same
 
   pub first_row_is_least : (rows : Records)
@@ -101,7 +105,8 @@ module _ (moments : KnownMoments) where
   no_kind number (Some kind) e = absurd cc
 
   module _ (last : Option ℕ) (row : RowFields) where
-    in_time : (beyond behind : Bool) → nat_lt moments.publications row.after ≡ beyond → falls_behind last row.after ≡ behind
+    in_time : (beyond behind : Bool) → nat_lt moments.publications row.after ≡ beyond → falls_behind last row.after
+        ≡ behind
         → cond beyond (Some (part 0 BadAfter)) (cond behind (Some (part 0 Order)) (option_map access_flaw (access_fault row.start row.length)))
         ≡ None → (least_of last ≤ row.after) × (row.after ≤ moments.publications)
     in_time true behind e f fine = absurd cc
@@ -127,7 +132,8 @@ module _ (moments : KnownMoments) where
       by (Ok fields) says last number e later =
           let (own, rest) = no_fault (option_map (at_row number) (fields_fault moments.publications last fields))
           (first_row_fault moments (Some fields.after) (number + 1) more) (rw says at e) in
-          let time = in_time last fields (nat_lt moments.publications fields.after) (falls_behind last fields.after) refl refl
+          let time = in_time last fields (nat_lt moments.publications fields.after)
+          (falls_behind last fields.after) refl refl
           (no_kind number (fields_fault moments.publications last fields) own) in
           rw says (time.0, time.1, later (Some fields.after) (number + 1) rest)
 
@@ -140,7 +146,8 @@ module _ (moments : KnownMoments) where
     from_rows : (records : Records) → rows_meaning moments records ≡ Ok rows
         → IsInOrder moments.publications 0 (afters rows)
     from_rows records e =
-        let (first, same) = judged_ok (first_row_fault moments None 1 records) (filter_map (row_of_record moments) records)
+        let (first, same) = judged_ok (first_row_fault moments None 1 records) (filter_map
+        (row_of_record moments) records)
         rows e in
         rw (← same) (rows_in_order records None 1 first)
 

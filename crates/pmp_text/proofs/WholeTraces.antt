@@ -58,11 +58,13 @@ fewer_rows false [] = omega arith
 fewer_rows false (header ∷ rows) = omega arith
 
 -- these rows were read of some records, and these are left
-pub record ReadSoFar (moments : KnownMoments) (first : ℕ) (all : Records) (rows : List Row) (left : RowsLeft) : Type 0 where
+pub record ReadSoFar (moments : KnownMoments) (first : ℕ) (all : Records) (rows : List Row)
+    (left : RowsLeft) : Type 0 where
   pub same : left.moments ≡ moments
   pub fault : first_row_fault moments None first all
       ≡ first_row_fault moments left.place.last left.place.next left.records
-  pub said : filter_map (row_of_record moments) all ≡ map row_fields rows ++ filter_map (row_of_record moments) left.records
+  pub said : filter_map (row_of_record moments) all ≡ map row_fields rows ++ filter_map
+      (row_of_record moments) left.records
   pub count : first + length all ≡ left.place.next + length left.records
 
 pub none_read : (left : RowsLeft) → left.place.last ≡ None
@@ -74,13 +76,15 @@ none_read left first = record {
   count = refl;
 }
 
-pub one_row_more : (moments : KnownMoments) (first : ℕ) (all : Records) (rows : List Row) (before after : RowsLeft) (row : Row)
+pub one_row_more : (moments : KnownMoments) (first : ℕ) (all : Records) (rows : List Row) (before after : RowsLeft)
+    (row : Row)
     → ReadSoFar moments first all rows before → IsNextRow before row after
     → ReadSoFar moments first all (rows ++ row ∷ []) after
 one_row_more moments first all rows before after row read is =
     let here = first_row_fault moments before.place.last before.place.next in
     let fine : row_fault moments.publications before.place.last (row_in moments is.fields) ≡ None =
-    subst (λ (m : KnownMoments). row_fault m.publications before.place.last (row_in m is.fields) ≡ None) read.same is.fine
+    subst (λ (m : KnownMoments). row_fault m.publications before.place.last (row_in m is.fields)
+    ≡ None) read.same is.fine
     in
     let said : row_in moments is.fields ≡ Ok (row_fields row) =
     subst (λ (m : KnownMoments). row_in m is.fields ≡ Ok (row_fields row)) read.same is.said in

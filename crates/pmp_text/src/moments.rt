@@ -222,6 +222,19 @@ impl Moments<'_> {
     pub fn read_after(&self, word: &[u8]) -> Result<u64, Refusal>
         ensures { result ≡ after_said self.now word.now }
     {
+        match read_word_number(word) {
+            Some(number) => Ok(number),
+            None => self.read_named(word),
+        }
+    }
+
+    /// The same, where a word is seldom. It stands alone since each row of a trace would else clear the room of a name.
+    #[cold]
+    #[inline(never)]
+    #[tactic(auto, unfolding(crate::specs::Moments::after_said))]
+    fn read_named(&self, word: &[u8]) -> Result<u64, Refusal>
+        ensures { result ≡ after_said self.now word.now }
+    {
         let when = When::read(word).ok_or(Refusal::BadRow)?;
         self.after(when)
     }

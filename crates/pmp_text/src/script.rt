@@ -126,7 +126,8 @@ fn bounds_of(ends: &[usize], index: usize) -> (usize, usize)
 }
 
 impl<'a> Script<'a> {
-    /// The script that a log keeps, all of whose events are published, with names of moments where its version has them.
+    /// The script that a log keeps, all of whose events are published; with names of moments where its version has
+    /// them.
     pub(crate) fn new<L: EventLog>(
         size: Size,
         start: RegFile,

@@ -10,7 +10,13 @@ returns-in-Ok c =
     let five = seen_five c.in_ok-words.words in
     let is : five_fields (fields_of c.args.fields.now) ≡ Some five = search rules in
     let says : row_of_fields c.args.moments.now five ≡ Ok c.in-Ok.row = sym c.of_words.ensures ∙ c.in-Ok.is in
-    rw (is, says, are_five (fields_of c.args.fields.now) five is, in_one_line c.args.moments.now five c.in-Ok.row says) refl
+    rw (
+      is,
+      says,
+      are_five (fields_of c.args.fields.now) five is,
+      in_one_line c.args.moments.now five c.in-Ok.row
+          says,
+    ) refl
 
 pub returns-in-Err : goal.returns-in-Err
 returns-in-Err c =
