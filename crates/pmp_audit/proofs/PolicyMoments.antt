@@ -7,7 +7,8 @@ use Rattle.pmp_text.specs.Moments.{KnownMoments}
 use Rattle.pmp_text.specs.Contents.{ScriptContents}
 use Rattle.pmp_text.specs.Reports.{file_of_script}
 use Rattle.pmp_text.specs.Scripts.{is_headed}
-use Rattle.pmp_audit.specs.PolicyMoments.{AllLast, AreMoments, LastsFrom, MayName, lasting_with, since}
+use Rattle.pmp_audit.specs.LastingStep.{lasting_with, since}
+use Rattle.pmp_audit.specs.PolicyMoments.{AllLast, AreMoments, LastsFrom, MayName}
 
 module _ (holds : ℕ → Bool) where
   -- ---- one moment more
