@@ -11,7 +11,8 @@ use Rattle.pmp_text.specs.Contents.{ScriptContents}
 use Rattle.pmp_text.specs.Reports.{file_of_script}
 use Rattle.pmp_text.specs.declared.mark.Mark.{Mark}
 use Rattle.pmp_audit.specs.AskedFile.{IsAsked}
-use Rattle.pmp_audit.specs.Moments.{AllLast, AreMoments, LastsFrom, MayLast, lasting_with, since}
+use Rattle.pmp_audit.specs.LastingStep.{lasting_with, since}
+use Rattle.pmp_audit.specs.Moments.{AllLast, AreMoments, LastsFrom, MayLast}
 
 module _ (holds : ℕ → Bool) where
   -- ---- one moment more

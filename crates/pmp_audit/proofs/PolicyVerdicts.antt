@@ -52,8 +52,8 @@ bare_push rows row =
     ap (λ (n : ℕ). option_or (position_from (λ row. row.is_bare) 1 rows) (cond row.is_bare (Some n) None)) number
     ∙ sym (position_apart (λ (r : PolicyRow). r.is_bare) rows (row ∷ []) 1)
 
-pub none_written : (labels : List LabelText) (held : List ℕ) (summary : PolicySummary) → summary.rows ≡ 0 → summary.broken ≡ 0
-    → summary.bare ≡ None → AreWritten [] labels held held summary
+pub none_written : (labels : List LabelText) (held : List ℕ) (summary : PolicySummary) → summary.rows ≡ 0
+    → summary.broken ≡ 0 → summary.bare ≡ None → AreWritten [] labels held held summary
 unfolding verdicts_text
 none_written labels held summary rows broken bare = record {
   text_is = sym (append-nil held);
@@ -146,6 +146,7 @@ policy_says pace script policy contents rows judged before after text summary mo
       policy_means = policy_means ∙ ap (λ (l : List PolicyRow). Ok (map policy_fields l)) (sym same);
       verdicts = verdicts_of judged;
       judged = each_judged (IsVerdict pace contents) judged all;
-      text_is = whole ∙ written.text_is ∙ ap (λ front. front ++ verdicts_text (policy_labels policy) (verdicts_of judged)) empty;
+      text_is = whole ∙ written.text_is
+          ∙ ap (λ front. front ++ verdicts_text (policy_labels policy) (verdicts_of judged)) empty;
       counted = written.counted;
     }

@@ -23,6 +23,7 @@ pub mod Growing
 pub mod Report
 pub mod EventRows
 pub mod SinceStep
+pub mod LastingStep
 pub mod Working
 pub mod Rounds
 pub mod LongPieces

@@ -1,7 +1,5 @@
 -- The moments of a script that words may say (Smepmp, mseccfg).
-use Rattle.std.specs.Prelude.{◌≡◌, ℕ, ◌+◌, ◌≤◌, Bool, true, false, not, List, length, Option, Some, None, unwrap_or}
-use Rattle.std.specs.Prelude.{if◌then◌else◌}
-use Rattle.pmp_core.specs.RegisterFile.{RegisterFile}
+use Rattle.std.specs.Prelude.{◌≡◌, ℕ, ◌+◌, ◌≤◌, Bool, true, false, not, List, length, Option, Some, None}
 use Rattle.pmp_text.specs.declared.mark.Mark.{Mark}
 use Rattle.pmp_text.specs.declared.moments.Lasting.{Lasting}
 use Rattle.pmp_text.specs.Contents.{ScriptContents}
@@ -32,14 +30,3 @@ pub record AreMoments (script : ScriptContents) (moments : KnownMoments) : Type 
   pub publications : moments.publications ≡ length script.batches
   pub marks : moments.marks ≡ script.marks
   pub lasting : MayLast script.marks script moments.lasting
-
--- from when on it holds once so many publications are done, where it held from then on before
-abbrev pub since : (before : Option ℕ) → (holds : Bool) → (done : ℕ) → Option ℕ
-since before holds done = if holds then Some (unwrap_or before done) else None
-
-abbrev pub lasting_with : Lasting → RegisterFile → (done : ℕ) → Lasting
-lasting_with before file done = record {
-  mml = since before.mml file.mseccfg.mml done;
-  mmwp = since before.mmwp file.mseccfg.mmwp done;
-  rlb_clear = since before.rlb_clear (not file.mseccfg.rlb) done;
-}

@@ -1,7 +1,8 @@
 //! The moments of a script that words may say.
 
 ghost use Rattle.std.specs.Prelude.{◌≡◌, length};
-ghost use Rattle.pmp_audit.specs.Moments.{AllLast, AreMoments, lasting_with, since};
+ghost use Rattle.pmp_audit.specs.LastingStep.{lasting_with, since};
+ghost use Rattle.pmp_audit.specs.Moments.{AllLast, AreMoments};
 
 use crate::replay::Replay;
 use pmp_core::{Csr, RegFile};

@@ -233,10 +233,7 @@ impl fmt::Display for ResetLines {
         }
         let line = self.0.line;
         let name = ResetName(self.0.reset);
-        write!(
-            f,
-            "{before}# line {line}\nreset\npublish\nmark {name}\n"
-        )
+        write!(f, "{before}# line {line}\nreset\npublish\nmark {name}\n")
     }
 }
 

@@ -21,7 +21,8 @@ module _ (labeled : Bool) (moments : KnownMoments) where
   -- the fault of a row, the first of which has this number
   abbrev fault_from : (number : ℕ) → Records → ℕ → Option TraceFault
   fault_from number rows index = option_and_then {T = List (List ℕ)} {U = TraceFault}
-      (λ row. option_map (at_row (number + index)) (policy_row_fault moments.publications (policy_in labeled moments row)))
+      (λ row. option_map (at_row (number + index))
+      (policy_row_fault moments.publications (policy_in labeled moments row)))
       (slice_get rows index)
 
   -- the same, by its number

@@ -55,7 +55,7 @@ old_side _ = None
 
 -- words may name moments of the script
 abbrev pub has_names : (script : List ℕ) → Bool
-has_names script = nat_le (length script) MAX_SCRIPT && is_headed script
+has_names script = nat_le (length script) MAX_HEADED_SCRIPT && is_headed script
 
 -- the word of an argument names a moment only of a script whose version names any
 abbrev pub name_allowed : (script : List ℕ) → Argument → Option When → Result (Unit {0}) FaultLine

@@ -22,7 +22,7 @@ use pmp_audit::{
     show, writes,
 };
 use pmp_import::{Given, import, survey_log};
-use pmp_text::{MAX_SCRIPT, When, is_headed};
+use pmp_text::{MAX_HEADED_SCRIPT, When, is_headed};
 use std::alloc::Global;
 use std::io::Write;
 use std::sync::Wait;
@@ -75,7 +75,7 @@ fn answer_request<R: Threads + Wait + Sync, I: Inputs, O: Write>(
 fn has_names(script: &[u8]) -> bool
     ensures { result ≡ has_names script.now }
 {
-    script.len() <= MAX_SCRIPT && is_headed(script)
+    script.len() <= MAX_HEADED_SCRIPT && is_headed(script)
 }
 
 /// Refuses the word of an argument that names a moment where the script's version names none.

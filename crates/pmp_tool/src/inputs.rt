@@ -9,7 +9,7 @@ ghost use Rattle.pmp_tool.specs.Inputs.{AreBytesOf, CantBeOpened, CantBeRead, Gi
 use crate::kept::Kept;
 use crate::progress::Watched;
 use crate::trace_input::TraceInput;
-use pmp_text::{InputFault, MAX_LIMIT, MAX_HEADED_SCRIPT, MAX_TRACE, read_bytes};
+use pmp_text::{InputFault, MAX_HEADED_SCRIPT, MAX_LIMIT, MAX_TRACE, read_bytes};
 use std::fs;
 use std::io::{Read, Write};
 use std::rt::Files;

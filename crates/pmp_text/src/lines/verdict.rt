@@ -48,8 +48,8 @@ impl Verdict {
 }
 
 /// Appends `NUMBER,holds,,,,` where nothing breaks the row, `NUMBER,unmet,,,,` where its moments don't come, else
-/// `NUMBER,broken,DONE,FIRST,LAST,OWNER`, with the first and the last byte in fourteen hexadecimal digits, and a dash for
-/// no owner.
+/// `NUMBER,broken,DONE,FIRST,LAST,OWNER`, with the first and the last byte in fourteen hexadecimal digits, and a dash
+/// for no owner.
 fn write_fields<S: Sink>(out: &mut S, number: u64, verdict: Verdict) -> Result<(), AllocError>
     ensures ok { OnOk result
         (S.text out.new ≡ S.text out.old ++ (decimal number ++ fields_before (verdict_fields verdict))) }
@@ -90,7 +90,8 @@ fn write_all<S: Sink>(
     label: Option<&Label>,
 ) -> Result<(), AllocError>
     ensures ok { OnOk result
-        (S.text out.new ≡ S.text out.old ++ verdict_row number verdict (option_map label_text (option_copied label.entry))) }
+        (S.text out.new ≡ S.text out.old
+        ++ verdict_row number verdict (option_map label_text (option_copied label.entry))) }
     ensures err { OnErr result (StartsWith (S.text out.new) (S.text out.old)) }
 {
     write_fields(out, number, verdict)?;
@@ -106,7 +107,8 @@ pub fn write_verdict<S: Sink>(
     label: Option<&Label>,
 ) -> Result<(), NoMemory>
     ensures ok { OnOk result
-        (S.text out.new ≡ S.text out.old ++ verdict_row number verdict (option_map label_text (option_copied label.entry))) }
+        (S.text out.new ≡ S.text out.old
+        ++ verdict_row number verdict (option_map label_text (option_copied label.entry))) }
     ensures err { OnErr result (S.text out.new ≡ S.text out.old) }
 {
     let before = out.position();

@@ -105,8 +105,8 @@ fn first_word(line: &[u8]) -> usize {
         .unwrap_or(0)
 }
 
-/// Where the part of a line with this index stands. Between commas, but not between blanks, a part may be empty, or have
-/// commas where it stands in quotes.
+/// Where the part of a line with this index stands. Between commas, but not between blanks, a part may be empty, or
+/// have commas where it stands in quotes.
 fn part_at(line: &[u8], index: usize, separators: &[u8]) -> Option<(usize, usize)> {
     let is_csv = separators.contains(&b',');
     let mut left = index;
