@@ -5,12 +5,12 @@ ghost use Rattle.std.specs.Io.KnownBytes.{Consumes, IsAtEnd};
 ghost use Rattle.pmp_text.specs.Inputs.{CantReadPart, IsReadWhole};
 
 use crate::refusal::{InputFault, Refusal};
-use crate::trace::MAX_TRACE;
+use crate::script::MAX_HEADED_SCRIPT;
 use std::alloc::Global;
 use std::io::Read;
 
 /// The largest limit that `read_bytes` keeps.
-pub const MAX_LIMIT: u64 = MAX_TRACE as u64;
+pub const MAX_LIMIT: u64 = MAX_HEADED_SCRIPT as u64;
 
 /// The most bytes that one read asks for.
 const CHUNK: usize = 8 * 1024;

@@ -9,18 +9,20 @@ A script says which registers firmware writes, and when its writes count:
   write pmpcfg0 0x19
   publish
 
-It has at most 1,048,576 bytes. Spaces and tabs part words, and lines end with
-LF, or CR and LF. The first line is `pmp 1` for a unit of 16 entries, `pmp 2`
-for one of 64, or `pmp 3` for any hart. A line without words, and one whose
-first word begins with `#`, is skipped. Every other line is one of these:
+It has at most 1,048,576 bytes, in version 3 67,108,864. Spaces and tabs part
+words, and lines end with LF, or CR and LF. The first line is `pmp 1` for a unit
+of 16 entries, `pmp 2` for one of 64, or `pmp 3` for any hart. A line without
+words, and one whose first word begins with `#`, is skipped. Every other line is
+one of these:
   write NAME VALUE  a write of VALUE to the register NAME joins the open batch
   reset             a reset of the hart joins the open batch
   publish           the open batch, perhaps empty, becomes the next publication;
                     then an empty batch is open
 
 A write or a reset is an event. The events of a publication take effect
-together, in their order. A batch holds at most 64 events, and none with events
-is open at the end. The words in capitals are:
+together, in their order. A batch holds at most 64 events, a script 1,048,576,
+and as many publications. No batch with events is open at the end. The words in
+capitals are:
   NAME   mseccfg; pmpcfg0, pmpcfg2, .. pmpcfg14, on RV32 pmpcfg1 and so on too,
          and mseccfgh; pmpaddr0 to pmpaddr63; or the register's number behind 0x
   VALUE  a number
@@ -42,19 +44,39 @@ first:
   publish
 
 A line behind the first may be one of these too:
-  hart xlen WORD     its registers have so many bits: 32, or 64 as where nothing
-                     is said
-  hart entries N     the hart has so many entries, 0 to 64; where nothing is
-                     said, 16
-  hart grain BYTES   its grain: 4, 8, 16 and so on to 4,096 bytes; else 4
-  hart bits N        its physical addresses have so many bits: 34 to 56, else
-                     56; on RV32 32 to 34, else 34
-  hart smepmp WORD   yes or no: whether it has Smepmp, with mseccfg; else yes
-  set NAME VALUE     the register keeps VALUE before the first event
-  expect NAME VALUE  the register reads VALUE here, behind the events above this
-                     line; pmp writes has a row for it
-  mark MOMENT        the moment here, between two publications, has this name
-  publish MOMENT     as publish, and the moment behind it has this name
+  hart xlen WORD                   its registers have so many bits: 32, or 64 as
+                                   where nothing is said
+  hart entries N                   the hart has so many entries, 0 to 64; where
+                                   nothing is said, 16
+  hart grain BYTES                 its grain: 4, 8, 16 and so on to 4,096 bytes;
+                                   else 4
+  hart bits N                      its physical addresses have so many bits: 34
+                                   to 56, else 56; on RV32 32 to 34, else 34
+  hart smepmp WORD                 yes or no: whether it has Smepmp, with
+                                   mseccfg; else yes
+  set NAME VALUE                   the register keeps VALUE before the first
+                                   event
+  expect NAME VALUE                the register reads VALUE here, behind the
+                                   events above this line; pmp writes has a row
+                                   for it
+  set-bits NAME VALUE              a write as CSRRS makes it: of what the
+                                   register reads here, with the bits of VALUE
+                                   set
+  clear-bits NAME VALUE            a write as CSRRC makes it: with them cleared
+  entry I off                      the byte of entry I becomes 0
+  entry I na4 FIRST 4 RIGHTS       entry I gets the four bytes from FIRST on,
+                                   with these rights
+  entry I napot FIRST SIZE RIGHTS  it gets SIZE bytes, a power of two of 8 or
+                                   more
+  entry I tor FIRST END RIGHTS     it gets the bytes from FIRST up to END,
+                                   without END
+  mark MOMENT                      the moment here, between two publications,
+                                   has this name
+  publish MOMENT                   as publish, and the moment behind it has this
+                                   name
+
+RIGHTS are `r` or `-`, `w` or `-`, `x` or `-`; the word `L` behind them locks
+the entry.
 
 `hart` and `set` lines are the head. They stand before the first `write`,
 `reset` or `publish`, in any order, each field of the hart once, and each

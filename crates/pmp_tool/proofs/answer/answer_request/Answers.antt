@@ -1,4 +1,3 @@
-use Rattle.std.proofs.Common.{rules}
 use Rattle.pmp_tool.specs.declared.request.Request.TheVariants as request
 use Rattle.pmp_tool.specs.Failures.{unaudited}
 use Rattle.pmp_tool.proofs.Answering.{declined, refused_so}
@@ -58,6 +57,3 @@ returns-in-Import-clause-ok g c = rw c.in-Import.is (c.answer_import.ensures.ok 
 
 pub returns-in-Import-clause-err : goal.returns-in-Import-clause-err
 returns-in-Import-clause-err g c = rw c.in-Import.is (c.answer_import.ensures.err c.args.script.now)
-
-pub returns-in_ok-decision-in-Check-clause-ok : goal.returns-in_ok-decision-in-Check-clause-ok
-returns-in_ok-decision-in-Check-clause-ok g c = search rules
