@@ -50,7 +50,13 @@ pub extern "C" fn tilvenka_page_view(
     match request::view_of(view) {
         Some(view) => tell!(
             answer,
-            append_view(&mut Log::new(), view, script.text(), Some(When::Number(after)), answer)
+            append_view(
+                &mut Log::new(),
+                view,
+                script.text(),
+                Some(When::Number(after)),
+                answer
+            )
         ),
         None => refuse_question(answer, Refusal::BadWord),
     }
@@ -83,7 +89,13 @@ pub extern "C" fn tilvenka_page_check(
     match request::access_of(mode, kind, start, length) {
         Ok(access) => tell!(
             answer,
-            append_check(&mut Log::new(), script.text(), &access, Some(When::Number(after)), answer)
+            append_check(
+                &mut Log::new(),
+                script.text(),
+                &access,
+                Some(When::Number(after)),
+                answer
+            )
         ),
         Err(refusal) => refuse_question(answer, refusal),
     }
