@@ -1,8 +1,8 @@
 // hostile PROGRAM check SCRIPT, hostile PROGRAM audit SCRIPT TRACE, hostile PROGRAM policy SCRIPT POLICY, hostile PROGRAM
 // diff OLD NEW, each of these three with an option before SCRIPT where one is given: runs the program on the last text
-// with each byte changed to each of eight others, and on each beginning of it. It has to answer or to refuse with a
-// numbered line, behind which an explanation stands exactly with the option --explain, and not both. The last line is
-// how many texts were answered and how many refused.
+// with each byte changed, in three of nine ways that take turns: to one of eight others, or the text ends before it. It
+// has to answer or to refuse with a numbered line, behind which an explanation stands exactly with the option --explain,
+// and not both. The last line is how many texts were answered and how many refused.
 #define _GNU_SOURCE
 #include <fcntl.h>
 #include <spawn.h>
@@ -13,7 +13,7 @@
 #include <sys/wait.h>
 #include <unistd.h>
 
-enum { WORKERS = 4, MOST = 65536 };
+enum { WORKERS = 4, TURNS = 3, MOST = 65536 };
 
 static const char CHANGES[] = {0x00, '\n', '\r', ',', '"', '#', 0x7f, (char)0xff};
 
@@ -91,7 +91,7 @@ static int is_right(const struct run *run, int may_be_silent, int is_explained) 
     return (run->status == 0 || run->status == 1) && run->err[0] == 0 && (may_be_silent || run->out[0] != 0);
 }
 
-// The texts of one worker. Each text is a place and a change: the last change cuts the text there.
+// The texts of one worker. Each text is a place and a change: the last of nine changes cuts the text there.
 static int work(int worker, char **words, int last, const char *text, size_t length, long counts[3]) {
     int file = memfd_create("text", 0), out = memfd_create("out", 0), err = memfd_create("err", 0);
     static char path[64], changed[MOST];
@@ -101,8 +101,9 @@ static int work(int worker, char **words, int last, const char *text, size_t len
     }
     snprintf(path, sizeof path, "/proc/%d/fd/%d", (int)getpid(), file);
     words[last] = path;
-    for (size_t text_number = (size_t)worker; text_number < length * 9; text_number += WORKERS) {
-        size_t place = text_number / 9, change = text_number % 9, size = change < 8 ? length : place;
+    for (size_t text_number = (size_t)worker; text_number < length * TURNS; text_number += WORKERS) {
+        size_t place = text_number / TURNS, change = place % TURNS + text_number % TURNS * TURNS;
+        size_t size = change < 8 ? length : place;
         memcpy(changed, text, length);
         if (change < 8) {
             changed[place] = CHANGES[change];
@@ -159,5 +160,5 @@ int main(int count, char **arguments) {
         }
     }
     printf("%s: %ld answered, %ld refused, %ld failed\n", arguments[count - 1], sums[0], sums[1], sums[2]);
-    return !well || sums[2] != 0 || sums[0] + sums[1] != (long)length * 9;
+    return !well || sums[2] != 0 || sums[0] + sums[1] != (long)length * TURNS;
 }

@@ -18,6 +18,8 @@ function answersOf(text, moments, accesses) {
     };
 }
 
+const importOf = (log, format) => asList(page.unit.importLog(encodeText(log), format));
+
 // A script as one types it.
 function type(text) {
     byId('script').value = text;

@@ -39,8 +39,13 @@ class Differences {
 
     async openFile(file) {
         if (!file) return;
-        if (file.size > data.limits.MAX_SCRIPT) this.show({...NO_ANSWER, status: TOO_LONG, side: 'old'});
-        else this.put({text: decodeText(await file.arrayBuffer())});
+        if (file.size > data.limits.MAX_SCRIPT) {
+            this.show({...NO_ANSWER, status: TOO_LONG, side: 'old'});
+            return;
+        }
+        const {text, told} = await readScript(this.unit, file);
+        this.put({text});
+        tell(told);
     }
 
     // What the address has: the name of an example or the text, and how many publications of each are done.

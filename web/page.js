@@ -8,9 +8,9 @@ const PAUSE = 300;
 const NOTING = 100; // milliseconds
 const SIGNS = {ignored: '✕', altered: '≠', wrong: '!', done: '●', expected: '=', differs: '✕'};
 
-function sayRefusal({status, line}) {
+function sayRefusal({status, line}, lines = 'Script line') {
     if (status === NO_ANSWER.status) return 'No answer';
-    const place = line > 0 ? `Script line ${line}: refused` : 'Refused';
+    const place = line > 0 ? `${lines} ${line}: refused` : 'Refused';
     return `${place} ${status} ${data.refusals[status].name}`;
 }
 
@@ -122,8 +122,9 @@ class Page {
             tell(`${file.name}: ${sayRefusal(fault)}. ${sayAdvice(fault)}`);
             return;
         }
-        const text = decodeText(await file.arrayBuffer());
+        const {text, told} = await readScript(this.unit, file);
         this.open('', text);
+        if (told !== '') tell(told);
         if (/\r(?!\n)/.test(text)) tell('The editor has no lone CR: each is a line’s end here.');
         if (text.includes('\ufffd')) tell('Bytes that are no UTF-8 are U+FFFD here.');
         this.noteAddress();

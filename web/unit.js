@@ -1,9 +1,9 @@
 // The unit: the proved module, and what it is asked. Each answer is {status, line, text}: status 0 and a text as the
 // program writes it, or the number of a refusal, with the script's line that is at fault, or 0.
 //
-// The module's memory has two rooms for scripts, each its length and its bytes, one for a demand, and one for an answer:
-// a line, a length, and bytes. They stand behind all that the module has of its own. Its addresses have 64 bits, so they
-// are BigInts.
+// The module's memory has two rooms for scripts, or a log, each its length and its bytes, one for a demand, and one for
+// an answer: a line, a length, and bytes. They stand behind all that the module has of its own. Its addresses have 64
+// bits, so they are BigInts.
 
 const WORD = 8;
 const WASM_PAGE = 65536;
@@ -15,6 +15,7 @@ const MEMORY = 40;
 const MODES = {U: 0, S: 1, M: 3};
 const KINDS = {fetch: 0, load: 1, store: 2};
 const VIEWS = {map: 0, picture: 1, entries: 2, registers: 3};
+const LOG_FORMATS = {qemu: 0, gdb: 1, openocd: 2, spike: 3, dump: 4};
 const NO_ANSWER = {status: -1, line: 0, text: ''};
 
 class Unit {
@@ -64,6 +65,11 @@ class Unit {
 
     registers(script, after) {
         return this.ask('view', script, BigInt(after), VIEWS.registers);
+    }
+
+    // The script of a log, which has the room of a script.
+    importLog(log, format) {
+        return this.ask('import', log, LOG_FORMATS[format]);
     }
 
     // start and length are BigInts. A module would take them modulo 2^64.

@@ -1,4 +1,5 @@
 pub mod KnownLogs
+pub mod LogTexts
 pub mod Readings
 pub mod SurveyedLogs
 pub mod WholeLogs

@@ -7,6 +7,7 @@ pub mod Formats
 pub mod Imported
 pub mod Imports
 pub mod Surveys
+pub mod LogTexts
 -- A law of these definitions, which is proved.
 pub mod Laws
 -- The rest: the steps of a reading, which only private contracts cite.

@@ -1,8 +1,9 @@
 -- What an export answers, by its status and the room of its answer.
-use Rattle.std.specs.Prelude.{◌≡◌, ◌⊎◌, ◌+◌, ℕ, List, [], length, Ok, Option, Some, None, decimal}
+use Rattle.std.specs.Prelude.{◌≡◌, ◌⊎◌, ◌+◌, ℕ, List, [], length, Ok, Option, Some, None, decimal, true, false}
 use Rattle.pmp_core.specs.declared.access.Access.{Access}
 use Rattle.pmp_core.specs.declared.decision.Decision.{Decision}
 use Rattle.pmp_text.specs.Contents.{ScriptContents}
+use Rattle.pmp_text.specs.Lines.{lines}
 use Rattle.pmp_text.specs.Scripts.{script_meaning}
 use Rattle.pmp_text.specs.Refusals.{number_of}
 use Rattle.pmp_text.specs.declared.refusal.Refusal.{Refusal}
@@ -20,6 +21,10 @@ use Rattle.pmp_audit.specs.declared.view.View.{View}
 use Rattle.pmp_audit.specs.WriteList.{WritesSay}
 use Rattle.pmp_audit.specs.PolicyCheck.{VerdictRefuses, VerdictSays}
 use Rattle.pmp_audit.specs.RightsDiff.{DiffSays}
+use Rattle.pmp_import.specs.declared.fault.ImportFault.{ImportFault}
+use Rattle.pmp_import.specs.declared.format.Format.{Format}
+use Rattle.pmp_import.specs.declared.options.Options.{Options}
+use Rattle.pmp_import.specs.LogTexts.{GivesNone, script_by}
 use Rattle.pmp_text.specs.declared.lines.verdict.Verdict.{Verdict}
 use Rattle.pmp_text.specs.declared.moments.When.TheVariants.{Number}
 use Rattle.pmp_web.specs.declared.rooms.Answer.{Answer}
@@ -107,3 +112,32 @@ abbrev pub DiffAnswerSays : (old : List ℕ) → (old_after : ℕ) → (new : Li
     → Type 0
 DiffAnswerSays old old_after new new_after text =
     (rows : ℕ) × DiffSays old (Some (Number old_after)) new (Some (Number new_after)) None rows text
+
+-- ---- logs
+
+-- nothing is asked for, and the hart has Smepmp
+abbrev pub guessed : Options
+guessed = record {
+  hart = None;
+  is_rv32 = None;
+  entries = None;
+  grain = None;
+  bits = None;
+  has_smepmp = true;
+  bursts = false;
+}
+
+-- the log has no script, with the number of the refusal and its line, and the room is empty
+pub record IsNoLog (format : Format) (log : List ℕ) (status : ℕ) (answer : Answer) : Type 0 where
+  pub fault : ImportFault
+  pub why : GivesNone format guessed (lines log) fault
+  pub number : status ≡ number_of fault.kind
+  pub line : answer.line ≡ fault.line
+  pub empty : text_in answer ≡ []
+
+-- the room holds the script of a log of the form that the number names, or it names none
+abbrev pub AnswersImport : (log : List ℕ) → Option Format → (status : ℕ) → Answer → Type 0
+AnswersImport log None status answer = IsUnasked BadWord status answer
+AnswersImport log (Some format) status answer =
+    ((status ≡ 0) × (answer.line ≡ 0) × (script_by format guessed (lines log) ≡ Ok (text_in answer)))
+    ⊎ IsNoLog format log status answer

@@ -8,6 +8,8 @@ use Rattle.pmp_text.specs.Refusals.{refusal_of_access}
 use Rattle.pmp_text.specs.declared.refusal.Refusal.{Refusal}
 use Rattle.pmp_text.specs.declared.refusal.Refusal.TheVariants.{BadWord}
 use Rattle.pmp_audit.specs.declared.view.View.{View}
+use Rattle.pmp_import.specs.declared.format.Format.{Format}
+use Rattle.pmp_import.specs.declared.format.Format.TheVariants.{Qemu, Gdb, OpenOcd, Spike, Dump}
 use Rattle.pmp_audit.specs.declared.view.View.TheVariants.{Runs, Picture, Entries, Registers}
 
 -- there is a mode and a kind with these numbers
@@ -24,3 +26,9 @@ abbrev pub view_of : ℕ → Option View
 view_of number =
     if number == 0 then Some Runs else (if number == 1 then Some Picture
     else (if number == 2 then Some Entries else (if number == 3 then Some Registers else None)))
+
+abbrev pub format_of : ℕ → Option Format
+format_of number =
+    if number == 0 then Some Qemu else (if number == 1 then Some Gdb
+    else (if number == 2 then Some OpenOcd else (if number == 3 then Some Spike
+    else (if number == 4 then Some Dump else None))))

@@ -3,12 +3,14 @@
 ghost use Rattle.std.specs.Prelude.{◌≡◌, [], IfErr, IfOk};
 ghost use Rattle.pmp_audit.specs.Answers.{Declines, IsAppended};
 ghost use Rattle.pmp_audit.specs.WriteList.{WritesRefuse};
+ghost use Rattle.pmp_text.specs.Refusals.{number_of};
 ghost use Rattle.pmp_web.specs.Answers.{CountSays, IsUnasked, line_of, told_number};
 ghost use Rattle.pmp_web.specs.Rooms.{text_in};
 
 use crate::rooms::Answer;
 use itoa::Buffer;
 use pmp_audit::{AuditFault, Side};
+use pmp_import::{ImportFault, Options};
 use pmp_text::{FixedLog, Refusal, Sink, read_script};
 
 /// The most events of a script.
@@ -28,6 +30,17 @@ pub const ANSWERED: u32 = 0;
 
 /// What is added to the number of a refusal of the new one of two scripts.
 const OF_NEW: u32 = 256;
+
+/// What is asked for of a log's script: all is guessed, and the hart has Smepmp.
+pub const GUESSED: Options = Options {
+    hart: None,
+    is_rv32: None,
+    entries: None,
+    grain: None,
+    bits: None,
+    has_smepmp: true,
+    bursts: false,
+};
 
 /// The room of a script's events.
 pub type Log = FixedLog<EVENTS, PUBLICATIONS, EXPECTATIONS, MARKS>;
@@ -57,6 +70,17 @@ pub fn refuse(answer: &mut Answer, fault: &AuditFault) -> u32
     answer.clear();
     answer.line = line_of(fault);
     told_number(fault)
+}
+
+/// Tells of the refusal of a log, beside which there is no text.
+pub fn refuse_log(answer: &mut Answer, fault: ImportFault) -> u32
+    ensures number { result ≡ number_of fault.kind }
+    ensures line { answer.new.line ≡ fault.line }
+    ensures empty { text_in answer.new ≡ [] }
+{
+    answer.clear();
+    answer.line = fault.line;
+    u32::from(fault.kind.number())
 }
 
 /// The number of a refusal.

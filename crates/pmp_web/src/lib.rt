@@ -13,17 +13,19 @@ ghost use Rattle.std.specs.Prelude.{Some};
 ghost use Rattle.pmp_audit.specs.WriteList.{WritesRefuse};
 ghost use Rattle.pmp_text.specs.declared.moments.When.TheVariants.{Number};
 ghost use Rattle.pmp_audit.specs.RightsDiff.{DiffRefuses};
-ghost use Rattle.pmp_web.specs.Answers.{Answers, AnswersCheck, AnswersVerdict, AnswersView, CountSays, DiffAnswerSays, RowsSay};
+ghost use Rattle.pmp_web.specs.Answers.{Answers, AnswersCheck, AnswersImport, AnswersVerdict, AnswersView};
+ghost use Rattle.pmp_web.specs.Answers.{CountSays, DiffAnswerSays, RowsSay};
 ghost use Rattle.pmp_web.specs.Demand.{question_of};
-ghost use Rattle.pmp_web.specs.Request.{view_of};
+ghost use Rattle.pmp_web.specs.Request.{format_of, view_of};
 ghost use Rattle.pmp_web.specs.Rooms.{script_in, text_in};
 
 mod answering;
 mod request;
 mod rooms;
 
-use answering::{ANSWERED, Log, append_count, refuse, refuse_question, tell};
+use answering::{ANSWERED, GUESSED, Log, append_count, refuse, refuse_log, refuse_question, tell};
 use pmp_audit::{append_check, append_diff, append_verdict, append_view, append_writes};
+use pmp_import::append_import;
 use pmp_text::{Refusal, When};
 pub use rooms::{Answer, Demand, Script};
 
@@ -154,4 +156,24 @@ pub extern "C" fn tilvenka_page_diff(
             answer,
         )
     )
+}
+
+/// The script of a log, as `pmp import` writes it without options: 0 of QEMU's trace, 1 of gdb's registers, 2 of
+/// OpenOCD's, 3 of Spike's commits, 4 of a dump. The line of a refusal is the log's. A number that names no form is told
+/// before the log is read, as 24.
+#[unsafe(no_mangle)]
+pub extern "C" fn tilvenka_page_import(log: &Script, format: u32, answer: &mut Answer) -> u32
+    ensures { AnswersImport (script_in log.now) (format_of format) result answer.new }
+{
+    let Some(format) = request::format_of(format) else {
+        return refuse_question(answer, Refusal::BadWord);
+    };
+    answer.clear();
+    match append_import(format, GUESSED, log.text(), answer) {
+        Ok(()) => {
+            answer.line = 0;
+            ANSWERED
+        }
+        Err(fault) => refuse_log(answer, fault),
+    }
 }

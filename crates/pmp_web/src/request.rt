@@ -1,13 +1,14 @@
-//! What the page asks, as numbers: an access, a view, or a row of a policy.
+//! What the page asks, as numbers: an access, a view, a form of logs, or a row of a policy.
 
 ghost use Rattle.std.specs.Prelude.{◌≡◌, IfErr, IfOk};
 ghost use Rattle.pmp_web.specs.Demand.{demand_of, kinds_of, modes_of, pace_of, question_of};
 ghost use Rattle.pmp_map.specs.Request.{IsNamed};
-ghost use Rattle.pmp_web.specs.Request.{NamesNone, view_of};
+ghost use Rattle.pmp_web.specs.Request.{NamesNone, format_of, view_of};
 
 use crate::rooms::Demand;
 use pmp_audit::{Pace, View};
 use pmp_core::{Access, Kind};
+use pmp_import::Format;
 use pmp_map::{kind_of, mode_of};
 use pmp_text::{Coming, Kinds, Modes, PolicyFields, Refusal};
 
@@ -31,6 +32,20 @@ pub fn view_of(number: u32) -> Option<View>
         1 => Some(View::Picture),
         2 => Some(View::Entries),
         3 => Some(View::Registers),
+        _ => None,
+    }
+}
+
+/// The form of a log that a number names.
+pub fn format_of(number: u32) -> Option<Format>
+    ensures { result ≡ format_of number }
+{
+    match number {
+        0 => Some(Format::Qemu),
+        1 => Some(Format::Gdb),
+        2 => Some(Format::OpenOcd),
+        3 => Some(Format::Spike),
+        4 => Some(Format::Dump),
         _ => None,
     }
 }

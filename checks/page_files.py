@@ -1,0 +1,110 @@
+"""What checks/page tries of files: scripts and logs that are chosen or dropped, and a picture that is saved.
+
+Of each log that checks/rows/import.txt has, as a log of each form, the module's script is compared with that of
+`pmp import`, and so is the text that the page shows where a log is dropped."""
+import pathlib
+import re
+import subprocess
+
+ROWS = pathlib.Path(__file__).parent / "rows/import.txt"
+SCRIPT = "pmp 1\nwrite pmpaddr0 0x200001ff\nwrite pmpcfg0 0x99\npublish\n"
+FORMATS = ("qemu", "gdb", "openocd", "spike", "dump")
+DROPPED = {
+    "qemu": "riscv_trap hart:0\npmpcfg_csr_write hart 0: write reg0, val: 0x18\n",
+    "gdb": "(gdb) info registers\npmpcfg0        0x18\t24\n", "openocd": "pmpcfg0 (/64): 0x0000000000000018\r\n",
+    "spike": "core   0: 3 0x0000000080000008 (0x3a0312f3) c928_pmpcfg0 0x0000000000000018\n",
+    "dump": "pmpcfg0 0x0000000000000018\n",
+}
+
+
+def logs():
+    """The logs that the rows have: lines behind `script` or `input`, four blanks to the right."""
+    found = re.findall(r"^(?:script|input)\n((?:    .*\n|\n(?=    ))+)", ROWS.read_text(encoding="utf-8"), re.MULTILINE)
+    return [re.sub(r"^    ", "", it, flags=re.MULTILINE) for it in found]
+
+
+def drop(tab, file):
+    """Drops a file on the page, and waits for what it does."""
+    for kind in ("dragEnter", "dragOver", "drop"):
+        tab.send("Input.dispatchDragEvent", type=kind, x=200, y=400,
+                 data={"items": [], "files": [str(file)], "dragOperationsMask": 1})
+    tab.ask("page.opened")
+
+
+def choose(tab, file):
+    node = tab.send("Runtime.evaluate", expression="byId('file')")["result"]["objectId"]
+    tab.send("DOM.setFileInputFiles", files=[str(file)], objectId=node)
+    tab.ask("page.opened")
+
+
+class Files:
+    def __init__(self, tally, program, work):
+        self.tally, self.program, self.work = tally, program, work
+        self.file = pathlib.Path(work, "boot.log")
+
+    def compare_all(self, browser, tab):
+        self.compare_logs(tab)
+        self.compare_dropped(tab)
+        self.compare_scripts(tab)
+        self.compare_picture(browser, tab)
+
+    def answer(self, log, form):
+        """[status, line, text] of `pmp import`."""
+        self.file.write_text(log, encoding="utf-8", newline="")
+        done = subprocess.run([self.program, "import", form, self.file], capture_output=True, check=False)
+        refused = re.match(rb"pmp: (?:log line (\d+): )?refused (\d+) ", done.stderr)
+        if refused:
+            return [int(refused[2]), int(refused[1] or 0), ""]
+        return [0, 0, done.stdout.decode()]
+
+    def compare_logs(self, tab):
+        known = logs() + list(DROPPED.values()) + [""]
+        self.tally.has("the logs of the rows", len(known) > 20)
+        kinds = set()
+        for log in known:
+            for form in FORMATS:
+                wanted = self.answer(log, form)
+                kinds.add((form, wanted[0]))
+                self.tally.compare(f"{form}: {log[:40]!r}", tab.call("importOf", log, form), wanted)
+        for form in FORMATS:
+            self.tally.has(f"{form}: scripts and refusals", {it[1] for it in kinds if it[0] == form} >= {0, 60, 61})
+
+    def compare_dropped(self, tab):
+        for form, log in DROPPED.items():
+            wanted = self.answer(log, form)[2]
+            drop(tab, self.file)
+            self.tally.compare(f"a log of {form} that is dropped", tab.ask("page.editor.text"), wanted)
+            self.tally.compare(f"a log of {form}: notice", tab.ask("noticeShown()"),
+                               f"This is the script of boot.log, as “pmp import {form}” writes it.")
+        broken = "riscv_trap hart:0\npmpcfg_csr_write hart 0: write reg99, val: 0x18\n"
+        status, line, _ = self.answer(broken, "qemu")
+        drop(tab, self.file)
+        self.tally.compare("a log at fault: the text", tab.ask("page.editor.text"), broken)
+        told = f"as a log for “pmp import qemu”: line {line}: refused {status} "
+        self.tally.has("a log at fault: notice", told in tab.ask("noticeShown()"))
+        self.file.write_text("no script\n", encoding="utf-8")
+        drop(tab, self.file)
+        self.tally.compare("neither a script nor a log", [tab.ask("page.editor.text"), tab.ask("noticeShown()")],
+                           ["no script\n", ""])
+
+    def compare_scripts(self, tab):
+        file = pathlib.Path(self.work, "boot.pmp")
+        file.write_bytes(SCRIPT.replace("\n", "\r\n").encode())
+        for how, give in (("chosen", choose), ("dropped", drop)):
+            tab.call("openBoot", "first")
+            give(tab, file)
+            self.tally.compare(f"a file that is {how}", tab.ask("page.editor.text"), SCRIPT)
+            self.tally.compare(f"a file that is {how}: notice", tab.ask("noticeShown()"), "")
+
+    def compare_picture(self, browser, tab):
+        """What is saved of the script that is shown."""
+        browser.send("Browser.setDownloadBehavior", behavior="allow", downloadPath=self.work, eventsEnabled=True)
+        tab.ask("byId('save').click()")
+        while not any(it.get("method") == "Browser.downloadProgress" and it["params"]["state"] != "inProgress"
+                      for it in browser.messages):
+            browser.messages.append(browser.receive())
+        words = [self.program, "picture", "stdin"]
+        drawn = subprocess.run(words, input=SCRIPT.encode(), capture_output=True, check=False)
+        self.tally.compare("the picture that is saved",
+                           pathlib.Path(self.work, "pmp-publication-1.svg").read_text(encoding="utf-8"),
+                           drawn.stdout.decode())

@@ -1,0 +1,66 @@
+-- A log that is at hand, read as a whole.
+use Rattle.std.proofs.Common.{◌≡◌, ℕ, List, [], ◌++◌, OnOk, Option, Result, Ok, Err, refl, sym, ap, ◌∙◌, inl, inr, append_assoc, append-nil}
+use Rattle.pmp_import.specs.declared.fault.ImportFault.{ImportFault}
+use Rattle.pmp_import.specs.declared.format.Format.{Format}
+use Rattle.pmp_import.specs.declared.given.Given.{Given}
+use Rattle.pmp_import.specs.declared.given.Walk.{Walk}
+use Rattle.pmp_import.specs.declared.options.Options.{Options}
+use Rattle.pmp_import.specs.declared.survey.Survey.{Survey}
+use Rattle.pmp_import.specs.Imported.{beginning, head_text, imported, imported_from, with_front}
+use Rattle.pmp_import.specs.LogTexts.{GivesNone, IsScriptOf, given_by, script_by}
+use Rattle.pmp_import.specs.Steps.{EndsWith, FindsFault, FindsOn, GoesOn, StopsAt, StopsAtEnd}
+use Rattle.pmp_import.specs.Surveys.{given_for, nothing_found, surveyed}
+
+pub looked : (format : Format) (hart : Option ℕ) (lines : List (List ℕ)) (survey : Survey)
+    → FindsOn format (nothing_found hart) survey lines → surveyed format hart lines ≡ Ok survey
+looked format hart lines survey finds =
+    ap (surveyed format hart) (sym (append-nil lines)) ∙ finds.finds_on []
+
+pub looked_at_fault : (format : Format) (hart : Option ℕ) (lines : List (List ℕ)) (fault : ImportFault)
+    → FindsFault format (nothing_found hart) lines fault → surveyed format hart lines ≡ Err fault
+looked_at_fault format hart lines fault stops = ap (surveyed format hart) (sym (append-nil lines)) ∙ stops []
+
+-- what is given is by what was found
+pub known : (format : Format) (options : Options) (lines : List (List ℕ)) (survey : Survey)
+    → surveyed format options.hart lines ≡ Ok survey → given_by format options lines ≡ given_for format options survey
+known format options lines survey is = rw (is, given_by) refl
+
+pub unknown : (format : Format) (options : Options) (lines : List (List ℕ)) (fault : ImportFault)
+    → surveyed format options.hart lines ≡ Err fault → given_by format options lines ≡ Err fault
+unknown format options lines fault is = rw (is, given_by) refl
+
+pub ok_weaker : {T E P Q : Type 0} (result : Result T E) → (P → Q) → OnOk result P → OnOk result Q
+ok_weaker (Ok it) gives given = gives given
+ok_weaker (Err fault) gives given = tt
+
+module _ (format : Format) (options : Options) (lines : List (List ℕ)) (given : Given)
+    (is_given : given_by format options lines ≡ Ok given) where
+  by_given : script_by format options lines ≡ imported given lines
+  by_given = rw (is_given, script_by) refl
+
+  pub stops_first : (fault : ImportFault) → StopsAt given beginning lines fault → GivesNone format options lines fault
+  stops_first fault (inl memory) = inl memory
+  stops_first fault (inr stops) = inr (by_given ∙ ap (with_front (head_text given))
+      (ap (imported_from given beginning) (sym (append-nil lines)) ∙ stops []))
+
+  module _ (walk : Walk) (head all : List ℕ) (reads : GoesOn given beginning walk lines head all) where
+    read : (rest : Result (List ℕ) ImportFault) → imported_from given walk [] ≡ rest
+        → script_by format options lines ≡ with_front (head_text given) (with_front reads.text rest)
+    read rest is = by_given ∙ ap (with_front (head_text given))
+        (ap (imported_from given beginning) (sym (append-nil lines)) ∙ reads.goes_on []
+        ∙ ap (with_front reads.text) is)
+
+    pub stops_last : (fault : ImportFault) → StopsAtEnd given walk fault → GivesNone format options lines fault
+    stops_last fault (inl memory) = inl memory
+    stops_last fault (inr stops) = inr (read (Err fault) stops)
+
+    pub is_script : (start after : List ℕ) → head ≡ start ++ head_text given → EndsWith given walk all after
+        → IsScriptOf format options lines start after
+    is_script start after begins ends = record {
+      script = head_text given ++ (reads.text ++ ends.text);
+      gives = read (Ok ends.text) ends.ends;
+      appended = ends.appended ∙ ap (λ (l : List ℕ). l ++ ends.text)
+          (reads.appended ∙ ap (λ (l : List ℕ). l ++ reads.text) begins)
+          ∙ append_assoc (start ++ head_text given) reads.text ends.text
+          ∙ append_assoc start (head_text given) (reads.text ++ ends.text);
+    }

@@ -1,0 +1,34 @@
+-- The script of a log that is at hand as a text.
+use Rattle.std.specs.Prelude.{◌≡◌, ◌⊎◌, ℕ, List, ◌++◌, Result, Ok, Err}
+use Rattle.pmp_text.specs.declared.refusal.Refusal.TheVariants.{Memory}
+use Rattle.pmp_import.specs.declared.fault.ImportFault.{ImportFault}
+use Rattle.pmp_import.specs.declared.format.Format.{Format}
+use Rattle.pmp_import.specs.declared.given.Given.{Given}
+use Rattle.pmp_import.specs.declared.options.Options.{Options}
+use Rattle.pmp_import.specs.Imported.{at, imported}
+use Rattle.pmp_import.specs.Surveys.{given_for, surveyed}
+
+-- the log was looked at, and what was found says what the script is of
+abbrev pub given_by : Format → Options → List (List ℕ) → Result Given ImportFault
+given_by format options lines = elim (surveyed format options.hart lines) [
+  | Ok survey ↦ given_for format options survey
+  | Err fault ↦ Err fault
+]
+
+-- the script of a log with these lines
+abbrev pub script_by : Format → Options → List (List ℕ) → Result (List ℕ) ImportFault
+script_by format options lines = elim (given_by format options lines) [
+  | Ok given ↦ imported given lines
+  | Err fault ↦ Err fault
+]
+
+-- it was appended
+pub record IsScriptOf (format : Format) (options : Options) (lines : List (List ℕ)) (before after : List ℕ) : Type 0
+  where
+    pub script : List ℕ
+    pub gives : script_by format options lines ≡ Ok script
+    pub appended : after ≡ before ++ script
+
+-- the log gives none, or there is no memory
+abbrev pub GivesNone : Format → Options → (lines : List (List ℕ)) → ImportFault → Type 0
+GivesNone format options lines fault = (fault ≡ at 0 Memory) ⊎ (script_by format options lines ≡ Err fault)

@@ -1,0 +1,43 @@
+//! A log that is at hand as a text, and its script.
+
+ghost use Rattle.std.specs.Prelude.{◌≡◌, IfErr, OnOk};
+ghost use Rattle.pmp_text.specs.Lines.{lines};
+ghost use Rattle.pmp_import.specs.LogTexts.{GivesNone, IsScriptOf, given_by};
+
+use crate::fault::ImportFault;
+use crate::format::Format;
+use crate::given::Given;
+use crate::importer::Importer;
+use crate::options::Options;
+use crate::survey::Survey;
+use pmp_text::Sink;
+
+/// What is given of a log, by all that it has.
+fn given_by(format: Format, options: Options, log: &[u8]) -> Result<Given, ImportFault>
+    ensures { result ≡ given_by format options (lines log.now) }
+{
+    let mut survey = Survey::new(options.hart);
+    match survey.take_lines(format, log) {
+        Ok(()) => options.with(format, &survey),
+        Err(fault) => Err(fault),
+    }
+}
+
+/// Appends the script of a log, which is read twice: what isn't asked for is guessed from all of it.
+///
+/// Where memory runs out, a part of the script may have been appended.
+pub fn append_import<S: Sink>(
+    format: Format,
+    options: Options,
+    log: &[u8],
+    out: &mut S,
+) -> Result<(), ImportFault>
+    ensures ok { OnOk result (IsScriptOf format options (lines log.now) (S.text out.old) (S.text out.new)) }
+    ensures err { IfErr result (GivesNone format options (lines log.now)) }
+{
+    let given = given_by(format, options, log)?;
+    let mut importer = Importer::new(given);
+    importer.begin(out)?;
+    importer.take_lines(out, log)?;
+    importer.end(out)
+}
