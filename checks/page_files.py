@@ -17,10 +17,16 @@ DROPPED = {
 }
 
 
-def logs():
-    """The logs that the rows have: lines behind `script` or `input`, four blanks to the right."""
-    found = re.findall(r"^(?:script|input)\n((?:    .*\n|\n(?=    ))+)", ROWS.read_text(encoding="utf-8"), re.MULTILINE)
+def steps(words):
+    """The texts of the rows' steps that begin so, which stand below them, four blanks to the right."""
+    found = re.findall(rf"^(?:{words})\n((?:    .*\n|\n(?=    ))+)", ROWS.read_text(encoding="utf-8"), re.MULTILINE)
     return [re.sub(r"^    ", "", it, flags=re.MULTILINE) for it in found]
+
+
+def logs():
+    """The logs of the rows. In a table each line has one, before `|`, with a backslash and `n` for a line's end."""
+    tables = "".join(steps("scripts .*")).splitlines()
+    return steps("script|input") + [it.partition("|")[0].replace("\\n", "\n") for it in tables]
 
 
 def drop(tab, file):
@@ -59,7 +65,7 @@ class Files:
 
     def compare_logs(self, tab):
         known = logs() + list(DROPPED.values()) + [""]
-        self.tally.has("the logs of the rows", len(known) > 20)
+        self.tally.has("the logs of the rows", len(known) > 50)
         kinds = set()
         for log in known:
             for form in FORMATS:

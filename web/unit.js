@@ -15,7 +15,8 @@ const MEMORY = 40;
 const MODES = {U: 0, S: 1, M: 3};
 const KINDS = {fetch: 0, load: 1, store: 2};
 const VIEWS = {map: 0, picture: 1, entries: 2, registers: 3};
-const LOG_FORMATS = {qemu: 0, gdb: 1, openocd: 2, spike: 3, dump: 4};
+// In the order in which they are tried: a dump could be read as gdb's registers.
+const LOG_FORMATS = {qemu: 0, dump: 4, gdb: 1, openocd: 2, spike: 3};
 const NO_ANSWER = {status: -1, line: 0, text: ''};
 
 class Unit {

@@ -4,7 +4,7 @@ ghost use Rattle.std.specs.Prelude.{◌≡◌};
 ghost use Rattle.pmp_import.specs.Imported.{is_read, is_unset, is_write};
 ghost use Rattle.pmp_import.specs.Said.{hex_number, is_of_rv32, names_register, occurs};
 
-use memchr::memmem;
+use memchr::arch::all::rabinkarp::Finder;
 use pmp_core::Csr;
 use pmp_text::read_numeral;
 
@@ -92,7 +92,7 @@ pub fn read_hex(word: &[u8]) -> Option<u64>
 pub fn occurs(name: &[u8], line: &[u8]) -> bool
     ensures { result ≡ occurs name.now line.now }
 {
-    memmem::find(line, name).is_some()
+    Finder::new(name).find(line, name).is_some()
 }
 
 /// Whether a register's name stands in the line.
