@@ -16,7 +16,7 @@
 # make soak SECONDS=..      lets a publisher and eight checkers run so long, and compares each answer with a replay
 # make fuzz SECONDS=..      has libFuzzer try the C library so long
 # make conformance          tries QEMU's unit, or that of HART="simulator ELF", by cases of each rule
-# make reports              runs the cases of conformance/reports on QEMU 7.2, 10 and 11, and compares with what their pages say
+# make reports              runs the cases of conformance/reports on QEMU 7.2, 10 and 11, and compares with their pages
 # make rv32                 boots an RV32 hart of QEMU, and compares what it refuses with what pmp refuses
 # make captures             boots OpenSBI 1.1, 1.6 and 1.9 on QEMU 7.2, 10 and 11, and compares likewise
 # make qemu                 builds QEMU 7.2 as it is and over the library, boots OpenSBI and U-Boot on both, and compares
