@@ -1,6 +1,7 @@
 /* SPDX-License-Identifier: MIT OR Apache-2.0 */
-/* case.h: what the cases of reports share, on QEMU's machine virt: a start in machine mode, a visit to a mode, a line on
- * the console for each value that is compared with the manual's, and an end with status 0 where all were the manual's. */
+/* case.h: what the cases of reports share, on QEMU's machine virt: a start in machine mode, a visit to a mode, a line
+ * on the console for each value that is compared with the manual's, and an end with status 0 where all were the
+ * manual's. */
 #define UART 0x10000000
 #define DEVICE 0x100000
 #define PASS 0x5555
