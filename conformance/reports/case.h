@@ -12,7 +12,7 @@
 #define USER 0
 #define SUPERVISOR 1
 #define MACHINE 3
-/* All of memory, as an address register has it in mode NAPOT. */
+/* All of memory, as an address register of RV64 has it in mode NAPOT. */
 #define ALL 0x3fffffffffffff
 
 /* visit MODE, LABEL: executes in the mode from the label on until an exception, as that of an ecall. Then machine mode
@@ -51,7 +51,7 @@ text\@:
     .macro reset_board stage
     li t0, KEPT
     li t1, \stage
-    sd t1, 0(t0)
+    sw t1, 0(t0)
     li t0, RESET
     j stop
     .endm
@@ -64,7 +64,7 @@ _start:
     la s9, lost
     li s11, PASS
     li a0, KEPT
-    ld a0, 0(a0)
+    lw a0, 0(a0)
     j case
 
 /* end: the status is 0 where all lines said right, and 1 where one said wrong. */
@@ -128,7 +128,7 @@ put_text:
 /* In hexadecimal, without zeros before it. */
 put_number:
     li t0, UART
-    li t1, 60
+    li t1, __riscv_xlen - 4
 1:  srl t2, a0, t1
     bnez t2, 2f
     beqz t1, 2f
