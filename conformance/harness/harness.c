@@ -3,8 +3,9 @@
 #include "harness.h"
 #include "board.h"
 
-enum { END, CASE, WRITE, LOOK, EXPECT, ACCESS, RESET, SPOT };
-enum { FETCH, LOAD, STORE, RESERVED_LOAD, ATOMIC };
+enum { END, CASE, WRITE, LOOK, EXPECT, ACCESS, RESET, SPOT, HART };
+enum { FETCH, LOAD, STORE };
+enum { PLAIN, UNSIGNED, RESERVED_LOAD, CONDITIONAL, LAST_ATOMIC = 12 };
 enum { UNJUDGED, ALLOW, FAULT, EITHER };
 enum { MACHINE = 3, BREAKPOINT = 3, ECALL = 8 };
 enum { MSECCFG = 0x747, PMPCFG0 = 0x3a0, PMPADDR0 = 0x3b0 };
@@ -14,8 +15,13 @@ enum { MSECCFG = 0x747, PMPCFG0 = 0x3a0, PMPADDR0 = 0x3b0 };
 #define ARENA (BOARD_MEMORY + ARENA_PLACE)
 #define EBREAK 0x00100073
 #define COMPRESSED_EBREAKS 0x9002900290029002
+#define XLEN __riscv_xlen
+#define SPOTS 64
 
 static uint64_t is_quiet, failed, count;
+/* Where the arena has something else than what it was filled with. */
+static uint64_t spots[SPOTS];
+static unsigned spot_count;
 static uint64_t shown[CSR_COUNT], wanted[CSR_COUNT], mask[CSR_COUNT];
 static uint64_t is_first_look;
 
@@ -25,12 +31,15 @@ static void put(char letter) {
 }
 
 static void put_number(uint64_t number) {
-    int place = 60;
+    char digits[16];
+    unsigned count = 0;
+    do {
+        digits[count++] = "0123456789abcdef"[number & 15];
+        number >>= 4;
+    } while (number != 0);
     put(' ');
-    while (place > 0 && number >> place == 0)
-        place -= 4;
-    for (; place >= 0; place -= 4)
-        put("0123456789abcdef"[number >> place & 15]);
+    while (count > 0)
+        put(digits[--count]);
 }
 
 static void put_line(char letter, uint64_t first) {
@@ -40,13 +49,13 @@ static void put_line(char letter, uint64_t first) {
 }
 
 static uint64_t read_mtval(void) {
-    uint64_t value;
+    uintptr_t value;
     __asm__ volatile("csrr %0, mtval" : "=r"(value));
     return value;
 }
 
 static uint64_t read_mepc(void) {
-    uint64_t value;
+    uintptr_t value;
     __asm__ volatile("csrr %0, mepc" : "=r"(value));
     return value;
 }
@@ -55,8 +64,8 @@ static unsigned index_of(unsigned number) {
     return number == MSECCFG ? CSR_COUNT - 1 : number - PMPCFG0;
 }
 
-static struct outcome in_machine_mode(const char *place, unsigned index, uint64_t argument) {
-    return attempt((uint64_t)place + 8 * index, argument, 0, MACHINE << 11, 0);
+static struct outcome in_machine_mode(const char *place, unsigned index, uintptr_t argument) {
+    return attempt((uintptr_t)place + 8 * index, argument, 0, MACHINE << 11, 0);
 }
 
 static void write_csr(unsigned number, uint64_t value) {
@@ -84,8 +93,8 @@ static void look_at(unsigned number) {
 }
 
 static void look(void) {
-    for (unsigned pair = 0; pair < count / 4; pair += 2)
-        look_at(PMPCFG0 + pair);
+    for (unsigned entry = 0; entry < count; entry += XLEN / 8)
+        look_at(PMPCFG0 + entry / 4);
     for (unsigned entry = 0; entry < count; entry++)
         look_at(PMPADDR0 + entry);
     look_at(MSECCFG);
@@ -109,9 +118,16 @@ static void clear_registers(void) {
     in_machine_mode(fence_addresses, 0, 0);
 }
 
-static void fill_arena(void) {
-    for (uint64_t at = ARENA - 64; at < ARENA + ARENA_SIZE + 64; at += 8)
-        *(volatile uint64_t *)at = COMPRESSED_EBREAKS;
+static void fill(uint64_t from, uint64_t to) {
+    for (uint64_t at = from; at < to; at += 8)
+        *(volatile uint64_t *)(uintptr_t)at = COMPRESSED_EBREAKS;
+}
+
+static void fill_spots(void) {
+    while (spot_count > 0) {
+        spot_count--;
+        fill(spots[spot_count] & ~UINT64_C(7), spots[spot_count] + 8);
+    }
     in_machine_mode(fence_code, 0, 0);
 }
 
@@ -120,20 +136,25 @@ static void begin_case(uint64_t word) {
     forget();
     if (!(word >> 16 & 1))
         clear_registers();
-    fill_arena();
+    fill_spots();
     put_line('c', word >> 32);
     is_first_look = 1;
 }
 
 static void put_spot(uint64_t at) {
-    *(volatile uint16_t *)at = EBREAK & 0xffff;
-    *(volatile uint16_t *)(at + 2) = EBREAK >> 16;
+    *(volatile uint16_t *)(uintptr_t)at = EBREAK & 0xffff;
+    *(volatile uint16_t *)(uintptr_t)(at + 2) = EBREAK >> 16;
+    spots[spot_count++] = at;
     in_machine_mode(fence_code, 0, 0);
 }
 
-static unsigned operation_of(unsigned kind, unsigned length) {
+static unsigned operation_of(unsigned kind, unsigned by, unsigned length) {
     unsigned power = length == 8 ? 3 : length / 2;
-    return kind < RESERVED_LOAD ? 4 * (kind - LOAD) + power : 8 + 2 * (kind - RESERVED_LOAD) + (power == 3);
+    if (by == PLAIN)
+        return 4 * (kind - LOAD) + power;
+    if (by == UNSIGNED)
+        return 8 + power;
+    return 11 + by - RESERVED_LOAD + (power == 3 ? LAST_ATOMIC - RESERVED_LOAD + 1 : 0);
 }
 
 /* What lies in the arena, from an even or an odd byte on, so that a store changes nothing. */
@@ -151,7 +172,7 @@ static void judge(unsigned expected, int is_allowed, int is_fault) {
 }
 
 static void tell(uint64_t word, uint64_t start, uint64_t cause, uint64_t target, int is_allowed) {
-    static const uint8_t faults[5] = {1, 5, 7, 5, 7};
+    static const uint8_t faults[3] = {1, 5, 7};
     uint64_t address = read_mtval(), is_here = read_mepc() == target, length = word >> 20 & 15;
     judge(word >> 24 & 3, is_allowed,
           cause == faults[word >> 8 & 15] && is_here && (address == 0 || address - start < length));
@@ -170,6 +191,7 @@ static void tell(uint64_t word, uint64_t start, uint64_t cause, uint64_t target,
 
 static void perform(uint64_t word, uint64_t start) {
     unsigned kind = word >> 8 & 15, mode = word >> 12 & 3, is_stub = word >> 16 & 1, length = word >> 20 & 15;
+    unsigned by = word >> 32 & 0xff;
     uint64_t status = (uint64_t)mode << 11, target = start;
     struct outcome outcome;
     if (kind == FETCH) {
@@ -177,12 +199,28 @@ static void perform(uint64_t word, uint64_t start) {
         tell(word, start, outcome.cause, target, outcome.cause == BREAKPOINT && read_mepc() == target);
         return;
     }
-    target = (uint64_t)(is_stub ? stub_operations : machine_operations) + 8 * operation_of(kind, length);
+    target = (uintptr_t)(is_stub ? stub_operations : machine_operations);
+    target += OPERATION_SIZE * operation_of(kind, by, length);
     if (!is_stub && mode != MACHINE)
         status |= MPRV;
     outcome = attempt(target, start, pattern_at(start), status, is_stub);
+    target += by == CONDITIONAL ? 4 : 0;
     int is_allowed = outcome.cause == ECALL + (is_stub ? mode : MACHINE) && read_mepc() == target + 4;
     tell(word, start, outcome.cause, target, is_allowed);
+}
+
+/* Tells XLEN, and which modes mstatus.MPP holds. */
+static void tell_hart(void) {
+    uintptr_t modes = 0, status, mask = MPP;
+    for (uintptr_t mode = 0; mode < 4; mode++) {
+        __asm__ volatile("csrc mstatus, %1\n csrs mstatus, %2\n csrr %0, mstatus"
+                         : "=r"(status) : "r"(mask), "r"(mode << 11));
+        modes |= (uintptr_t)((status & MPP) == mode << 11) << mode;
+    }
+    put('h');
+    put_number(XLEN);
+    put_number(modes);
+    put('\n');
 }
 
 /* After a reset the hart goes on behind it, by what memory kept. */
@@ -197,8 +235,11 @@ static const uint64_t *reset_behind(const uint64_t *at) {
 static const uint64_t *beginning(void) {
     is_quiet = cases[0];
     forget();
-    if (KEPT->mark != (MARK ^ KEPT->place))
+    if (KEPT->mark != (MARK ^ KEPT->place)) {
+        fill(ARENA - 64, ARENA + ARENA_SIZE + 64);
+        in_machine_mode(fence_code, 0, 0);
         return cases + 1;
+    }
     KEPT->mark = 0;
     failed = KEPT->failed;
     for (const uint64_t *at = cases + 1; at < cases + KEPT->place; at++) {
@@ -221,7 +262,7 @@ void lost(void) {
 void harness(void) {
     for (const uint64_t *at = beginning(); (*at & 0xff) != END; at++) {
         uint64_t word = *at;
-        switch (word & 0xff) {
+        switch ((unsigned)word & 0xff) {
         case CASE: begin_case(word); break;
         case SPOT: put_spot(*++at); break;
         case WRITE: write_csr(word >> 16 & 0xfff, *++at); break;
@@ -232,6 +273,7 @@ void harness(void) {
         case LOOK: look(); break;
         case ACCESS: perform(word, *++at); break;
         case RESET: at = reset_behind(at); break;
+        case HART: tell_hart(); break;
         }
     }
     put_line('z', failed);

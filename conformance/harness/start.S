@@ -16,24 +16,42 @@ park:
     wfi
     j park
 
+# A register's store and load, and a load of a word that RV64 alone has.
+#if __riscv_xlen == 64
+    .macro store_whole it:vararg
+    sd \it
+    .endm
+    .macro load_whole it:vararg
+    ld \it
+    .endm
+    .macro load_word it:vararg
+    lwu \it
+    .endm
+#else
+    .macro store_whole it:vararg
+    sw \it
+    .endm
+    .macro load_whole it:vararg
+    lw \it
+    .endm
+    .macro load_word it:vararg
+    lw \it
+    .endm
+#endif
+    .macro each_saved what
+    .set place, 0
+    .irp it, ra, s0, s1, s2, s3, s4, s5, s6, s7, s8, s9, s10, s11
+    \what \it, place(sp)
+    .set place, place + 8
+    .endr
+    .endm
+
 # struct outcome attempt(target, address, value, status, by_return)
     .text
     .globl attempt
 attempt:
     addi sp, sp, -112
-    sd ra, 0(sp)
-    sd s0, 8(sp)
-    sd s1, 16(sp)
-    sd s2, 24(sp)
-    sd s3, 32(sp)
-    sd s4, 40(sp)
-    sd s5, 48(sp)
-    sd s6, 56(sp)
-    sd s7, 64(sp)
-    sd s8, 72(sp)
-    sd s9, 80(sp)
-    sd s10, 88(sp)
-    sd s11, 96(sp)
+    each_saved store_whole
     csrw mscratch, sp
     csrr t0, mstatus
     li t1, ~(MPRV | MPP)
@@ -52,19 +70,7 @@ caught:
     csrc mstatus, t0
     csrrw sp, mscratch, zero
     beqz sp, 1f
-    ld ra, 0(sp)
-    ld s0, 8(sp)
-    ld s1, 16(sp)
-    ld s2, 24(sp)
-    ld s3, 32(sp)
-    ld s4, 40(sp)
-    ld s5, 48(sp)
-    ld s6, 56(sp)
-    ld s7, 64(sp)
-    ld s8, 72(sp)
-    ld s9, 80(sp)
-    ld s10, 88(sp)
-    ld s11, 96(sp)
+    each_saved load_whole
     addi sp, sp, 112
     csrr a0, mcause
     mv a1, a2
@@ -97,15 +103,30 @@ csr_writes:
 csr_reads:
     each_csr read_csr
 
-# Loads of 1, 2, 4 and 8 bytes, stores of as many, and LR and AMO of 4 and 8. An AMO leaves memory as it is.
+# Loads and stores of 1, 2, 4 and 8 bytes, loads without a sign of 1, 2 and 4, and an LR, an SC behind one and each AMO
+# of 4 and of 8, in the order of suite/blob.py. A store leaves memory as it is.
     .macro operations
-    .irp it, "lb a2, (a1)", "lh a2, (a1)", "lw a2, (a1)", "ld a2, (a1)", "sb a2, (a1)", "sh a2, (a1)", "sw a2, (a1)", \
-        "sd a2, (a1)", "lr.w a2, (a1)", "lr.d a2, (a1)", "amoor.w a2, zero, (a1)", "amoor.d a2, zero, (a1)"
+    .irp it, "lb a2, (a1)", "lh a2, (a1)", "lw a2, (a1)", "load_whole a2, (a1)", "sb a2, (a1)", "sh a2, (a1)", \
+        "sw a2, (a1)", "store_whole a2, (a1)", "lbu a2, (a1)", "lhu a2, (a1)", "load_word a2, (a1)", \
+        "lr.w a2, (a1)", "lr.w a3, (a1); sc.w a3, a2, (a1)", "amoswap.w a3, a2, (a1)", \
+        "amoadd.w a3, zero, (a1)", "amoxor.w a3, zero, (a1)", "amoand.w a3, a2, (a1)", "amoor.w a3, a2, (a1)", \
+        "amomin.w a3, a2, (a1)", "amomax.w a3, a2, (a1)", "amominu.w a3, a2, (a1)", "amomaxu.w a3, a2, (a1)"
+    .balign OPERATION_SIZE
     \it
     ecall
     .endr
+#if __riscv_xlen == 64
+    .irp it, "lr.d a2, (a1)", "lr.d a3, (a1); sc.d a3, a2, (a1)", "amoswap.d a3, a2, (a1)", \
+        "amoadd.d a3, zero, (a1)", "amoxor.d a3, zero, (a1)", "amoand.d a3, a2, (a1)", "amoor.d a3, a2, (a1)", \
+        "amomin.d a3, a2, (a1)", "amomax.d a3, a2, (a1)", "amominu.d a3, a2, (a1)", "amomaxu.d a3, a2, (a1)"
+    .balign OPERATION_SIZE
+    \it
+    ecall
+    .endr
+#endif
     .endm
 
+    .balign OPERATION_SIZE
     .globl machine_operations, fence_addresses, fence_code
 machine_operations:
     operations
@@ -117,6 +138,7 @@ fence_code:
     ecall
 
     .section .stub, "ax"
+    .balign OPERATION_SIZE
     .globl stub_operations
 stub_operations:
     operations

@@ -14,6 +14,14 @@ class Look:
 
 
 @dataclass(frozen=True)
+class Facts:
+    """How many bits a register has, and which values mstatus.MPP holds: a bit for each."""
+
+    xlen: int
+    modes: int
+
+
+@dataclass(frozen=True)
 class Answer:
     # None where the access is allowed.
     cause: int | None = None
@@ -48,6 +56,8 @@ def read(text):
                 steps.append(Answer())
             elif words[:1] == ["a"]:
                 steps.append(Answer(int(words[1], 16), int(words[2], 16), words[3] == "1"))
+            elif words[:1] == ["h"]:
+                steps.append(Facts(int(words[1], 16), int(words[2], 16)))
             elif words[:1] == ["z"]:
                 is_whole = True
         except (IndexError, ValueError):

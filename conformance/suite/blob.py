@@ -3,9 +3,12 @@ import struct
 
 from .case import number_of
 
-END, CASE, WRITE, LOOK, EXPECT, ACCESS, RESET, SPOT = range(8)
+END, CASE, WRITE, LOOK, EXPECT, ACCESS, RESET, SPOT, HART = range(9)
 KEEP = 1 << 16
-KINDS = {("fetch", False): 0, ("load", False): 1, ("store", False): 2, ("load", True): 3, ("store", True): 4}
+KINDS = {"fetch": 0, "load": 1, "store": 2}
+AMOS = ("amoswap", "amoadd", "amoxor", "amoand", "amoor", "amomin", "amomax", "amominu", "amomaxu")
+# What an access is made by, where it isn't a plain fetch, load or store.
+WAYS = ("", "unsigned", "lr", "sc", *AMOS)
 MODES = {"U": 0, "S": 1, "M": 3}
 ANSWERS = {None: 0, "allow": 1, "fault": 2, "either": 3}
 ALL_ONES = 2**64 - 1
@@ -18,6 +21,10 @@ def ways_of(access, expected):
     return (0, 1)
 
 
+# How many places of the arena the harness can give another instruction in a run.
+SPOTS = 64
+
+
 def is_spot(access):
     return access.kind == "fetch" and access.length == 4
 
@@ -28,11 +35,13 @@ def meet(one, other):
 
 def can_share(access, others):
     """A fetch of four bytes finds an instruction of its own there, which no store and no other fetch may meet."""
+    if is_spot(access) and len({it.start for it in others if is_spot(it)} | {access.start}) > SPOTS:
+        return False
     for other in others:
         if is_spot(access) or is_spot(other):
             same = is_spot(access) and is_spot(other) and access.start == other.start
-            if not same and meet(access, other) and {access.kind, other.kind} & {"store", "fetch"} and \
-                    not {access.kind, other.kind} == {"fetch", "load"} and not (access.atomic or other.atomic):
+            kinds = {access.kind, other.kind}
+            if not same and meet(access, other) and kinds & {"store", "fetch"} and kinds != {"fetch", "load"}:
                 return False
     return True
 
@@ -50,11 +59,16 @@ def parts_of(case):
     return parts
 
 
-def expects(before, after, is_first):
-    """What a look expects: the registers that are unlike those of the last one."""
-    for name, value in after.items():
-        if is_first or before[name] != value:
-            yield from (EXPECT | number_of(name) << 16, ALL_ONES, value)
+def expects(state):
+    """What the look behind a reset expects."""
+    for name, value in state.items():
+        yield from (EXPECT | number_of(name) << 16, ALL_ONES, value)
+
+
+def access_words(access, way, answer):
+    yield (ACCESS | KINDS[access.kind] << 8 | MODES[access.mode] << 12 | way << 16 | access.length << 20
+           | ANSWERS[answer] << 24 | WAYS.index(access.by) << 32)
+    yield access.start
 
 
 def words_of(case, part, expected):
@@ -68,19 +82,16 @@ def words_of(case, part, expected):
         for access in part:
             if access.after == after:
                 for way in ways_of(access, expected):
-                    answer = ANSWERS[expected.answers.get(access)] if is_judged else 0
-                    yield (ACCESS | KINDS[access.kind, access.atomic] << 8 | MODES[access.mode] << 12 | way << 16
-                           | access.length << 20 | answer << 24)
-                    yield access.start
+                    yield from access_words(access, way, expected.answers.get(access) if is_judged else None)
         if after < len(case.events):
             event = case.events[after]
             yield from (RESET,) if event[0] == "reset" else (WRITE | number_of(event[1]) << 16, event[2])
-            is_judged = is_judged and not {"reserved", "lockdown"} & set(expected.reasons[after][0])
+            is_judged = is_judged and not {"reserved", "lockdown", "grain"} & set(expected.reasons[after][0])
             state = expected.registers[after + 1]
             if is_judged and event[0] == "write" and event[1] in state:
                 yield from (EXPECT | number_of(event[1]) << 16, ALL_ONES, state[event[1]])
             elif is_judged and event[0] == "reset":
-                yield from expects({}, state, True)
+                yield from expects(state)
             elif event[0] == "write":
                 yield from (EXPECT | number_of(event[1]) << 16, 0, 0)
             yield LOOK
