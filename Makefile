@@ -16,6 +16,7 @@
 # make soak SECONDS=..      lets a publisher and eight checkers run so long, and compares each answer with a replay
 # make fuzz SECONDS=..      has libFuzzer try the C library so long
 # make conformance          tries QEMU's unit, or that of HART="simulator ELF", by cases of each rule
+# make mutants              turns each rule of plain harts in each way, and has the cases of make conformance find it
 # make rv32                 boots an RV32 hart of QEMU, and compares what it refuses with what pmp refuses
 # make captures             boots OpenSBI 1.1, 1.6 and 1.9 on QEMU 7.2, 10 and 11, and compares likewise
 # make qemu                 builds QEMU 7.2 as it is and over the library, boots OpenSBI and U-Boot on both, and compares
@@ -34,7 +35,7 @@ export PREFIX DESTDIR
 # ci has one process for each, which is less work than several for one.
 LANES = $(shell awk -v most="$$(nproc)" '/^MemAvailable/ { n = int($$2 / 3500000); print n < 1 ? 1 : n < most ? n : most }' /proc/meminfo)
 
-.PHONY: build library portable page page-test docs test fuzz conformance rv32 captures qemu install install-program install-library uninstall dist \
+.PHONY: build library portable page page-test docs test fuzz conformance mutants rv32 captures qemu install install-program install-library uninstall dist \
     dist-test soak stress bench bench-decide bench-emulator bench-threads bench-limits bench-audit bench-page bench-qemu
 
 build:
@@ -101,6 +102,9 @@ fuzz: library
 	@mkdir -p out && clang -g -O1 -fsanitize=fuzzer,address,undefined -Iinclude examples/fuzz.c $(LIBRARY) -o out/fuzz \
 	    || { echo "Debian's packages are clang and libclang-rt-14-dev" >&2; exit 2; }
 	out/fuzz -max_len=1024 -len_control=0 -max_total_time=$(SECONDS)
+
+mutants: build
+	checks/conformance --every-way $(PROGRAM)
 
 captures: build
 	checks/captures $(PROGRAM)

@@ -12,6 +12,7 @@ enum { MML = 1, MMWP = 2, RLB = 4 };
 
 #define NAME_OF(NAME, COUNT, RULE, HART) NAME,
 enum turn { TURNS(NAME_OF) };
+#define NO_TURN ((enum turn)-1)
 
 /* The turn, and in which of its ways. */
 static enum turn turn;
@@ -44,6 +45,11 @@ static inline int matching_of(unsigned entry) {
 
 static inline int is_locked(unsigned entry) {
     return unit.byte[entry] >> 7;
+}
+
+/* Whether the turn is this one, in this of its ways. */
+static inline int turned(enum turn which, unsigned number) {
+    return turn == which && way == number;
 }
 
 /* L R W X of a byte. */

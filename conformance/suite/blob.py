@@ -35,28 +35,41 @@ def meet(one, other):
 
 def can_share(access, others):
     """A fetch of four bytes finds an instruction of its own there, which no store and no other fetch may meet."""
-    if is_spot(access) and len({it.start for it in others if is_spot(it)} | {access.start}) > SPOTS:
-        return False
     for other in others:
-        if is_spot(access) or is_spot(other):
-            same = is_spot(access) and is_spot(other) and access.start == other.start
-            kinds = {access.kind, other.kind}
-            if not same and meet(access, other) and kinds & {"store", "fetch"} and kinds != {"fetch", "load"}:
-                return False
+        same = is_spot(access) and is_spot(other) and access.start == other.start
+        kinds = {access.kind, other.kind}
+        if not same and meet(access, other) and kinds & {"store", "fetch"} and kinds != {"fetch", "load"}:
+            return False
     return True
+
+
+class Part:
+    """Accesses that can be made in one run of a case."""
+
+    def __init__(self):
+        self.accesses, self.spots, self.starts = [], [], set()
+
+    def takes(self, access):
+        """Whether the access can be made beside the others: then it is one of them."""
+        if not can_share(access, self.accesses if is_spot(access) else self.spots):
+            return False
+        if is_spot(access):
+            if len(self.starts | {access.start}) > SPOTS:
+                return False
+            self.starts.add(access.start)
+            self.spots.append(access)
+        self.accesses.append(access)
+        return True
 
 
 def parts_of(case):
     """The case's accesses in lists of those that can be made in one run of it."""
-    parts = [[]]
+    parts = [Part()]
     for access in case.accesses:
-        for part in parts:
-            if can_share(access, part):
-                part.append(access)
-                break
-        else:
-            parts.append([access])
-    return parts
+        if not any(it.takes(access) for it in parts):
+            parts.append(Part())
+            parts[-1].takes(access)
+    return [it.accesses for it in parts]
 
 
 def expects(state):

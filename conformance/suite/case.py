@@ -83,6 +83,7 @@ class Builder:
         self.hart = hart
         self.case = Case(name, rule, hart, looks=hart.entries if looks is None else looks)
         self.bytes = [0] * 64
+        self.asked = set()
 
     def write(self, name, value):
         self.case.events.append(("write", name, value & (2**self.hart.xlen - 1)))
@@ -145,7 +146,8 @@ class Builder:
                 is_fit = kind != "fetch" or (length in (2, 4) and start % 2 == 0 and not by)
                 if mode in self.hart.modes and is_fit:
                     access = Access(len(self.case.events), mode, kind, start, length, by)
-                    if access not in self.case.accesses:
+                    if access not in self.asked:
+                        self.asked.add(access)
                         self.case.accesses.append(access)
         return self
 

@@ -17,9 +17,12 @@ class Hart:
     reset_security: int = 0
 
     def head(self):
-        """The first lines of its scripts."""
-        yield from ("pmp 3", f"hart xlen {self.xlen}", f"hart entries {self.entries}", f"hart grain {self.grain}")
-        yield from (f"hart bits {self.bits}", f"hart smepmp {'yes' if self.has_smepmp else 'no'}")
+        """The first lines of its scripts: what isn't so where nothing is said."""
+        bits = 56 if self.xlen == 64 else 34
+        fields = (("xlen", self.xlen, 64), ("entries", self.entries, 16), ("grain", self.grain, 4),
+                  ("bits", self.bits, bits), ("smepmp", "yes" if self.has_smepmp else "no", "yes"))
+        yield "pmp 3"
+        yield from (f"hart {name} {value}" for name, value, default in fields if value != default)
 
     @property
     def last(self):

@@ -92,8 +92,11 @@ class Comparison:
         self.state.update(look.changed)
         if after == 0 and self.case.looks > self.hart.entries:
             self.allows("absent", "exception" if look.missing - {"mseccfg"} else "zero")
-        wanted = {it: self.wanted(after, it) for it in self.state}
-        self.note_alike(after, wanted)
+        wanted = self.expected.registers[after]
+        if self.reserved or len(wanted) != len(self.state):
+            wanted = {it: self.wanted(after, it) for it in self.state}
+        if self.state == wanted:
+            return self.note_alike(after)
         if event[0] == "reset" and after:
             return self.behind_reset(after, event, wanted)
         unlike = [it for it in self.state if self.state[it] != wanted[it]]
@@ -122,11 +125,9 @@ class Comparison:
         is_barred = security & MML and not security & RLB and row_of(byte) in BARRED
         return not is_barred and not is_frozen(self.hart.byte_of(before, entry), security)
 
-    def note_alike(self, after, wanted):
+    def note_alike(self, after):
         """Notes the choices that are made as the program makes them."""
         reasons = self.expected.reasons[after - 1][0] if after else ()
-        if self.state != wanted:
-            return
         if "grain" in reasons and self.case.events[after - 1][1].startswith("pmpcfg"):
             self.allows("na4", "off")
         if "reserved" in reasons and not self.reserved:
