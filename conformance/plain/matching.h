@@ -41,7 +41,7 @@ static int is_in_power(unsigned entry, uint64_t byte) {
     if (turned(power_of_size_is_double, __builtin_ctzll(~address)))
         region = region << 1 | 1;
     if (turn == bit_of_power_is_cut)
-        region |= UINT64_C(1) << way;
+        region |= UINT64_C(2) << way;
     return (word | region) == (address | region);
 }
 

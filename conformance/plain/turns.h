@@ -24,7 +24,7 @@
     TURN(read_and_execute_swapped, 1, "Registers 5", "") \
     TURN(read_and_write_swapped, 1, "Registers 5", "") \
     TURN(all_security_bits_stay, 1, "Registers 6", "") \
-    TURN(security_bit_stays, 61, "Registers 6", "") \
+    TURN(security_bit_stays, 57, "Registers 6", "") \
     TURN(allow_list_in_bit_2, 1, "Registers 6", "") \
     TURN(reset_keeps_locks, 1, "Registers 7", "") \
     TURN(reset_keeps_lock_of, 64, "Registers 7", "--entries 64") \
@@ -56,7 +56,7 @@
     TURN(power_is_half, 1, "Matching 4", "") \
     TURN(power_of_size_is_half, 15, "Matching 4", "") \
     TURN(power_of_size_is_double, 53, "Matching 4", "") \
-    TURN(bit_of_power_is_cut, 54, "Matching 4", "") \
+    TURN(bit_of_power_is_cut, 53, "Matching 4", "") \
     TURN(all_ones_match_nothing, 1, "Matching 4", "") \
     TURN(power_keeps_bits_below_grain, 1, "Matching 4", "--grain 64") \
     TURN(last_entry_decides, 1, "Deciding 1", "") \

@@ -112,11 +112,17 @@ static void write_address(unsigned entry, uint64_t value) {
     note_low(entry);
 }
 
+/* Bits 8 to 10 are those of Zkr and Zicfilp, and bit 33 alone is a value of Smmpm's PMM. */
+static unsigned bit_of_no_extension(unsigned number) {
+    unsigned bit = number < 5 ? 3 + number : 6 + number;
+    return bit < 33 ? bit : bit + 1;
+}
+
 static uint64_t kept_security(uint64_t value) {
     if (turn == all_security_bits_stay)
         return value & ~UINT64_C(7);
     if (turn == security_bit_stays)
-        return value & UINT64_C(8) << way;
+        return value & UINT64_C(1) << bit_of_no_extension(way);
     return turn == seed_bits_stay ? value & 0x300 : 0;
 }
 

@@ -1,4 +1,4 @@
-"""Runs all cases on a simulator, and tells what it found: a row for each rule, and the smallest case that differs."""
+"""Runs all cases on a simulator, and finds which differ, and the smallest case of each kind of difference."""
 from collections import Counter, defaultdict
 from dataclasses import replace
 
@@ -14,10 +14,13 @@ NO_RESET = "of a reset, which software can't ask this board for"
 
 
 class Found:
-    def __init__(self):
+    def __init__(self, rules=(*RULES, SEEDED)):
+        self.rules = rules
         self.tried, self.skipped, self.reasons = Counter(), Counter(), Counter()
         # Of each rule the runs that differ, with their first differences.
         self.differing = defaultdict(list)
+        # Each case, and why it wasn't asked.
+        self.cases = []
 
     def differing_cases(self, rule):
         return len({run.case.name for run, _ in self.differing[rule]})
@@ -25,6 +28,12 @@ class Found:
     def is_passed(self):
         """Whether something was tried, and nothing differs."""
         return bool(sum(self.tried.values())) and not any(self.differing.values())
+
+    def results(self):
+        """Each case with "passed", "differs", or why it wasn't asked."""
+        names = {run.case.name for runs in self.differing.values() for run, _ in runs}
+        for case, reason in self.cases:
+            yield case, f"not asked: {reason}" if reason else "differs" if case.name in names else "passed"
 
 
 def probe(simulator, given):
@@ -70,7 +79,10 @@ def reason_to_skip(case, expected, simulator):
 def runs_of(suite, simulator, found):
     """The runs of the cases that the hart can be asked."""
     for case, answer, runs in zip(suite.cases, suite.expected, suite.runs):
+        if case.rule not in found.rules:
+            continue
         reason = reason_to_skip(case, answer, simulator)
+        found.cases.append((case, reason))
         if reason:
             found.skipped[case.rule] += 1
             found.reasons[reason] += 1
@@ -81,8 +93,8 @@ def runs_of(suite, simulator, found):
 
 def compare(suite, simulator, profile, rules=(*RULES, SEEDED)):
     """What is found. On a hart each difference is one that shows in a run of its own too."""
-    found = Found()
-    runs = [it for it in runs_of(suite, simulator, found) if it.case.rule in rules]
+    found = Found(rules)
+    runs = list(runs_of(suite, simulator, found))
     suspects = list(differences(suite.oracle, profile, runs, simulator.run(runs)))
     if simulator.is_hart and suspects:
         expected = {id(case): it for case, it in zip(suite.cases, suite.expected)}
@@ -93,16 +105,6 @@ def compare(suite, simulator, profile, rules=(*RULES, SEEDED)):
     return found
 
 
-def table(found):
-    yield "| Rule | Cases | Differing | Not asked |"
-    yield "|---|---|---|---|"
-    for rule in (*RULES, SEEDED):
-        if found.tried[rule] or found.skipped[rule]:
-            yield f"| {rule} | {found.tried[rule]} | {found.differing_cases(rule)} | {found.skipped[rule]} |"
-        else:
-            yield f"| {rule} | not there | | |"
-
-
 def groups_of(differing):
     """The differences of a rule in lists of a kind, the smallest first."""
     groups = defaultdict(list)
@@ -111,24 +113,12 @@ def groups_of(differing):
     return sorted(groups.values(), key=lambda it: size_of(it[0]))
 
 
-def section(title, lines):
-    """Lines below a title, where there are any."""
-    lines = [f"  {it}" for it in lines]
-    return ["", title, *lines] if lines else []
-
-
-def tell(found, profile, oracle, simulator, is_each, program):
-    """The report's lines."""
-    yield from table(found)
-    if not sum(found.tried.values()):
-        yield from ("", "Nothing was asked, which is a failure.")
-    yield from section("Cases that weren't asked:", (f"{count} {it}" for it, count in found.reasons.items()))
-    yield from section("Accesses that weren't judged:", (f"{count} {it}" for it, count in profile.unjudged.items()))
-    yield from section("What the manual leaves open, as this hart has it:", profile.lines())
-    yield from section("Choices that were made in more than one way:", profile.inconsistent())
+def smallest_differences(found, profile, oracle, simulator, is_each, program):
+    """Of each rule that differs, or of each kind of difference, the smallest case."""
     smaller = Smaller(oracle, simulator, profile)
-    for rule in (*RULES, SEEDED):
+    for rule in found.rules:
         for group in groups_of(found.differing[rule])[:None if is_each else 1]:
-            first = smaller.smallest(group[0])
-            yield from ("", f"{rule}: {len(group)} runs differ as {group[0][0].case.name}; the smallest:")
-            yield from lines_to_paste(first, program)
+            run, difference = smaller.smallest(group[0])
+            yield {"rule": rule, "case": group[0][0].case.name, "runs": len(group), "effect": difference.effect,
+                   "wanted": difference.wanted, "got": difference.got,
+                   "lines": list(lines_to_paste((run, difference), program))}

@@ -79,13 +79,18 @@ def lines_to_paste(found, program):
     """A command for the program, and what each side says. A write that the hart took otherwise stands as it took it."""
     run, difference = found
     access = difference.access
+    by = ""
     if isinstance(access, Access):
         by = (f" ({access.by})" if access.by else "") + (" by the mode itself" if difference.way else "")
         what = f"{access.mode} {access.kind} {access.start:#x} {access.length}"
         yield f"{program} check stdin {what} <<'END'"
+    elif access:
+        yield f"{program} dump stdin <<'END' | grep '^{access} '"
     else:
-        by = ""
-        yield f"{program} dump stdin <<'END'" + (f" | grep '^{access} '" if access else "")
+        yield f"{program} map stdin <<'END'"
     yield from run.understood.script(difference.after).splitlines()[1:]
     yield "END"
-    yield f"# the program says {difference.wanted}, the simulator {difference.got}{by}"
+    if access:
+        yield f"# the program says {difference.wanted}, the simulator {difference.got}{by}"
+    else:
+        yield "# the program leaves machine mode its code, data and devices here; the simulator hung or ended"
