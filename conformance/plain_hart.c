@@ -11,7 +11,9 @@
 #include <stdlib.h>
 #include <string.h>
 
-enum { END, CASE, WRITE, LOOK, EXPECT, ACCESS, RESET, SPOT, HART };
+enum { END, CASE, WRITE, LOOK, EXPECT, ACCESS, RESET, SPOT, HART, ATTEMPT };
+/* How a register is written. */
+enum { WHOLE, SET_BITS, CLEAR_BITS };
 enum { MSECCFG = 0x747, PMPCFG0 = 0x3a0, PMPADDR0 = 0x3b0 };
 
 #define ROW_OF(NAME, COUNT, RULE, HART) {#NAME, COUNT, RULE, HART},
@@ -78,6 +80,28 @@ static uint64_t read_register(const struct unit *from, unsigned number) {
     return value;
 }
 
+static void write_bits(unsigned how, unsigned number, uint64_t value) {
+    uint64_t before = read_register(&unit, number);
+    struct unit kept = unit;
+    if (how == SET_BITS)
+        value = turn == set_bits_write_the_mask ? value : before | value;
+    if (how == CLEAR_BITS)
+        value = turn == clear_bits_write_the_mask ? value : before & ~value;
+    write_register(number, value);
+    if ((how == SET_BITS && turn == set_bits_are_ignored) || (how == CLEAR_BITS && turn == clear_bits_are_ignored))
+        unit = kept;
+}
+
+/* An access to a register that has to be an illegal instruction. */
+static void try_register(int is_write, unsigned mode, unsigned number) {
+    int is_open = mode == MACHINE ? turn == odd_register_is_there
+        : (turn == lower_modes_read && !is_write) || (turn == lower_modes_write && is_write)
+            || (turn == supervisor_reads && !is_write && mode == SUPERVISOR);
+    if (is_open && is_write && mode != MACHINE)
+        write_register(number, 0);
+    puts(is_open ? "a ok" : "a 2 0 1");
+}
+
 static void look_at(unsigned number, int is_first) {
     uint64_t value = read_register(&unit, number);
     if (value != read_register(&shown, number))
@@ -124,7 +148,8 @@ static void run(const uint64_t *at) {
             printf("c %llx\n", (unsigned long long)(word >> 32));
             is_first = 1;
             break;
-        case WRITE: write_register(word >> 16 & 0xfff, *++at); break;
+        case WRITE: write_bits(word >> 8 & 0xff, word >> 16 & 0xfff, *++at); break;
+        case ATTEMPT: try_register(word >> 8 & 1, word >> 12 & 3, word >> 16 & 0xfff); break;
         case LOOK: look(count, &is_first); break;
         case EXPECT: at += 2; break;
         case ACCESS: perform(word, *++at); break;

@@ -3,11 +3,11 @@
 #include "harness.h"
 #include "board.h"
 
-enum { END, CASE, WRITE, LOOK, EXPECT, ACCESS, RESET, SPOT, HART };
+enum { END, CASE, WRITE, LOOK, EXPECT, ACCESS, RESET, SPOT, HART, ATTEMPT };
 enum { FETCH, LOAD, STORE };
-enum { PLAIN, UNSIGNED, RESERVED_LOAD, CONDITIONAL, LAST_ATOMIC = 12 };
+enum { PLAIN, UNSIGNED, RESERVED_LOAD, CONDITIONAL, LAST_ATOMIC = 12, FALLING };
 enum { UNJUDGED, ALLOW, FAULT, EITHER };
-enum { MACHINE = 3, BREAKPOINT = 3, ECALL = 8 };
+enum { MACHINE = 3, ILLEGAL = 2, BREAKPOINT = 3, ECALL = 8 };
 enum { MSECCFG = 0x747, PMPCFG0 = 0x3a0, PMPADDR0 = 0x3b0 };
 
 #define MARK 0x7069636b65642075
@@ -15,6 +15,7 @@ enum { MSECCFG = 0x747, PMPCFG0 = 0x3a0, PMPADDR0 = 0x3b0 };
 #define ARENA (BOARD_MEMORY + ARENA_PLACE)
 #define EBREAK 0x00100073
 #define COMPRESSED_EBREAKS 0x9002900290029002
+#define COMPRESSED_NOP 1
 #define XLEN __riscv_xlen
 #define SPOTS 64
 
@@ -68,8 +69,9 @@ static struct outcome in_machine_mode(const char *place, unsigned index, uintptr
     return attempt((uintptr_t)place + 8 * index, argument, 0, MACHINE << 11, 0);
 }
 
-static void write_csr(unsigned number, uint64_t value) {
-    struct outcome outcome = in_machine_mode(csr_writes, index_of(number), value);
+static void write_csr(unsigned how, unsigned number, uint64_t value) {
+    const char *instructions = how == 0 ? csr_writes : how == 1 ? csr_sets : csr_clears;
+    struct outcome outcome = in_machine_mode(instructions, index_of(number), value);
     if (outcome.cause != ECALL + MACHINE)
         put_line('t', outcome.cause);
     in_machine_mode(fence_addresses, 0, 0);
@@ -141,9 +143,11 @@ static void begin_case(uint64_t word) {
     is_first_look = 1;
 }
 
-static void put_spot(uint64_t at) {
-    *(volatile uint16_t *)(uintptr_t)at = EBREAK & 0xffff;
-    *(volatile uint16_t *)(uintptr_t)(at + 2) = EBREAK >> 16;
+/* An instruction of four bytes, or one of two by which what is behind it is reached. */
+static void put_spot(int is_before, uint64_t at) {
+    *(volatile uint16_t *)(uintptr_t)at = is_before ? COMPRESSED_NOP : EBREAK & 0xffff;
+    if (!is_before)
+        *(volatile uint16_t *)(uintptr_t)(at + 2) = EBREAK >> 16;
     spots[spot_count++] = at;
     in_machine_mode(fence_code, 0, 0);
 }
@@ -171,11 +175,7 @@ static void judge(unsigned expected, int is_allowed, int is_fault) {
         failed += !is_allowed && !is_fault;
 }
 
-static void tell(uint64_t word, uint64_t start, uint64_t cause, uint64_t target, int is_allowed) {
-    static const uint8_t faults[3] = {1, 5, 7};
-    uint64_t address = read_mtval(), is_here = read_mepc() == target, length = word >> 20 & 15;
-    judge(word >> 24 & 3, is_allowed,
-          cause == faults[word >> 8 & 15] && is_here && (address == 0 || address - start < length));
+static void put_answer(int is_allowed, uint64_t cause, uint64_t address, int is_here) {
     put('a');
     if (is_allowed) {
         put(' ');
@@ -189,13 +189,30 @@ static void tell(uint64_t word, uint64_t start, uint64_t cause, uint64_t target,
     put('\n');
 }
 
+static void tell(uint64_t word, uint64_t start, uint64_t cause, uint64_t target, int is_allowed) {
+    static const uint8_t faults[3] = {1, 5, 7};
+    uint64_t address = read_mtval(), is_here = read_mepc() == target, length = word >> 20 & 15;
+    judge(word >> 24 & 3, is_allowed,
+          cause == faults[word >> 8 & 15] && is_here && (address == 0 || address - start < length));
+    put_answer(is_allowed, cause, address, is_here);
+}
+
+/* An access to a register that has to be an illegal instruction. */
+static void try_csr(int is_write, unsigned mode, unsigned number) {
+    uintptr_t target = (uintptr_t)(is_write ? csr_writes : csr_reads) + 8 * index_of(number);
+    struct outcome outcome = attempt(target, 0, 0, (uintptr_t)mode << 11, mode != MACHINE);
+    int is_here = read_mepc() == target;
+    failed += outcome.cause != ILLEGAL || !is_here;
+    put_answer(outcome.cause == ECALL + mode, outcome.cause, read_mtval(), is_here);
+}
+
 static void perform(uint64_t word, uint64_t start) {
     unsigned kind = word >> 8 & 15, mode = word >> 12 & 3, is_stub = word >> 16 & 1, length = word >> 20 & 15;
     unsigned by = word >> 32 & 0xff;
     uint64_t status = (uint64_t)mode << 11, target = start;
     struct outcome outcome;
     if (kind == FETCH) {
-        outcome = attempt(target, 0, 0, status, mode != MACHINE);
+        outcome = attempt(target - (by == FALLING ? 2 : 0), 0, 0, status, mode != MACHINE);
         tell(word, start, outcome.cause, target, outcome.cause == BREAKPOINT && read_mepc() == target);
         return;
     }
@@ -264,8 +281,9 @@ void harness(void) {
         uint64_t word = *at;
         switch ((unsigned)word & 0xff) {
         case CASE: begin_case(word); break;
-        case SPOT: put_spot(*++at); break;
-        case WRITE: write_csr(word >> 16 & 0xfff, *++at); break;
+        case SPOT: put_spot(word >> 8 & 0xff, *++at); break;
+        case ATTEMPT: try_csr(word >> 8 & 1, word >> 12 & 3, word >> 16 & 0xfff); break;
+        case WRITE: write_csr(word >> 8 & 0xff, word >> 16 & 0xfff, *++at); break;
         case EXPECT:
             mask[index_of(word >> 16 & 0xfff)] = *++at;
             wanted[index_of(word >> 16 & 0xfff)] = *++at;

@@ -30,7 +30,8 @@ struct outcome {
    behind it raises. `status` is set in mstatus before; the target is reached by mret where `by_return` isn't 0. */
 struct outcome attempt(uintptr_t target, uintptr_t address, uintptr_t value, uintptr_t status, uintptr_t by_return);
 
-extern const char csr_writes[], csr_reads[], machine_operations[], stub_operations[], fence_addresses[], fence_code[];
+extern const char csr_writes[], csr_reads[], csr_sets[], csr_clears[], machine_operations[], stub_operations[];
+extern const char fence_addresses[], fence_code[];
 extern uint64_t cases[];
 extern volatile uint64_t tohost;
 

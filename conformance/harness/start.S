@@ -87,6 +87,14 @@ caught:
     csrr a2, \number
     ecall
     .endm
+    .macro set_csr number
+    csrs \number, a1
+    ecall
+    .endm
+    .macro clear_csr number
+    csrc \number, a1
+    ecall
+    .endm
     .macro each_csr what
     .set number, 0x3a0
     .rept 80
@@ -97,11 +105,15 @@ caught:
     .endm
 
     .balign 8
-    .globl csr_writes, csr_reads
+    .globl csr_writes, csr_reads, csr_sets, csr_clears
 csr_writes:
     each_csr write_csr
 csr_reads:
     each_csr read_csr
+csr_sets:
+    each_csr set_csr
+csr_clears:
+    each_csr clear_csr
 
 # Loads and stores of 1, 2, 4 and 8 bytes, loads without a sign of 1, 2 and 4, and an LR, an SC behind one and each AMO
 # of 4 and of 8, in the order of suite/blob.py. A store leaves memory as it is.

@@ -4,7 +4,7 @@
 /* Numbers beside the causes of faults. */
 enum { MISALIGNED = 4, ALLOWED = 32 };
 /* What an access is made by, as suite/blob.py has it. */
-enum { PLAIN, UNSIGNED, RESERVED_LOAD, CONDITIONAL };
+enum { PLAIN, UNSIGNED, RESERVED_LOAD, CONDITIONAL, FALLING = 13 };
 
 struct access {
     unsigned mode, kind, by;
@@ -193,6 +193,8 @@ static int is_access_allowed(const struct access *it) {
         needed = R;
     if (it->by == RESERVED_LOAD && turn == reserved_load_needs_write)
         needed = W;
+    if (it->by == FALLING && (turn == falling_is_free || (turn == falling_is_free_under_lockdown && unit.security & MML)))
+        return 1;
     int by_bytes = turn == entries_allow_together || (turn == misaligned_goes_by_bytes && !is_aligned);
     return (by_bytes ? are_bytes_allowed : is_allowed)(it->mode, needed, it->start, length_of(it));
 }

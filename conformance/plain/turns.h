@@ -10,6 +10,10 @@
     TURN(sixteen_of_sixty_four_match, 1, "Registers 1", "--entries 64") \
     TURN(absent_entry_is_stored, 1, "Registers 1", "") \
     TURN(bytes_in_reverse, 1, "Registers 2", "") \
+    TURN(odd_register_is_there, 1, "Registers 2", "") \
+    TURN(lower_modes_read, 1, "Registers 2", "") \
+    TURN(lower_modes_write, 1, "Registers 2", "") \
+    TURN(supervisor_reads, 1, "Registers 2", "") \
     TURN(address_has_64_bits, 1, "Registers 3", "") \
     TURN(bit_of_address_is_stuck, 54, "Registers 3", "") \
     TURN(bit_of_last_address_is_stuck, 54, "Registers 3", "--entries 64") \
@@ -79,6 +83,8 @@
     TURN(entries_allow_together, 1, "Deciding 2", "") \
     TURN(length_is_half, 3, "Deciding 2", "") \
     TURN(fetches_to_the_page_end, 1, "Deciding 2", "") \
+    TURN(falling_is_free, 1, "Deciding 2", "") \
+    TURN(falling_is_free_under_lockdown, 1, "Deciding 2", "") \
     TURN(fetch_by_first_half, 1, "Deciding 2", "") \
     TURN(fetch_by_first_half_under_lockdown, 1, "Deciding 2", "") \
     TURN(fetches_are_of_four, 1, "Deciding 2", "") \
@@ -123,6 +129,10 @@
     TURN(lockdown_ends_locks, 1, "Writing 1", "") \
     TURN(allow_list_ends_locks, 1, "Writing 1", "") \
     TURN(frozen_byte_drops_the_write, 1, "Writing 2", "") \
+    TURN(set_bits_write_the_mask, 1, "Writing 2", "") \
+    TURN(set_bits_are_ignored, 1, "Writing 2", "") \
+    TURN(clear_bits_write_the_mask, 1, "Writing 5", "") \
+    TURN(clear_bits_are_ignored, 1, "Writing 2", "") \
     TURN(refused_byte_ends_the_write, 7, "Writing 2", "") \
     TURN(bits_6_and_5_stay_under_lockdown, 1, "Writing 3", "") \
     TURN(shared_rules_are_reserved, 1, "Writing 3", "") \
@@ -139,7 +149,7 @@
     TURN(frozen_address_is_stored, 1, "Writing 5", "") \
     TURN(tor_neighbour_is_open, 1, "Writing 5", "") \
     TURN(neighbour_of_entry_is_open, 63, "Writing 5", "--entries 64") \
-    TURN(neighbour_of_matching_is_frozen, 4, "Writing 5", "") \
+    TURN(neighbour_of_matching_is_frozen, 3, "Writing 5", "") \
     TURN(unlocked_range_freezes_before, 1, "Writing 5", "") \
     TURN(lock_goes_down_a_chain, 1, "Writing 5", "") \
     TURN(lock_needs_rights_for_neighbour, 1, "Writing 5", "") \

@@ -84,7 +84,7 @@ static int freezes_before(unsigned next) {
         return 1;
     return is_frozen(next)
         && (matching_of(next) == TOR || turn == every_neighbour_is_frozen
-            || turned(neighbour_of_matching_is_frozen, matching_of(next)));
+            || turned(neighbour_of_matching_is_frozen, matching_of(next) - (matching_of(next) > TOR)));
 }
 
 static int is_address_frozen(unsigned entry) {

@@ -3,12 +3,13 @@ import struct
 
 from .case import number_of
 
-END, CASE, WRITE, LOOK, EXPECT, ACCESS, RESET, SPOT, HART = range(9)
+END, CASE, WRITE, LOOK, EXPECT, ACCESS, RESET, SPOT, HART, ATTEMPT = range(10)
 KEEP = 1 << 16
 KINDS = {"fetch": 0, "load": 1, "store": 2}
 AMOS = ("amoswap", "amoadd", "amoxor", "amoand", "amoor", "amomin", "amomax", "amominu", "amomaxu")
 # What an access is made by, where it isn't a plain fetch, load or store.
-WAYS = ("", "unsigned", "lr", "sc", *AMOS)
+WAYS = ("", "unsigned", "lr", "sc", *AMOS, "falling")
+HOW = {"write": 0, "set-bits": 1, "clear-bits": 2}
 MODES = {"U": 0, "S": 1, "M": 3}
 ANSWERS = {None: 0, "allow": 1, "fault": 2, "either": 3}
 ALL_ONES = 2**64 - 1
@@ -26,17 +27,24 @@ SPOTS = 64
 
 
 def is_spot(access):
-    return access.kind == "fetch" and access.length == 4
+    """Whether an instruction of its own has to be there: one of four bytes, or one before it that it is reached by."""
+    return access.kind == "fetch" and (access.length == 4 or access.by == "falling")
+
+
+def spot_of(access):
+    """Where that is, and whether it is the one before."""
+    return (access.start - 2, 1) if access.by == "falling" else (access.start, 0)
 
 
 def meet(one, other):
-    return one.start < other.start + other.length and other.start < one.start + one.length
+    first, last = spot_of(one)[0], spot_of(other)[0]
+    return first < other.start + other.length and last < one.start + one.length
 
 
 def can_share(access, others):
     """A fetch of four bytes finds an instruction of its own there, which no store and no other fetch may meet."""
     for other in others:
-        same = is_spot(access) and is_spot(other) and access.start == other.start
+        same = is_spot(access) and is_spot(other) and spot_of(access) == spot_of(other)
         kinds = {access.kind, other.kind}
         if not same and meet(access, other) and kinds & {"store", "fetch"} and kinds != {"fetch", "load"}:
             return False
@@ -54,9 +62,9 @@ class Part:
         if not can_share(access, self.accesses if is_spot(access) else self.spots):
             return False
         if is_spot(access):
-            if len(self.starts | {access.start}) > SPOTS:
+            if len(self.starts | {spot_of(access)}) > SPOTS:
                 return False
-            self.starts.add(access.start)
+            self.starts.add(spot_of(access))
             self.spots.append(access)
         self.accesses.append(access)
         return True
@@ -87,8 +95,8 @@ def access_words(access, way, answer):
 def words_of(case, part, expected):
     """A run of a case with one part of its accesses. What is judged in the harness is what has no lawful choice."""
     yield CASE | case.looks << 8
-    for start in sorted({it.start for it in part if is_spot(it)}):
-        yield from (SPOT, start)
+    for start, is_before in sorted({spot_of(it) for it in part if is_spot(it)}):
+        yield from (SPOT | is_before << 8, start)
     yield LOOK
     is_judged = True
     for after in range(len(case.events) + 1):
@@ -96,10 +104,14 @@ def words_of(case, part, expected):
             if access.after == after:
                 for way in ways_of(access, expected):
                     yield from access_words(access, way, expected.answers.get(access) if is_judged else None)
+        for it in case.attempts:
+            if it.after == after:
+                yield ATTEMPT | it.is_write << 8 | MODES[it.mode] << 12 | it.number << 16
         if after < len(case.events):
             event = case.events[after]
-            yield from (RESET,) if event[0] == "reset" else (WRITE | number_of(event[1]) << 16, event[2])
-            is_judged = is_judged and not {"reserved", "lockdown", "grain"} & set(expected.reasons[after][0])
+            how = HOW[(*event, "write")[3]] if event[0] == "write" else 0
+            yield from (RESET,) if event[0] == "reset" else (WRITE | how << 8 | number_of(event[1]) << 16, event[2])
+            is_judged = is_judged and not {"reserved", "lockdown", "grain"} & set(expected.reasons[after])
             state = expected.registers[after + 1]
             if is_judged and event[0] == "write" and event[1] in state:
                 yield from (EXPECT | number_of(event[1]) << 16, ALL_ONES, state[event[1]])

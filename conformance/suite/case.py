@@ -50,21 +50,36 @@ class Access:
         return f"{self.after},{self.mode},{self.kind},{self.start:#x},{self.length}"
 
 
+@dataclass(frozen=True)
+class Attempt:
+    """An access to a register that has to be an illegal instruction."""
+
+    after: int
+    mode: str
+    number: int
+    is_write: bool
+
+    def __str__(self):
+        return f"{self.mode} {'write' if self.is_write else 'read'} of CSR {self.number:#x}"
+
+
 @dataclass
 class Case:
     name: str
     rule: str
     hart: Hart
-    # ("write", NAME, VALUE), or ("reset", WRITES): these writes of names and values are what the hart keeps of before.
+    # ("write", NAME, VALUE), with "set-bits" or "clear-bits" behind it where it is one by CSRRS or CSRRC, or
+    # ("reset", WRITES): these writes of names and values are what the hart keeps of before.
     events: list = field(default_factory=list)
     accesses: list = field(default_factory=list)
+    attempts: list = field(default_factory=list)
     # How many entries' registers are read back.
     looks: int = 16
 
     def lines_of(self, event):
         """The lines of an event; a reset of a hart that keeps something has writes behind it."""
         if event[0] == "write":
-            return [f"write {event[1]} {event[2]:#x}", "publish"]
+            return [f"{(*event, 'write')[3]} {event[1]} {event[2]:#x}", "publish"]
         security = [("mseccfg", self.hart.reset_security)] if self.hart.reset_security else []
         return ["reset", *(f"write {name} {value:#x}" for name, value in (*event[1], *security)), "publish"]
 
@@ -87,6 +102,17 @@ class Builder:
 
     def write(self, name, value):
         self.case.events.append(("write", name, value & (2**self.hart.xlen - 1)))
+        return self
+
+    def change(self, how, name, value):
+        """A write by CSRRS or CSRRC, by its word in scripts."""
+        self.case.events.append(("write", name, value & (2**self.hart.xlen - 1), how))
+        return self
+
+    def attempt(self, mode, number):
+        """An access to a register that the mode doesn't have, as a read and as a write."""
+        if mode in self.hart.modes:
+            self.case.attempts += [Attempt(len(self.case.events), mode, number, it) for it in (False, True)]
         return self
 
     def security(self, value):
@@ -143,7 +169,7 @@ class Builder:
             return self if by else self.ask(start, 4, modes, kinds).ask(start + 4, 4, modes, kinds)
         for mode in modes:
             for kind in kinds:
-                is_fit = kind != "fetch" or (length in (2, 4) and start % 2 == 0 and not by)
+                is_fit = kind != "fetch" or (length in (2, 4) and start % 2 == 0)
                 if mode in self.hart.modes and is_fit:
                     access = Access(len(self.case.events), mode, kind, start, length, by)
                     if access not in self.asked:

@@ -5,7 +5,7 @@ from dataclasses import dataclass, replace
 
 from .answers import Answer, Look
 from .blob import ways_of
-from .case import L, MML, NA4, RLB
+from .case import L, MML, NA4, RLB, TOR
 from .profile import OTHER_EXTENSIONS
 from .simulator import Run
 
@@ -70,6 +70,9 @@ class Comparison:
                 if access.after == after:
                     for way in ways_of(access, self.expected):
                         found = found or self.access(access, way, next(self.steps, None))
+            for attempt in () if found else self.case.attempts:
+                if attempt.after == after:
+                    found = found or self.attempt(attempt, next(self.steps, None))
             if found or after == len(self.case.events):
                 return found
             found = self.look(after + 1, next(self.steps, None))
@@ -116,8 +119,12 @@ class Comparison:
         """A byte that is stored over isn't the old one any more."""
         before = self.expected.registers[after - 1]
         for entry in list(self.reserved):
-            if event[1] == self.hart.configuration(entry) and self.is_stored(before, entry, event[2]):
+            if event[1] == self.hart.configuration(entry) and self.is_stored(before, entry, self.written(after)):
                 del self.reserved[entry]
+
+    def written(self, after):
+        """What the event writes."""
+        return self.expected.written[after - 1]
 
     def is_stored(self, before, entry, value):
         """Whether a write of the value to its register stores the entry's byte."""
@@ -127,8 +134,9 @@ class Comparison:
 
     def note_alike(self, after):
         """Notes the choices that are made as the program makes them."""
-        reasons = self.expected.reasons[after - 1][0] if after else ()
-        if "grain" in reasons and self.case.events[after - 1][1].startswith("pmpcfg"):
+        reasons = self.expected.reasons[after - 1] if after else ()
+        if "grain" in reasons and self.case.events[after - 1][1].startswith("pmpcfg") \
+                and self.expected.registers[after] != self.expected.registers[after - 1]:
             self.allows("na4", "off")
         if "reserved" in reasons and not self.reserved:
             self.allows("reserved", "no-rights")
@@ -144,7 +152,7 @@ class Comparison:
         if name == "mseccfg" and (got ^ wanted) & ~OTHER_EXTENSIONS == 0:
             return self.other_extensions(after, event, before[name], got, wanted)
         if event[0] == "write" and name == event[1] and name.startswith("pmpcfg"):
-            reasons = self.expected.reasons[after - 1][0]
+            reasons = self.expected.reasons[after - 1]
             if "lockdown" in reasons and got == before[name]:
                 is_allowed = self.allows("barred", "register")
                 kept = ("write", name, self.expected.registers[after - 1][name])
@@ -156,7 +164,7 @@ class Comparison:
         """Bits of Zkr, Zicfilp and Smmpm: each holds what was written, or nothing, and PMM no reserved value."""
         got, before = got & OTHER_EXTENSIONS, before & OTHER_EXTENSIONS
         is_written = event[0] == "write" and event[1] == "mseccfg"
-        written = event[2] & OTHER_EXTENSIONS if is_written else before
+        written = self.written(after) & OTHER_EXTENSIONS if is_written else before
         mask_bits = got >> 32 & 3, written >> 32 & 3, before >> 32 & 3
         is_lawful = not got & ~written & 0x700 and mask_bits[0] != 1 and mask_bits[0] in (0, *mask_bits[1:])
         is_lawful &= mask_bits[0] == 0 or mask_bits[1] != 0
@@ -166,20 +174,21 @@ class Comparison:
 
     def unlike_bytes(self, after, event, name, wanted):
         """The write's bytes one by one. Where one differs that has no choice, the register does."""
-        before, value = self.expected.registers[after - 1], event[2]
+        before, value = self.expected.registers[after - 1], self.written(after)
         first = self.hart.first_entry(name)
         for place in range(self.hart.bytes_in):
-            written, got, byte = (it >> 8 * place & 0xff for it in (event[2], self.state[name], wanted))
+            whole = self.written(after)
+            written, got, byte = (it >> 8 * place & 0xff for it in (whole, self.state[name], wanted))
             if got == byte:
                 continue
-            if first + place >= self.hart.entries or not self.is_stored(before, first + place, event[2]) \
+            if first + place >= self.hart.entries or not self.is_stored(before, first + place, whole) \
                     or not self.is_choice(before["mseccfg"], written, got, byte, self.hart.byte_of(before, first + place)):
                 return self.differs_in(after, name, wanted)
             if is_reserved(got) and not before["mseccfg"] & MML:
                 self.reserved[first + place] = got
                 got = written & 0xe7 | got & 0x18
             value = value & ~(0xff << 8 * place) | got << 8 * place
-        return Taken(after, ("write", name, value)) if value != event[2] else None
+        return Taken(after, ("write", name, value)) if value != self.written(after) else None
 
     def is_choice(self, security, written, got, wanted, before):
         """Whether the hart may store a byte so: rights of a reserved one, and A where NA4 can't be chosen."""
@@ -192,10 +201,16 @@ class Comparison:
             same = [("as-written", written & 7), ("no-rights", 0)]
             is_allowed = self.allows("reserved", next((it for it, bits in same if bits == got & 7), "other"))
         if is_na4:
-            matching = got >> 3 & 3
-            how = "kept" if (got ^ before) & 0x18 == 0 and matching else ("off", "tor", "na4", "napot")[matching]
-            is_allowed = is_allowed and matching != NA4 and self.allows("na4", how)
+            how = self.na4_choice(before >> 3 & 3, got >> 3 & 3)
+            is_allowed = is_allowed and how != "na4" and (how is None or self.allows("na4", how))
         return is_allowed
+
+    @staticmethod
+    def na4_choice(before, matching):
+        """What a hart without NA4 makes of it, or None where that can't be told."""
+        if before == matching:
+            return "kept" if matching == TOR else None
+        return ("off", "tor", "na4", "napot")[matching]
 
     def behind_reset(self, after, event, wanted):
         """A reset clears A and L, and sets mseccfg as it is after power comes; all else is the hart's choice."""
@@ -236,6 +251,14 @@ class Comparison:
             is_lawful = self.allows("misaligned", "parts" if is_allowed else "whole")
             return None if is_lawful else self.differs(access, way, wanted, got)
         return None if is_allowed == (wanted == "allow") else self.differs(access, way, wanted, got)
+
+    def attempt(self, attempt, got):
+        what = str(attempt)
+        if not isinstance(got, Answer):
+            return Difference(attempt.after, what, 0, "exception 2", "none: the simulator hung or ended")
+        if got.cause == 2 and got.is_at_access:
+            return None
+        return Difference(attempt.after, what, 0, "exception 2", str(got), "opens" if got.cause is None else "")
 
     def is_by_reserved(self, access):
         """Whether a reserved byte that the hart keeps decides."""

@@ -18,8 +18,9 @@ DEVICES = (0x10000000, 0x100000)
 class Expected:
     # The registers after each number of events.
     registers: list
-    # Of each event, the reasons of `pmp writes`, and the entries that they are of.
+    # Of each event, the reasons of `pmp writes`, and what is written.
     reasons: list = field(default_factory=list)
+    written: list = field(default_factory=list)
     # "allow", "fault", or "either" where that depends on how the hart parts a misaligned access.
     answers: dict = field(default_factory=dict)
     # Of each access, why, and by which entry: the cause and the entry of `pmp audit`.
@@ -161,7 +162,8 @@ def expected_of(case, asked, rows, answers):
                 state[name] = int(row[6], 16)
         row = told[after][0][1]
         expected.registers.append(state)
-        expected.reasons.append((row[8].split(), [int(it) for it in row[9].split()]))
+        expected.reasons.append(row[8].split())
+        expected.written.append(int(row[4], 16) if row[4] else 0)
     for key, row in asked:
         note_answer(expected, key, row, next(answers))
     return expected

@@ -66,4 +66,4 @@ def case_of(oracle, hart, script, trace):
             accesses.append(access)
     if len(accesses) < len(rows):
         print(f"{len(rows) - len(accesses)} of {len(rows)} accesses can't be made here, or stand twice")
-    return Case("script", RULE, hart, events, accesses, hart.entries)
+    return Case("script", RULE, hart, events, accesses, looks=hart.entries)

@@ -59,7 +59,10 @@ class Suite:
 
 def is_askable(case, access, expected):
     """A fetch below machine mode needs an entry that is on: without one, the cases of Deciding 5 alone try it, since a
-    simulator may refuse the entry of the mode itself. An SC needs an LR before it that is allowed."""
+    simulator may refuse the entry of the mode itself. An SC needs an LR before it that is allowed, and code that falls into
+    an instruction one before it."""
+    if access.by == "falling":
+        return expected.answers.get(replace(access, start=access.start - 2, by="")) == "allow"
     if access.by == "sc":
         return expected.answers.get(replace(access, kind="load", by="lr")) == "allow"
     state = expected.registers[access.after]

@@ -15,7 +15,7 @@ def kind_of(found):
         access, got = difference.access, difference.got.split(",")[0]
         cause = run.expected.causes[access][0]
         return access.kind, access.mode == "M", access.is_aligned, difference.effect, got, cause
-    reasons = " ".join(run.expected.reasons[difference.after - 1][0]) if difference.after else ""
+    reasons = " ".join(run.expected.reasons[difference.after - 1]) if difference.after else ""
     return (difference.access or difference.got).rstrip("0123456789"), reasons
 
 
@@ -27,13 +27,15 @@ def size_of(found):
 def cut(case, difference):
     """The case up to the difference, with the access at fault alone."""
     accesses = [difference.access] if isinstance(difference.access, Access) else []
-    return replace(case, events=case.events[:difference.after], accesses=accesses)
+    attempts = [it for it in case.attempts if it.after == difference.after and str(it) == difference.access]
+    return replace(case, events=case.events[:difference.after], accesses=accesses, attempts=attempts)
 
 
 def without(case, place):
     """The case without one event."""
     events = case.events[:place] + case.events[place + 1:]
-    return replace(case, events=events, accesses=[replace(it, after=it.after - 1) for it in case.accesses])
+    return replace(case, events=events, accesses=[replace(it, after=it.after - 1) for it in case.accesses],
+                   attempts=[replace(it, after=it.after - 1) for it in case.attempts])
 
 
 def is_kept(run, place):
@@ -84,13 +86,15 @@ def lines_to_paste(found, program):
         by = (f" ({access.by})" if access.by else "") + (" by the mode itself" if difference.way else "")
         what = f"{access.mode} {access.kind} {access.start:#x} {access.length}"
         yield f"{program} check stdin {what} <<'END'"
-    elif access:
+    elif access and access.startswith(("pmp", "mseccfg")):
         yield f"{program} dump stdin <<'END' | grep '^{access} '"
     else:
         yield f"{program} map stdin <<'END'"
     yield from run.understood.script(difference.after).splitlines()[1:]
     yield "END"
-    if access:
+    if access and not isinstance(access, Access) and " " in access:
+        yield f"# {access}: {difference.wanted} is raised, by the simulator {difference.got}"
+    elif access:
         yield f"# the program says {difference.wanted}, the simulator {difference.got}{by}"
     else:
         yield "# the program leaves machine mode its code, data and devices here; the simulator hung or ended"
