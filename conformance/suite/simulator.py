@@ -70,7 +70,7 @@ class Plain:
         with open(self.path, "wb") as it:
             it.write(blob_of([run.numbered(number) for number, run in enumerate(runs)]))
         done = subprocess.run([*self.words, self.path], capture_output=True, text=True, check=True)
-        found = answers.read(done.stdout)[0]
+        found = answers.read(done.stdout)
         return [found.get(it, []) for it in range(len(runs))]
 
 
@@ -109,7 +109,7 @@ class Board:
         except subprocess.TimeoutExpired as it:
             text = it.stdout or b""
         os.remove(path)
-        found = answers.read(text.decode("ascii", "replace"))[0]
+        found = answers.read(text.decode("ascii", "replace"))
         return [found.get(it, []) for it in range(len(batch))]
 
     @classmethod
