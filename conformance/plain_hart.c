@@ -1,9 +1,9 @@
-/* plain_hart OPTION.. CASES: performs cases as the harness does on a hart, by a plain unit that may be turned in one way.
+/* plain_hart OPTION.. CASES: performs cases as the harness does on a hart, by a plain unit that may be turned one way.
    plain_hart --list: the turns, each with the rule whose cases find it, and the options of the hart on which they do.
 
    --turn NAME       or NAME=WAY, where there is more than one way: plain/turns.h has them
    --xlen N --entries N --grain N --bits N                 the hart: 64, 16, 4 and 56 without these
-   --no-smepmp --no-supervisor --no-user                   what it doesn't have
+   --no-smepmp --no-supervisor --no-user --no-extensions   what it doesn't have
    --reset-mseccfg N                                       what a reset leaves in mseccfg */
 #include "plain/deciding.h"
 #include "plain/writing.h"
@@ -122,7 +122,11 @@ static void look(unsigned count, int *is_first) {
 }
 
 static void perform(uint64_t word, uint64_t start) {
-    struct access access = {word >> 12 & 3, word >> 8 & 15, word >> 32 & 255, start, word >> 20 & 15};
+    struct access access = {word >> 12 & 3, word >> 8 & 15, word >> 32 & 255, start, word >> 40 & 255};
+    if (access.by >= RESERVED_LOAD && access.by != FALLING && !hart.has_extensions) {
+        puts("a 2 0 1");
+        return;
+    }
     int answer = answer_to(&access);
     if (answer == ALLOWED)
         puts("a ok");
@@ -188,8 +192,9 @@ static int take_option(char **words) {
         unsigned *field;
     } numbers[] = {{"--xlen", &hart.xlen}, {"--entries", &hart.entries}, {"--grain", &hart.grain},
         {"--bits", &hart.bits}}, lacks[] = {{"--no-smepmp", &hart.has_smepmp},
-        {"--no-supervisor", &hart.has_supervisor}, {"--no-user", &hart.has_user}};
-    for (unsigned it = 0; it < 3; it++)
+        {"--no-supervisor", &hart.has_supervisor}, {"--no-user", &hart.has_user},
+        {"--no-extensions", &hart.has_extensions}};
+    for (unsigned it = 0; it < 4; it++)
         if (strcmp(words[0], lacks[it].name) == 0)
             return *lacks[it].field = 0, 1;
     if (words[1] == NULL)

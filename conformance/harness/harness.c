@@ -5,7 +5,8 @@
 
 enum { END, CASE, WRITE, LOOK, EXPECT, ACCESS, RESET, SPOT, HART, ATTEMPT };
 enum { FETCH, LOAD, STORE };
-enum { PLAIN, UNSIGNED, RESERVED_LOAD, CONDITIONAL, LAST_ATOMIC = 12, FALLING };
+enum { PLAIN, UNSIGNED, RESERVED_LOAD, CONDITIONAL, LAST_ATOMIC = 12, FALLING, FLOAT, VECTOR, BLOCK,
+    HYPERVISOR, WALK };
 enum { UNJUDGED, ALLOW, FAULT, EITHER };
 enum { MACHINE = 3, ILLEGAL = 2, BREAKPOINT = 3, ECALL = 8 };
 enum { MSECCFG = 0x747, PMPCFG0 = 0x3a0, PMPADDR0 = 0x3b0 };
@@ -13,6 +14,11 @@ enum { MSECCFG = 0x747, PMPCFG0 = 0x3a0, PMPADDR0 = 0x3b0 };
 #define MARK 0x7069636b65642075
 #define KEPT ((volatile struct kept *)(BOARD_MEMORY + KEPT_PLACE))
 #define ARENA (BOARD_MEMORY + ARENA_PLACE)
+#define TABLE (BOARD_MEMORY + TABLE_PLACE)
+/* A leaf with V, R, W, X, A and D. */
+#define LEAF 0xcf
+#define SV39 (UINT64_C(8) << 60)
+#define SPVP 0x100
 #define EBREAK 0x00100073
 #define COMPRESSED_EBREAKS 0x9002900290029002
 #define COMPRESSED_NOP 1
@@ -154,11 +160,16 @@ static void put_spot(int is_before, uint64_t at) {
 
 static unsigned operation_of(unsigned kind, unsigned by, unsigned length) {
     unsigned power = length == 8 ? 3 : length / 2;
-    if (by == PLAIN)
-        return 4 * (kind - LOAD) + power;
-    if (by == UNSIGNED)
-        return 8 + power;
-    return 11 + by - RESERVED_LOAD + (power == 3 ? LAST_ATOMIC - RESERVED_LOAD + 1 : 0);
+    switch (by) {
+    case PLAIN:
+    case WALK: return 4 * (kind - LOAD) + power;
+    case UNSIGNED: return 8 + power;
+    case FLOAT: return 11 + 2 * (kind - LOAD) + (power == 3);
+    case VECTOR: return 15 + kind - LOAD;
+    case BLOCK: return 17;
+    case HYPERVISOR: return 18 + 2 * (kind - LOAD) + (power == 3);
+    default: return 22 + by - RESERVED_LOAD + (power == 3 ? LAST_ATOMIC - RESERVED_LOAD + 1 : 0);
+    }
 }
 
 /* What lies in the arena, from an even or an odd byte on, so that a store changes nothing. */
@@ -191,7 +202,7 @@ static void put_answer(int is_allowed, uint64_t cause, uint64_t address, int is_
 
 static void tell(uint64_t word, uint64_t start, uint64_t cause, uint64_t target, int is_allowed) {
     static const uint8_t faults[3] = {1, 5, 7};
-    uint64_t address = read_mtval(), is_here = read_mepc() == target, length = word >> 20 & 15;
+    uint64_t address = read_mtval(), is_here = read_mepc() == target, length = word >> 40 & 0xff;
     judge(word >> 24 & 3, is_allowed,
           cause == faults[word >> 8 & 15] && is_here && (address == 0 || address - start < length));
     put_answer(is_allowed, cause, address, is_here);
@@ -206,8 +217,40 @@ static void try_csr(int is_write, unsigned mode, unsigned number) {
     put_answer(outcome.cause == ECALL + mode, outcome.cause, read_mtval(), is_here);
 }
 
+/* Whether cbo.zero cleared 64 bytes; they are filled again. */
+static int is_block_of_64(uint64_t start) {
+    volatile uint64_t *block = (volatile uint64_t *)(uintptr_t)start;
+    int is_cleared = block[-1] != 0 && block[8] != 0;
+    for (unsigned it = 0; it < 8; it++)
+        is_cleared &= block[it] == 0;
+    fill(start - 256, start + 256);
+    return is_cleared;
+}
+
+/* What an access needs beside its instruction: a page table, or the mode that the hypervisor's loads take. Whether the
+   hart has it. */
+static int set_up(unsigned by, unsigned mode) {
+    if (by == HYPERVISOR)
+        return in_machine_mode(set_hstatus, 0, mode == 1 ? SPVP : 0).cause == ECALL + MACHINE;
+    if (by != WALK)
+        return 1;
+    if (XLEN != 64 || in_machine_mode(set_satp, 0, (uintptr_t)(SV39 | TABLE >> 12)).cause != ECALL + MACHINE)
+        return 0;
+    in_machine_mode(fence_addresses, 0, 0);
+    uintptr_t satp;
+    __asm__ volatile("csrr %0, satp" : "=r"(satp));
+    return satp != 0;
+}
+
+/* What a store of an extension stores is loaded from the arena, so that it changes nothing. */
+static void load_extensions(void) {
+    static const unsigned operations[] = {11, 12, 15};
+    for (unsigned it = 0; it < sizeof operations / sizeof *operations; it++)
+        attempt((uintptr_t)machine_operations + OPERATION_SIZE * operations[it], ARENA, 0, (uintptr_t)MACHINE << 11, 0);
+}
+
 static void perform(uint64_t word, uint64_t start) {
-    unsigned kind = word >> 8 & 15, mode = word >> 12 & 3, is_stub = word >> 16 & 1, length = word >> 20 & 15;
+    unsigned kind = word >> 8 & 15, mode = word >> 12 & 3, is_stub = word >> 16 & 1, length = word >> 40 & 0xff;
     unsigned by = word >> 32 & 0xff;
     uint64_t status = (uint64_t)mode << 11, target = start;
     struct outcome outcome;
@@ -220,10 +263,20 @@ static void perform(uint64_t word, uint64_t start) {
     target += OPERATION_SIZE * operation_of(kind, by, length);
     if (!is_stub && mode != MACHINE)
         status |= MPRV;
+    if (!set_up(by, mode)) {
+        put_answer(0, ILLEGAL, 0, 1);
+        return;
+    }
     outcome = attempt(target, start, pattern_at(start), status, is_stub);
-    target += by == CONDITIONAL ? 4 : 0;
+    target += by == CONDITIONAL ? 4 : by == VECTOR ? 8 : 0;
     int is_allowed = outcome.cause == ECALL + (is_stub ? mode : MACHINE) && read_mepc() == target + 4;
+    if (by == BLOCK && is_allowed && !is_block_of_64(start))
+        outcome.cause = ILLEGAL, is_allowed = 0;
     tell(word, start, outcome.cause, target, is_allowed);
+    if (by == WALK) {
+        in_machine_mode(set_satp, 0, 0);
+        in_machine_mode(fence_addresses, 0, 0);
+    }
 }
 
 /* Tells XLEN, and which modes mstatus.MPP holds. */
@@ -253,8 +306,11 @@ static const uint64_t *beginning(void) {
     is_quiet = cases[0];
     forget();
     if (KEPT->mark != (MARK ^ KEPT->place)) {
-        fill(ARENA - 64, ARENA + ARENA_SIZE + 64);
+        fill(ARENA - 256, ARENA + ARENA_SIZE + 256);
+        for (unsigned entry = 0; entry < 512; entry++)
+            ((volatile uint64_t *)TABLE)[entry] = entry == BOARD_MEMORY >> 30 ? BOARD_MEMORY >> 2 | LEAF : 0;
         in_machine_mode(fence_code, 0, 0);
+        load_extensions();
         return cases + 1;
     }
     KEPT->mark = 0;

@@ -11,6 +11,11 @@
 #define ARENA_PLACE 0x100000
 #define ARENA_SIZE 0x20000
 
+/* A page table of Sv39 that maps the memory's gigabyte to itself for S-mode. */
+#define TABLE_PLACE 0x130000
+
+/* FS and VS of mstatus, which are there where their extensions are. */
+#define FLOATS_AND_VECTORS 0x2200
 #define MPRV 0x20000
 #define MPP 0x1800
 
@@ -31,7 +36,7 @@ struct outcome {
 struct outcome attempt(uintptr_t target, uintptr_t address, uintptr_t value, uintptr_t status, uintptr_t by_return);
 
 extern const char csr_writes[], csr_reads[], csr_sets[], csr_clears[], machine_operations[], stub_operations[];
-extern const char fence_addresses[], fence_code[];
+extern const char fence_addresses[], fence_code[], set_satp[], set_hstatus[];
 extern uint64_t cases[];
 extern volatile uint64_t tohost;
 

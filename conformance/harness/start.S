@@ -11,6 +11,8 @@ _start:
     csrw mtvec, t0
     csrw mscratch, zero
     la sp, stack_end
+    li t0, FLOATS_AND_VECTORS
+    csrs mstatus, t0
     j harness
 park:
     wfi
@@ -115,12 +117,27 @@ csr_sets:
 csr_clears:
     each_csr clear_csr
 
-# Loads and stores of 1, 2, 4 and 8 bytes, loads without a sign of 1, 2 and 4, and an LR, an SC behind one and each AMO
-# of 4 and of 8, in the order of suite/blob.py. A store leaves memory as it is.
+# Loads and stores of 1, 2, 4 and 8 bytes, loads without a sign of 1, 2 and 4, those of extensions, and an LR, an SC
+# behind one and each AMO of 4 and of 8, in the order of operation_of in harness.c. But for cbo.zero a store leaves memory
+# as it is: vectors and numbers of floating point are those that were loaded from the arena.
+    .option arch, +d, +v
     .macro operations
     .irp it, "lb a2, (a1)", "lh a2, (a1)", "lw a2, (a1)", "load_whole a2, (a1)", "sb a2, (a1)", "sh a2, (a1)", \
-        "sw a2, (a1)", "store_whole a2, (a1)", "lbu a2, (a1)", "lhu a2, (a1)", "load_word a2, (a1)", \
-        "lr.w a2, (a1)", "lr.w a3, (a1); sc.w a3, a2, (a1)", "amoswap.w a3, a2, (a1)", \
+        "sw a2, (a1)", "store_whole a2, (a1)", "lbu a2, (a1)", "lhu a2, (a1)", "load_word a2, (a1)"
+    .balign OPERATION_SIZE
+    \it
+    ecall
+    .endr
+    .irp it, "flw fa0, (a1)", "fld fa1, (a1)", "fsw fa0, (a1)", "fsd fa1, (a1)", \
+        "li a3, 64; vsetvli zero, a3, e8, m8, ta, ma; vle8.v v8, (a1)", \
+        "li a3, 64; vsetvli zero, a3, e8, m8, ta, ma; vse8.v v8, (a1)", ".insn i 0x0f, 2, x0, a1, 4", \
+        ".insn r 0x73, 4, 0x34, a2, a1, x0", ".insn r 0x73, 4, 0x36, a2, a1, x0", \
+        ".insn r 0x73, 4, 0x35, x0, a1, a2", ".insn r 0x73, 4, 0x37, x0, a1, a2"
+    .balign OPERATION_SIZE
+    \it
+    ecall
+    .endr
+    .irp it, "lr.w a2, (a1)", "lr.w a3, (a1); sc.w a3, a2, (a1)", "amoswap.w a3, a2, (a1)", \
         "amoadd.w a3, zero, (a1)", "amoxor.w a3, zero, (a1)", "amoand.w a3, a2, (a1)", "amoor.w a3, a2, (a1)", \
         "amomin.w a3, a2, (a1)", "amomax.w a3, a2, (a1)", "amominu.w a3, a2, (a1)", "amomaxu.w a3, a2, (a1)"
     .balign OPERATION_SIZE
@@ -139,7 +156,7 @@ csr_clears:
     .endm
 
     .balign OPERATION_SIZE
-    .globl machine_operations, fence_addresses, fence_code
+    .globl machine_operations, fence_addresses, fence_code, set_satp, set_hstatus
 machine_operations:
     operations
 fence_addresses:
@@ -147,6 +164,12 @@ fence_addresses:
     ecall
 fence_code:
     fence.i
+    ecall
+set_satp:
+    csrw satp, a1
+    ecall
+set_hstatus:
+    csrw 0x600, a1
     ecall
 
     .section .stub, "ax"

@@ -4,7 +4,9 @@
 /* Numbers beside the causes of faults. */
 enum { MISALIGNED = 4, ALLOWED = 32 };
 /* What an access is made by, as suite/blob.py has it. */
-enum { PLAIN, UNSIGNED, RESERVED_LOAD, CONDITIONAL, FALLING = 13 };
+enum { PLAIN, UNSIGNED, RESERVED_LOAD, CONDITIONAL, FALLING = 13, FLOAT, VECTOR, BLOCK, HYPERVISOR, WALK };
+/* The entry of the page table that S-mode's accesses are translated by, as suite/case.py has it. */
+#define TABLE_ENTRY UINT64_C(0x80130010)
 
 struct access {
     unsigned mode, kind, by;
@@ -15,8 +17,8 @@ struct access {
 static const uint8_t table[16][2] = {{0, 0}, {0, X}, {R | W, R}, {R | W, R | W}, {0, R}, {0, R | X}, {0, R | W},
     {0, R | W | X}, {0, 0}, {X, 0}, {X, X}, {R | X, X}, {R, 0}, {R | X, 0}, {R | W, 0}, {R, R}};
 
-/* The right that is turned round in a cell of a table, where the turn is of that table and its way of the cell: there are
-   nine ways for each row, three for each mode. */
+/* The right that is turned round in a cell of a table, where the turn is of that table and its way of the cell: there
+   are nine ways for each row, three for each mode. */
 static uint8_t turned_cell(enum turn which, unsigned row, unsigned mode) {
     static const unsigned modes[3] = {MACHINE, SUPERVISOR, USER};
     return turn == which && way / 9 == row && modes[way / 3 % 3] == mode ? 1 << way % 3 : 0;
@@ -109,7 +111,7 @@ static int share_of(unsigned entry, uint64_t start, uint64_t length) {
     return count == 0 ? 0 : count < length ? 1 : 2;
 }
 
-/* Which entry decides, by a tree of halves, one of whose nodes prefers the later half: as many as there are, if none. */
+/* Which entry decides, by a tree of halves, one of whose nodes prefers the later half: how many there are, if none. */
 static unsigned decider_by_tree(unsigned first, unsigned size, unsigned node, uint64_t start, uint64_t length) {
     if (size == 1)
         return first < hart.entries && share_of(first, start, length) ? first : hart.entries;
@@ -183,17 +185,33 @@ static int needs_nothing(const struct access *it) {
         || (turned(instruction_needs_nothing_under_allow_list, it->by - 1) && unit.security & MMWP);
 }
 
+/* Whether the page table may be read by which the access is translated. */
+static int is_table_open(void) {
+    if (turn == table_is_read_freely)
+        return 1;
+    return is_allowed(turn == table_is_read_as_machine ? MACHINE : SUPERVISOR, turn == table_needs_write ? W : R,
+                      TABLE_ENTRY, 8);
+}
+
 static int is_access_allowed(const struct access *it) {
     static const uint8_t rights[3] = {X, R, W};
     uint8_t needed = rights[it->kind];
+    if (it->by >= FLOAT && turned(extension_needs_nothing, it->by - FLOAT))
+        return 1;
+    if ((it->by == VECTOR || it->by == BLOCK) && turned(ends_of_block_decide, it->by - VECTOR))
+        return is_allowed(it->mode, needed, it->start, 1) && is_allowed(it->mode, needed, it->start + 63, 1);
+    if (it->by == HYPERVISOR && turn == hypervisor_has_rights_of_machine)
+        return is_allowed(MACHINE, needed, it->start, it->length);
+    if (it->by == WALK && it->mode != MACHINE && !is_table_open())
+        return 0;
     int is_aligned = it->start % it->length == 0;
-    if (it->by && needs_nothing(it))
+    if (it->by && it->by < FALLING && needs_nothing(it))
         return 1;
     if (it->by > RESERVED_LOAD && turned(atomic_needs_read, it->by - CONDITIONAL))
         needed = R;
     if (it->by == RESERVED_LOAD && turn == reserved_load_needs_write)
         needed = W;
-    if (it->by == FALLING && (turn == falling_is_free || (turn == falling_is_free_under_lockdown && unit.security & MML)))
+    if (it->by == FALLING && is_turned_here(falling_is_free, falling_is_free_under_lockdown, NO_TURN, NO_TURN))
         return 1;
     int by_bytes = turn == entries_allow_together || (turn == misaligned_goes_by_bytes && !is_aligned);
     return (by_bytes ? are_bytes_allowed : is_allowed)(it->mode, needed, it->start, length_of(it));

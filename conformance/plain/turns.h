@@ -118,6 +118,12 @@
     TURN(atomic_faults_as_load, 10, "Deciding 6", "") \
     TURN(atomic_needs_read, 10, "Deciding 6", "") \
     TURN(atomics_by_first_half, 1, "Deciding 6", "") \
+    TURN(extension_needs_nothing, 5, "Deciding 6", "") \
+    TURN(ends_of_block_decide, 2, "Deciding 6", "") \
+    TURN(hypervisor_has_rights_of_machine, 1, "Deciding 6", "") \
+    TURN(table_is_read_freely, 1, "Deciding 6", "") \
+    TURN(table_is_read_as_machine, 1, "Deciding 6", "") \
+    TURN(table_needs_write, 1, "Deciding 6", "") \
     TURN(instruction_needs_nothing, 12, "Deciding 6", "") \
     TURN(instruction_needs_nothing_under_lockdown, 12, "Deciding 6", "") \
     TURN(instruction_needs_nothing_under_allow_list, 12, "Deciding 6", "") \

@@ -19,9 +19,9 @@ static enum turn turn;
 static unsigned way;
 
 static struct hart {
-    unsigned xlen, entries, grain, bits, has_smepmp, has_supervisor, has_user;
+    unsigned xlen, entries, grain, bits, has_smepmp, has_supervisor, has_user, has_extensions;
     uint64_t reset_security;
-} hart = {64, 16, 4, 56, 1, 1, 1, 0};
+} hart = {64, 16, 4, 56, 1, 1, 1, 1, 0};
 
 static struct unit {
     uint8_t byte[64];

@@ -39,8 +39,8 @@ LETTERS = set("acrwxh")
 
 
 def read(text):
-    """The looks and answers of each run, by its number, in the order in which they came. What a run that ended before its
-    time wrote last may be no whole line: there the reading ends."""
+    """The looks and answers of each run, by its number, in the order in which they came. What a run that ended before
+    its time wrote last may be no whole line: there the reading ends."""
     runs, steps, look = {}, [], Look()
     for line in text.splitlines():
         if line == "a ok":

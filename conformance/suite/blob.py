@@ -8,7 +8,10 @@ KEEP = 1 << 16
 KINDS = {"fetch": 0, "load": 1, "store": 2}
 AMOS = ("amoswap", "amoadd", "amoxor", "amoand", "amoor", "amomin", "amomax", "amominu", "amomaxu")
 # What an access is made by, where it isn't a plain fetch, load or store.
-WAYS = ("", "unsigned", "lr", "sc", *AMOS, "falling")
+WAYS = ("", "unsigned", "lr", "sc", *AMOS, "falling", "float", "vector", "block", "hypervisor", "walk")
+# Those of extensions, each with the kind and the length of an access that shows whether the hart has it.
+EXTENSIONS = {"lr": ("load", 4), "float": ("load", 8), "vector": ("load", 64), "block": ("store", 64),
+              "hypervisor": ("load", 4), "walk": ("load", 4)}
 HOW = {"write": 0, "set-bits": 1, "clear-bits": 2}
 MODES = {"U": 0, "S": 1, "M": 3}
 ANSWERS = {None: 0, "allow": 1, "fault": 2, "either": 3}
@@ -17,7 +20,8 @@ ALL_ONES = 2**64 - 1
 
 def ways_of(access, expected):
     """By the mode itself for machine mode and fetches; else by MPRV, and by the mode itself where it has the stub."""
-    if access.mode == "M" or access.kind == "fetch" or (access.after, access.mode) not in expected.stubs:
+    if access.mode == "M" or access.kind == "fetch" or (access.after, access.mode) not in expected.stubs \
+            or access.by in EXTENSIONS and access.by != "lr":
         return (0,)
     return (0, 1)
 
@@ -87,8 +91,8 @@ def expects(state):
 
 
 def access_words(access, way, answer):
-    yield (ACCESS | KINDS[access.kind] << 8 | MODES[access.mode] << 12 | way << 16 | access.length << 20
-           | ANSWERS[answer] << 24 | WAYS.index(access.by) << 32)
+    yield (ACCESS | KINDS[access.kind] << 8 | MODES[access.mode] << 12 | way << 16
+           | ANSWERS[answer] << 24 | WAYS.index(access.by) << 32 | access.length << 40)
     yield access.start
 
 

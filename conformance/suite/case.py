@@ -11,7 +11,9 @@ MODES = "MSU"
 KINDS = ("fetch", "load", "store")
 
 # Where the harness keeps its things; a board has its memory there, as harness/boards/ says.
-CODE, DATA, STUB, ARENA = 0x80000000, 0x80010000, 0x80020000, 0x80100000
+CODE, DATA, STUB, ARENA, TABLE = 0x80000000, 0x80010000, 0x80020000, 0x80100000, 0x80130000
+# The entry of the page table by which S-mode reaches the arena.
+TABLE_ENTRY = TABLE + 8 * (ARENA >> 30)
 CODE_SIZE, DATA_SIZE, ARENA_SIZE = 0x2000, 0x8000, 0x20000
 DEVICES_SIZE = 0x20000000
 
@@ -44,6 +46,11 @@ class Access:
     @property
     def is_aligned(self):
         return self.start % self.length == 0
+
+    @property
+    def is_one(self):
+        """Whether a hart may not make it in parts."""
+        return self.is_aligned and self.by not in ("vector", "block")
 
     @property
     def row(self):
@@ -164,13 +171,13 @@ class Builder:
                                for entry, start in enumerate(starts, first)})
 
     def ask(self, start, length, modes=MODES, kinds=KINDS, by=""):
-        """Accesses of these modes and kinds, where the hart can make them. RV32 has none of eight bytes: it makes two."""
-        if 8 * length > self.hart.xlen:
+        """Accesses of these modes and kinds, where the hart can make them. RV32 makes two in place of eight bytes."""
+        if 8 * length > self.hart.xlen and by not in ("vector", "block", "float"):
             return self if by else self.ask(start, 4, modes, kinds).ask(start + 4, 4, modes, kinds)
         for mode in modes:
             for kind in kinds:
                 is_fit = kind != "fetch" or (length in (2, 4) and start % 2 == 0)
-                if mode in self.hart.modes and is_fit:
+                if mode in self.hart.modes and is_fit and self.hart.has(by):
                     access = Access(len(self.case.events), mode, kind, start, length, by)
                     if access not in self.asked:
                         self.asked.add(access)

@@ -15,6 +15,8 @@ class Hart:
     modes: str = "MSU"
     # Which of MML, MMWP and RLB a reset leaves set.
     reset_security: int = 0
+    # What accesses memory beside plain loads and stores, by the words of suite/blob.py.
+    extensions: tuple = ("lr", "float", "vector", "block", "hypervisor", "walk")
 
     def head(self):
         """The first lines of its scripts: what isn't so where nothing is said."""
@@ -82,6 +84,11 @@ class Hart:
     def some(self, *wanted):
         """Of these entries, or the last one in place of those that it doesn't have."""
         return sorted({min(it, self.last) for it in wanted} if self.entries else ())
+
+    def has(self, by):
+        """Whether it has the instruction of such an access."""
+        word = "lr" if by == "sc" or by.startswith("amo") else by
+        return word in ("", "unsigned", "falling", *self.extensions)
 
     def securities(self, *wanted):
         """Of these values of mseccfg those that it can have."""

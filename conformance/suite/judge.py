@@ -181,11 +181,12 @@ class Comparison:
             written, got, byte = (it >> 8 * place & 0xff for it in (whole, self.state[name], wanted))
             if got == byte:
                 continue
-            if first + place >= self.hart.entries or not self.is_stored(before, first + place, whole) \
-                    or not self.is_choice(before["mseccfg"], written, got, byte, self.hart.byte_of(before, first + place)):
+            entry = first + place
+            if entry >= self.hart.entries or not self.is_stored(before, entry, whole) \
+                    or not self.is_choice(before["mseccfg"], written, got, byte, self.hart.byte_of(before, entry)):
                 return self.differs_in(after, name, wanted)
             if is_reserved(got) and not before["mseccfg"] & MML:
-                self.reserved[first + place] = got
+                self.reserved[entry] = got
                 got = written & 0xe7 | got & 0x18
             value = value & ~(0xff << 8 * place) | got << 8 * place
         return Taken(after, ("write", name, value)) if value != self.written(after) else None
@@ -246,6 +247,8 @@ class Comparison:
         is_allowed = got.cause is None
         if self.is_by_reserved(access):
             self.unjudged[BY_RESERVED] += 1
+            return None
+        if wanted == "either" and access.is_aligned:
             return None
         if wanted == "either":
             is_lawful = self.allows("misaligned", "parts" if is_allowed else "whole")

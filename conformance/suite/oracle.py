@@ -5,7 +5,7 @@ import subprocess
 import tempfile
 from dataclasses import dataclass, field
 
-from .case import CODE, CODE_SIZE, DATA, DATA_SIZE, STUB
+from .case import CODE, CODE_SIZE, DATA, DATA_SIZE, STUB, TABLE_ENTRY
 from .hart import PAGE
 
 MAX_EVENTS = 500_000
@@ -45,7 +45,9 @@ def questions(case, is_for_hart):
     for after in range(len(case.events) + 1):
         for access in asked.get(after, ()):
             yield access, access.row
-            if not access.is_aligned:
+            if access.by == "walk":
+                yield (access, "table"), f"{after},S,load,{TABLE_ENTRY:#x},8"
+            if not access.is_one:
                 for byte in range(access.start, access.start + access.length):
                     yield (access, byte), f"{after},{access.mode},{access.kind},{byte:#x},1"
         if after in asked and is_for_hart:
@@ -173,7 +175,7 @@ def note_answer(expected, key, row, told):
     answer = told[1]
     if not isinstance(key, tuple):
         expected.causes[key] = told[3], told[4]
-        expected.answers[key] = answer if key.is_aligned or answer == "allow" else "either"
+        expected.answers[key] = answer if key.is_one or answer == "allow" else "either"
     elif key[0] == "safe":
         expected.is_safe &= answer == "allow"
     elif key[0] == "stub":

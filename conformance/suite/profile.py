@@ -3,7 +3,7 @@ or by the cases where it shows, and is told in the report."""
 from dataclasses import dataclass, field
 
 from .answers import Answer, Facts, Look
-from .blob import CASE, HART, KEEP, LOOK, WRITE, access_words
+from .blob import CASE, EXTENSIONS, HART, KEEP, LOOK, WRITE, access_words
 from .case import ARENA, MML, MMWP, RLB, Access, number_of
 from .hart import Hart
 
@@ -15,6 +15,7 @@ SWITCHES = {
     "address_bits": "how many bits a physical address has",
     "smepmp": "whether mseccfg is there and has its bits: yes or no",
     "modes": "which modes there are: M, MU or MSU",
+    "extensions": "which other loads and stores there are: none, or of lr, float, vector, block, hypervisor and walk",
     "reset_mseccfg": "what mseccfg is after power comes",
     "reset_rest": "whether a reset leaves other fields than A and L: kept or cleared",
     "reserved": "what is left of a byte with W and without R, where MML is 0: as-written, no-rights or other",
@@ -92,6 +93,8 @@ class Probe:
 
     def __init__(self):
         self.words = [CASE | 64 << 8 | KEEP, LOOK, HART, *access_words(Access(0, "M", "load", ARENA + 1, 2), 0, None)]
+        for by, (kind, length) in EXTENSIONS.items():
+            self.words += access_words(Access(0, "M", kind, ARENA, length, by), 0, None)
         for names, value in ((range(0x3B0, 0x3F0), 2**64 - 1), (range(0x3A0, 0x3B0), 0x0101010101010101),
                              ((number_of("mseccfg"),), RLB)):
             for number in names:
@@ -112,23 +115,26 @@ def note_probe(profile, steps):
     for look in looks:
         state.update(look.changed)
     profile.absent = looks[0].missing
-    profile.hart = hart_of(state, facts, looks, profile.absent)
-    hart = profile.hart
+    answers = [it for it in steps if isinstance(it, Answer)]
+    extensions = tuple(by for by, it in zip(EXTENSIONS, answers[1:]) if it.cause != 2)
+    hart = profile.hart = hart_of(state, facts, looks, profile.absent, extensions)
     for switch, value in (("xlen", hart.xlen), ("entries", hart.entries), ("grain", hart.grain),
                           ("address_bits", hart.bits), ("smepmp", "yes" if hart.has_smepmp else "no"),
-                          ("modes", hart.modes), ("reset_mseccfg", hex(looks[0].changed.get("mseccfg", 0)))):
+                          ("modes", hart.modes), ("extensions", ",".join(hart.extensions) or "none"),
+                          ("reset_mseccfg", hex(looks[0].changed.get("mseccfg", 0)))):
         profile.note(switch, str(value), "probe")
-    if any(isinstance(it, Answer) and it.cause == 4 for it in steps):
+    if answers and answers[0].cause == 4:
         profile.note("misaligned", "exception", "probe")
 
 
-def hart_of(state, facts, looks, absent):
+def hart_of(state, facts, looks, absent, extensions):
     most = 54 if facts.xlen == 64 else 32
     holding = [it for it in range(64) if state.get(f"pmpaddr{it}")]
     ones = state.get("pmpaddr0", 0) & (2**most - 1)
     modes = "M" + ("S" if facts.modes & 2 else "") + ("U" if facts.modes & 1 else "")
     return Hart(
         xlen=facts.xlen, entries=holding[-1] + 1 if holding else 0, modes=modes,
+        extensions=tuple(it for it in extensions if it not in ("hypervisor", "walk") or "S" in modes),
         grain=(ones & -ones) * 4 if ones else 4, bits=ones.bit_length() + 2 if ones else most + 2,
         has_smepmp="mseccfg" not in absent and bool(state.get("mseccfg", 0) & RLB),
         reset_security=looks[0].changed.get("mseccfg", 0) & (MML | MMWP | RLB))
@@ -141,4 +147,5 @@ def demanded_hart(given):
     return Hart(
         xlen=int(given.get("xlen", plain.xlen)), entries=int(given.get("entries", plain.entries)),
         grain=int(given.get("grain", plain.grain)), bits=int(given.get("address_bits", plain.bits)), has_smepmp=yes,
-        modes=given.get("modes", plain.modes), reset_security=int(given.get("reset_mseccfg", "0"), 0) & 7 if yes else 0)
+        modes=given.get("modes", plain.modes), extensions=tuple(given.get("extensions", "lr").split(",")),
+        reset_security=int(given.get("reset_mseccfg", "0"), 0) & 7 if yes else 0)

@@ -1,4 +1,4 @@
-"""A script and a trace of any hart as a case of this one: the same writes, and those accesses that the harness can make."""
+"""A script and a trace of any hart as a case of this one: the same writes, and the accesses that the harness can make."""
 from .case import ARENA, ARENA_SIZE, CODE, STUB, Access, Case
 from .hart import PAGE
 
@@ -38,8 +38,8 @@ def moments_of(script):
 
 
 def can_be_made(access, is_for_hart):
-    """Whether the access can be made; by the harness a load of memory, and a store or a fetch where it has nothing of its
-    own."""
+    """Whether the access can be made; by the harness a load of memory, and a store or a fetch where it has nothing of
+    its own."""
     end = access.start + access.length
     if access.length > 8 or not is_for_hart:
         return access.length <= 8

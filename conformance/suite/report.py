@@ -59,8 +59,8 @@ class Suite:
 
 def is_askable(case, access, expected):
     """A fetch below machine mode needs an entry that is on: without one, the cases of Deciding 5 alone try it, since a
-    simulator may refuse the entry of the mode itself. An SC needs an LR before it that is allowed, and code that falls into
-    an instruction one before it."""
+    simulator may refuse the entry of the mode itself. An SC needs an LR before it that is allowed, and code that falls
+    into an instruction one before it."""
     if access.by == "falling":
         return expected.answers.get(replace(access, start=access.start - 2, by="")) == "allow"
     if access.by == "sc":

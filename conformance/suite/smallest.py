@@ -14,7 +14,7 @@ def kind_of(found):
     if isinstance(difference.access, Access):
         access, got = difference.access, difference.got.split(",")[0]
         cause = run.expected.causes[access][0]
-        return access.kind, access.mode == "M", access.is_aligned, difference.effect, got, cause
+        return access.by, access.kind, access.mode == "M", access.is_aligned, difference.effect, got, cause
     reasons = " ".join(run.expected.reasons[difference.after - 1]) if difference.after else ""
     return (difference.access or difference.got).rstrip("0123456789"), reasons
 
