@@ -118,8 +118,8 @@ csr_clears:
     each_csr clear_csr
 
 # Loads and stores of 1, 2, 4 and 8 bytes, loads without a sign of 1, 2 and 4, those of extensions, and an LR, an SC
-# behind one and each AMO of 4 and of 8, in the order of operation_of in harness.c. But for cbo.zero a store leaves memory
-# as it is: vectors and numbers of floating point are those that were loaded from the arena.
+# behind one and each AMO of 4 and of 8, in the order of operation_of in harness.c. But for cbo.zero a store leaves
+# memory as it is: vectors and numbers of floating point are those that were loaded from the arena.
     .option arch, +d, +v
     .macro operations
     .irp it, "lb a2, (a1)", "lh a2, (a1)", "lw a2, (a1)", "load_whole a2, (a1)", "sb a2, (a1)", "sh a2, (a1)", \

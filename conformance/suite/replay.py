@@ -1,4 +1,4 @@
-"""A script and a trace of any hart as a case of this one: the same writes, and the accesses that the harness can make."""
+"""A script and a trace of any hart as a case of this one: the same writes, and those accesses that can be made."""
 from .case import ARENA, ARENA_SIZE, CODE, STUB, Access, Case
 from .hart import PAGE
 
