@@ -13,7 +13,7 @@
 
 enum { END, CASE, WRITE, LOOK, EXPECT, ACCESS, RESET, SPOT, HART, ATTEMPT };
 /* How a register is written. */
-enum { WHOLE, SET_BITS, CLEAR_BITS };
+enum { WHOLE, SET_BITS, CLEAR_BITS, READ };
 enum { MSECCFG = 0x747, PMPCFG0 = 0x3a0, PMPADDR0 = 0x3b0 };
 
 #define ROW_OF(NAME, COUNT, RULE, HART) {#NAME, COUNT, RULE, HART},
@@ -93,12 +93,12 @@ static void write_bits(unsigned how, unsigned number, uint64_t value) {
 }
 
 /* An access to a register that has to be an illegal instruction. */
-static void try_register(int is_write, unsigned mode, unsigned number) {
+static void try_register(unsigned how, unsigned mode, unsigned number) {
     int is_open = mode == MACHINE ? turn == odd_register_is_there
-        : (turn == lower_modes_read && !is_write) || (turn == lower_modes_write && is_write)
-            || (turn == supervisor_reads && !is_write && mode == SUPERVISOR);
-    if (is_open && is_write && mode != MACHINE)
-        write_register(number, 0);
+        : (turn == lower_modes_read && how == READ) || turned(lower_modes_write, how)
+            || (turn == supervisor_reads && how == READ && mode == SUPERVISOR);
+    if (is_open && how != READ && mode != MACHINE)
+        write_bits(how, number, 1);
     puts(is_open ? "a ok" : "a 2 0 1");
 }
 
@@ -137,6 +137,7 @@ static void perform(uint64_t word, uint64_t start) {
 static void begin(void) {
     memset(&unit, 0, sizeof unit);
     shown = unit;
+    old_end = 0;
     unit.security = hart.reset_security;
 }
 
@@ -153,7 +154,7 @@ static void run(const uint64_t *at) {
             is_first = 1;
             break;
         case WRITE: write_bits(word >> 8 & 0xff, word >> 16 & 0xfff, *++at); break;
-        case ATTEMPT: try_register(word >> 8 & 1, word >> 12 & 3, word >> 16 & 0xfff); break;
+        case ATTEMPT: try_register(word >> 8 & 3, word >> 12 & 3, word >> 16 & 0xfff); break;
         case LOOK: look(count, &is_first); break;
         case EXPECT: at += 2; break;
         case ACCESS: perform(word, *++at); break;

@@ -6,7 +6,7 @@
 enum { END, CASE, WRITE, LOOK, EXPECT, ACCESS, RESET, SPOT, HART, ATTEMPT };
 enum { FETCH, LOAD, STORE };
 enum { PLAIN, UNSIGNED, RESERVED_LOAD, CONDITIONAL, LAST_ATOMIC = 12, FALLING, FLOAT, VECTOR, BLOCK,
-    HYPERVISOR, WALK };
+    HYPERVISOR, WALK, CLEAN, FLUSH };
 enum { UNJUDGED, ALLOW, FAULT, EITHER };
 enum { MACHINE = 3, ILLEGAL = 2, BREAKPOINT = 3, ECALL = 8 };
 enum { MSECCFG = 0x747, PMPCFG0 = 0x3a0, PMPADDR0 = 0x3b0 };
@@ -75,9 +75,11 @@ static struct outcome in_machine_mode(const char *place, unsigned index, uintptr
     return attempt((uintptr_t)place + 8 * index, argument, 0, MACHINE << 11, 0);
 }
 
+/* By how a register is read or written. */
+static const char *const csr_lists[4] = {csr_writes, csr_sets, csr_clears, csr_reads};
+
 static void write_csr(unsigned how, unsigned number, uint64_t value) {
-    const char *instructions = how == 0 ? csr_writes : how == 1 ? csr_sets : csr_clears;
-    struct outcome outcome = in_machine_mode(instructions, index_of(number), value);
+    struct outcome outcome = in_machine_mode(csr_lists[how], index_of(number), value);
     if (outcome.cause != ECALL + MACHINE)
         put_line('t', outcome.cause);
     in_machine_mode(fence_addresses, 0, 0);
@@ -126,9 +128,10 @@ static void clear_registers(void) {
     in_machine_mode(fence_addresses, 0, 0);
 }
 
+/* By four bytes, as a rule of four may lie there. */
 static void fill(uint64_t from, uint64_t to) {
-    for (uint64_t at = from; at < to; at += 8)
-        *(volatile uint64_t *)(uintptr_t)at = COMPRESSED_EBREAKS;
+    for (uint64_t at = from; at < to; at += 4)
+        *(volatile uint32_t *)(uintptr_t)at = (uint32_t)COMPRESSED_EBREAKS;
 }
 
 static void fill_spots(void) {
@@ -167,8 +170,10 @@ static unsigned operation_of(unsigned kind, unsigned by, unsigned length) {
     case FLOAT: return 11 + 2 * (kind - LOAD) + (power == 3);
     case VECTOR: return 15 + kind - LOAD;
     case BLOCK: return 17;
-    case HYPERVISOR: return 18 + 2 * (kind - LOAD) + (power == 3);
-    default: return 22 + by - RESERVED_LOAD + (power == 3 ? LAST_ATOMIC - RESERVED_LOAD + 1 : 0);
+    case CLEAN: return 18;
+    case FLUSH: return 19;
+    case HYPERVISOR: return 20 + 2 * (kind - LOAD) + (power == 3);
+    default: return 24 + by - RESERVED_LOAD + (power == 3 ? LAST_ATOMIC - RESERVED_LOAD + 1 : 0);
     }
 }
 
@@ -209,9 +214,9 @@ static void tell(uint64_t word, uint64_t start, uint64_t cause, uint64_t target,
 }
 
 /* An access to a register that has to be an illegal instruction. */
-static void try_csr(int is_write, unsigned mode, unsigned number) {
-    uintptr_t target = (uintptr_t)(is_write ? csr_writes : csr_reads) + 8 * index_of(number);
-    struct outcome outcome = attempt(target, 0, 0, (uintptr_t)mode << 11, mode != MACHINE);
+static void try_csr(unsigned how, unsigned mode, unsigned number) {
+    uintptr_t target = (uintptr_t)csr_lists[how] + 8 * index_of(number);
+    struct outcome outcome = attempt(target, 1, 0, (uintptr_t)mode << 11, mode != MACHINE);
     int is_here = read_mepc() == target;
     failed += outcome.cause != ILLEGAL || !is_here;
     put_answer(outcome.cause == ECALL + mode, outcome.cause, read_mtval(), is_here);
@@ -219,9 +224,9 @@ static void try_csr(int is_write, unsigned mode, unsigned number) {
 
 /* Whether cbo.zero cleared 64 bytes; they are filled again. */
 static int is_block_of_64(uint64_t start) {
-    volatile uint64_t *block = (volatile uint64_t *)(uintptr_t)start;
-    int is_cleared = block[-1] != 0 && block[8] != 0;
-    for (unsigned it = 0; it < 8; it++)
+    volatile uint32_t *block = (volatile uint32_t *)(uintptr_t)start;
+    int is_cleared = block[-1] != 0 && block[16] != 0;
+    for (unsigned it = 0; it < 16; it++)
         is_cleared &= block[it] == 0;
     fill(start - 256, start + 256);
     return is_cleared;
@@ -338,7 +343,7 @@ void harness(void) {
         switch ((unsigned)word & 0xff) {
         case CASE: begin_case(word); break;
         case SPOT: put_spot(word >> 8 & 0xff, *++at); break;
-        case ATTEMPT: try_csr(word >> 8 & 1, word >> 12 & 3, word >> 16 & 0xfff); break;
+        case ATTEMPT: try_csr(word >> 8 & 3, word >> 12 & 3, word >> 16 & 0xfff); break;
         case WRITE: write_csr(word >> 8 & 0xff, word >> 16 & 0xfff, *++at); break;
         case EXPECT:
             mask[index_of(word >> 16 & 0xfff)] = *++at;

@@ -131,6 +131,7 @@ csr_clears:
     .irp it, "flw fa0, (a1)", "fld fa1, (a1)", "fsw fa0, (a1)", "fsd fa1, (a1)", \
         "li a3, 64; vsetvli zero, a3, e8, m8, ta, ma; vle8.v v8, (a1)", \
         "li a3, 64; vsetvli zero, a3, e8, m8, ta, ma; vse8.v v8, (a1)", ".insn i 0x0f, 2, x0, a1, 4", \
+        ".insn i 0x0f, 2, x0, a1, 1", ".insn i 0x0f, 2, x0, a1, 2", \
         ".insn r 0x73, 4, 0x34, a2, a1, x0", ".insn r 0x73, 4, 0x36, a2, a1, x0", \
         ".insn r 0x73, 4, 0x35, x0, a1, a2", ".insn r 0x73, 4, 0x37, x0, a1, a2"
     .balign OPERATION_SIZE

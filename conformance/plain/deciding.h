@@ -4,7 +4,7 @@
 /* Numbers beside the causes of faults. */
 enum { MISALIGNED = 4, ALLOWED = 32 };
 /* What an access is made by, as suite/blob.py has it. */
-enum { PLAIN, UNSIGNED, RESERVED_LOAD, CONDITIONAL, FALLING = 13, FLOAT, VECTOR, BLOCK, HYPERVISOR, WALK };
+enum { PLAIN, UNSIGNED, RESERVED_LOAD, CONDITIONAL, FALLING = 13, FLOAT, VECTOR, BLOCK, HYPERVISOR, WALK, CLEAN, FLUSH };
 /* The entry of the page table that S-mode's accesses are translated by, as suite/case.py has it. */
 #define TABLE_ENTRY UINT64_C(0x80130010)
 
@@ -144,6 +144,8 @@ static int is_some_partial(uint64_t start, uint64_t length) {
 
 static int is_allowed(unsigned mode, uint8_t needed, uint64_t start, uint64_t length) {
     unsigned entry = decider_of(start, length);
+    if (old_end != 0 && start < old_end + 4 && old_end < start + length && length > 4)
+        return 0;
     if (is_turned_here(any_partial_match_refuses, any_partial_match_refuses_under_lockdown, NO_TURN, NO_TURN)
         && is_some_partial(start, length))
         return 0;
@@ -198,7 +200,9 @@ static int is_access_allowed(const struct access *it) {
     uint8_t needed = rights[it->kind];
     if (it->by >= FLOAT && turned(extension_needs_nothing, it->by - FLOAT))
         return 1;
-    if ((it->by == VECTOR || it->by == BLOCK) && turned(ends_of_block_decide, it->by - VECTOR))
+    if (it->by >= CLEAN && turn != clean_needs_write)
+        needed = R;
+    if (it->length == 64 && turned(ends_of_block_decide, it->by < CLEAN ? it->by - VECTOR : it->by - CLEAN + 2))
         return is_allowed(it->mode, needed, it->start, 1) && is_allowed(it->mode, needed, it->start + 63, 1);
     if (it->by == HYPERVISOR && turn == hypervisor_has_rights_of_machine)
         return is_allowed(MACHINE, needed, it->start, it->length);

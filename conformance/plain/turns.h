@@ -12,7 +12,7 @@
     TURN(bytes_in_reverse, 1, "Registers 2", "") \
     TURN(odd_register_is_there, 1, "Registers 2", "") \
     TURN(lower_modes_read, 1, "Registers 2", "") \
-    TURN(lower_modes_write, 1, "Registers 2", "") \
+    TURN(lower_modes_write, 3, "Registers 2", "") \
     TURN(supervisor_reads, 1, "Registers 2", "") \
     TURN(address_has_64_bits, 1, "Registers 3", "") \
     TURN(bit_of_address_is_stuck, 54, "Registers 3", "") \
@@ -30,6 +30,7 @@
     TURN(all_security_bits_stay, 1, "Registers 6", "") \
     TURN(security_bit_stays, 57, "Registers 6", "") \
     TURN(allow_list_in_bit_2, 1, "Registers 6", "") \
+    TURN(reset_keeps_ends, 1, "Registers 7", "") \
     TURN(reset_keeps_locks, 1, "Registers 7", "") \
     TURN(reset_keeps_lock_of, 64, "Registers 7", "--entries 64") \
     TURN(reset_keeps_modes_of_matching, 1, "Registers 7", "") \
@@ -118,8 +119,9 @@
     TURN(atomic_faults_as_load, 10, "Deciding 6", "") \
     TURN(atomic_needs_read, 10, "Deciding 6", "") \
     TURN(atomics_by_first_half, 1, "Deciding 6", "") \
-    TURN(extension_needs_nothing, 5, "Deciding 6", "") \
-    TURN(ends_of_block_decide, 2, "Deciding 6", "") \
+    TURN(extension_needs_nothing, 7, "Deciding 6", "") \
+    TURN(ends_of_block_decide, 4, "Deciding 6", "") \
+    TURN(clean_needs_write, 1, "Deciding 6", "") \
     TURN(hypervisor_has_rights_of_machine, 1, "Deciding 6", "") \
     TURN(table_is_read_freely, 1, "Deciding 6", "") \
     TURN(table_is_read_as_machine, 1, "Deciding 6", "") \

@@ -30,6 +30,9 @@ static struct unit {
     uint64_t security;
 } unit, shown;
 
+/* Where an entry was before a reset, around which accesses are refused by a turn. */
+static uint64_t old_end;
+
 static inline uint64_t ones(unsigned count) {
     return count < 64 ? (UINT64_C(1) << count) - 1 : UINT64_MAX;
 }

@@ -159,6 +159,7 @@ static void write_security(uint64_t value) {
 
 static void reset(void) {
     uint64_t before = unit.security;
+    old_end = turn == reset_keeps_ends && matching_of(0) == NA4 ? unit.address[0] << 2 : 0;
     for (unsigned entry = 0; entry < 64; entry++) {
         if ((turn == reset_clears_sixteen && entry >= 16) || turned(reset_forgets, entry))
             continue;

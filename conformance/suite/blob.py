@@ -1,18 +1,18 @@
 """Cases as the harness reads them: words of 64 bits."""
 import struct
 
-from .case import number_of
+from .case import HOW, number_of
 
 END, CASE, WRITE, LOOK, EXPECT, ACCESS, RESET, SPOT, HART, ATTEMPT = range(10)
 KEEP = 1 << 16
 KINDS = {"fetch": 0, "load": 1, "store": 2}
 AMOS = ("amoswap", "amoadd", "amoxor", "amoand", "amoor", "amomin", "amomax", "amominu", "amomaxu")
 # What an access is made by, where it isn't a plain fetch, load or store.
-WAYS = ("", "unsigned", "lr", "sc", *AMOS, "falling", "float", "vector", "block", "hypervisor", "walk")
+WAYS = ("", "unsigned", "lr", "sc", *AMOS, "falling", "float", "vector", "block", "hypervisor", "walk",
+        "clean", "flush")
 # Those of extensions, each with the kind and the length of an access that shows whether the hart has it.
 EXTENSIONS = {"lr": ("load", 4), "float": ("load", 8), "vector": ("load", 64), "block": ("store", 64),
-              "hypervisor": ("load", 4), "walk": ("load", 4)}
-HOW = {"write": 0, "set-bits": 1, "clear-bits": 2}
+              "hypervisor": ("load", 4), "walk": ("load", 4), "clean": ("store", 64)}
 MODES = {"U": 0, "S": 1, "M": 3}
 ANSWERS = {None: 0, "allow": 1, "fault": 2, "either": 3}
 ALL_ONES = 2**64 - 1
@@ -21,7 +21,7 @@ ALL_ONES = 2**64 - 1
 def ways_of(access, expected):
     """By the mode itself for machine mode and fetches; else by MPRV, and by the mode itself where it has the stub."""
     if access.mode == "M" or access.kind == "fetch" or (access.after, access.mode) not in expected.stubs \
-            or access.by in EXTENSIONS and access.by != "lr":
+            or access.by in (*EXTENSIONS, "flush") and access.by != "lr":
         return (0,)
     return (0, 1)
 
@@ -110,10 +110,10 @@ def words_of(case, part, expected):
                     yield from access_words(access, way, expected.answers.get(access) if is_judged else None)
         for it in case.attempts:
             if it.after == after:
-                yield ATTEMPT | it.is_write << 8 | MODES[it.mode] << 12 | it.number << 16
+                yield ATTEMPT | HOW.index(it.how) << 8 | MODES[it.mode] << 12 | it.number << 16
         if after < len(case.events):
             event = case.events[after]
-            how = HOW[(*event, "write")[3]] if event[0] == "write" else 0
+            how = HOW.index((*event, "write")[3]) if event[0] == "write" else 0
             yield from (RESET,) if event[0] == "reset" else (WRITE | how << 8 | number_of(event[1]) << 16, event[2])
             is_judged = is_judged and not {"reserved", "lockdown", "grain"} & set(expected.reasons[after])
             state = expected.registers[after + 1]

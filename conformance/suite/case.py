@@ -9,6 +9,8 @@ ALL = R | W | X
 MML, MMWP, RLB = 1, 2, 4
 MODES = "MSU"
 KINDS = ("fetch", "load", "store")
+# How a register is read or written: by CSRRW, CSRRS, CSRRC, and by CSRRS without bits.
+HOW = ("write", "set-bits", "clear-bits", "read")
 
 # Where the harness keeps its things; a board has its memory there, as harness/boards/ says.
 CODE, DATA, STUB, ARENA, TABLE = 0x80000000, 0x80010000, 0x80020000, 0x80100000, 0x80130000
@@ -16,6 +18,10 @@ CODE, DATA, STUB, ARENA, TABLE = 0x80000000, 0x80010000, 0x80020000, 0x80100000,
 TABLE_ENTRY = TABLE + 8 * (ARENA >> 30)
 CODE_SIZE, DATA_SIZE, ARENA_SIZE = 0x2000, 0x8000, 0x20000
 DEVICES_SIZE = 0x20000000
+
+
+# Accesses of 64 bytes, which a hart may make in parts.
+OF_BLOCKS = ("vector", "block", "clean", "flush")
 
 
 def napot(start, size):
@@ -50,11 +56,16 @@ class Access:
     @property
     def is_one(self):
         """Whether a hart may not make it in parts."""
-        return self.is_aligned and self.by not in ("vector", "block")
+        return self.is_aligned and self.by not in OF_BLOCKS
+
+    @property
+    def asked_kind(self):
+        """What it needs: cbo.clean and cbo.flush need a load or a store, and whoever may store may load."""
+        return "load" if self.by in ("clean", "flush") else self.kind
 
     @property
     def row(self):
-        return f"{self.after},{self.mode},{self.kind},{self.start:#x},{self.length}"
+        return f"{self.after},{self.mode},{self.asked_kind},{self.start:#x},{self.length}"
 
 
 @dataclass(frozen=True)
@@ -64,10 +75,11 @@ class Attempt:
     after: int
     mode: str
     number: int
-    is_write: bool
+    # One of HOW.
+    how: str
 
     def __str__(self):
-        return f"{self.mode} {'write' if self.is_write else 'read'} of CSR {self.number:#x}"
+        return f"{self.mode} {self.how} of CSR {self.number:#x}"
 
 
 @dataclass
@@ -117,9 +129,9 @@ class Builder:
         return self
 
     def attempt(self, mode, number):
-        """An access to a register that the mode doesn't have, as a read and as a write."""
+        """Accesses to a register that the mode doesn't have, by a read and each write."""
         if mode in self.hart.modes:
-            self.case.attempts += [Attempt(len(self.case.events), mode, number, it) for it in (False, True)]
+            self.case.attempts += [Attempt(len(self.case.events), mode, number, it) for it in HOW]
         return self
 
     def security(self, value):
@@ -172,7 +184,7 @@ class Builder:
 
     def ask(self, start, length, modes=MODES, kinds=KINDS, by=""):
         """Accesses of these modes and kinds, where the hart can make them. RV32 makes two in place of eight bytes."""
-        if 8 * length > self.hart.xlen and by not in ("vector", "block", "float"):
+        if 8 * length > self.hart.xlen and by not in (*OF_BLOCKS, "float"):
             return self if by else self.ask(start, 4, modes, kinds).ask(start + 4, 4, modes, kinds)
         for mode in modes:
             for kind in kinds:

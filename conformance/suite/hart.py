@@ -16,7 +16,7 @@ class Hart:
     # Which of MML, MMWP and RLB a reset leaves set.
     reset_security: int = 0
     # What accesses memory beside plain loads and stores, by the words of suite/blob.py.
-    extensions: tuple = ("lr", "float", "vector", "block", "hypervisor", "walk")
+    extensions: tuple = ("lr", "float", "vector", "block", "hypervisor", "walk", "clean")
 
     def head(self):
         """The first lines of its scripts: what isn't so where nothing is said."""
@@ -87,7 +87,7 @@ class Hart:
 
     def has(self, by):
         """Whether it has the instruction of such an access."""
-        word = "lr" if by == "sc" or by.startswith("amo") else by
+        word = "lr" if by == "sc" or by.startswith("amo") else "clean" if by == "flush" else by
         return word in ("", "unsigned", "falling", *self.extensions)
 
     def securities(self, *wanted):

@@ -49,7 +49,7 @@ def questions(case, is_for_hart):
                 yield (access, "table"), f"{after},S,load,{TABLE_ENTRY:#x},8"
             if not access.is_one:
                 for byte in range(access.start, access.start + access.length):
-                    yield (access, byte), f"{after},{access.mode},{access.kind},{byte:#x},1"
+                    yield (access, byte), f"{after},{access.mode},{access.asked_kind},{byte:#x},1"
         if after in asked and is_for_hart:
             yield from ((("stub", mode), f"{after},{mode},fetch,{STUB:#x},{PAGE}") for mode in case.hart.lower)
         if is_for_hart:
