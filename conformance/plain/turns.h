@@ -53,7 +53,7 @@
     TURN(low_end_stays, 1, "Matching 2", "") \
     TURN(range_keeps_bits_below_grain, 1, "Matching 2", "--grain 64") \
     TURN(range_keeps_bits_of_low, 1, "Matching 2", "--grain 64") \
-    TURN(range_keeps_bits_of_top, 1, "Matching 2", "--grain 4096") \
+    TURN(range_keeps_bits_of_top, 1, "Matching 2", "--entries 8 --grain 4096") \
     TURN(four_bytes_are_eight, 1, "Matching 3", "") \
     TURN(four_bytes_match_nothing, 1, "Matching 3", "") \
     TURN(bit_of_four_is_cut, 54, "Matching 3", "") \
