@@ -4,7 +4,8 @@
 /* Numbers beside the causes of faults. */
 enum { MISALIGNED = 4, ALLOWED = 32 };
 /* What an access is made by, as suite/blob.py has it. */
-enum { PLAIN, UNSIGNED, RESERVED_LOAD, CONDITIONAL, FALLING = 13, FLOAT, VECTOR, BLOCK, HYPERVISOR, WALK, CLEAN, FLUSH };
+enum { PLAIN, UNSIGNED, RESERVED_LOAD, CONDITIONAL };
+enum { FALLING = 13, FLOAT, VECTOR, BLOCK, HYPERVISOR, WALK, CLEAN, FLUSH };
 /* The entry of the page table that S-mode's accesses are translated by, as suite/case.py has it. */
 #define TABLE_ENTRY UINT64_C(0x80130010)
 

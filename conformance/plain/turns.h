@@ -1,6 +1,15 @@
 /* How a plain hart is turned: a name; in how many ways, each with a number from 0; the rule of docs/RULES.md whose
    cases find each; and the options of the hart on which they do. "lawful" is what the manual leaves open, which nothing
-   may find. */
+   may find.
+
+   These have no way, since no case can find them:
+   - Bit 0 of NAPOT's address that isn't compared: a region has eight bytes at least.
+   - A size of NAPOT from 2^18 bytes on that is half: the upper half is outside the arena.
+   - A low end of TOR that is the end of a NAPOT region before it: that entry decides all bytes between.
+   - The address of the last entry that isn't stored: that is a hart with one entry less, whose byte Registers 4 finds.
+   - Bits 8 to 10 of mseccfg, and 33, that stay: those of other extensions.
+   - W that lets read while MML is 0: no byte has W without R then.
+   - An access that is taken as the four aligned bytes around it: no entry ends inside them. */
 #define TURNS(TURN) \
     TURN(none, 1, "lawful", "") \
     TURN(entry_matches_nothing, 64, "Registers 1", "--entries 64") \
@@ -143,6 +152,7 @@
     TURN(clear_bits_are_ignored, 1, "Writing 2", "") \
     TURN(refused_byte_ends_the_write, 7, "Writing 2", "") \
     TURN(bits_6_and_5_stay_under_lockdown, 1, "Writing 3", "") \
+    TURN(reserved_frees_frozen, 1, "Writing 3", "") \
     TURN(shared_rules_are_reserved, 1, "Writing 3", "") \
     TURN(reserved_loses_lock, 1, "Writing 3", "") \
     TURN(reserved_loses_matching, 1, "Writing 3", "") \
@@ -177,6 +187,7 @@
     TURN(bypass_stays, 1, "Writing 6", "") \
     TURN(reserved_is_kept, 1, "lawful", "") \
     TURN(reserved_keeps_execute, 1, "lawful", "") \
+    TURN(reserved_is_kept_unlocked, 1, "lawful", "") \
     TURN(barred_byte_drops_the_write, 1, "lawful", "") \
     TURN(four_bytes_become_a_power, 1, "lawful", "--grain 64") \
     TURN(absent_register_traps, 1, "lawful", "") \

@@ -32,12 +32,18 @@ static void note_low(unsigned entry) {
     unit.low[entry] = entry == 0 ? 0 : unit.address[entry - 1];
 }
 
+static int is_reserved(uint8_t byte) {
+    return !(unit.security & MML) && (byte & (W | R)) == W;
+}
+
 static uint8_t legal_byte(uint8_t byte) {
     int is_lockdown = (unit.security & MML) != 0;
     if (turn != bits_6_and_5_stay && !(turn == bits_6_and_5_stay_under_lockdown && is_lockdown))
         byte &= 0x9f | (turn == bit_6_stays ? 0x40 : 0) | (turn == bit_5_stays ? 0x20 : 0);
     if (turn == bit_of_byte_is_stuck)
         byte &= ~(1u << (way < 5 ? way : 7));
+    if (turn == reserved_is_kept_unlocked && !(byte & LOCK) && is_reserved(byte))
+        return byte & 0x9f;
     if (turn != reserved_is_kept && (!is_lockdown || turn == shared_rules_are_reserved) && (byte & (W | R)) == W)
         byte &= turn == reserved_keeps_execute ? 0xfc : turn == reserved_loses_lock ? 0x78 : 0xf8;
     if (turn == reserved_loses_matching && !is_lockdown && (byte & 7) == 0)
@@ -54,13 +60,16 @@ static unsigned bytes_in(void) {
 
 static void write_bytes(unsigned first, uint64_t value) {
     struct unit before = unit;
-    int is_one_refused = 0;
+    int is_one_refused = 0, is_one_reserved = 0;
+    for (unsigned place = 0; place < bytes_in(); place++)
+        is_one_reserved |= is_reserved(value >> 8 * place);
     for (unsigned place = 0; place < bytes_in(); place++) {
         unsigned entry = first + place;
         uint8_t byte = value >> (8 * (turn == bytes_in_reverse ? bytes_in() - 1 - place : place));
         if (entry >= hart.entries && turn != absent_entry_is_stored && turn != absent_byte_is_stored)
             continue;
-        int is_kept = is_byte_frozen(entry) || turned(byte_of_entry_is_not_stored, entry);
+        int is_freed = turn == reserved_frees_frozen && is_one_reserved;
+        int is_kept = (is_byte_frozen(entry) && !is_freed) || turned(byte_of_entry_is_not_stored, entry);
         is_one_refused |= turn == frozen_byte_drops_the_write && is_kept;
         is_one_refused |= turn == barred_byte_drops_the_write && is_barred(byte) && !is_kept;
         if (is_kept || is_barred(byte)) {
