@@ -194,6 +194,6 @@
     TURN(misaligned_goes_by_bytes, 1, "lawful", "") \
     TURN(misaligned_traps, 1, "lawful", "") \
     TURN(fault_has_no_address, 1, "lawful", "") \
-    TURN(reset_keeps_addresses, 1, "lawful", "") \
+    TURN(reset_keeps_addresses, 1, "lawful", "--entries 64") \
     TURN(reset_keeps_rights, 1, "lawful", "") \
     TURN(seed_bits_stay, 1, "lawful", "")

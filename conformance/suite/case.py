@@ -20,6 +20,8 @@ CODE_SIZE, DATA_SIZE, ARENA_SIZE = 0x2000, 0x8000, 0x20000
 DEVICES_SIZE = 0x20000000
 
 
+# How many events a publication of a script has at most.
+BATCH_EVENTS = 64
 # Accesses of 64 bytes, which a hart may make in parts.
 OF_BLOCKS = ("vector", "block", "clean", "flush")
 
@@ -96,11 +98,14 @@ class Case:
     looks: int = 16
 
     def lines_of(self, event):
-        """The lines of an event; a reset of a hart that keeps something has writes behind it."""
+        """The lines of an event; a reset of a hart that keeps something has writes behind it, and more publications than
+        one where a batch hasn't room for all."""
         if event[0] == "write":
             return [f"{(*event, 'write')[3]} {event[1]} {event[2]:#x}", "publish"]
         security = [("mseccfg", self.hart.reset_security)] if self.hart.reset_security else []
-        return ["reset", *(f"write {name} {value:#x}" for name, value in (*event[1], *security)), "publish"]
+        lines = ["reset", *(f"write {name} {value:#x}" for name, value in (*event[1], *security))]
+        batches = (lines[it:it + BATCH_EVENTS] for it in range(0, len(lines), BATCH_EVENTS))
+        return [line for batch in batches for line in (*batch, "publish")]
 
     def script(self, count=None):
         lines = [it for event in self.events[:count] for it in self.lines_of(event)]

@@ -4,6 +4,7 @@ import os
 import subprocess
 import tempfile
 from dataclasses import dataclass, field
+from itertools import accumulate
 
 from .case import CODE, CODE_SIZE, DATA, DATA_SIZE, STUB, TABLE_ENTRY
 from .hart import PAGE
@@ -62,9 +63,8 @@ def lines_of_case(case):
     first = case.lines_of(("reset", ()))
     yield from ((it, None) for it in first)
     for after, event in enumerate(case.events, 1):
-        *writes, end = case.lines_of(event)
-        yield from ((it, (after, it.split()[1] if it != "reset" else "reset")) for it in writes)
-        yield end, None
+        for line in case.lines_of(event):
+            yield line, None if line == "publish" else (after, (line.split() + ["reset"])[1])
         if case.hart.grain > 4:
             yield from ((f"expect {it} 0", (after, it)) for it in reread(case, event))
 
@@ -114,10 +114,11 @@ class Oracle:
                 script.append(line)
                 if place:
                     places[len(script)] = number, *place
+            ends = list(accumulate((case.lines_of(it).count("publish") for it in case.events), initial=done + 1))
             for _, row in asked:
                 after, rest = row.split(",", 1)
-                trace.append(f"{done + 1 + int(after)},{rest}")
-            done += 1 + len(case.events)
+                trace.append(f"{ends[int(after)]},{rest}")
+            done = ends[-1]
         writes, answers = self.read(script, trace)
         rows = [[] for _ in chunk]
         for row in writes:
