@@ -2,6 +2,9 @@
 import json
 from xml.sax.saxutils import quoteattr
 
+from .blob import EXTENSIONS
+from .case import MODES
+
 
 def summary(found, profile, context):
     """The table but for the smallest cases of what differs. `context` is what the run was given."""
@@ -10,6 +13,8 @@ def summary(found, profile, context):
         "passed": found.is_passed() and not profile.unmet(),
         "rules": [{"rule": rule, "cases": found.tried[rule], "differing": found.differing_cases(rule),
                    "not asked": found.skipped[rule]} for rule in found.rules],
+        "not there": [f"{it}-mode" for it in MODES if it not in profile.hart.modes]
+        + [it for it in EXTENSIONS if not profile.hart.has(it)],
         "not asked": dict(found.reasons),
         "not judged": dict(profile.unjudged),
         "profile": list(profile.lines()),
@@ -37,6 +42,7 @@ def text(result):
             yield f"| {row['rule']} | not there | | |"
     if not any(row["cases"] for row in result["rules"]):
         yield from ("", "Nothing was asked, which is a failure.")
+    yield from section("Not there, and so not tried:", result["not there"])
     yield from section("Cases that weren't asked:", (f"{count} {it}" for it, count in result["not asked"].items()))
     yield from section("Accesses that weren't judged:", (f"{count} {it}" for it, count in result["not judged"].items()))
     yield from section("What the manual leaves open, as this hart has it:", result["profile"])
