@@ -232,6 +232,13 @@ static int is_block_of_64(uint64_t start) {
     return is_cleared;
 }
 
+/* Whether the last vector had 64 elements, of vl. */
+static int is_vector_of_64(void) {
+    uintptr_t length;
+    __asm__ volatile("csrr %0, 0xc20" : "=r"(length));
+    return length == 64;
+}
+
 /* What an access needs beside its instruction: a page table, or the mode that the hypervisor's loads take. Whether the
    hart has it. */
 static int set_up(unsigned by, unsigned mode) {
@@ -275,7 +282,7 @@ static void perform(uint64_t word, uint64_t start) {
     outcome = attempt(target, start, pattern_at(start), status, is_stub);
     target += by == CONDITIONAL ? 4 : by == VECTOR ? 8 : 0;
     int is_allowed = outcome.cause == ECALL + (is_stub ? mode : MACHINE) && read_mepc() == target + 4;
-    if (by == BLOCK && is_allowed && !is_block_of_64(start))
+    if (is_allowed && ((by == BLOCK && !is_block_of_64(start)) || (by == VECTOR && !is_vector_of_64())))
         outcome.cause = ILLEGAL, is_allowed = 0;
     tell(word, start, outcome.cause, target, is_allowed);
     if (by == WALK) {
@@ -310,6 +317,7 @@ static const uint64_t *reset_behind(const uint64_t *at) {
 static const uint64_t *beginning(void) {
     is_quiet = cases[0];
     forget();
+    in_machine_mode(clear_supervisor, 0, 0);
     if (KEPT->mark != (MARK ^ KEPT->place)) {
         fill(ARENA - 256, ARENA + ARENA_SIZE + 256);
         for (unsigned entry = 0; entry < 512; entry++)

@@ -36,7 +36,7 @@ struct outcome {
 struct outcome attempt(uintptr_t target, uintptr_t address, uintptr_t value, uintptr_t status, uintptr_t by_return);
 
 extern const char csr_writes[], csr_reads[], csr_sets[], csr_clears[], machine_operations[], stub_operations[];
-extern const char fence_addresses[], fence_code[], set_satp[], set_hstatus[];
+extern const char fence_addresses[], fence_code[], set_satp[], set_hstatus[], clear_supervisor[];
 extern uint64_t cases[];
 extern volatile uint64_t tohost;
 

@@ -61,7 +61,9 @@ attempt:
     or t0, t0, a3
     csrw mstatus, t0
     bnez a4, 1f
-    jr a0
+    # By this register a jump needs no landing pad where mseccfg has MLPE.
+    mv t2, a0
+    jr t2
 1:  csrw mepc, a0
     mret
 
@@ -157,7 +159,7 @@ csr_clears:
     .endm
 
     .balign OPERATION_SIZE
-    .globl machine_operations, fence_addresses, fence_code, set_satp, set_hstatus
+    .globl machine_operations, fence_addresses, fence_code, set_satp, set_hstatus, clear_supervisor
 machine_operations:
     operations
 fence_addresses:
@@ -170,7 +172,15 @@ set_satp:
     csrw satp, a1
     ecall
 set_hstatus:
+    csrw 0x680, zero
+    csrw 0x280, zero
     csrw 0x600, a1
+    ecall
+# Neither translation nor delegation is reset by what a reset has to do.
+clear_supervisor:
+    csrw satp, zero
+    csrw medeleg, zero
+    csrw mideleg, zero
     ecall
 
     .section .stub, "ax"

@@ -117,6 +117,9 @@ def note_probe(profile, steps):
     profile.absent = looks[0].missing
     answers = [it for it in steps if isinstance(it, Answer)]
     extensions = tuple(by for by, it in zip(EXTENSIONS, answers[1:]) if it.cause != 2)
+    if "block" not in extensions:
+        # Nothing else tells the size of a block.
+        extensions = tuple(it for it in extensions if it != "clean")
     hart = profile.hart = hart_of(state, facts, looks, profile.absent, extensions)
     for switch, value in (("xlen", hart.xlen), ("entries", hart.entries), ("grain", hart.grain),
                           ("address_bits", hart.bits), ("smepmp", "yes" if hart.has_smepmp else "no"),
