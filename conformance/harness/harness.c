@@ -6,7 +6,7 @@
 enum { END, CASE, WRITE, LOOK, EXPECT, ACCESS, RESET, SPOT, HART, ATTEMPT };
 enum { FETCH, LOAD, STORE };
 enum { PLAIN, UNSIGNED, RESERVED_LOAD, CONDITIONAL, LAST_ATOMIC = 12, FALLING, FLOAT, VECTOR, BLOCK,
-    HYPERVISOR, WALK, CLEAN, FLUSH };
+    HYPERVISOR, WALK, CLEAN, FLUSH, UPDATE };
 enum { UNJUDGED, ALLOW, FAULT, EITHER };
 enum { MACHINE = 3, ILLEGAL = 2, BREAKPOINT = 3, ECALL = 8 };
 enum { MSECCFG = 0x747, PMPCFG0 = 0x3a0, PMPADDR0 = 0x3b0 };
@@ -15,8 +15,9 @@ enum { MSECCFG = 0x747, PMPCFG0 = 0x3a0, PMPADDR0 = 0x3b0 };
 #define KEPT ((volatile struct kept *)(BOARD_MEMORY + KEPT_PLACE))
 #define ARENA (BOARD_MEMORY + ARENA_PLACE)
 #define TABLE (BOARD_MEMORY + TABLE_PLACE)
-/* A leaf with V, R, W, X, A and D. */
+/* A leaf with V, R, W, X, A and D, and one without the last two. */
 #define LEAF 0xcf
+#define FRESH_LEAF 0x0f
 #define SV39 (UINT64_C(8) << 60)
 #define SPVP 0x100
 #define EBREAK 0x00100073
@@ -165,7 +166,8 @@ static unsigned operation_of(unsigned kind, unsigned by, unsigned length) {
     unsigned power = length == 8 ? 3 : length / 2;
     switch (by) {
     case PLAIN:
-    case WALK: return 4 * (kind - LOAD) + power;
+    case WALK:
+    case UPDATE: return 4 * (kind - LOAD) + power;
     case UNSIGNED: return 8 + power;
     case FLOAT: return 11 + 2 * (kind - LOAD) + (power == 3);
     case VECTOR: return 15 + kind - LOAD;
@@ -239,13 +241,21 @@ static int is_vector_of_64(void) {
     return length == 64;
 }
 
+/* The leaf by which S-mode reaches this board's memory. */
+static void set_leaf(uint64_t bits) {
+    ((volatile uint64_t *)TABLE)[BOARD_MEMORY >> 30] = BOARD_MEMORY >> 2 | bits;
+    in_machine_mode(fence_addresses, 0, 0);
+}
+
 /* What an access needs beside its instruction: a page table, or the mode that the hypervisor's loads take. Whether the
    hart has it. */
 static int set_up(unsigned by, unsigned mode) {
     if (by == HYPERVISOR)
         return in_machine_mode(set_hstatus, 0, mode == 1 ? SPVP : 0).cause == ECALL + MACHINE;
-    if (by != WALK)
+    if (by != WALK && by != UPDATE)
         return 1;
+    if (by == UPDATE)
+        set_leaf(FRESH_LEAF);
     if (XLEN != 64 || in_machine_mode(set_satp, 0, (uintptr_t)(SV39 | TABLE >> 12)).cause != ECALL + MACHINE)
         return 0;
     in_machine_mode(fence_addresses, 0, 0);
@@ -285,9 +295,9 @@ static void perform(uint64_t word, uint64_t start) {
     if (is_allowed && ((by == BLOCK && !is_block_of_64(start)) || (by == VECTOR && !is_vector_of_64())))
         outcome.cause = ILLEGAL, is_allowed = 0;
     tell(word, start, outcome.cause, target, is_allowed);
-    if (by == WALK) {
+    if (by == WALK || by == UPDATE) {
         in_machine_mode(set_satp, 0, 0);
-        in_machine_mode(fence_addresses, 0, 0);
+        set_leaf(LEAF);
     }
 }
 
@@ -321,7 +331,8 @@ static const uint64_t *beginning(void) {
     if (KEPT->mark != (MARK ^ KEPT->place)) {
         fill(ARENA - 256, ARENA + ARENA_SIZE + 256);
         for (unsigned entry = 0; entry < 512; entry++)
-            ((volatile uint64_t *)TABLE)[entry] = entry == BOARD_MEMORY >> 30 ? BOARD_MEMORY >> 2 | LEAF : 0;
+            ((volatile uint64_t *)TABLE)[entry] = 0;
+        set_leaf(LEAF);
         in_machine_mode(fence_code, 0, 0);
         load_extensions();
         return cases + 1;

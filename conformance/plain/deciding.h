@@ -5,7 +5,7 @@
 enum { MISALIGNED = 4, ALLOWED = 32 };
 /* What an access is made by, as suite/blob.py has it. */
 enum { PLAIN, UNSIGNED, RESERVED_LOAD, CONDITIONAL };
-enum { FALLING = 13, FLOAT, VECTOR, BLOCK, HYPERVISOR, WALK, CLEAN, FLUSH };
+enum { FALLING = 13, FLOAT, VECTOR, BLOCK, HYPERVISOR, WALK, CLEAN, FLUSH, UPDATE };
 /* The entry of the page table that S-mode's accesses are translated by, as suite/case.py has it. */
 #define TABLE_ENTRY UINT64_C(0x80130010)
 
@@ -188,8 +188,10 @@ static int needs_nothing(const struct access *it) {
         || (turned(instruction_needs_nothing_under_allow_list, it->by - 1) && unit.security & MMWP);
 }
 
-/* Whether the page table may be read by which the access is translated. */
-static int is_table_open(void) {
+/* Whether the page table may be read by which the access is translated, and written where it sets A and D. */
+static int is_table_open(int is_update) {
+    if (is_update && turn != table_is_updated_freely)
+        return is_allowed(SUPERVISOR, W, TABLE_ENTRY, 8);
     if (turn == table_is_read_freely)
         return 1;
     return is_allowed(turn == table_is_read_as_machine ? MACHINE : SUPERVISOR, turn == table_needs_write ? W : R,
@@ -201,13 +203,13 @@ static int is_access_allowed(const struct access *it) {
     uint8_t needed = rights[it->kind];
     if (it->by >= FLOAT && turned(extension_needs_nothing, it->by - FLOAT))
         return 1;
-    if (it->by >= CLEAN && turn != clean_needs_write)
+    if ((it->by == CLEAN || it->by == FLUSH) && turn != clean_needs_write)
         needed = R;
     if (it->length == 64 && turned(ends_of_block_decide, it->by < CLEAN ? it->by - VECTOR : it->by - CLEAN + 2))
         return is_allowed(it->mode, needed, it->start, 1) && is_allowed(it->mode, needed, it->start + 63, 1);
     if (it->by == HYPERVISOR && turn == hypervisor_has_rights_of_machine)
         return is_allowed(MACHINE, needed, it->start, it->length);
-    if (it->by == WALK && it->mode != MACHINE && !is_table_open())
+    if ((it->by == WALK || it->by == UPDATE) && it->mode != MACHINE && !is_table_open(it->by == UPDATE))
         return 0;
     int is_aligned = it->start % it->length == 0;
     if (it->by && it->by < FALLING && needs_nothing(it))

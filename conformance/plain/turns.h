@@ -134,6 +134,7 @@
     TURN(hypervisor_has_rights_of_machine, 1, "Deciding 6", "") \
     TURN(table_is_read_freely, 1, "Deciding 6", "") \
     TURN(table_is_read_as_machine, 1, "Deciding 6", "") \
+    TURN(table_is_updated_freely, 1, "Deciding 6", "") \
     TURN(table_needs_write, 1, "Deciding 6", "") \
     TURN(instruction_needs_nothing, 12, "Deciding 6", "") \
     TURN(instruction_needs_nothing_under_lockdown, 12, "Deciding 6", "") \

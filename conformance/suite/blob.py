@@ -9,7 +9,7 @@ KINDS = {"fetch": 0, "load": 1, "store": 2}
 AMOS = ("amoswap", "amoadd", "amoxor", "amoand", "amoor", "amomin", "amomax", "amominu", "amomaxu")
 # What an access is made by, where it isn't a plain fetch, load or store.
 WAYS = ("", "unsigned", "lr", "sc", *AMOS, "falling", "float", "vector", "block", "hypervisor", "walk",
-        "clean", "flush")
+        "clean", "flush", "update")
 # Those of extensions, each with the kind and the length of an access that shows whether the hart has it.
 EXTENSIONS = {"lr": ("load", 4), "float": ("load", 8), "vector": ("load", 64), "block": ("store", 64),
               "hypervisor": ("load", 4), "walk": ("load", 4), "clean": ("store", 64)}
@@ -21,7 +21,7 @@ ALL_ONES = 2**64 - 1
 def ways_of(access, expected):
     """By the mode itself for machine mode and fetches; else by MPRV, and by the mode itself where it has the stub."""
     if access.mode == "M" or access.kind == "fetch" or (access.after, access.mode) not in expected.stubs \
-            or access.by in (*EXTENSIONS, "flush") and access.by != "lr":
+            or access.by in (*EXTENSIONS, "flush", "update") and access.by != "lr":
         return (0,)
     return (0, 1)
 

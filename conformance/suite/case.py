@@ -98,8 +98,8 @@ class Case:
     looks: int = 16
 
     def lines_of(self, event):
-        """The lines of an event; a reset of a hart that keeps something has writes behind it, and more publications than
-        one where a batch hasn't room for all."""
+        """The lines of an event. A reset of a hart that keeps something has writes behind it, and several publications
+        where a batch hasn't room for all."""
         if event[0] == "write":
             return [f"{(*event, 'write')[3]} {event[1]} {event[2]:#x}", "publish"]
         security = [("mseccfg", self.hart.reset_security)] if self.hart.reset_security else []

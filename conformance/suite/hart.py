@@ -87,7 +87,7 @@ class Hart:
 
     def has(self, by):
         """Whether it has the instruction of such an access."""
-        word = "lr" if by == "sc" or by.startswith("amo") else "clean" if by == "flush" else by
+        word = "lr" if by == "sc" or by.startswith("amo") else {"flush": "clean", "update": "walk"}.get(by, by)
         return word in ("", "unsigned", "falling", *self.extensions)
 
     def securities(self, *wanted):

@@ -14,6 +14,8 @@ MISALIGNED = {"fetch": 0, "load": 4, "store": 6}
 # L R W X of the rules that lockdown bars.
 BARRED = (9, 10, 11, 13)
 BY_RESERVED = "by a rule that was written with W and without R while MML was 0"
+AS_NOT_UPDATED = "by a page table whose A and D the hart doesn't set, which raise page faults"
+PAGE_FAULTS = {"load": 13, "store": 15}
 AS_MISALIGNED = "misaligned, which raise an exception of their own"
 
 
@@ -242,6 +244,9 @@ class Comparison:
             self.unjudged[AS_MISALIGNED] += 1
             is_lawful = self.allows("misaligned", "exception")
             return None if is_lawful else self.differs(access, way, wanted, got)
+        if access.by == "update" and got.cause == PAGE_FAULTS[access.kind]:
+            self.unjudged[AS_NOT_UPDATED] += 1
+            return None
         if got.cause is not None and not self.is_fault_of(access, got):
             return self.differs(access, way, wanted, got)
         is_allowed = got.cause is None

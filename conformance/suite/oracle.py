@@ -26,6 +26,8 @@ class Expected:
     answers: dict = field(default_factory=dict)
     # Of each access, why, and by which entry: the cause and the entry of `pmp audit`.
     causes: dict = field(default_factory=dict)
+    # The accesses that are refused by what S-mode may do with their page table.
+    tables: set = field(default_factory=set)
     # For which (number of events, mode) the harness' stub may be fetched.
     stubs: set = field(default_factory=set)
     # Whether the harness keeps its code, its data and its devices throughout.
@@ -46,8 +48,9 @@ def questions(case, is_for_hart):
     for after in range(len(case.events) + 1):
         for access in asked.get(after, ()):
             yield access, access.row
-            if access.by == "walk":
-                yield (access, "table"), f"{after},S,load,{TABLE_ENTRY:#x},8"
+            if access.by in ("walk", "update"):
+                kind = "load" if access.by == "walk" else "store"
+                yield (access, "table"), f"{after},S,{kind},{TABLE_ENTRY:#x},8"
             if not access.is_one:
                 for byte in range(access.start, access.start + access.length):
                     yield (access, byte), f"{after},{access.mode},{access.asked_kind},{byte:#x},1"
@@ -184,3 +187,5 @@ def note_answer(expected, key, row, told):
             expected.stubs.add((int(row.split(",")[0]), key[1]))
     elif answer == "fault":
         expected.answers[key[0]] = "fault"
+        if key[1] == "table":
+            expected.tables.add(key[0])

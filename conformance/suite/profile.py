@@ -15,7 +15,7 @@ SWITCHES = {
     "address_bits": "how many bits a physical address has",
     "smepmp": "whether mseccfg is there and has its bits: yes or no",
     "modes": "which modes there are: M, MU or MSU",
-    "extensions": "which other loads and stores there are: none, or of lr, float, vector, block, hypervisor, walk, clean",
+    "extensions": "what else loads and stores: none, or of lr, float, vector, block, hypervisor, walk, clean",
     "reset_mseccfg": "what mseccfg is after power comes",
     "reset_rest": "whether a reset leaves other fields than A and L: kept or cleared",
     "reserved": "what is left of a byte with W and without R, where MML is 0: as-written, no-rights or other",
