@@ -17,6 +17,7 @@
 # make fuzz SECONDS=..      has libFuzzer try the C library so long
 # make conformance          tries QEMU's unit, or that of HART="simulator ELF", by cases of each rule
 # make reports              runs the cases of conformance/reports on QEMU 7.2, 10 and 11, and compares with their pages
+# make mutants              turns each rule of plain harts in each way, and has the cases of make conformance find it
 # make rv32                 boots an RV32 hart of QEMU, and compares what it refuses with what pmp refuses
 # make captures             boots OpenSBI 1.1, 1.6 and 1.9 on QEMU 7.2, 10 and 11, and compares likewise
 # make qemu                 builds QEMU 7.2 as it is and over the library, boots OpenSBI and U-Boot on both, and compares
@@ -35,7 +36,7 @@ export PREFIX DESTDIR
 # ci has one process for each, which is less work than several for one.
 LANES = $(shell awk -v most="$$(nproc)" '/^MemAvailable/ { n = int($$2 / 3500000); print n < 1 ? 1 : n < most ? n : most }' /proc/meminfo)
 
-.PHONY: build library portable page page-test docs test fuzz conformance reports rv32 captures qemu install install-program install-library uninstall dist \
+.PHONY: build library portable page page-test docs test fuzz conformance reports mutants rv32 captures qemu install install-program install-library uninstall dist \
     dist-test soak stress bench bench-decide bench-emulator bench-threads bench-limits bench-audit bench-page bench-qemu
 
 build:
@@ -105,6 +106,9 @@ fuzz: library
 
 reports:
 	@checks/reports
+
+mutants: build
+	checks/conformance --every-way $(PROGRAM)
 
 captures: build
 	checks/captures $(PROGRAM)

@@ -9,27 +9,34 @@
 #define KEPT_PLACE 0x17f00
 #define STUB_PLACE 0x20000
 #define ARENA_PLACE 0x100000
-#define ARENA_SIZE 0x8000
+#define ARENA_SIZE 0x20000
 
+/* A page table of Sv39 that maps the memory's gigabyte to itself for S-mode. */
+#define TABLE_PLACE 0x130000
+
+/* FS and VS of mstatus, which are there where their extensions are. */
+#define FLOATS_AND_VECTORS 0x2200
 #define MPRV 0x20000
 #define MPP 0x1800
 
-/* Indices into the lists of instructions that `attempt` runs, eight bytes each. */
+/* Indices into the lists of instructions that `attempt` runs, eight bytes each, and the size of an operation. */
 #define CSR_COUNT 81
+#define OPERATION_SIZE 16
 
 #ifndef __ASSEMBLER__
 #include <stdint.h>
 
 struct outcome {
-    uint64_t cause;
-    uint64_t value;
+    uintptr_t cause;
+    uintptr_t value;
 };
 
 /* Runs an instruction at `target`, with these in its registers, and comes back by the exception that it or the ecall
    behind it raises. `status` is set in mstatus before; the target is reached by mret where `by_return` isn't 0. */
-struct outcome attempt(uint64_t target, uint64_t address, uint64_t value, uint64_t status, uint64_t by_return);
+struct outcome attempt(uintptr_t target, uintptr_t address, uintptr_t value, uintptr_t status, uintptr_t by_return);
 
-extern const char csr_writes[], csr_reads[], machine_operations[], stub_operations[], fence_addresses[], fence_code[];
+extern const char csr_writes[], csr_reads[], csr_sets[], csr_clears[], machine_operations[], stub_operations[];
+extern const char fence_addresses[], fence_code[], set_satp[], set_hstatus[], clear_supervisor[];
 extern uint64_t cases[];
 extern volatile uint64_t tohost;
 

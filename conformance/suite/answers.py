@@ -9,8 +9,14 @@ class Look:
     changed: dict = field(default_factory=dict)
     # The registers whose access raised an exception.
     missing: set = field(default_factory=set)
-    # The exception that the write before raised.
-    trap: int | None = None
+
+
+@dataclass(frozen=True)
+class Facts:
+    """How many bits a register has, and which values mstatus.MPP holds: a bit for each."""
+
+    xlen: int
+    modes: int
 
 
 @dataclass(frozen=True)
@@ -27,29 +33,37 @@ class Answer:
         return f"exception {self.cause}, mtval {self.address:#x}{where}"
 
 
+ALLOWED = Answer()
+# What the lines begin with that are read here; any other is passed over.
+LETTERS = set("acrwxh")
+
+
 def read(text):
-    """The looks and answers of each run, by its number, in the order in which they came; and whether the end came."""
-    runs, steps, look, is_whole = {}, [], Look(), False
+    """The looks and answers of each run, by its number, in the order in which they came. What a run that ended before
+    its time wrote last may be no whole line: there the reading ends."""
+    runs, steps, look = {}, [], Look()
     for line in text.splitlines():
-        words = line.split()
+        if line == "a ok":
+            steps.append(ALLOWED)
+            continue
+        letter, *words = line.split() or [""]
+        if letter not in LETTERS:
+            continue
         try:
-            if words[:1] == ["c"]:
-                steps = runs.setdefault(int(words[1], 16), [])
-            elif words[:1] == ["r"]:
-                look.changed[name_of(int(words[1], 16))] = int(words[2], 16)
-            elif words[:1] == ["x"]:
-                look.missing.add(name_of(int(words[1], 16)))
-            elif words[:1] == ["t"]:
-                look.trap = int(words[1], 16)
-            elif words[:1] == ["w"]:
+            numbers = [int(it, 16) for it in words]
+            if letter == "a":
+                steps.append(Answer(numbers[0], numbers[1], numbers[2] == 1))
+            elif letter == "r":
+                look.changed[name_of(numbers[0])] = numbers[1]
+            elif letter == "w":
                 steps.append(look)
                 look = Look()
-            elif words == ["a", "ok"]:
-                steps.append(Answer())
-            elif words[:1] == ["a"]:
-                steps.append(Answer(int(words[1], 16), int(words[2], 16), words[3] == "1"))
-            elif words[:1] == ["z"]:
-                is_whole = True
-        except (IndexError, ValueError):
+            elif letter == "c":
+                steps = runs.setdefault(numbers[0], [])
+            elif letter == "x":
+                look.missing.add(name_of(numbers[0]))
+            elif letter == "h":
+                steps.append(Facts(*numbers))
+        except (IndexError, ValueError, TypeError):
             break
-    return runs, is_whole
+    return runs

@@ -1,11 +1,18 @@
 """Cases as the harness reads them: words of 64 bits."""
 import struct
 
-from .case import number_of
+from .case import HOW, number_of
 
-END, CASE, WRITE, LOOK, EXPECT, ACCESS, RESET, SPOT = range(8)
+END, CASE, WRITE, LOOK, EXPECT, ACCESS, RESET, SPOT, HART, ATTEMPT = range(10)
 KEEP = 1 << 16
-KINDS = {("fetch", False): 0, ("load", False): 1, ("store", False): 2, ("load", True): 3, ("store", True): 4}
+KINDS = {"fetch": 0, "load": 1, "store": 2}
+AMOS = ("amoswap", "amoadd", "amoxor", "amoand", "amoor", "amomin", "amomax", "amominu", "amomaxu")
+# What an access is made by, where it isn't a plain fetch, load or store.
+WAYS = ("", "unsigned", "lr", "sc", *AMOS, "falling", "float", "vector", "block", "hypervisor", "walk",
+        "clean", "flush", "update")
+# Those of extensions, each with the kind and the length of an access that shows whether the hart has it.
+EXTENSIONS = {"lr": ("load", 4), "float": ("load", 8), "vector": ("load", 64), "block": ("store", 64),
+              "hypervisor": ("load", 4), "walk": ("load", 4), "clean": ("store", 64)}
 MODES = {"U": 0, "S": 1, "M": 3}
 ANSWERS = {None: 0, "allow": 1, "fault": 2, "either": 3}
 ALL_ONES = 2**64 - 1
@@ -13,74 +20,107 @@ ALL_ONES = 2**64 - 1
 
 def ways_of(access, expected):
     """By the mode itself for machine mode and fetches; else by MPRV, and by the mode itself where it has the stub."""
-    if access.mode == "M" or access.kind == "fetch" or (access.after, access.mode) not in expected.stubs:
+    if access.mode == "M" or access.kind == "fetch" or (access.after, access.mode) not in expected.stubs \
+            or access.by in (*EXTENSIONS, "flush", "update") and access.by != "lr":
         return (0,)
     return (0, 1)
 
 
+# How many places of the arena the harness can give another instruction in a run.
+SPOTS = 64
+
+
 def is_spot(access):
-    return access.kind == "fetch" and access.length == 4
+    """Whether an instruction of its own has to be there: one of four bytes, or one before it that it is reached by."""
+    return access.kind == "fetch" and (access.length == 4 or access.by == "falling")
+
+
+def spot_of(access):
+    """Where that is, and whether it is the one before."""
+    return (access.start - 2, 1) if access.by == "falling" else (access.start, 0)
 
 
 def meet(one, other):
-    return one.start < other.start + other.length and other.start < one.start + one.length
+    first, last = spot_of(one)[0], spot_of(other)[0]
+    return first < other.start + other.length and last < one.start + one.length
 
 
 def can_share(access, others):
     """A fetch of four bytes finds an instruction of its own there, which no store and no other fetch may meet."""
     for other in others:
-        if is_spot(access) or is_spot(other):
-            same = is_spot(access) and is_spot(other) and access.start == other.start
-            if not same and meet(access, other) and {access.kind, other.kind} & {"store", "fetch"} and \
-                    not {access.kind, other.kind} == {"fetch", "load"} and not (access.atomic or other.atomic):
-                return False
+        same = is_spot(access) and is_spot(other) and spot_of(access) == spot_of(other)
+        kinds = {access.kind, other.kind}
+        if not same and meet(access, other) and kinds & {"store", "fetch"} and kinds != {"fetch", "load"}:
+            return False
     return True
+
+
+class Part:
+    """Accesses that can be made in one run of a case."""
+
+    def __init__(self):
+        self.accesses, self.spots, self.starts = [], [], set()
+
+    def takes(self, access):
+        """Whether the access can be made beside the others: then it is one of them."""
+        if not can_share(access, self.accesses if is_spot(access) else self.spots):
+            return False
+        if is_spot(access):
+            if len(self.starts | {spot_of(access)}) > SPOTS:
+                return False
+            self.starts.add(spot_of(access))
+            self.spots.append(access)
+        self.accesses.append(access)
+        return True
 
 
 def parts_of(case):
     """The case's accesses in lists of those that can be made in one run of it."""
-    parts = [[]]
+    parts = [Part()]
     for access in case.accesses:
-        for part in parts:
-            if can_share(access, part):
-                part.append(access)
-                break
-        else:
-            parts.append([access])
-    return parts
+        if not any(it.takes(access) for it in parts):
+            parts.append(Part())
+            parts[-1].takes(access)
+    return [it.accesses for it in parts]
 
 
-def expects(before, after, is_first):
-    """What a look expects: the registers that are unlike those of the last one."""
-    for name, value in after.items():
-        if is_first or before[name] != value:
-            yield from (EXPECT | number_of(name) << 16, ALL_ONES, value)
+def expects(state):
+    """What the look behind a reset expects."""
+    for name, value in state.items():
+        yield from (EXPECT | number_of(name) << 16, ALL_ONES, value)
+
+
+def access_words(access, way, answer):
+    yield (ACCESS | KINDS[access.kind] << 8 | MODES[access.mode] << 12 | way << 16
+           | ANSWERS[answer] << 24 | WAYS.index(access.by) << 32 | access.length << 40)
+    yield access.start
 
 
 def words_of(case, part, expected):
     """A run of a case with one part of its accesses. What is judged in the harness is what has no lawful choice."""
     yield CASE | case.looks << 8
-    for start in sorted({it.start for it in part if is_spot(it)}):
-        yield from (SPOT, start)
+    for start, is_before in sorted({spot_of(it) for it in part if is_spot(it)}):
+        yield from (SPOT | is_before << 8, start)
     yield LOOK
     is_judged = True
     for after in range(len(case.events) + 1):
         for access in part:
             if access.after == after:
                 for way in ways_of(access, expected):
-                    answer = ANSWERS[expected.answers.get(access)] if is_judged else 0
-                    yield (ACCESS | KINDS[access.kind, access.atomic] << 8 | MODES[access.mode] << 12 | way << 16
-                           | access.length << 20 | answer << 24)
-                    yield access.start
+                    yield from access_words(access, way, expected.answers.get(access) if is_judged else None)
+        for it in case.attempts:
+            if it.after == after:
+                yield ATTEMPT | HOW.index(it.how) << 8 | MODES[it.mode] << 12 | it.number << 16
         if after < len(case.events):
             event = case.events[after]
-            yield from (RESET,) if event[0] == "reset" else (WRITE | number_of(event[1]) << 16, event[2])
-            is_judged = is_judged and not {"reserved", "lockdown"} & set(expected.reasons[after][0])
+            how = HOW.index((*event, "write")[3]) if event[0] == "write" else 0
+            yield from (RESET,) if event[0] == "reset" else (WRITE | how << 8 | number_of(event[1]) << 16, event[2])
+            is_judged = is_judged and not {"reserved", "lockdown", "grain"} & set(expected.reasons[after])
             state = expected.registers[after + 1]
             if is_judged and event[0] == "write" and event[1] in state:
                 yield from (EXPECT | number_of(event[1]) << 16, ALL_ONES, state[event[1]])
             elif is_judged and event[0] == "reset":
-                yield from expects({}, state, True)
+                yield from expects(state)
             elif event[0] == "write":
                 yield from (EXPECT | number_of(event[1]) << 16, 0, 0)
             yield LOOK

@@ -4,10 +4,12 @@ import os
 import subprocess
 import tempfile
 from dataclasses import dataclass, field
+from itertools import accumulate
 
-from .case import CODE, CODE_SIZE, DATA, DATA_SIZE, PAGE, STUB, registers_of
+from .case import CODE, CODE_SIZE, DATA, DATA_SIZE, STUB, TABLE_ENTRY
+from .hart import PAGE
 
-MAX_SCRIPT = 900_000
+MAX_EVENTS = 500_000
 MAX_ROWS = 200_000
 # The console, and what resets the board or ends a run.
 DEVICES = (0x10000000, 0x100000)
@@ -17,12 +19,15 @@ DEVICES = (0x10000000, 0x100000)
 class Expected:
     # The registers after each number of events.
     registers: list
-    # Of each event, the reasons of `pmp writes`, and the entries that they are of.
-    reasons: list
+    # Of each event, the reasons of `pmp writes`, and what is written.
+    reasons: list = field(default_factory=list)
+    written: list = field(default_factory=list)
     # "allow", "fault", or "either" where that depends on how the hart parts a misaligned access.
     answers: dict = field(default_factory=dict)
-    # Of each access, why: the cause of `pmp audit`.
+    # Of each access, why, and by which entry: the cause and the entry of `pmp audit`.
     causes: dict = field(default_factory=dict)
+    # The accesses that are refused by what S-mode may do with their page table.
+    tables: set = field(default_factory=set)
     # For which (number of events, mode) the harness' stub may be fetched.
     stubs: set = field(default_factory=set)
     # Whether the harness keeps its code, its data and its devices throughout.
@@ -43,13 +48,39 @@ def questions(case, is_for_hart):
     for after in range(len(case.events) + 1):
         for access in asked.get(after, ()):
             yield access, access.row
-            if not access.is_aligned:
+            if access.by in ("walk", "update"):
+                kind = "load" if access.by == "walk" else "store"
+                yield (access, "table"), f"{after},S,{kind},{TABLE_ENTRY:#x},8"
+            if not access.is_one:
                 for byte in range(access.start, access.start + access.length):
-                    yield (access, byte), f"{after},{access.mode},{access.kind},{byte:#x},1"
+                    yield (access, byte), f"{after},{access.mode},{access.asked_kind},{byte:#x},1"
         if after in asked and is_for_hart:
-            yield from ((("stub", mode), f"{after},{mode},fetch,{STUB:#x},{PAGE}") for mode in "SU")
+            yield from ((("stub", mode), f"{after},{mode},fetch,{STUB:#x},{PAGE}") for mode in case.hart.lower)
         if is_for_hart:
             yield from ((("safe", after), it) for it in safety_rows(after))
+
+
+def lines_of_case(case):
+    """The case's lines behind a reset, each with what its row of `pmp writes` is for: the number of events, and the
+    register. A configuration register that is written changes what the addresses of its entries read at a grain."""
+    first = case.lines_of(("reset", ()))
+    yield from ((it, None) for it in first)
+    for after, event in enumerate(case.events, 1):
+        for line in case.lines_of(event):
+            yield line, None if line == "publish" else (after, (line.split() + ["reset"])[1])
+        if case.hart.grain > 4:
+            yield from ((f"expect {it} 0", (after, it)) for it in reread(case, event))
+
+
+def reread(case, event):
+    """The address registers that may read otherwise behind an event, though no write is of them."""
+    hart = case.hart
+    if event[0] == "reset":
+        return [name for name, _ in event[1] if name.startswith("pmpaddr")]
+    if not event[1].startswith("pmpcfg"):
+        return []
+    first = hart.first_entry(event[1])
+    return [f"pmpaddr{it}" for it in range(first, min(first + hart.bytes_in, hart.entries))]
 
 
 class Oracle:
@@ -63,38 +94,51 @@ class Oracle:
             raise SystemExit(f"conformance: {self.program} {' '.join(words)}: status {done.returncode}, {done.stderr}")
         return done.stdout.splitlines()
 
+    def version(self):
+        return " ".join(self.ask("--version"))
+
     def answer(self, cases):
-        """What is expected of each case, in their order."""
-        found, chunk, size, rows = {}, [], 0, 0
-        for place in sorted(range(len(cases)), key=lambda it: cases[it].version):
-            case = cases[place]
+        """What is expected of each case, in their order: all are of one hart."""
+        found, chunk, events, rows = [], [], 0, 0
+        for case in cases:
             asked = list(questions(case, self.is_for_hart))
-            script = sum(len(it) + 1 for it in case.lines()) + 16
-            other = chunk and chunk[0][1].version != case.version
-            if chunk and (other or size + script > MAX_SCRIPT or rows + len(asked) > MAX_ROWS):
-                found.update(self.answer_chunk(chunk))
-                chunk, size, rows = [], 0, 0
-            chunk.append((place, case, asked))
-            size, rows = size + script, rows + len(asked)
-        found.update(self.answer_chunk(chunk) if chunk else {})
-        return [found[it] for it in range(len(cases))]
+            if chunk and (events > MAX_EVENTS or rows + len(asked) > MAX_ROWS):
+                found += self.answer_chunk(chunk)
+                chunk, events, rows = [], 0, 0
+            chunk.append((case, asked))
+            events, rows = events + len(case.events) + 1, rows + len(asked)
+        return found + (self.answer_chunk(chunk) if chunk else [])
 
     def answer_chunk(self, chunk):
-        script, trace, done = [f"pmp {chunk[0][1].version}"], ["after,mode,kind,start,length"], 0
-        for _, case, asked in chunk:
-            script += ["reset", "publish", *case.lines()]
+        script, trace, places = list(chunk[0][0].hart.head()), ["after,mode,kind,start,length"], {}
+        done = 0
+        for number, (case, asked) in enumerate(chunk):
+            for line, place in lines_of_case(case):
+                script.append(line)
+                if place:
+                    places[len(script)] = number, *place
+            ends = list(accumulate((case.lines_of(it).count("publish") for it in case.events), initial=done + 1))
             for _, row in asked:
                 after, rest = row.split(",", 1)
-                trace.append(f"{done + 1 + int(after)},{rest}")
-            done += 1 + len(case.events)
+                trace.append(f"{ends[int(after)]},{rest}")
+            done = ends[-1]
+        writes, answers = self.read(script, trace)
+        rows = [[] for _ in chunk]
+        for row in writes:
+            if place := places.get(int(row[2])):
+                rows[place[0]].append((*place[1:], row))
+        answers = iter(answers)
+        return [expected_of(case, asked, mine, answers) for (case, asked), mine in zip(chunk, rows)]
+
+    def read(self, script, trace):
+        """The rows that `pmp writes` and `pmp audit` answer."""
         with tempfile.TemporaryDirectory() as work:
             paths = [os.path.join(work, it) for it in ("script.pmp", "trace.csv")]
             for path, lines in zip(paths, (script, trace)):
                 with open(path, "w", encoding="ascii") as it:
                     it.write("\n".join(lines) + "\n")
-            writes = iter([it.split(",") for it in self.ask("writes", paths[0])])
-            answers = iter([it.split(",") for it in self.ask("audit", *paths)])
-        return {place: expected_of(case, asked, writes, answers) for place, case, asked in chunk}
+            return ([it.split(",") for it in self.ask("writes", paths[0])],
+                    [it.split(",") for it in self.ask("audit", *paths)])
 
     def check_dump(self, case, expected):
         """Whether `pmp dump` says the same of the registers at the case's end."""
@@ -110,19 +154,22 @@ def dumps(lines, expected):
     return {name: int(value, 16) for name, value in map(str.split, lines)} == expected.registers[-1]
 
 
-def expected_of(case, asked, writes, answers):
-    next(writes)
-    zeros = {it: 0 for it in registers_of(case.entries)}
-    expected = Expected([dict(zeros)], [])
-    for event in case.events:
-        row = next(writes)
-        state = dict(expected.registers[-1])
-        if event[0] == "reset":
-            state = dict(zeros)
-        elif event[1] in state:
-            state[event[1]] = int(row[6], 16)
+def expected_of(case, asked, rows, answers):
+    """`rows` are those of `pmp writes`, each behind its number of events and the register."""
+    zeros = {it: 0 for it in case.hart.registers()} | {"mseccfg": case.hart.reset_security}
+    expected = Expected([zeros])
+    told = {}
+    for after, name, row in rows:
+        told.setdefault(after, []).append((name, row))
+    for after, event in enumerate(case.events, 1):
+        state = dict(zeros if event[0] == "reset" else expected.registers[-1])
+        for name, row in told[after]:
+            if name in state:
+                state[name] = int(row[6], 16)
+        row = told[after][0][1]
         expected.registers.append(state)
-        expected.reasons.append((row[8].split(), [int(it) for it in row[9].split()]))
+        expected.reasons.append(row[8].split())
+        expected.written.append(int(row[4], 16) if row[4] else 0)
     for key, row in asked:
         note_answer(expected, key, row, next(answers))
     return expected
@@ -131,8 +178,8 @@ def expected_of(case, asked, writes, answers):
 def note_answer(expected, key, row, told):
     answer = told[1]
     if not isinstance(key, tuple):
-        expected.causes[key] = told[3]
-        expected.answers[key] = answer if key.is_aligned or answer == "allow" else "either"
+        expected.causes[key] = told[3], told[4]
+        expected.answers[key] = answer if key.is_one or answer == "allow" else "either"
     elif key[0] == "safe":
         expected.is_safe &= answer == "allow"
     elif key[0] == "stub":
@@ -140,3 +187,5 @@ def note_answer(expected, key, row, told):
             expected.stubs.add((int(row.split(",")[0]), key[1]))
     elif answer == "fault":
         expected.answers[key[0]] = "fault"
+        if key[1] == "table":
+            expected.tables.add(key[0])

@@ -2,18 +2,25 @@
 or by the cases where it shows, and is told in the report."""
 from dataclasses import dataclass, field
 
-from .case import ARENA, NA4, NAPOT, RLB, TOR, Builder, Case
+from .answers import Answer, Facts, Look
+from .blob import CASE, EXTENSIONS, HART, KEEP, LOOK, WRITE, access_words
+from .case import ARENA, MML, MMWP, RLB, Access, number_of
+from .hart import Hart
 
 # Each switch, and what it says.
 SWITCHES = {
-    "entries": "how many entries there are: 0, 16 or 64",
+    "xlen": "how many bits a register has",
+    "entries": "how many entries there are: 0 to 64",
     "grain": "the least size of a region, in bytes",
-    "address_bits": "how many bits an address register has",
+    "address_bits": "how many bits a physical address has",
     "smepmp": "whether mseccfg is there and has its bits: yes or no",
+    "modes": "which modes there are: M, MU or MSU",
+    "extensions": "what else loads and stores: none, or of lr, float, vector, block, hypervisor, walk, clean",
     "reset_mseccfg": "what mseccfg is after power comes",
     "reset_rest": "whether a reset leaves other fields than A and L: kept or cleared",
     "reserved": "what is left of a byte with W and without R, where MML is 0: as-written, no-rights or other",
     "barred": "how much of a write is ignored for a byte that lockdown bars: byte or register",
+    "na4": "what A is behind a write of NA4 on a hart of a coarser grain: off, tor, napot or kept",
     "absent": "how an access to a register of a missing entry ends: zero or exception",
     "misaligned": "whether a misaligned access in several rules is one access: whole, parts or exception",
     "mseccfg_bits": "which bits of other extensions mseccfg has, of 0x300000700",
@@ -25,25 +32,23 @@ OTHER_EXTENSIONS = 0x300000700
 @dataclass
 class Profile:
     given: dict = field(default_factory=dict)
-    # Each switch with the values seen, and in how many answers.
+    # Each switch with the values seen, in how many answers, and the case that showed each first.
     seen: dict = field(default_factory=dict)
-    entries: int = 16
-    grain: int = 4
-    address_bits: int = 54
-    has_smepmp: bool = True
-    reset_mseccfg: int = 0
+    first: dict = field(default_factory=dict)
+    # Why accesses weren't judged, and how many.
+    unjudged: dict = field(default_factory=dict)
+    hart: Hart = Hart()
+    # The registers whose accesses raise exceptions.
     absent: set = field(default_factory=set)
 
-    @property
-    def bits(self):
-        """How many bits of an address register lie below the grain."""
-        return self.grain.bit_length() - 3
-
     def allows(self, switch, value):
-        """Notes the choice; whether it may be made."""
+        """Whether the choice may be made."""
+        return self.given.get(switch, value) == value
+
+    def note(self, switch, value, case=""):
         values = self.seen.setdefault(switch, {})
         values[value] = values.get(value, 0) + 1
-        return self.given.get(switch, value) == value
+        self.first.setdefault((switch, value), case)
 
     def unmet(self):
         """The switches that are demanded, where the hart has shown another value."""
@@ -61,6 +66,13 @@ class Profile:
             else:
                 yield f"# {switch}: not seen"
 
+    def inconsistent(self):
+        """The choices that were made in more than one way, each with the case that shows it first."""
+        for switch, values in self.seen.items():
+            if len(values) > 1 and switch != "mseccfg_bits":
+                yield f"{switch}: " + ", ".join(f"{it} {count} times, first in {self.first[switch, it]}"
+                                                for it, count in values.items())
+
 
 def read(path):
     given = {}
@@ -74,81 +86,69 @@ def read(path):
     return given
 
 
-def probe():
-    """A case whose first look is at what power left, and whose later ones show which registers there are."""
-    case = Builder("probe", "probe", 2, looks=64)
-    for entry in (0, 15, 16, 63):
-        case.write(f"pmpaddr{entry}", 2**64 - 1)
-    return case.write("mseccfg", RLB).ask(ARENA + 1, 2, "M", ("load",)).case
+class Probe:
+    """A run whose first look is at what power left, and whose later ones show which registers and modes there are."""
+
+    is_sticky = False
+
+    def __init__(self):
+        self.words = [CASE | 64 << 8 | KEEP, LOOK, HART, *access_words(Access(0, "M", "load", ARENA + 1, 2), 0, None)]
+        for by, (kind, length) in EXTENSIONS.items():
+            self.words += access_words(Access(0, "M", kind, ARENA, length, by), 0, None)
+        for names, value in ((range(0x3B0, 0x3F0), 2**64 - 1), (range(0x3A0, 0x3B0), 0x0101010101010101),
+                             ((number_of("mseccfg"),), RLB)):
+            for number in names:
+                self.words += [WRITE | number << 16, value]
+            self.words += [LOOK]
+
+    def numbered(self, number):
+        return [self.words[0] | number << 32, *self.words[1:]]
 
 
-def note(profile, steps):
-    """What the probe's looks say."""
-    state, looks = {}, [it for it in steps if hasattr(it, "changed")]
-    if len(looks) < 6:
+def note_probe(profile, steps):
+    """What the probe's steps say of the hart."""
+    looks = [it for it in steps if isinstance(it, Look)]
+    facts = next((it for it in steps if isinstance(it, Facts)), None)
+    if len(looks) < 4 or facts is None:
         raise SystemExit("conformance: the simulator doesn't answer the probe")
-    profile.reset_mseccfg = looks[0].changed.get("mseccfg", 0)
-    profile.absent = looks[0].missing
+    state = {}
     for look in looks:
         state.update(look.changed)
-    ones = state.get("pmpaddr0", 0) & (2**54 - 1)
-    has = [bool(state.get(f"pmpaddr{it}")) for it in (15, 63)]
-    profile.entries = 64 if has[1] else 16 if has[0] else 0
-    profile.grain = (ones & -ones) * 4 if ones else 4
-    profile.address_bits = ones.bit_length()
-    profile.has_smepmp = "mseccfg" not in profile.absent and bool(state.get("mseccfg", 0) & RLB)
-    for switch in ("entries", "grain", "address_bits"):
-        profile.allows(switch, str(getattr(profile, switch)))
-    profile.allows("smepmp", "yes" if profile.has_smepmp else "no")
-    profile.allows("reset_mseccfg", hex(profile.reset_mseccfg))
+    profile.absent = looks[0].missing
+    answers = [it for it in steps if isinstance(it, Answer)]
+    extensions = tuple(by for by, it in zip(EXTENSIONS, answers[1:]) if it.cause != 2)
+    if "block" not in extensions:
+        # Nothing else tells the size of a block.
+        extensions = tuple(it for it in extensions if it != "clean")
+    hart = profile.hart = hart_of(state, facts, looks, profile.absent, extensions)
+    for switch, value in (("xlen", hart.xlen), ("entries", hart.entries), ("grain", hart.grain),
+                          ("address_bits", hart.bits), ("smepmp", "yes" if hart.has_smepmp else "no"),
+                          ("modes", hart.modes), ("extensions", ",".join(hart.extensions) or "none"),
+                          ("reset_mseccfg", hex(looks[0].changed.get("mseccfg", 0)))):
+        profile.note(switch, str(value), "probe")
+    if answers and answers[0].cause == 4:
+        profile.note("misaligned", "exception", "probe")
 
 
-def reason_to_skip(profile, case: Case, expected, simulator):
-    """Why the hart can't be asked this case, or nothing. What isn't a hart has as many entries as the case."""
-    if profile.entries == 0:
-        return "of entries, where the hart has none"
-    if case.version == 2 and profile.entries < 64:
-        return f"of 64 entries, where the hart has {profile.entries}"
-    if case.rule == "Registers 4" and profile.entries == 64 and simulator.is_hart:
-        return "of missing entries, where the hart has 64"
-    if not simulator.has_reset and ("reset",) in case.events:
-        return "of a reset, which software can't ask this board for"
-    if simulator.is_hart and not expected.is_safe:
-        return "that close the harness' own memory to it"
-    if not profile.has_smepmp and any(it[0] == "write" and it[1] == "mseccfg" for it in case.events):
-        return "of mseccfg, which the hart lacks"
-    if profile.grain > 4 and (writes_four_bytes(case) or any(is_finer(profile.bits, it) for it in expected.registers)):
-        return f"of regions finer than {profile.grain} bytes"
-    return None
+def hart_of(state, facts, looks, absent, extensions):
+    most = 54 if facts.xlen == 64 else 32
+    holding = [it for it in range(64) if state.get(f"pmpaddr{it}")]
+    ones = state.get("pmpaddr0", 0) & (2**most - 1)
+    modes = "M" + ("S" if facts.modes & 2 else "") + ("U" if facts.modes & 1 else "")
+    return Hart(
+        xlen=facts.xlen, entries=holding[-1] + 1 if holding else 0, modes=modes,
+        extensions=tuple(it for it in extensions if it not in ("hypervisor", "walk") or "S" in modes),
+        grain=(ones & -ones) * 4 if ones else 4, bits=ones.bit_length() + 2 if ones else most + 2,
+        has_smepmp="mseccfg" not in absent and bool(state.get("mseccfg", 0) & RLB),
+        reset_security=looks[0].changed.get("mseccfg", 0) & (MML | MMWP | RLB))
 
 
-def writes_four_bytes(case):
-    values = [it[2] for it in case.events if it[0] == "write" and it[1].startswith("pmpcfg")]
-    return any(it >> 3 & 3 == NA4 for value in values for it in value.to_bytes(8, "little"))
-
-
-def matching_of(state, entry):
-    return state.get(f"pmpcfg{entry // 8 * 2}", 0) >> (8 * (entry % 8) + 3) & 3
-
-
-def is_finer(bits, state):
-    """Whether a rule begins or ends inside a region of the grain."""
-    low = (1 << bits) - 1
-    before = 0
-    for entry in range(64):
-        address, matching = state.get(f"pmpaddr{entry}", 0), matching_of(state, entry)
-        if matching == TOR and (before | address) & low:
-            return True
-        if matching == NAPOT and ~address & low >> 1:
-            return True
-        before = address
-    return False
-
-
-def read_back(profile, state, name):
-    """What a register reads at the hart's grain: low bits of an address are 0 or 1 there, as the entry matches."""
-    value = state.get(name, 0)
-    if profile.grain == 4 or not name.startswith("pmpaddr"):
-        return value
-    low = (1 << profile.bits) - 1
-    return value | low >> 1 if matching_of(state, int(name[7:])) >= NA4 else value & ~low
+def demanded_hart(given):
+    """The hart that a profile says, where none can be probed."""
+    plain = Hart()
+    yes = given.get("smepmp", "yes") == "yes"
+    return Hart(
+        xlen=int(given.get("xlen", plain.xlen)), entries=int(given.get("entries", plain.entries)),
+        grain=int(given.get("grain", plain.grain)), bits=int(given.get("address_bits", plain.bits)), has_smepmp=yes,
+        modes=given.get("modes", plain.modes), extensions=tuple(given.get("extensions", "lr").split(",")),
+        reset_security=int(given.get("reset_mseccfg", "0"), 0) & 7 if yes else 0)

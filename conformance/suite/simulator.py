@@ -1,4 +1,4 @@
-"""Runs cases on a simulator: a program in the way of harness/, or one that reads the cases itself."""
+"""Runs cases on a simulator: one that runs an ELF, or a program that reads the cases itself."""
 import os
 import resource
 import subprocess
@@ -17,14 +17,20 @@ class Run:
     case: object
     part: tuple
     expected: object
+    # The case as the hart took it, where it made other choices than the program.
+    taken: object = None
+
+    @property
+    def understood(self):
+        return self.taken or self.case
 
     @cached_property
     def words(self):
         return list(words_of(self.case, self.part, self.expected))
 
-    def numbered(self, number, flags=0):
+    def numbered(self, number):
         """The words of the run, which is told by this number."""
-        return [self.words[0] | flags | number << 32, *self.words[1:]]
+        return [self.words[0] | number << 32, *self.words[1:]]
 
     @property
     def is_sticky(self):
@@ -51,27 +57,24 @@ def batches_of(runs, room, most):
     return batches + [[it] for it in sticky]
 
 
-class PlainHart:
-    """A program that is given the number of entries and a file of cases, and resets itself before each case."""
+class Plain:
+    """A program that is given a file of cases, and resets itself before each."""
 
-    is_hart, has_reset = False, True
+    is_hart, has_reset, starts = False, True, 1
 
     def __init__(self, words, work):
         self.words = words
         self.path = os.path.join(work, "cases.bin")
 
-    def run(self, runs, flags=0):
-        found = {}
-        for entries in (16, 64):
-            mine = {it: run for it, run in enumerate(runs) if run.case.entries == entries}
-            with open(self.path, "wb") as it:
-                it.write(blob_of([run.numbered(number, flags) for number, run in mine.items()]))
-            words = [*self.words, str(entries), self.path]
-            found.update(answers.read(subprocess.run(words, capture_output=True, text=True, check=True).stdout)[0])
+    def run(self, runs, is_alone=False):
+        with open(self.path, "wb") as it:
+            it.write(blob_of([run.numbered(number) for number, run in enumerate(runs)]))
+        done = subprocess.run([*self.words, self.path], capture_output=True, text=True, check=True)
+        found = answers.read(done.stdout)
         return [found.get(it, []) for it in range(len(runs))]
 
 
-class Hart:
+class Board:
     """A simulator that runs an ELF. ELF stands for the file in its words, or comes last."""
 
     is_hart = True
@@ -86,18 +89,18 @@ class Hart:
         self.room = int.from_bytes(self.image[self.place + 24:self.place + 32], "little")
         self.starts = 0
 
-    def write_elf(self, path, runs, flags=0, is_quiet=False):
-        blob = blob_of([it.numbered(number, flags) for number, it in enumerate(runs)], is_quiet)
+    def write_elf(self, path, runs, is_quiet=False):
+        blob = blob_of([it.numbered(number) for number, it in enumerate(runs)], is_quiet)
         if len(blob) > self.room:
             raise SystemExit(f"conformance: a case of {len(blob)} bytes, where the harness has room for {self.room}")
         with open(path, "wb") as it:
             it.write(self.image[:self.place] + blob + self.image[self.place + len(blob):])
 
-    def start(self, batch, flags=0):
+    def start(self, batch):
         """The steps of each run of one start of the simulator."""
         self.starts += 1
         path = os.path.join(self.work, f"batch-{self.starts}-{id(batch):x}.elf")
-        self.write_elf(path, batch, flags)
+        self.write_elf(path, batch)
         words = [it.replace("ELF", path) for it in self.words] if "ELF" in self.words else [*self.words, path]
         try:
             done = subprocess.run(words, stdin=subprocess.DEVNULL, capture_output=True, timeout=self.LAST_RESORT,
@@ -106,19 +109,19 @@ class Hart:
         except subprocess.TimeoutExpired as it:
             text = it.stdout or b""
         os.remove(path)
-        found = answers.read(text.decode("ascii", "replace"))[0]
+        found = answers.read(text.decode("ascii", "replace"))
         return [found.get(it, []) for it in range(len(batch))]
 
     @classmethod
     def limit(cls):
         resource.setrlimit(resource.RLIMIT_CPU, (cls.LIMIT, cls.LIMIT))
 
-    def run(self, runs, flags=0, is_alone=False):
+    def run(self, runs, is_alone=False):
         order = {id(run): place for place, run in enumerate(runs)}
         batches = [[it] for it in runs] if is_alone else batches_of(runs, self.room - 256, 40)
         found = [[] for _ in runs]
         with ThreadPoolExecutor(self.jobs) as pool:
-            for batch, steps in zip(batches, pool.map(lambda it: self.start(it, flags), batches)):
+            for batch, steps in zip(batches, pool.map(self.start, batches)):
                 for run, these in zip(batch, steps):
                     found[order[id(run)]] = these
         return found

@@ -2,9 +2,9 @@
 from dataclasses import replace
 
 from .blob import parts_of
-from .case import TOR, Access, Case
-from .judge import Judge
-from .profile import Profile, matching_of
+from .case import TABLE_ENTRY, TOR, Access
+from .judge import differences
+from .profile import Profile
 from .simulator import Run
 
 
@@ -13,10 +13,10 @@ def kind_of(found):
     run, difference = found
     if isinstance(difference.access, Access):
         access, got = difference.access, difference.got.split(",")[0]
-        cause = run.expected.causes[access]
-        return access.kind, access.mode == "M", access.is_aligned, difference.effect, got, cause
-    reasons = " ".join(run.expected.reasons[difference.after - 1][0]) if difference.after else ""
-    return (difference.access or "none").rstrip("0123456789"), reasons
+        cause = run.expected.causes[access][0]
+        return access.by, access.kind, access.mode == "M", access.is_aligned, difference.effect, got, cause
+    reasons = " ".join(run.expected.reasons[difference.after - 1]) if difference.after else ""
+    return (difference.access or difference.got).rstrip("0123456789"), reasons
 
 
 def size_of(found):
@@ -27,23 +27,24 @@ def size_of(found):
 def cut(case, difference):
     """The case up to the difference, with the access at fault alone."""
     accesses = [difference.access] if isinstance(difference.access, Access) else []
-    return Case(case.name, case.rule, case.version, case.events[:difference.after], accesses, case.looks)
+    attempts = [it for it in case.attempts if it.after == difference.after and str(it) == difference.access]
+    return replace(case, events=case.events[:difference.after], accesses=accesses, attempts=attempts)
 
 
 def without(case, place):
     """The case without one event."""
     events = case.events[:place] + case.events[place + 1:]
-    accesses = [replace(it, after=it.after - 1) for it in case.accesses]
-    return Case(case.name, case.rule, case.version, events, accesses, case.looks)
+    return replace(case, events=events, accesses=[replace(it, after=it.after - 1) for it in case.accesses],
+                   attempts=[replace(it, after=it.after - 1) for it in case.attempts])
 
 
 def is_kept(run, place):
     """Whether the event writes an end of a TOR entry, without which the entry would end at 0, which is another case."""
-    event, state = run.case.events[place], run.expected.registers[-1]
+    event, state, hart = run.case.events[place], run.expected.registers[-1], run.case.hart
     if event[0] == "reset" or not event[1].startswith("pmpaddr"):
         return False
     entry = int(event[1][7:])
-    return TOR in (matching_of(state, entry), matching_of(state, entry + 1))
+    return TOR in (hart.byte_of(state, it) >> 3 & 3 for it in (entry, entry + 1))
 
 
 class Smaller:
@@ -56,16 +57,10 @@ class Smaller:
         expected = self.oracle.answer(cases)
         runs = [Run(case, tuple(parts_of(case)[0]), it) for case, it in zip(cases, expected)]
         runs = [it for it in runs if it.expected.is_safe or not self.simulator.is_hart]
-        alone = {"is_alone": True} if self.simulator.is_hart else {}
-        judge = Judge(Profile(self.profile.given, {}, *self.probed()))
-        for run, steps in zip(runs, self.simulator.run(runs, **alone)):
-            difference = judge.compare(run.case, run.part, run.expected, steps)
-            if difference and kind_of((run, difference)) == kind and difference.after == len(run.case.events):
+        profile = Profile(self.profile.given, hart=self.profile.hart)
+        for run, difference in differences(self.oracle, profile, runs, self.simulator.run(runs, is_alone=True)):
+            if kind_of((run, difference)) == kind and difference.after == len(run.case.events):
                 yield run, difference
-
-    def probed(self):
-        it = self.profile
-        return it.entries, it.grain, it.address_bits, it.has_smepmp, it.reset_mseccfg, it.absent
 
     def smallest(self, found):
         """The found run without the events that it doesn't need."""
@@ -83,17 +78,26 @@ class Smaller:
 
 
 def lines_to_paste(found, program):
-    """A command for the program, and what each side says."""
+    """A command for the program, and what each side says. A write that the hart took otherwise stands as it took it."""
     run, difference = found
     access = difference.access
+    by = ""
     if isinstance(access, Access):
-        by = " by the mode itself" if difference.way else ""
-        what = f"{access.mode} {access.kind} {access.start:#x} {access.length}"
+        by = (f" ({access.by})" if access.by else "") + (" by the mode itself" if difference.way else "")
+        what = f"{access.mode} {access.asked_kind} {access.start:#x} {access.length}"
+        if access in run.expected.tables:
+            by += f", at {access.start:#x}, by a page table of which the command asks"
+            what = f"S {'store' if access.by == 'update' else 'load'} {TABLE_ENTRY:#x} 8"
         yield f"{program} check stdin {what} <<'END'"
+    elif access and access.startswith(("pmp", "mseccfg")):
+        yield f"{program} dump stdin <<'END' | grep '^{access} '"
     else:
-        by = ""
-        yield f"{program} dump stdin <<'END'" + (f" | grep '^{access} '" if access else "")
-    yield from run.case.script(difference.after).splitlines()[1:]
+        yield f"{program} map stdin <<'END'"
+    yield from run.understood.script(difference.after).splitlines()[1:]
     yield "END"
-    atomic = " (an LR or an AMO)" if isinstance(access, Access) and access.atomic else ""
-    yield f"# the program says {difference.wanted}, the simulator {difference.got}{atomic}{by}"
+    if access and not isinstance(access, Access) and " " in access:
+        yield f"# {access}: {difference.wanted} is raised, by the simulator {difference.got}"
+    elif access:
+        yield f"# the program says {difference.wanted}, the simulator {difference.got}{by}"
+    else:
+        yield "# the program leaves machine mode its code, data and devices here; the simulator hung or ended"

@@ -1,5 +1,5 @@
 """The families of cases: one for each rule of docs/RULES.md, and seeded ones on top."""
-from . import deciding, matching, registers, seeded, writing
+from . import causes, deciding, matching, partial, registers, seeded, writing
 
 RULES = (
     *(f"Registers {it}" for it in range(1, 8)),
@@ -10,9 +10,8 @@ RULES = (
 SEEDED = "Seeded"
 
 
-def all_cases(seed, random_cases):
-    found = [it.case for family in (registers, matching, deciding, writing) for it in family.cases()]
-    found += [it.case for it in seeded.cases(seed, random_cases)]
-    for number, case in enumerate(found):
-        case.name = f"{number:04}-{case.name}"
-    return found
+def all_cases(hart, seed, random_cases):
+    """The cases of a hart. Their names are the same for every hart that has them."""
+    families = (registers, matching, deciding, partial, causes, writing)
+    found = [it.case for family in families for it in family.cases(hart)]
+    return found + [it.case for it in seeded.cases(hart, seed, random_cases)]
