@@ -44,6 +44,3 @@ returns-in_err-rows-clause-err g c =
     (request.Diff c.args.asked) exit.result (unaudited fault) exit.ensures.1
     (allowed _ (sym c.in_ok-allow_name.ensures)
     (taken new.new.items _ new.ensures.read (allowed _ (sym may) (declined fault refused))))
-
-pub returns-clause-ok : goal.returns-clause-ok
-returns-clause-ok g c = search rules

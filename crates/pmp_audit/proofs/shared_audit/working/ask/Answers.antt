@@ -27,6 +27,3 @@ returns-clause-learnt c = record {
       ∙ ap (λ (unit : UnitId). file_from unit.base c.requires.told) (sym c.decide_at.ensures.look.unit);
   reached = omega (arith, c.in_ok-decision.ensures.at_len.0);
 }
-
-pub returns-clause-asked : goal.returns-clause-asked
-returns-clause-asked c = search rules

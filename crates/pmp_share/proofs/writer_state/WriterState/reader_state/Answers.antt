@@ -10,6 +10,3 @@ tell-requires c = tells _ _
 
 pub learn-requires-clause-rule : goal.learn-requires-clause-rule
 learn-requires-clause-rule c = rw c.in-Ok.ensures.view (hears c.in-Ok.reader.place.id c.tell.result.id _)
-
-pub of-requires : goal.of-requires
-of-requires c = search rules

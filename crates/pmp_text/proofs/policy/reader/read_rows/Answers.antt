@@ -36,6 +36,3 @@ loop-labels-preserved c =
           c.in-Ok.ensures.within);
       labels = no_label c.args.labeled _ _ _ _ c.if-labeled.false c.loop-labels.invariant.labels;
     }
-
-pub returns-in-Err-clause-given : goal.returns-in-Err-clause-given
-returns-in-Err-clause-given c = search rules
