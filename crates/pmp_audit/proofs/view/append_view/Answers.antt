@@ -1,4 +1,3 @@
-use Rattle.std.proofs.Common.{rules}
 use Rattle.pmp_audit.proofs.view.append_view.Goals as goal
 
 pub write_view-requires-clause-legal : goal.write_view-requires-clause-legal

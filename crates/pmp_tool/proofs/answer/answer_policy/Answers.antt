@@ -1,4 +1,4 @@
-use Rattle.std.proofs.Common.{None, rules}
+use Rattle.std.proofs.Common.{None}
 use Rattle.std.proofs.KnownBytes.{Keeps-refl}
 use Rattle.pmp_tool.specs.declared.request.Request.TheVariants as request
 use Rattle.pmp_tool.specs.Failures.{unaudited, unread}

@@ -1,4 +1,4 @@
-use Rattle.std.proofs.Common.{◌≡◌, ◌∙◌, sym, ap, arith, rules}
+use Rattle.std.proofs.Common.{◌≡◌, ◌∙◌, sym, ap, arith}
 use Rattle.pmp_core.specs.Histories.{joined}
 use Rattle.pmp_share.specs.Batches.{StartsWith, event_count, file_from}
 use Rattle.pmp_share.specs.Tokens.{UnitId}

@@ -1,4 +1,4 @@
-use Rattle.std.proofs.Common.{arith, rules}
+use Rattle.std.proofs.Common.{arith}
 use Rattle.pmp_c.specs.Unit.{file_of_unit}
 use Rattle.pmp_c.proofs.unit.Unit.run.Goals as goal
 

@@ -1,4 +1,3 @@
-use Rattle.std.proofs.Common.{rules}
 use Rattle.pmp_share.proofs.RuleFacts.{looks}
 use Rattle.pmp_share.proofs.reader_state.ReaderState.asked.Goals as goal
 

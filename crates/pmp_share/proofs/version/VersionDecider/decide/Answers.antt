@@ -1,4 +1,4 @@
-use Rattle.std.proofs.Common.{subst, rules}
+use Rattle.std.proofs.Common.{subst}
 use Rattle.pmp_core.specs.Decision.{IsDecision}
 use Rattle.pmp_share.proofs.version.VersionDecider.decide.Goals as goal
 

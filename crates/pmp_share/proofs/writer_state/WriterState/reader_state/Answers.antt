@@ -1,4 +1,3 @@
-use Rattle.std.proofs.Common.{rules}
 use Rattle.pmp_share.proofs.RuleFacts.{admits, tells, hears}
 use Rattle.pmp_share.proofs.writer_state.WriterState.reader_state.Goals as goal
 
