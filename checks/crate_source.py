@@ -4,7 +4,6 @@ import re
 
 PARTS = ("src", "specs", "proofs")
 
-
 class Fault(Exception):
     """Why an edit can't be tried."""
 
@@ -29,7 +28,7 @@ class Source:
     RECORD = re.compile(r"^( +)(?:pub )?record (\S+) .*\n(?:\1 +.*\n)*", re.M)
 
     def __init__(self, folder):
-        self.texts = {}
+        self.name, self.texts = os.path.basename(folder), {}
         for part in PARTS:
             for at, _, names in os.walk(f"{folder}/{part}"):
                 for path in (f"{at}/{it}" for it in names):
@@ -70,6 +69,17 @@ class Source:
         """Whether the function's proof has an answer for the goal."""
         text = self.texts.get(f"proofs/{function.replace('::', '/')}/Answers.antt", "")
         return re.search(rf"^pub {re.escape(goal)} :", text, re.M) is not None
+
+    def has_types(self, place):
+        """Whether a function, or what it is of, has a parameter that is a type."""
+        file, start, body, *_ = self.places[place]
+        text = self.texts[file]
+        head = text[start:body]
+        given = re.findall(r"\bfn \w+<([^>]*)>", head)
+        if re.match(r"[ \t]", text[start:]):
+            given += re.findall(r"^impl<([^>]*)>", list(self.OWNER.finditer(text, 0, start))[-1][0])
+        return bool(re.search(r"\bimpl\b", head.partition("(")[2])) or any(
+            not it.strip().startswith("'") for all in given for it in all.split(",") if it.strip())
 
     def open_head(self, place):
         """Where the attributes of a function begin and end, and what they are where no tactic tries its goals."""
@@ -182,6 +192,14 @@ class Source:
                 if names & self.heads[name]:
                     names.add(name.rpartition("::")[2])
         return None if names & self.types else reached
+
+
+def searched(proof, goals, goal):
+    """A proof's file with an answer by a search; the goal has the names of its arguments behind it."""
+    name = goal.partition(" ")[0]
+    heads = [] if re.search(r"^use .*\brules\b", proof, re.M) else ["use Rattle.std.proofs.Common.{rules}"]
+    heads += [] if " as goal\n" in proof else [f"use Rattle.{goals} as goal"]
+    return "\n".join([*heads, proof, f"pub {name} : goal.{name}", f"{goal} = search rules", ""])
 
 
 def module_of(file):

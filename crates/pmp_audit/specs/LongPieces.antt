@@ -1,5 +1,5 @@
 -- A piece of a long audit: what is written of it, and why it isn't.
-use Rattle.std.specs.Prelude.{◌≡◌, ◌⊎◌, ℕ, ◌+◌, ◌^◌, ◌≤◌, List, length, map, filter_map}
+use Rattle.std.specs.Prelude.{◌≡◌, ◌⊎◌, ℕ, ◌+◌, ◌^◌, ◌≤◌, List, map, filter_map}
 use Rattle.std.specs.Prelude.{Option, None, Some, ⊤}
 use Rattle.std.specs.Io.KnownBytes.{Appends, Keeps}
 use Rattle.pmp_core.specs.declared.decision.Decision.{Decision}

@@ -1,5 +1,5 @@
 -- When an audit by several threads refuses.
-use Rattle.std.specs.Prelude.{◌≡◌, ℕ, ◌<◌, List, Any, length, take, ⊤, Ok}
+use Rattle.std.specs.Prelude.{◌≡◌, ℕ, ◌<◌, List, Any, take, ⊤, Ok}
 use Rattle.pmp_share.specs.declared.fault.ShareFault.TheVariants.{NoPlace}
 use Rattle.pmp_share.specs.Batches.{Batches, event_count}
 use Rattle.pmp_text.specs.declared.trace.row_fields.RowFields.{RowFields}

@@ -1,5 +1,5 @@
 -- Many accesses, decided by one call.
-use Rattle.std.specs.Prelude.{◌≡◌, ℕ}
+use Rattle.std.specs.Prelude.{◌≡◌}
 use Rattle.pmp_core.specs.declared.access.Access.{Access}
 use Rattle.pmp_core.specs.Ranges.{decision_of}
 use Rattle.pmp_map.specs.Answer.{answer_number, no_access}

@@ -31,7 +31,7 @@ use Rattle.pmp_core.proofs.Locks.{other_address}
 use Rattle.pmp_core.proofs.Others.{entry_kept}
 use Rattle.pmp_core.proofs.Places.{entries_by, none_any}
 use Rattle.pmp_core.proofs.Sizes.{own_address_written}
-use Rattle.pmp_core.proofs.StoredBytes.{byte_plain, configuration_back}
+use Rattle.pmp_core.proofs.StoredBytes.{configuration_back}
 use Rattle.pmp_core.proofs.WordBytes.{word_gives}
 
 -- with bypass on a last write of mseccfg gives any fields; and a first one, after reset, any with bypass on

@@ -29,7 +29,7 @@ use Rattle.pmp_core.proofs.Locks.{configured_address, other_address}
 use Rattle.pmp_core.proofs.Places.{entries_by}
 use Rattle.pmp_core.proofs.Restored.{entry_in, entry_past, file_is, few_in, length_in, mseccfg_in, profile_in}
 use Rattle.pmp_core.proofs.Saved.{fields_back, restored_legal, stored_as_is}
-use Rattle.pmp_core.proofs.StoredBytes.{byte_plain, configuration_back}
+use Rattle.pmp_core.proofs.StoredBytes.{configuration_back}
 use Rattle.pmp_core.proofs.WordBytes.{byte, word_gives}
 
 -- ---- numbers that a file is saved as

@@ -1,6 +1,6 @@
 -- A script has no more events, and no more publications, than the limit.
 use Rattle.std.proofs.Common.{◌≡◌, ℕ, ◌+◌, ◌<◌, ◌≤◌, Bool, true, false, cond, ltb, List, [], ◌∷◌, length}
-use Rattle.std.proofs.Common.{Option, Some, None, Result, Ok, Err, refl, sym, ap, ◌∙◌, arith, subst}
+use Rattle.std.proofs.Common.{Option, Some, None, Result, Ok, Err, refl, sym, ◌∙◌, arith, subst}
 use Rattle.std.specs.Option.{option_or}
 use Rattle.std.proofs.lemmas.Bool.{ltb-true}
 use Rattle.std.proofs.lemmas.List.{length-append}
@@ -15,7 +15,7 @@ use Rattle.pmp_text.specs.declared.script.reader.TheConstants.{MAX_EVENTS}
 use Rattle.pmp_text.specs.declared.script.statement.Statement.{Statement}
 use Rattle.pmp_text.specs.declared.script.statement.Statement.TheVariants as statement
 use Rattle.pmp_text.specs.declared.script.version.Version.{Version}
-use Rattle.pmp_text.specs.Contents.{Publications, ScriptContents}
+use Rattle.pmp_text.specs.Contents.{Publications}
 use Rattle.pmp_text.specs.Flaws.{as_whole}
 use Rattle.pmp_text.specs.Heads.{event_flaw, profile_said}
 use Rattle.pmp_text.specs.Longhand.{in_longhand}
@@ -23,7 +23,7 @@ use Rattle.pmp_text.specs.Marks.{is_in}
 use Rattle.pmp_text.specs.ScriptEvents.{expected_from, first_unpublished, head_lines, marks_from, publications}
 use Rattle.pmp_text.specs.ScriptFaults.{event_fault, first_fault, head_fault, mark_fault, name_fault, publish_fault}
 use Rattle.pmp_text.specs.ScriptLines.{Line, said_by}
-use Rattle.pmp_text.specs.Scripts.{fault_or_publications, script_meaning}
+use Rattle.pmp_text.specs.Scripts.{fault_or_publications}
 use Rattle.pmp_text.specs.Sizes.{IsInLimits, ScriptSizeLaw, events_in}
 use Rattle.pmp_text.specs.Steps.Progress.{HeadSoFar, Read, Reading, after_statement, all_published, longer_head, nothing_begun}
 use Rattle.pmp_text.specs.Steps.Progress.{read_in, resumed, says_in, unless, with_event, with_expected, with_head, with_mark}

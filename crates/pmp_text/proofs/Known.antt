@@ -28,7 +28,7 @@ use Rattle.pmp_text.specs.ScriptFaults.{is_rv32, rv32_behind}
 use Rattle.pmp_text.specs.Marks.{is_in, same_name}
 use Rattle.pmp_text.specs.ScriptFaults.{is_marked, names_same}
 use Rattle.pmp_text.specs.ScriptEvents.{mark_at}
-use Rattle.pmp_text.specs.Steps.Progress.{over, says_in, with_event}
+use Rattle.pmp_text.specs.Steps.Progress.{says_in, with_event}
 use Rattle.pmp_text.specs.Steps.Progress.{longer_head, Reading, with_publish}
 use Rattle.pmp_text.specs.Steps.Progress.{with_expected, with_mark}
 

@@ -1,5 +1,5 @@
 -- Reading lines, each in longhand, gives what is read of their longhand.
-use Rattle.std.proofs.Common.{◌≡◌, ℕ, ◌+◌, List, [], ◌∷◌, ◌++◌, drop}
+use Rattle.std.proofs.Common.{◌≡◌, ℕ, List, [], ◌∷◌, ◌++◌, drop}
 use Rattle.std.proofs.Common.{Option, Some, None, Result, Ok, Err, refl, sym, ap, ◌∙◌, append_assoc, subst, inl, inr, ◌⊎◌}
 use Rattle.std.specs.Prelude.{filter_map, fold}
 use Rattle.std.specs.List.{cons_option}

@@ -1,6 +1,6 @@
 -- Scripts of versions without a head expect nothing.
 use Rattle.std.proofs.Common.{◌≡◌, ℕ, ◌+◌, Bool, true, false, cond, List, [], ◌∷◌}
-use Rattle.std.proofs.Common.{None, Result, Some, Ok, Err, refl}
+use Rattle.std.proofs.Common.{None, Result, Ok, Err, refl}
 use Rattle.std.specs.Prelude.{codes, bytes_eq, ⊤}
 use Rattle.pmp_core.specs.declared.size.Size.{Size}
 use Rattle.pmp_text.specs.declared.flaw.Flaw.{Flaw}

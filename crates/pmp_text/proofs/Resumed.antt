@@ -1,5 +1,5 @@
 -- Reading one line more, and so all of them, gives what is meant by the lines.
-use Rattle.std.proofs.Common.{◌≡◌, ℕ, ◌+◌, Bool, true, false, cond, List, [], ◌∷◌, ◌++◌, length}
+use Rattle.std.proofs.Common.{◌≡◌, ℕ, Bool, true, false, cond, List, [], ◌∷◌, ◌++◌, length}
 use Rattle.std.proofs.Common.{Option, Some, None, Result, Ok, Err, refl, sym, ap, ◌∙◌, append_assoc}
 use Rattle.std.specs.Prelude.{option_map}
 use Rattle.std.specs.Option.{option_or}
@@ -35,7 +35,7 @@ use Rattle.pmp_text.proofs.Known.{Knows, knows_event, knows_expected, knows_head
 use Rattle.pmp_text.proofs.Published.{all_from, all_from-event, all_from-nothing, all_from-passed, all_from-published}
 use Rattle.pmp_text.proofs.Published.{pieces_of, same_publications, since_from, since_from-event, since_from-nothing}
 use Rattle.pmp_text.proofs.Published.{since_from-passed, since_from-published, some_piece}
-use Rattle.pmp_text.specs.Flaws.{at_line, as_whole}
+use Rattle.pmp_text.specs.Flaws.{at_line}
 
 module _ (version : Version) where
   -- what is read in the end, where these lines follow, cut into these pieces

@@ -1,5 +1,5 @@
 -- The text of a report, and of each of its rows.
-use Rattle.std.specs.Prelude.{◌≡◌, ℕ, Bool, List, [], ◌∷◌, ◌++◌, fold, length, map, take, Option, Some, None, Ok}
+use Rattle.std.specs.Prelude.{◌≡◌, ℕ, Bool, List, [], ◌∷◌, ◌++◌, fold, map, take, Option, Some, None, Ok}
 use Rattle.std.specs.Prelude.{if◌then◌else◌, codes, decimal}
 use Rattle.std.specs.List.{AllZip, zip, enumerate_from, flat_map}
 use Rattle.pmp_core.specs.declared.access.Access.{Access}

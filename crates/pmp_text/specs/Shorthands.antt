@@ -1,5 +1,5 @@
 -- Lines of version 3 that stand for writes, whose values the registers there decide.
-use Rattle.std.specs.Prelude.{ℕ, zero, suc, ◌+◌, ◌-◌, ◌*◌, ◌/◌, ◌%◌, ◌^◌, List, [], ◌∷◌, Bool, not, ◌&&◌, ◌==◌, codes}
+use Rattle.std.specs.Prelude.{ℕ, zero, suc, ◌+◌, ◌-◌, ◌/◌, ◌%◌, ◌^◌, List, [], ◌∷◌, Bool, not, ◌&&◌, ◌==◌, codes}
 use Rattle.std.specs.Prelude.{Option, Some, None, Result, Ok, Err, bytes_eq, nat_lt, nat_le, slice_set, bit_and, bit_or}
 use Rattle.std.specs.Prelude.{if◌then◌else◌}
 use Rattle.std.specs.Int.{w64, bit_not, from_le_bytes, is_power_of_two, to_le_bytes}

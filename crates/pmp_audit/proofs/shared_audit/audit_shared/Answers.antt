@@ -3,7 +3,7 @@ use Rattle.std.proofs.lemmas.List.{length-map}
 use Rattle.pmp_text.specs.Moments.{moments_in}
 use Rattle.pmp_audit.proofs.FaultyInputs.{script_refused, trace_refused}
 use Rattle.std.proofs.lemmas.Result.{IfOk-from_err}
-use Rattle.std.proofs.Common.{◌≡◌, ◌∙◌, length, map, ap, sym, subst, Ok, rules}
+use Rattle.std.proofs.Common.{◌≡◌, ◌∙◌, map, ap, sym, subst, Ok, rules}
 use Rattle.pmp_text.specs.Sizes.{IsInLimits}
 use Rattle.std.proofs.lemmas.Result.{err_from_is_err_and}
 use Rattle.pmp_text.specs.Traces.{row_fields, trace_meaning}

@@ -8,6 +8,3 @@ loop-index-init c = search (rules, blank_cuts)
 
 pub returns-clause-cuts : goal.returns-clause-cuts
 returns-clause-cuts c = search (rules, legal_addresses, owners_of, up_alike)
-
-pub loop-index-preserved : goal.loop-index-preserved
-loop-index-preserved c = search rules

@@ -22,6 +22,3 @@ returns g c =
     (take_all _ _ (simp length-drop (omega arith))) in
     let piece : c.replace-2.result.items ≡ take (c.in_ok-end.end + 1) c.fill.new.held.items = search rules in
     front _ _ _ _ _ (rw going at c.in_ok-fill.ensures.filled) c.in_ok-end.end some inside ends _ _ left piece
-
-pub returns-then-branch : goal.returns-then-branch
-returns-then-branch g c = search rules

@@ -1,4 +1,4 @@
-use Rattle.std.proofs.Common.{None, rules}
+use Rattle.std.proofs.Common.{None}
 use Rattle.std.proofs.KnownBytes.{Keeps-refl}
 use Rattle.pmp_tool.specs.declared.request.Request.TheVariants as request
 use Rattle.pmp_tool.specs.Failures.{unaudited, unread}
@@ -32,6 +32,3 @@ returns-in_err-summary-in-None-clause-err g c =
     refused_so _ _ (g.I.Inputs.scripts c.args.inputs.now) (g.I.Inputs.traces c.args.inputs.now) c.args.script.now
     (request.Audit c.args.asked) exit.result (unaudited fault) exit.ensures.1
     (taken trace.trace.items _ trace.ensures.read (rw c.in-None.is (declined fault refused)))
-
-pub returns-clause-ok : goal.returns-clause-ok
-returns-clause-ok g c = search rules

@@ -1,4 +1,4 @@
-use Rattle.std.proofs.Common.{rules, sym}
+use Rattle.std.proofs.Common.{sym}
 use Rattle.std.proofs.KnownBytes.{Keeps-refl}
 use Rattle.pmp_tool.specs.declared.failure.Failure.TheVariants.{Refused}
 use Rattle.pmp_tool.specs.declared.request.Request.TheVariants as request
@@ -44,6 +44,3 @@ returns-in_err-rows-clause-err g c =
     (request.Diff c.args.asked) exit.result (unaudited fault) exit.ensures.1
     (allowed _ (sym c.in_ok-allow_name.ensures)
     (taken new.new.items _ new.ensures.read (allowed _ (sym may) (declined fault refused))))
-
-pub returns-clause-ok : goal.returns-clause-ok
-returns-clause-ok g c = search rules

@@ -1,4 +1,4 @@
-use Rattle.std.proofs.Common.{None, rules}
+use Rattle.std.proofs.Common.{None}
 use Rattle.std.proofs.KnownBytes.{Keeps-refl}
 use Rattle.pmp_tool.specs.declared.request.Request.TheVariants as request
 use Rattle.pmp_tool.specs.Failures.{unaudited, unread}
@@ -22,6 +22,3 @@ returns-in_err-check_policy-clause-err g c =
     refused_so _ _ (g.I.Inputs.scripts c.args.inputs.now) (g.I.Inputs.traces c.args.inputs.now) c.args.script.now
     (request.Policy c.args.path c.args.pace) exit.result (unaudited fault) exit.ensures.1
     (taken policy.policy.items _ policy.ensures.read (declined fault refused))
-
-pub returns-clause-ok : goal.returns-clause-ok
-returns-clause-ok g c = search rules

@@ -1,4 +1,4 @@
-use Rattle.std.proofs.Common.{◌≡◌, ◌∙◌, sym, ap, arith, rules}
+use Rattle.std.proofs.Common.{◌≡◌, ◌∙◌, sym, ap, arith}
 use Rattle.pmp_core.specs.Histories.{joined}
 use Rattle.pmp_share.specs.Batches.{StartsWith, event_count, file_from}
 use Rattle.pmp_share.specs.Tokens.{UnitId}
@@ -27,6 +27,3 @@ returns-clause-learnt c = record {
       ∙ ap (λ (unit : UnitId). file_from unit.base c.requires.told) (sym c.decide_at.ensures.look.unit);
   reached = omega (arith, c.in_ok-decision.ensures.at_len.0);
 }
-
-pub returns-clause-asked : goal.returns-clause-asked
-returns-clause-asked c = search rules

@@ -4,6 +4,3 @@ use Rattle.pmp_map.proofs.painting.Canvas.part_at.Goals as goal
 
 pub loop-cut-preserved : goal.loop-cut-preserved
 loop-cut-preserved c = search (rules, moved_up)
-
-pub returns-clause-below : goal.returns-clause-below
-returns-clause-below c = search rules

@@ -8,6 +8,3 @@ returns-clause-few c = search (rules, few_runs_of_entries, legal_addresses)
 
 pub returns-clause-owners : goal.returns-clause-owners
 returns-clause-owners c = search (rules, owners_below)
-
-pub returns-clause-runs : goal.returns-clause-runs
-returns-clause-runs c = search rules

@@ -1,4 +1,3 @@
-use Rattle.std.proofs.Common.{rules}
 use Rattle.pmp_share.proofs.RuleFacts.{admits, tells, hears}
 use Rattle.pmp_share.proofs.writer_state.WriterState.reader_state.Goals as goal
 
@@ -10,6 +9,3 @@ tell-requires c = tells _ _
 
 pub learn-requires-clause-rule : goal.learn-requires-clause-rule
 learn-requires-clause-rule c = rw c.in-Ok.ensures.view (hears c.in-Ok.reader.place.id c.tell.result.id _)
-
-pub of-requires : goal.of-requires
-of-requires c = search rules

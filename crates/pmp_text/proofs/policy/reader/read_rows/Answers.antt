@@ -1,5 +1,5 @@
 use Rattle.std.proofs.Common.{◌≡◌, ◌+◌, ◌≤◌, ◌∷◌, ◌++◌, [], Bool, List, cond, true, false, Ok, length, map, ap, sym}
-use Rattle.std.proofs.Common.{◌∙◌, arith, rules}
+use Rattle.std.proofs.Common.{◌∙◌, arith}
 use Rattle.std.proofs.lemmas.List.{length-append, map-append}
 use Rattle.std.proofs.lemmas.List.Elements.{All-push}
 use Rattle.pmp_text.specs.Labels.{LabelText}
@@ -36,6 +36,3 @@ loop-labels-preserved c =
           c.in-Ok.ensures.within);
       labels = no_label c.args.labeled _ _ _ _ c.if-labeled.false c.loop-labels.invariant.labels;
     }
-
-pub returns-in-Err-clause-given : goal.returns-in-Err-clause-given
-returns-in-Err-clause-given c = search rules

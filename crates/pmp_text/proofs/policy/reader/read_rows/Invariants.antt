@@ -1,6 +1,6 @@
-use Rattle.std.proofs.Common.{◌≡◌, ◌≤◌, ◌++◌, List, [], cond, length, map}
+use Rattle.std.proofs.Common.{◌≡◌, ◌≤◌, ◌++◌, [], cond, length, map}
 use Rattle.std.specs.Prelude.{All}
-use Rattle.pmp_text.specs.Labels.{LabelText, label_in, label_text}
+use Rattle.pmp_text.specs.Labels.{label_in, label_text}
 use Rattle.pmp_text.specs.Policies.{policy_fields, policy_rows_meaning}
 use Rattle.pmp_text.proofs.Rows.{with_policy_read}
 use Rattle.pmp_text.proofs.policy.reader.read_rows.Given as goal

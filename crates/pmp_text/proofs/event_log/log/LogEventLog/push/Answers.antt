@@ -1,9 +1,6 @@
-use Rattle.std.proofs.Common.{rules, arith}
+use Rattle.std.proofs.Common.{arith}
 use Rattle.std.proofs.lemmas.Grind.{common_steps}
 use Rattle.pmp_text.proofs.event_log.log.LogEventLog.push.Goals as goal
-
-pub returns-else-is_err-clause-ok : goal.returns-else-is_err-clause-ok
-returns-else-is_err-clause-ok g c = search rules
 
 pub returns-then-is_err-clause-err : goal.returns-then-is_err-clause-err
 returns-then-is_err-clause-err g c = grind (arith, common_steps)

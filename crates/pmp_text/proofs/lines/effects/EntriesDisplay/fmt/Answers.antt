@@ -16,6 +16,3 @@ loop-entry-preserved g c =
       | else-has_reason w ↦ rw (w.f-is, w.is_first-is) (not_passed _ _ _ _ _ _ (range_with_len 0 entry) entry
           c.loop-entry.invariant (sym c.has_reason.ensures ∙ w.if-has_reason.false))
     ])
-
-pub loop-entry-init : goal.loop-entry-init
-loop-entry-init g c = search rules

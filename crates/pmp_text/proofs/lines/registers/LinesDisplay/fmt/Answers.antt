@@ -29,6 +29,3 @@ returns-clause-writes g c =
     λ plain done. rw (← append_assoc (cfg_registers c.args.self.now.file.now.profile count) (addr_registers count) (Mseccfg ∷ []))
     (line_more _ (line_of c.args.self.now.form c.args.self.now.file.now) _ _ _ _ _
     (rw (all, c.entries-entry-end.ensures.count) at c.loop-entry.invariant) (search rules) plain)
-
-pub loop-entry-init : goal.loop-entry-init
-loop-entry-init g c = search rules

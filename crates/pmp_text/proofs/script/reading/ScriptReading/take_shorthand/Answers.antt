@@ -4,7 +4,7 @@ use Rattle.pmp_core.specs.RegisterWrite.{step}
 use Rattle.pmp_text.specs.Flaws.{and_then}
 use Rattle.pmp_text.specs.Longhand.{file_said, written_out}
 use Rattle.pmp_text.specs.Shorthands.{writes_of}
-use Rattle.pmp_text.specs.Steps.Progress.{Reading, after_lines}
+use Rattle.pmp_text.specs.Steps.Progress.{after_lines}
 use Rattle.pmp_text.specs.Steps.Reading.{reading_of}
 use Rattle.pmp_text.specs.Steps.Views.{seen_line}
 use Rattle.pmp_text.specs.declared.flaw.Flaw.{Flaw}
