@@ -4,6 +4,7 @@ import re
 
 PARTS = ("src", "specs", "proofs")
 
+
 class Fault(Exception):
     """Why an edit can't be tried."""
 

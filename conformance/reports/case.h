@@ -41,6 +41,17 @@ text\@:
     .popsection
     .endm
 
+/* close_word LABEL: closes the word there to S and U by entry 0, NA4 without rights, where entry 1 opens all memory. */
+    .macro close_word label
+    la t0, \label
+    srli t0, t0, 2
+    csrw pmpaddr0, t0
+    li t0, ALL                          /* NAPOT, with all rights */
+    csrw pmpaddr1, t0
+    li t0, 0x1f10
+    csrw pmpcfg0, t0
+    .endm
+
 /* finish STATUS: ends QEMU's run. */
     .macro finish status
     li t0, (\status << 16) | FAIL
