@@ -6,7 +6,7 @@
    --no-smepmp --no-supervisor --no-user --no-extensions   what it doesn't have
    --reset-mseccfg N                                       what a reset leaves in mseccfg */
 #include "plain/deciding.h"
-#include "plain/writing.h"
+#include "plain/security.h"
 #include <stdio.h>
 #include <stdlib.h>
 #include <string.h>
@@ -14,7 +14,7 @@
 enum { END, CASE, WRITE, LOOK, EXPECT, ACCESS, RESET, SPOT, HART, ATTEMPT };
 /* How a register is written. */
 enum { WHOLE, SET_BITS, CLEAR_BITS, READ };
-enum { MSECCFG = 0x747, PMPCFG0 = 0x3a0, PMPADDR0 = 0x3b0 };
+enum { MSECCFG = 0x747, MSECCFGH = 0x757, PMPCFG0 = 0x3a0, PMPADDR0 = 0x3b0 };
 
 #define ROW_OF(NAME, COUNT, RULE, HART) {#NAME, COUNT, RULE, HART},
 static const struct {
@@ -35,8 +35,8 @@ static int is_odd(unsigned number) {
 }
 
 static int is_there(unsigned number) {
-    if (number == MSECCFG)
-        return hart.has_smepmp;
+    if (number == MSECCFG || number == MSECCFGH)
+        return hart.has_smepmp && (number == MSECCFG || hart.xlen == 32);
     unsigned first = number < PMPADDR0 ? 4 * (number - PMPCFG0) : number - PMPADDR0;
     return !is_odd(number) && (first < hart.entries || turn == absent_entry_is_stored);
 }
@@ -46,11 +46,17 @@ static void write_register(unsigned number, uint64_t value) {
     value &= ones(hart.xlen);
     if (turn == absent_address_is_another && number >= PMPADDR0 + hart.entries && number < PMPADDR0 + 64)
         number = PMPADDR0 + (number - PMPADDR0) % hart.entries;
+    if (turn == absent_address_is_the_last && number >= PMPADDR0 + hart.entries && number < PMPADDR0 + 64)
+        number = PMPADDR0 + hart.entries - 1;
     if (turn == absent_register_is_another && number < PMPADDR0 && !is_odd(number) && !is_there(number))
         number = PMPCFG0;
+    if (turn == second_byte_register_is_the_first && number == PMPCFG0 + 2)
+        number = PMPCFG0;
     if (!is_there(number)) {
-        if (turn == absent_register_traps || number == MSECCFG || is_odd(number))
+        if (turn == absent_register_traps || number == MSECCFG || number == MSECCFGH || is_odd(number))
             puts("t 2");
+    } else if (number == MSECCFGH) {
+        unit.upper_security = turn == upper_security_is_stored ? value : 0;
     } else if (is_byte_register(number, &first)) {
         write_bytes(first, value);
     } else if (number == MSECCFG) {
@@ -60,43 +66,74 @@ static void write_register(unsigned number, uint64_t value) {
     }
 }
 
+/* An address as it reads, with the ones or the zeros of a coarser grain. */
+static uint64_t grained(const struct unit *from, unsigned entry) {
+    uint64_t address = from->address[entry];
+    if ((from->byte[entry] >> 3 & 3) == NAPOT)
+        return turn == power_reads_bits_below_grain ? address
+            : turn == power_reads_half_its_ones ? address | low_bits() >> 2 : address | low_bits() >> 1;
+    return turn == range_reads_bits_below_grain ? address : address & ~low_bits();
+}
+
 static uint64_t read_address(const struct unit *from, unsigned entry) {
-    int is_power = (from->byte[entry] >> 3 & 3) == NAPOT;
-    return is_power ? from->address[entry] | low_bits() >> 1 : from->address[entry] & ~low_bits();
+    uint64_t address = grained(from, entry);
+    if (turn == address_reads_its_sign && address >> (hart.bits - 3) & 1)
+        return address | ~ones(hart.bits - 2);
+    return turn == address_reads_in_bytes ? address << 2 : address;
+}
+
+static uint64_t read_bytes(const struct unit *from, unsigned first) {
+    uint64_t value = 0;
+    for (unsigned place = 0; place < bytes_in(); place++) {
+        uint64_t byte = turn == lock_is_not_read ? from->byte[first + place] & 0x7f : from->byte[first + place];
+        unsigned at = turn == halves_swapped ? place ^ 4 : place;
+        value |= byte << 8 * (turn == bytes_in_reverse ? bytes_in() - 1 - at : at);
+    }
+    return value;
 }
 
 static uint64_t read_register(const struct unit *from, unsigned number) {
     unsigned first;
-    uint64_t value = 0;
     if (!is_there(number))
         return 0;
+    if (number == MSECCFGH)
+        return from->upper_security;
     if (number == MSECCFG)
-        return turn != allow_list_in_bit_2 ? from->security
-            : (from->security & ~UINT64_C(6)) | (from->security & 2) << 1 | (from->security & 4) >> 1;
-    if (!is_byte_register(number, &first))
-        return read_address(from, number - PMPADDR0);
-    for (unsigned place = 0; place < bytes_in(); place++)
-        value |= (uint64_t)from->byte[first + place] << 8 * (turn == bytes_in_reverse ? bytes_in() - 1 - place : place);
-    return value;
+        return ordered_security(from->security);
+    if (turn == second_byte_register_is_the_first && number == PMPCFG0 + 2)
+        number = PMPCFG0;
+    return is_byte_register(number, &first) ? read_bytes(from, first) : read_address(from, number - PMPADDR0);
 }
 
 static void write_bits(unsigned how, unsigned number, uint64_t value) {
-    uint64_t before = read_register(&unit, number);
+    uint64_t before = read_register(&unit, number), mask = value;
     struct unit kept = unit;
+    if (turn == bits_swapped && (how == SET_BITS || how == CLEAR_BITS))
+        how = how == SET_BITS ? CLEAR_BITS : SET_BITS;
     if (how == SET_BITS)
         value = turn == set_bits_write_the_mask ? value : before | value;
     if (how == CLEAR_BITS)
         value = turn == clear_bits_write_the_mask ? value : before & ~value;
+    if ((how == SET_BITS && turn == set_bits_ignore_locks) || (how == CLEAR_BITS && turn == clear_bits_ignore_locks))
+        unit.security |= RLB;
     write_register(number, value);
+    if (number != MSECCFG && (turn == set_bits_ignore_locks || turn == clear_bits_ignore_locks))
+        unit.security = kept.security;
+    if (how == CLEAR_BITS && turn == clear_bits_clear_sticky && number == MSECCFG)
+        unit.security &= ~mask;
     if ((how == SET_BITS && turn == set_bits_are_ignored) || (how == CLEAR_BITS && turn == clear_bits_are_ignored))
         unit = kept;
 }
 
 /* An access to a register that has to be an illegal instruction. */
 static void try_register(unsigned how, unsigned mode, unsigned number) {
-    int is_open = mode == MACHINE ? turn == odd_register_is_there
-        : (turn == lower_modes_read && how == READ) || turned(lower_modes_write, how)
-            || (turn == supervisor_reads && how == READ && mode == SUPERVISOR);
+    int is_open = number == MSECCFGH ? is_there(number) && turn != upper_security_is_missing
+        : mode == MACHINE ? turn == odd_register_is_there
+        : (how == READ
+           && (turn == lower_modes_read || (turn == supervisor_reads && mode == SUPERVISOR)
+               || (turn == lower_modes_read_addresses && number >= PMPADDR0 && number < MSECCFG)
+               || (turn == lower_modes_read_security && number == MSECCFG)))
+            || turned(lower_modes_write, how);
     if (is_open && how != READ && mode != MACHINE)
         write_bits(how, number, 1);
     puts(is_open ? "a ok" : "a 2 0 1");
@@ -106,7 +143,7 @@ static void look_at(unsigned number, int is_first) {
     uint64_t value = read_register(&unit, number);
     if (value != read_register(&shown, number))
         printf("r %x %llx\n", number, (unsigned long long)value);
-    if (is_first && !is_there(number) && (turn == absent_register_traps || number == MSECCFG))
+    if (is_first && !is_there(number) && (turn == absent_register_traps || number >= MSECCFG))
         printf("x %x\n", number);
 }
 
@@ -116,6 +153,8 @@ static void look(unsigned count, int *is_first) {
     for (unsigned entry = 0; entry < count; entry++)
         look_at(PMPADDR0 + entry, *is_first);
     look_at(MSECCFG, *is_first);
+    if (hart.xlen == 32)
+        look_at(MSECCFGH, *is_first);
     puts("w");
     shown = unit;
     *is_first = 0;
@@ -123,7 +162,8 @@ static void look(unsigned count, int *is_first) {
 
 static void perform(uint64_t word, uint64_t start) {
     struct access access = {word >> 12 & 3, word >> 8 & 15, word >> 32 & 255, start, word >> 40 & 255};
-    if (access.by >= RESERVED_LOAD && access.by != FALLING && !hart.has_extensions) {
+    int is_plain = access.by < RESERVED_LOAD || access.by == FALLING || access.by == BY_MPRV;
+    if (!is_plain && (!hart.has_extensions || (access.by == MASKED && hart.xlen == 32))) {
         puts("a 2 0 1");
         return;
     }
@@ -131,7 +171,7 @@ static void perform(uint64_t word, uint64_t start) {
     if (answer == ALLOWED)
         puts("a ok");
     else
-        printf("a %x %llx 1\n", answer, turn == fault_has_no_address ? 0ULL : (unsigned long long)start);
+        printf("a %x %llx 1\n", answer, (unsigned long long)address_of_fault(&access));
 }
 
 static void begin(void) {
@@ -162,7 +202,7 @@ static void run(const uint64_t *at) {
             reset();
             memset(&shown, 0, sizeof shown);
             break;
-        case HART: printf("h %x %x\n", hart.xlen, 8 | hart.has_supervisor << 1 | hart.has_user); break;
+        case HART: printf("h %x %x %x\n", hart.xlen, 8 | hart.has_supervisor << 1 | hart.has_user, WAYS); break;
         default: at++;
         }
     }

@@ -106,6 +106,7 @@ caught:
     .set number, number + 1
     .endr
     \what 0x747
+    \what 0x757
     .endm
 
     .balign 8
@@ -120,7 +121,7 @@ csr_clears:
     each_csr clear_csr
 
 # Loads and stores of 1, 2, 4 and 8 bytes, loads without a sign of 1, 2 and 4, those of extensions, and an LR, an SC
-# behind one and each AMO of 4 and of 8, in the order of operation_of in harness.c. But for cbo.zero a store leaves
+# behind one and each AMO of 4 and of 8, in the order of operation_of in access.c. But for cbo.zero a store leaves
 # memory as it is: vectors and numbers of floating point are those that were loaded from the arena.
     .option arch, +d, +v
     .macro operations
@@ -134,8 +135,10 @@ csr_clears:
         "li a3, 64; vsetvli zero, a3, e8, m8, ta, ma; vle8.v v8, (a1)", \
         "li a3, 64; vsetvli zero, a3, e8, m8, ta, ma; vse8.v v8, (a1)", ".insn i 0x0f, 2, x0, a1, 4", \
         ".insn i 0x0f, 2, x0, a1, 1", ".insn i 0x0f, 2, x0, a1, 2", \
+        ".insn i 0x0f, 2, x0, a1, 0", \
         ".insn r 0x73, 4, 0x34, a2, a1, x0", ".insn r 0x73, 4, 0x36, a2, a1, x0", \
-        ".insn r 0x73, 4, 0x35, x0, a1, a2", ".insn r 0x73, 4, 0x37, x0, a1, a2"
+        ".insn r 0x73, 4, 0x35, x0, a1, a2", ".insn r 0x73, 4, 0x37, x0, a1, a2", \
+        ".insn r 0x73, 4, 0x32, a2, a1, x3", ".insn r 0x73, 4, 0x34, a2, a1, x3"
     .balign OPERATION_SIZE
     \it
     ecall
@@ -159,7 +162,8 @@ csr_clears:
     .endm
 
     .balign OPERATION_SIZE
-    .globl machine_operations, fence_addresses, fence_code, set_satp, set_hstatus, clear_supervisor
+    .globl machine_operations, fence_addresses, fence_code, fence_guests, set_satp, set_hstatus, set_vsatp, set_hgatp
+    .globl read_satp, read_vsatp, read_hgatp, clear_supervisor
 machine_operations:
     operations
 fence_addresses:
@@ -168,8 +172,28 @@ fence_addresses:
 fence_code:
     fence.i
     ecall
+# hfence.vvma and hfence.gvma
+fence_guests:
+    .word 0x22000073
+    .word 0x62000073
+    ecall
 set_satp:
     csrw satp, a1
+    ecall
+read_satp:
+    csrr a2, satp
+    ecall
+set_vsatp:
+    csrw 0x280, a1
+    ecall
+read_vsatp:
+    csrr a2, 0x280
+    ecall
+set_hgatp:
+    csrw 0x680, a1
+    ecall
+read_hgatp:
+    csrr a2, 0x680
     ecall
 set_hstatus:
     csrw 0x680, zero
@@ -201,6 +225,14 @@ tohost:
     .balign 64
 fromhost:
     .dword 0
+
+# What tools compare: how many cases ended, and how much was wrong in each of the first ones.
+    .balign 16
+    .globl begin_signature, end_signature
+begin_signature:
+    .fill SIGNATURE_WORDS, 4, 0
+end_signature:
+    .word 0
 
     .section .stack, "aw"
     .space 4096

@@ -1,6 +1,7 @@
 """What a simulator says of the runs of cases: lines, as harness/harness.c writes them."""
 from dataclasses import dataclass, field
 
+from .blob import FIRST_WAYS
 from .case import name_of
 
 
@@ -13,10 +14,12 @@ class Look:
 
 @dataclass(frozen=True)
 class Facts:
-    """How many bits a register has, and which values mstatus.MPP holds: a bit for each."""
+    """How many bits a register has, which values mstatus.MPP holds: a bit for each, and how many ways of access are
+    known of blob.py's."""
 
     xlen: int
     modes: int
+    ways: int = FIRST_WAYS
 
 
 @dataclass(frozen=True)

@@ -3,16 +3,20 @@ import struct
 
 from .case import HOW, number_of
 
-END, CASE, WRITE, LOOK, EXPECT, ACCESS, RESET, SPOT, HART, ATTEMPT = range(10)
+END, CASE, WRITE, LOOK, EXPECT, ACCESS, RESET, SPOT, HART, ATTEMPT, NAME = range(11)
 KEEP = 1 << 16
 KINDS = {"fetch": 0, "load": 1, "store": 2}
 AMOS = ("amoswap", "amoadd", "amoxor", "amoand", "amoor", "amomin", "amomax", "amominu", "amomaxu")
 # What an access is made by, where it isn't a plain fetch, load or store.
 WAYS = ("", "unsigned", "lr", "sc", *AMOS, "falling", "float", "vector", "block", "hypervisor", "walk",
-        "clean", "flush", "update")
-# Those of extensions, each with the kind and the length of an access that shows whether the hart has it.
-EXTENSIONS = {"lr": ("load", 4), "float": ("load", 8), "vector": ("load", 64), "block": ("store", 64),
-              "hypervisor": ("load", 4), "walk": ("load", 4), "clean": ("store", 64)}
+        "clean", "flush", "update", "inval", "hlvx", "guest", "mprv", "masked")
+# How many of these a simulator knows that doesn't say so.
+FIRST_WAYS = WAYS.index("inval")
+# Those of extensions, each with the mode, the kind and the length of an access that shows whether the hart has it.
+EXTENSIONS = {"lr": ("M", "load", 4), "float": ("M", "load", 8), "vector": ("M", "load", 64),
+              "block": ("M", "store", 64), "hypervisor": ("M", "load", 4), "walk": ("M", "load", 4),
+              "clean": ("M", "store", 64), "inval": ("M", "store", 64), "hlvx": ("M", "load", 4),
+              "guest": ("S", "load", 4), "masked": ("M", "load", 4)}
 MODES = {"U": 0, "S": 1, "M": 3}
 ANSWERS = {None: 0, "allow": 1, "fault": 2, "either": 3}
 ALL_ONES = 2**64 - 1
@@ -85,9 +89,10 @@ def parts_of(case):
 
 
 def expects(state):
-    """What the look behind a reset expects."""
+    """What the look behind a reset expects: A and L, and mseccfg. All else a hart may keep."""
     for name, value in state.items():
-        yield from (EXPECT | number_of(name) << 16, ALL_ONES, value)
+        mask = ALL_ONES if name == "mseccfg" else 0x9898989898989898 if name.startswith("pmpcfg") else 0
+        yield from (EXPECT | number_of(name) << 16, mask, value)
 
 
 def access_words(access, way, answer):
@@ -110,7 +115,7 @@ def words_of(case, part, expected):
                     yield from access_words(access, way, expected.answers.get(access) if is_judged else None)
         for it in case.attempts:
             if it.after == after:
-                yield ATTEMPT | HOW.index(it.how) << 8 | MODES[it.mode] << 12 | it.number << 16
+                yield ATTEMPT | HOW.index(it.how) << 8 | MODES[it.mode] << 12 | it.number << 16 | it.is_there << 28
         if after < len(case.events):
             event = case.events[after]
             how = HOW.index((*event, "write")[3]) if event[0] == "write" else 0
@@ -126,8 +131,19 @@ def words_of(case, part, expected):
             yield LOOK
 
 
-def blob_of(runs, is_quiet=False):
-    words = [int(is_quiet)]
+def name_words(name):
+    """A case's name, of which the harness has 64 letters at most."""
+    letters = name.encode("ascii")[:64]
+    padded = letters + bytes(-len(letters) % 8)
+    return [NAME | len(letters) << 8, *struct.unpack(f"<{len(padded) // 8}Q", padded)]
+
+
+# What the first word says: that nothing is told but what is wrong, and that a reset has to follow.
+QUIET, RESETS = 1, 2
+
+
+def blob_of(runs, flags=0):
+    words = [flags]
     for it in runs:
         words += it
     return struct.pack(f"<{len(words) + 1}Q", *words, END)

@@ -1,6 +1,7 @@
 """A case: a script whose events are publications of their own, as on a hart, and accesses between them."""
 from dataclasses import dataclass, field
 
+from . import place
 from .hart import PAGE, Hart
 
 OFF, TOR, NA4, NAPOT = 0, 1, 2, 3
@@ -12,33 +13,52 @@ KINDS = ("fetch", "load", "store")
 # How a register is read or written: by CSRRW, CSRRS, CSRRC, and by CSRRS without bits.
 HOW = ("write", "set-bits", "clear-bits", "read")
 
-# Where the harness keeps its things; a board has its memory there, as harness/boards/ says.
-CODE, DATA, STUB, ARENA, TABLE = 0x80000000, 0x80010000, 0x80020000, 0x80100000, 0x80130000
-# The entry of the page table by which S-mode reaches the arena.
-TABLE_ENTRY = TABLE + 8 * (ARENA >> 30)
-CODE_SIZE, DATA_SIZE, ARENA_SIZE = 0x2000, 0x8000, 0x20000
-DEVICES_SIZE = 0x20000000
+# Where the harness keeps its things in the board's memory.
+CODE, DATA, STUB, ARENA, TABLE, GUEST_TABLE = (
+    place.memory() + it for it in (0, 0x10000, 0x20000, 0x100000, 0x130000, 0x134000))
+# The entries of the page tables by which S-mode and its guests reach the arena.
+TABLE_ENTRY, GUEST_TABLE_ENTRY = (it + 8 * (ARENA >> 30) for it in (TABLE, GUEST_TABLE))
+CODE_SIZE, DATA_SIZE, ARENA_SIZE = 0x4000, 0x8000, 0x20000
+DEVICES, DEVICES_SIZE = place.devices()
+# Where memory ends at least, of the boards that are here.
+MEMORY_END = CODE + 0x1000000
 
 
 # How many events a publication of a script has at most.
 BATCH_EVENTS = 64
 # Accesses of 64 bytes, which a hart may make in parts.
-OF_BLOCKS = ("vector", "block", "clean", "flush")
+OF_BLOCKS = ("vector", "block", "clean", "flush", "inval")
 
 
 def napot(start, size):
     return (start >> 2) | (size // 8 - 1)
 
 
+def upper_half(bits):
+    """Where the upper half begins of the region of NAPOT of 2^bits bytes that has the arena."""
+    return (ARENA & -(1 << bits)) + (1 << bits - 1)
+
+
+# What a load shows a large region's upper half by, each below the next.
+FAR = tuple(upper_half(it) for it in range(18, 57) if not ARENA & 1 << it - 1)
+
+
+def byte_of(row):
+    """The byte whose L R W X is the row's number."""
+    return (row >> 3 & 1) * L | (row >> 2 & 1) * R | (row >> 1 & 1) * W | (row & 1) * X
+
+
 def number_of(name):
     """A register's CSR number."""
-    if name == "mseccfg":
-        return 0x747
+    if name.startswith("mseccfg"):
+        return 0x747 if name == "mseccfg" else 0x757
     return 0x3A0 + int(name[6:]) if name.startswith("pmpcfg") else 0x3B0 + int(name[7:])
 
 
 def name_of(number):
-    return "mseccfg" if number == 0x747 else f"pmpcfg{number - 0x3A0}" if number < 0x3B0 else f"pmpaddr{number - 0x3B0}"
+    if number >= 0x747:
+        return "mseccfg" if number == 0x747 else "mseccfgh"
+    return f"pmpcfg{number - 0x3A0}" if number < 0x3B0 else f"pmpaddr{number - 0x3B0}"
 
 
 @dataclass(frozen=True)
@@ -62,8 +82,8 @@ class Access:
 
     @property
     def asked_kind(self):
-        """What it needs: cbo.clean and cbo.flush need a load or a store, and whoever may store may load."""
-        return "load" if self.by in ("clean", "flush") else self.kind
+        """What it needs: cbo.clean, cbo.flush and cbo.inval need a load or a store, and whoever may store may load."""
+        return "load" if self.by in ("clean", "flush", "inval") else self.kind
 
     @property
     def row(self):
@@ -72,13 +92,14 @@ class Access:
 
 @dataclass(frozen=True)
 class Attempt:
-    """An access to a register that has to be an illegal instruction."""
+    """An access to a register that has to be an illegal instruction, or is there."""
 
     after: int
     mode: str
     number: int
     # One of HOW.
     how: str
+    is_there: bool = False
 
     def __str__(self):
         return f"{self.mode} {self.how} of CSR {self.number:#x}"
@@ -133,10 +154,10 @@ class Builder:
         self.case.events.append(("write", name, value & (2**self.hart.xlen - 1), how))
         return self
 
-    def attempt(self, mode, number):
-        """Accesses to a register that the mode doesn't have, by a read and each write."""
+    def attempt(self, mode, number, is_there=False):
+        """Accesses to a register that the mode doesn't have, or has, by a read and each write."""
         if mode in self.hart.modes:
-            self.case.attempts += [Attempt(len(self.case.events), mode, number, it) for it in HOW]
+            self.case.attempts += [Attempt(len(self.case.events), mode, number, it, is_there) for it in HOW]
         return self
 
     def security(self, value):
@@ -179,8 +200,8 @@ class Builder:
     def guard(self, is_locked=True):
         """The harness' own rules, in the last entries: its stub, its code, its data and the devices."""
         rules = {STUB: (PAGE, X, X), CODE: (CODE_SIZE, L | X | R, 0), DATA: (DATA_SIZE, L | W | R, 0),
-                 0: (DEVICES_SIZE, L | W | R, 0)}
-        starts = [it for it in rules if it in (CODE, DATA, 0, STUB)[:guard_count(self.hart)]]
+                 DEVICES: (DEVICES_SIZE, L | W | R, 0)}
+        starts = [it for it in rules if it in (CODE, DATA, DEVICES, STUB)[:guard_count(self.hart)]]
         first = self.hart.entries - len(starts)
         for entry, start in reversed(list(enumerate(starts, first))):
             self.write(f"pmpaddr{entry}", napot(start, max(rules[start][0], self.hart.grain)))

@@ -15,8 +15,11 @@ class Hart:
     modes: str = "MSU"
     # Which of MML, MMWP and RLB a reset leaves set.
     reset_security: int = 0
+    # Up to where loads are tried, each behind which there is memory.
+    memory: int = 2**56
     # What accesses memory beside plain loads and stores, by the words of suite/blob.py.
-    extensions: tuple = ("lr", "float", "vector", "block", "hypervisor", "walk", "clean")
+    extensions: tuple = ("lr", "float", "vector", "block", "hypervisor", "walk", "clean", "inval", "hlvx", "guest",
+                         "masked")
 
     def head(self):
         """The first lines of its scripts: what isn't so where nothing is said."""
@@ -88,7 +91,7 @@ class Hart:
     def has(self, by):
         """Whether it has the instruction of such an access."""
         word = "lr" if by == "sc" or by.startswith("amo") else {"flush": "clean", "update": "walk"}.get(by, by)
-        return word in ("", "unsigned", "falling", *self.extensions)
+        return word in ("", "unsigned", "falling", "mprv", *self.extensions)
 
     def securities(self, *wanted):
         """Of these values of mseccfg those that it can have."""

@@ -94,9 +94,11 @@ class Comparison:
             self.reserved = {}
         elif after:
             self.forget_reserved(after, event)
+        if look.changed.get("mseccfgh"):
+            return Difference(after, "mseccfgh", 0, f"{0:#018x}", f"{look.changed['mseccfgh']:#018x}")
         self.state.update(look.changed)
         if after == 0 and self.case.looks > self.hart.entries:
-            self.allows("absent", "exception" if look.missing - {"mseccfg"} else "zero")
+            self.allows("absent", "exception" if look.missing - {"mseccfg", "mseccfgh"} else "zero")
         wanted = self.expected.registers[after]
         if self.reserved or len(wanted) != len(self.state):
             wanted = {it: self.wanted(after, it) for it in self.state}
@@ -264,6 +266,8 @@ class Comparison:
         what = str(attempt)
         if not isinstance(got, Answer):
             return Difference(attempt.after, what, 0, "exception 2", "none: the simulator hung or ended")
+        if attempt.is_there:
+            return None if got.cause is None else Difference(attempt.after, what, 0, "no exception", str(got), "closes")
         if got.cause == 2 and got.is_at_access:
             return None
         return Difference(attempt.after, what, 0, "exception 2", str(got), "opens" if got.cause is None else "")

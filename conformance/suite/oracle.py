@@ -6,13 +6,12 @@ import tempfile
 from dataclasses import dataclass, field
 from itertools import accumulate
 
-from .case import CODE, CODE_SIZE, DATA, DATA_SIZE, STUB, TABLE_ENTRY
+from . import place
+from .case import CODE, CODE_SIZE, DATA, DATA_SIZE, GUEST_TABLE_ENTRY, STUB, TABLE_ENTRY
 from .hart import PAGE
 
 MAX_EVENTS = 500_000
 MAX_ROWS = 200_000
-# The console, and what resets the board or ends a run.
-DEVICES = (0x10000000, 0x100000)
 
 
 @dataclass
@@ -26,8 +25,8 @@ class Expected:
     answers: dict = field(default_factory=dict)
     # Of each access, why, and by which entry: the cause and the entry of `pmp audit`.
     causes: dict = field(default_factory=dict)
-    # The accesses that are refused by what S-mode may do with their page table.
-    tables: set = field(default_factory=set)
+    # Of an access that is refused since something else is that it needs, the row of that.
+    needs: dict = field(default_factory=dict)
     # For which (number of events, mode) the harness' stub may be fetched.
     stubs: set = field(default_factory=set)
     # Whether the harness keeps its code, its data and its devices throughout.
@@ -37,7 +36,17 @@ class Expected:
 def safety_rows(after):
     yield from (f"{after},M,fetch,{it:#x},{PAGE}" for it in range(CODE, CODE + CODE_SIZE, PAGE))
     yield from (f"{after},M,store,{it:#x},{PAGE}" for it in range(DATA, DATA + DATA_SIZE, PAGE))
-    yield from (f"{after},M,store,{it:#x},4" for it in DEVICES)
+    yield from (f"{after},M,store,{it:#x},4" for it in place.device_words)
+
+
+def needs_of(access):
+    """What else has to be allowed for an access: that of page tables, and that hlvx may execute too."""
+    if access.by in ("walk", "update", "guest"):
+        yield f"S,{'store' if access.by == 'update' else 'load'},{TABLE_ENTRY:#x},8"
+    if access.by == "guest":
+        yield f"S,load,{GUEST_TABLE_ENTRY:#x},8"
+    if access.by == "hlvx":
+        yield f"{access.mode},fetch,{access.start:#x},{access.length}"
 
 
 def questions(case, is_for_hart):
@@ -48,9 +57,8 @@ def questions(case, is_for_hart):
     for after in range(len(case.events) + 1):
         for access in asked.get(after, ()):
             yield access, access.row
-            if access.by in ("walk", "update"):
-                kind = "load" if access.by == "walk" else "store"
-                yield (access, "table"), f"{after},S,{kind},{TABLE_ENTRY:#x},8"
+            for it in needs_of(access):
+                yield (access, it), f"{after},{it}"
             if not access.is_one:
                 for byte in range(access.start, access.start + access.length):
                     yield (access, byte), f"{after},{access.mode},{access.asked_kind},{byte:#x},1"
@@ -187,5 +195,5 @@ def note_answer(expected, key, row, told):
             expected.stubs.add((int(row.split(",")[0]), key[1]))
     elif answer == "fault":
         expected.answers[key[0]] = "fault"
-        if key[1] == "table":
-            expected.tables.add(key[0])
+        if isinstance(key[1], str):
+            expected.needs.setdefault(key[0], key[1])

@@ -3,8 +3,8 @@ or by the cases where it shows, and is told in the report."""
 from dataclasses import dataclass, field
 
 from .answers import Answer, Facts, Look
-from .blob import CASE, EXTENSIONS, HART, KEEP, LOOK, WRITE, access_words
-from .case import ARENA, MML, MMWP, RLB, Access, number_of
+from .blob import CASE, EXTENSIONS, HART, KEEP, LOOK, WAYS, WRITE, access_words
+from .case import ARENA, FAR, MEMORY_END, MML, MMWP, RLB, Access, number_of
 from .hart import Hart
 
 # Each switch, and what it says.
@@ -14,8 +14,9 @@ SWITCHES = {
     "grain": "the least size of a region, in bytes",
     "address_bits": "how many bits a physical address has",
     "smepmp": "whether mseccfg is there and has its bits: yes or no",
+    "memory": "where it ends: loads are tried up to there",
     "modes": "which modes there are: M, MU or MSU",
-    "extensions": "what else loads and stores: none, or of lr, float, vector, block, hypervisor, walk, clean",
+    "extensions": "what else loads and stores: none, or of " + ", ".join(EXTENSIONS),
     "reset_mseccfg": "what mseccfg is after power comes",
     "reset_rest": "whether a reset leaves other fields than A and L: kept or cleared",
     "reserved": "what is left of a byte with W and without R, where MML is 0: as-written, no-rights or other",
@@ -27,6 +28,7 @@ SWITCHES = {
     "fault_address": "what mtval is at a fault: zero or address",
 }
 OTHER_EXTENSIONS = 0x300000700
+OF_SUPERVISOR = ("hypervisor", "walk", "hlvx", "guest")
 
 
 @dataclass
@@ -91,15 +93,21 @@ class Probe:
 
     is_sticky = False
 
-    def __init__(self):
+    def __init__(self, far=FAR):
         self.words = [CASE | 64 << 8 | KEEP, LOOK, HART, *access_words(Access(0, "M", "load", ARENA + 1, 2), 0, None)]
-        for by, (kind, length) in EXTENSIONS.items():
-            self.words += access_words(Access(0, "M", kind, ARENA, length, by), 0, None)
-        for names, value in ((range(0x3B0, 0x3F0), 2**64 - 1), (range(0x3A0, 0x3B0), 0x0101010101010101),
-                             ((number_of("mseccfg"),), RLB)):
-            for number in names:
-                self.words += [WRITE | number << 16, value]
-            self.words += [LOOK]
+        for start in far:
+            self.words += access_words(Access(0, "M", "load", start, 4), 0, None)
+        # All entries have all memory with all rights.
+        self.write(range(0x3B0, 0x3F0), 2**64 - 1)
+        self.write(range(0x3A0, 0x3B0), 0x1F1F1F1F1F1F1F1F)
+        for by, (mode, kind, length) in EXTENSIONS.items():
+            self.words += access_words(Access(0, mode, kind, ARENA, length, by), 0, None)
+        self.write((number_of("mseccfg"),), RLB)
+
+    def write(self, numbers, value):
+        for number in numbers:
+            self.words += [WRITE | number << 16, value]
+        self.words += [LOOK]
 
     def numbered(self, number):
         return [self.words[0] | number << 32, *self.words[1:]]
@@ -111,35 +119,45 @@ def note_probe(profile, steps):
     facts = next((it for it in steps if isinstance(it, Facts)), None)
     if len(looks) < 4 or facts is None:
         raise SystemExit("conformance: the simulator doesn't answer the probe")
-    state = {}
-    for look in looks:
-        state.update(look.changed)
+    addresses = looks[0].changed | looks[1].changed
     profile.absent = looks[0].missing
     answers = [it for it in steps if isinstance(it, Answer)]
-    extensions = tuple(by for by, it in zip(EXTENSIONS, answers[1:]) if it.cause != 2)
+    extensions = tuple(by for by, it in zip(EXTENSIONS, answers[-len(EXTENSIONS):])
+                       if it.cause is None and WAYS.index(by) < facts.ways)
+    memory = memory_of(profile.given, answers[1:-len(EXTENSIONS)])
     if "block" not in extensions:
         # Nothing else tells the size of a block.
-        extensions = tuple(it for it in extensions if it != "clean")
-    hart = profile.hart = hart_of(state, facts, looks, profile.absent, extensions)
+        extensions = tuple(it for it in extensions if it not in ("clean", "inval"))
+    hart = profile.hart = hart_of(addresses, facts, looks, extensions, memory)
     for switch, value in (("xlen", hart.xlen), ("entries", hart.entries), ("grain", hart.grain),
                           ("address_bits", hart.bits), ("smepmp", "yes" if hart.has_smepmp else "no"),
-                          ("modes", hart.modes), ("extensions", ",".join(hart.extensions) or "none"),
+                          ("memory", hex(hart.memory)), ("modes", hart.modes),
+                          ("extensions", ",".join(hart.extensions) or "none"),
                           ("reset_mseccfg", hex(looks[0].changed.get("mseccfg", 0)))):
         profile.note(switch, str(value), "probe")
     if answers and answers[0].cause == 4:
         profile.note("misaligned", "exception", "probe")
 
 
-def hart_of(state, facts, looks, absent, extensions):
+def memory_of(given, answers):
+    """Where memory ends: as it is given, or before the first of the far loads that is refused."""
+    if "memory" in given:
+        return int(given["memory"], 0)
+    return next((start for start, it in zip(FAR, answers) if it.cause is not None), 2**56)
+
+
+def hart_of(addresses, facts, looks, extensions, memory):
+    """By the addresses that are left of ones, and by whether RLB is left of mseccfg."""
     most = 54 if facts.xlen == 64 else 32
-    holding = [it for it in range(64) if state.get(f"pmpaddr{it}")]
-    ones = state.get("pmpaddr0", 0) & (2**most - 1)
+    holding = [it for it in range(64) if addresses.get(f"pmpaddr{it}")]
+    ones = addresses.get("pmpaddr0", 0) & (2**most - 1)
+    security = looks[0].changed | looks[3].changed
     modes = "M" + ("S" if facts.modes & 2 else "") + ("U" if facts.modes & 1 else "")
     return Hart(
-        xlen=facts.xlen, entries=holding[-1] + 1 if holding else 0, modes=modes,
-        extensions=tuple(it for it in extensions if it not in ("hypervisor", "walk") or "S" in modes),
+        xlen=facts.xlen, entries=holding[-1] + 1 if holding else 0, modes=modes, memory=memory,
+        extensions=tuple(it for it in extensions if it not in OF_SUPERVISOR or "S" in modes),
         grain=(ones & -ones) * 4 if ones else 4, bits=ones.bit_length() + 2 if ones else most + 2,
-        has_smepmp="mseccfg" not in absent and bool(state.get("mseccfg", 0) & RLB),
+        has_smepmp="mseccfg" not in looks[0].missing and bool(security.get("mseccfg", 0) & RLB),
         reset_security=looks[0].changed.get("mseccfg", 0) & (MML | MMWP | RLB))
 
 
@@ -150,5 +168,6 @@ def demanded_hart(given):
     return Hart(
         xlen=int(given.get("xlen", plain.xlen)), entries=int(given.get("entries", plain.entries)),
         grain=int(given.get("grain", plain.grain)), bits=int(given.get("address_bits", plain.bits)), has_smepmp=yes,
-        modes=given.get("modes", plain.modes), extensions=tuple(given.get("extensions", "lr").split(",")),
+        memory=int(given.get("memory", hex(MEMORY_END)), 0), modes=given.get("modes", plain.modes),
+        extensions=tuple(given.get("extensions", "lr").split(",")),
         reset_security=int(given.get("reset_mseccfg", "0"), 0) & 7 if yes else 0)

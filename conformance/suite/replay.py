@@ -1,10 +1,8 @@
 """A script and a trace of any hart as a case of this one: the same writes, and those accesses that can be made."""
-from .case import ARENA, ARENA_SIZE, CODE, STUB, Access, Case
+from .case import ARENA, ARENA_SIZE, CODE, MEMORY_END, STUB, Access, Case
 from .hart import PAGE
 
 RULE = "Script"
-# Below this the harness has its own things; above it the boards that are here have as much memory at least.
-MEMORY_END = CODE + 0x1000000
 
 
 def registers_at(oracle, script, after):

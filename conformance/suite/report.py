@@ -36,11 +36,17 @@ class Found:
             yield case, f"not asked: {reason}" if reason else "differs" if case.name in names else "passed"
 
 
-def probe(simulator, given):
-    """The hart, as it shows itself, in a profile."""
+def profile_of(steps, given):
+    """The hart, as its answers to the probe show it, in a profile."""
     profile = profiles.Profile(given)
-    profiles.note_probe(profile, simulator.run([profiles.Probe()])[0])
+    profiles.note_probe(profile, steps)
     return profile
+
+
+def probe(simulator, given):
+    """The same, of a simulator. Where the end of memory is given, no load is tried behind it."""
+    probe_run = profiles.Probe(() if "memory" in given else profiles.FAR)
+    return profile_of(simulator.run([probe_run])[0], given)
 
 
 class Suite:

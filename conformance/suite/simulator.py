@@ -7,7 +7,7 @@ from dataclasses import dataclass
 from functools import cached_property
 
 from . import answers
-from .blob import blob_of, words_of
+from .blob import QUIET, blob_of, name_words, words_of
 
 SECTION = b"conformance cases"
 
@@ -31,6 +31,11 @@ class Run:
     def numbered(self, number):
         """The words of the run, which is told by this number."""
         return [self.words[0] | number << 32, *self.words[1:]]
+
+    def named(self, number):
+        """The same, with the case's name."""
+        first, *others = self.numbered(number)
+        return [first, *name_words(self.case.name), *others]
 
     @property
     def is_sticky(self):
@@ -66,12 +71,22 @@ class Plain:
         self.words = words
         self.path = os.path.join(work, "cases.bin")
 
-    def run(self, runs, is_alone=False):
+    def text(self, blob):
         with open(self.path, "wb") as it:
-            it.write(blob_of([run.numbered(number) for number, run in enumerate(runs)]))
-        done = subprocess.run([*self.words, self.path], capture_output=True, text=True, check=True)
-        found = answers.read(done.stdout)
+            it.write(blob)
+        return subprocess.run([*self.words, self.path], capture_output=True, text=True, check=True).stdout
+
+    @staticmethod
+    def blob(runs):
+        return blob_of([run.numbered(number) for number, run in enumerate(runs)])
+
+    def run(self, runs, is_alone=False):
+        found = answers.read(self.text(self.blob(runs)))
         return [found.get(it, []) for it in range(len(runs))]
+
+    def texts(self, blob):
+        """What is told of each run of a blob, in its order."""
+        return [it.split("\n", 1)[1] for it in ("\n" + self.text(blob)).split("\nc ")[1:]]
 
 
 class Board:
@@ -89,8 +104,14 @@ class Board:
         self.room = int.from_bytes(self.image[self.place + 24:self.place + 32], "little")
         self.starts = 0
 
-    def write_elf(self, path, runs, is_quiet=False):
-        blob = blob_of([it.numbered(number) for number, it in enumerate(runs)], is_quiet)
+    def write_elf(self, path, runs):
+        self.put_into(path, blob_of([it.numbered(number) for number, it in enumerate(runs)]))
+
+    def write_quiet_elf(self, path, runs):
+        """One that tells nothing but the names of cases that differ."""
+        self.put_into(path, blob_of([it.named(number) for number, it in enumerate(runs)], QUIET))
+
+    def put_into(self, path, blob):
         if len(blob) > self.room:
             raise SystemExit(f"conformance: a case of {len(blob)} bytes, where the harness has room for {self.room}")
         with open(path, "wb") as it:
@@ -101,7 +122,8 @@ class Board:
         self.starts += 1
         path = os.path.join(self.work, f"batch-{self.starts}-{id(batch):x}.elf")
         self.write_elf(path, batch)
-        words = [it.replace("ELF", path) for it in self.words] if "ELF" in self.words else [*self.words, path]
+        is_named = any("ELF" in it for it in self.words)
+        words = [it.replace("ELF", path) for it in self.words] if is_named else [*self.words, path]
         try:
             done = subprocess.run(words, stdin=subprocess.DEVNULL, capture_output=True, timeout=self.LAST_RESORT,
                                   preexec_fn=self.limit, check=False)

@@ -2,7 +2,7 @@
 from dataclasses import replace
 
 from .blob import parts_of
-from .case import TABLE_ENTRY, TOR, Access
+from .case import TOR, Access
 from .judge import differences
 from .profile import Profile
 from .simulator import Run
@@ -85,9 +85,9 @@ def lines_to_paste(found, program):
     if isinstance(access, Access):
         by = (f" ({access.by})" if access.by else "") + (" by the mode itself" if difference.way else "")
         what = f"{access.mode} {access.asked_kind} {access.start:#x} {access.length}"
-        if access in run.expected.tables:
-            by += f", at {access.start:#x}, by a page table of which the command asks"
-            what = f"S {'store' if access.by == 'update' else 'load'} {TABLE_ENTRY:#x} 8"
+        if access in run.expected.needs:
+            by += f", at {access.start:#x}, of whose need the command asks"
+            what = run.expected.needs[access].replace(",", " ")
         yield f"{program} check stdin {what} <<'END'"
     elif access and access.startswith(("pmp", "mseccfg")):
         yield f"{program} dump stdin <<'END' | grep '^{access} '"

@@ -5,10 +5,12 @@ import resource
 import socket
 import subprocess
 
-FIRMWARE = "/usr/lib/riscv64-linux-gnu/opensbi/generic/fw_jump.elf"
-PAYLOAD = "/usr/lib/u-boot/qemu-riscv64_smode/uboot.elf"
+from linux import firmware_of, root_of
+
+FIRMWARE = firmware_of("bookworm", "fw_jump.elf")
+PAYLOAD = f"{root_of('bookworm')}/usr/lib/u-boot/qemu-riscv64_smode/uboot.elf"
 # Virtual time goes by instructions, and what is random comes from a seed, so that two runs of a hart do the same.
-WORDS = ["-M", "virt", "-cpu", "rv64,x-epmp=true,zkr=true", "-smp", "2", "-m", "128M", "-bios", FIRMWARE, "-kernel",
+WORDS = ["-M", "virt", "-cpu", "rv64,smepmp=true,zkr=true", "-smp", "2", "-m", "128M", "-bios", FIRMWARE, "-kernel",
          PAYLOAD, "-icount", "shift=8,sleep=off", "-seed", "1", "-rtc", "base=2020-01-01T00:00:00,clock=vm", "-nic",
          "none", "-display", "none", "-monitor", "none", "-serial", "stdio", "-S"]
 TRACED = ("pmpcfg_csr_write", "pmpaddr_csr_write", "mseccfg_csr_write")

@@ -1,17 +1,14 @@
 /* SPDX-License-Identifier: MIT OR Apache-2.0 */
-/* The PMP units of QEMU 7.2's harts over the library: what takes the place of target/riscv/pmp.c, in a QEMU with
- * qemu.patch. It was written from pmp.h and those who call it. QEMU linked with it is under QEMU's licence, the GPL. */
+/* The PMP units of QEMU's harts over the library: what takes the place of target/riscv/pmp.c in a QEMU 10 that has the
+ * patch of its version, written from pmp.h and those who call it. QEMU linked with it is under QEMU's licence. */
 #include "qemu/osdep.h"
+#include "qemu/error-report.h"
 #include "qemu/log.h"
 #include "cpu.h"
-#include "exec/exec-all.h"
 #include "trace.h"
-
-#ifndef TARGET_RISCV64
-#error "the units are reset as those of RV64 harts"
-#endif
-
-_Static_assert(MAX_RISCV_PMPS == 16 || MAX_RISCV_PMPS == 64, "the library has units of 16 and of 64 entries");
+#include "exec/cputlb.h"
+#include "exec/page-protection.h"
+#include "exec/target_page.h"
 
 static const struct {
     uint32_t bit;
@@ -25,7 +22,23 @@ static const struct {
     {TILVENKA_PMP_LOCKDOWN, "MML allows no further rule that machine mode executes by"},
     {TILVENKA_PMP_STICKY, "MML and MMWP can't be cleared"},
     {TILVENKA_PMP_BYPASS, "RLB can't be set while an entry is locked"},
+    {TILVENKA_PMP_GRAIN, "the grain is coarser"},
 };
+
+/* What was told of the registers before they changed. */
+static void forget_runs(pmp_table_t *state)
+{
+    state->questions = 0;
+    for (unsigned mode = 0; mode < ARRAY_SIZE(state->runs); mode++) {
+        state->runs[mode] = (pmp_run_t){.first = 1, .last = 0};
+    }
+}
+
+static void forget_pages(pmp_table_t *state)
+{
+    state->first_kept = HWADDR_MAX;
+    state->last_kept = 0;
+}
 
 static uint64_t read_register(CPURISCVState *env, uint32_t csr)
 {
@@ -34,12 +47,14 @@ static uint64_t read_register(CPURISCVState *env, uint32_t csr)
     return value;
 }
 
-/* Whether some access may be decided otherwise than before. Of which addresses isn't asked, since the TLB is one of
- * virtual addresses. Why the register doesn't read the value is a line in the log of guest errors. */
-static bool write_register(CPURISCVState *env, uint32_t csr, uint64_t value)
+/* The TLB is flushed where what moved meets a page that went into it since the last flush here. All of it is, since it
+ * goes by virtual addresses. Why the register doesn't read the value is a line in the log of guest errors. */
+static void write_register(CPURISCVState *env, uint32_t csr, target_ulong val)
 {
-    uint64_t first, last;
-    uint32_t status = tilvenka_pmp_write_moved(&env->pmp_state.unit, csr, value, &first, &last);
+    pmp_table_t *state = &env->pmp_state;
+    uint64_t value = riscv_cpu_mxl(env) == MXL_RV32 ? (uint32_t)val : val;
+    uint64_t first = 0, last = 0;
+    uint32_t status = tilvenka_pmp_write_moved(&state->unit, csr, value, &first, &last);
     for (size_t i = 0; status >= TILVENKA_PMP_ABSENT && i < ARRAY_SIZE(reasons); i++) {
         if (status & reasons[i].bit) {
             qemu_log_mask(LOG_GUEST_ERROR, "hart %" PRIu64 ": CSR 0x%" PRIx32 " doesn't take 0x%" PRIx64 ": %s\n",
@@ -47,17 +62,18 @@ static bool write_register(CPURISCVState *env, uint32_t csr, uint64_t value)
         }
     }
     if (status & TILVENKA_PMP_CHANGED) {
-        env->pmp_state.questions = 0;
+        forget_runs(state);
     }
-    return status & TILVENKA_PMP_MOVED;
+    if ((status & TILVENKA_PMP_MOVED) && first <= state->last_kept && last >= state->first_kept) {
+        forget_pages(state);
+        tlb_flush(env_cpu(env));
+    }
 }
 
 void pmpcfg_csr_write(CPURISCVState *env, uint32_t reg_index, target_ulong val)
 {
     trace_pmpcfg_csr_write(env->mhartid, reg_index, val);
-    if (write_register(env, TILVENKA_PMP_PMPCFG0 + reg_index, val)) {
-        tlb_flush(env_cpu(env));
-    }
+    write_register(env, TILVENKA_PMP_PMPCFG0 + reg_index, val);
 }
 
 target_ulong pmpcfg_csr_read(CPURISCVState *env, uint32_t reg_index)
@@ -67,13 +83,10 @@ target_ulong pmpcfg_csr_read(CPURISCVState *env, uint32_t reg_index)
     return val;
 }
 
-/* A guest with virtual memory fences behind its writes (3.7.2), where QEMU flushes. Without it there is no fence. */
 void pmpaddr_csr_write(CPURISCVState *env, uint32_t addr_index, target_ulong val)
 {
     trace_pmpaddr_csr_write(env->mhartid, addr_index, val);
-    if (write_register(env, TILVENKA_PMP_PMPADDR0 + addr_index, val) && !riscv_feature(env, RISCV_FEATURE_MMU)) {
-        tlb_flush(env_cpu(env));
-    }
+    write_register(env, TILVENKA_PMP_PMPADDR0 + addr_index, val);
 }
 
 target_ulong pmpaddr_csr_read(CPURISCVState *env, uint32_t addr_index)
@@ -83,21 +96,24 @@ target_ulong pmpaddr_csr_read(CPURISCVState *env, uint32_t addr_index)
     return val;
 }
 
-/* The bits of mseccfg that are Zkr's, where the hart has it. */
-static target_ulong seeds_of(CPURISCVState *env)
+/* The bits of mseccfg that are of other extensions, where the hart has these. */
+static uint64_t bits_of_others(CPURISCVState *env)
 {
-    return env_archcpu(env)->cfg.ext_zkr ? MSECCFG_USEED | MSECCFG_SSEED : 0;
+    const RISCVCPUConfig *cfg = riscv_cpu_cfg(env);
+    return (cfg->ext_zkr ? MSECCFG_USEED | MSECCFG_SSEED : 0) | (cfg->ext_zicfilp ? MSECCFG_MLPE : 0)
+        | (cfg->ext_smmpm && riscv_cpu_mxl(env) == MXL_RV64 ? MSECCFG_PMM : 0);
 }
 
-/* env->mseccfg has the unit's bits and Zkr's: csr.c looks for the latter there. */
+/* env->mseccfg has the unit's bits and those of others: QEMU looks for the latter there. */
 void mseccfg_csr_write(CPURISCVState *env, target_ulong val)
 {
-    target_ulong seeds = seeds_of(env);
+    uint64_t others = bits_of_others(env);
     trace_mseccfg_csr_write(env->mhartid, val);
-    if (write_register(env, TILVENKA_PMP_MSECCFG, val & ~seeds)) {
-        tlb_flush(env_cpu(env));
+    if ((others & MSECCFG_PMM) && get_field(val, MSECCFG_PMM) == PMM_FIELD_RESERVED) {
+        val = (val & ~MSECCFG_PMM) | (env->mseccfg & MSECCFG_PMM);
     }
-    env->mseccfg = read_register(env, TILVENKA_PMP_MSECCFG) | (val & seeds);
+    write_register(env, TILVENKA_PMP_MSECCFG, val & ~others);
+    env->mseccfg = read_register(env, TILVENKA_PMP_MSECCFG) | (val & others);
 }
 
 target_ulong mseccfg_csr_read(CPURISCVState *env)
@@ -106,36 +122,70 @@ target_ulong mseccfg_csr_read(CPURISCVState *env)
     return env->mseccfg;
 }
 
-/* The monitor and a debugger may ask from another thread while the hart runs, and then leave the unit as it is. */
-static uint32_t rights_of(CPURISCVState *env, target_ulong mode, uint64_t start, uint64_t length)
+static void ask_run(const tilvenka_pmp_unit *unit, target_ulong mode, hwaddr addr, pmp_run_t *run)
 {
-    pmp_table_t *state = &env->pmp_state;
-    if (qemu_cpu_is_self(env_cpu(env))) {
+    run->first = run->last = addr;
+    uint32_t answer = tilvenka_pmp_run(unit, mode, addr, &run->first, &run->last);
+    run->rights = tilvenka_pmp_is_no_access(answer) ? 0 : tilvenka_pmp_run_rights(answer);
+}
+
+/* The run of a byte, which is kept until the registers change. */
+static const pmp_run_t *run_of(pmp_table_t *state, target_ulong mode, hwaddr addr)
+{
+    pmp_run_t *kept = &state->runs[mode];
+    if (unlikely(addr < kept->first || addr > kept->last)) {
         tilvenka_pmp_settle(&state->unit, ++state->questions);
+        ask_run(&state->unit, mode, addr, kept);
     }
-    return tilvenka_pmp_rights(&state->unit, mode, start, length);
+    return kept;
+}
+
+/* An access that leaves the run of its first byte has bytes of two entries, or of one and of none: it fails. */
+static bool is_open(const pmp_run_t *run, hwaddr last, pmp_priv_t privs, pmp_priv_t *allowed_privs)
+{
+    *allowed_privs = last <= run->last ? run->rights : 0;
+    return (*allowed_privs & privs) == privs;
+}
+
+/* As a debugger asks, or the monitor, while the hart may run: of the registers as they are, and nothing is kept. */
+static bool is_open_from_elsewhere(CPURISCVState *env, target_ulong mode, hwaddr addr, hwaddr last, pmp_priv_t privs,
+                                   pmp_priv_t *allowed_privs)
+{
+    tilvenka_pmp_unit copy;
+    pmp_run_t run;
+    copy.registers = env->pmp_state.unit.registers;
+    copy.map.runs = 0;
+    ask_run(&copy, mode, addr, &run);
+    return is_open(&run, last, privs, allowed_privs);
 }
 
 /* QEMU's sets of rights have the library's bits. Where a caller doesn't know its size, and says 0, all up to the end of
  * the page has to be open. */
-bool pmp_hart_has_privs(CPURISCVState *env, target_ulong addr, target_ulong size, pmp_priv_t privs,
+bool pmp_hart_has_privs(CPURISCVState *env, hwaddr addr, target_ulong size, pmp_priv_t privs,
                         pmp_priv_t *allowed_privs, target_ulong mode)
 {
-    uint64_t length = size != 0 ? size : -(addr | TARGET_PAGE_MASK);
-    uint32_t rights = rights_of(env, mode, addr, length);
-    *allowed_privs = rights < TILVENKA_PMP_MIXED ? rights : 0;
-    return (*allowed_privs & privs) == privs;
+    pmp_table_t *state = &env->pmp_state;
+    hwaddr last = size != 0 ? addr + size - 1 : addr | ~TARGET_PAGE_MASK;
+    if (unlikely(current_cpu != env_cpu(env))) {
+        return is_open_from_elsewhere(env, mode, addr, last, privs, allowed_privs);
+    }
+    state->mode_told = mode;
+    return is_open(run_of(state, mode, addr), last, privs, allowed_privs);
 }
 
-/* Whether the TLB may not keep the page, since not all its bytes have the same entry: that is so in each mode. A size
- * of 1 says so to QEMU, which then asks at every access. */
-bool pmp_is_range_in_tlb(CPURISCVState *env, hwaddr tlb_sa, target_ulong *tlb_size)
+/* A page goes into the TLB where all its bytes have one run, which is so in each mode or in none. A size of 1 has QEMU
+ * ask at every access. */
+target_ulong pmp_get_tlb_size(CPURISCVState *env, hwaddr addr)
 {
-    if (rights_of(env, PRV_M, tlb_sa, TARGET_PAGE_SIZE) != TILVENKA_PMP_MIXED) {
-        return false;
+    pmp_table_t *state = &env->pmp_state;
+    hwaddr first = addr & TARGET_PAGE_MASK, last = addr | ~TARGET_PAGE_MASK;
+    const pmp_run_t *run = run_of(state, state->mode_told, addr);
+    if (first < run->first || last > run->last) {
+        return 1;
     }
-    *tlb_size = 1;
-    return true;
+    state->first_kept = MIN(state->first_kept, first);
+    state->last_kept = MAX(state->last_kept, last);
+    return TARGET_PAGE_SIZE;
 }
 
 int pmp_priv_to_page_prot(pmp_priv_t pmp_priv)
@@ -144,15 +194,28 @@ int pmp_priv_to_page_prot(pmp_priv_t pmp_priv)
         | (pmp_priv & PMP_EXEC ? PAGE_EXEC : 0);
 }
 
-uint32_t pmp_get_num_rules(CPURISCVState *env)
+/* The number of the library for such a hart. */
+static uint64_t hart_of(CPURISCVState *env)
 {
-    return tilvenka_pmp_entries_on(&env->pmp_state.unit);
+    const RISCVCPUConfig *cfg = riscv_cpu_cfg(env);
+#ifdef MIN_RISCV_PMP_GRANULARITY
+    uint32_t entries = cfg->pmp_regions, grain = cfg->pmp_granularity;
+#else
+    uint32_t entries = MAX_RISCV_PMPS, grain = 4;
+#endif
+    return riscv_cpu_mxl(env) == MXL_RV32 ? TILVENKA_PMP_HART_RV32(entries, grain, 34, cfg->ext_smepmp)
+                                          : TILVENKA_PMP_HART(entries, grain, 56, cfg->ext_smepmp);
 }
 
 void pmp_reset(CPURISCVState *env)
 {
-    tilvenka_pmp_reset(&env->pmp_state.unit, MAX_RISCV_PMPS);
-    env->pmp_state.questions = 0;
+    pmp_table_t *state = &env->pmp_state;
+    if (tilvenka_pmp_reset(&state->unit, hart_of(env)) != TILVENKA_PMP_UNCHANGED) {
+        error_report("a PMP grain is a power of two from 4 to 4096");
+        exit(1);
+    }
+    forget_runs(state);
+    forget_pages(state);
     env->mseccfg = 0;
 }
 
@@ -170,12 +233,12 @@ void pmp_pre_save(CPURISCVState *env)
 void pmp_post_load(CPURISCVState *env)
 {
     pmp_table_t *state = &env->pmp_state;
-    tilvenka_pmp_registers registers = {.mseccfg = env->mseccfg, .entries = MAX_RISCV_PMPS};
+    tilvenka_pmp_registers registers = {.mseccfg = env->mseccfg, .entries = hart_of(env)};
     for (unsigned i = 0; i < MAX_RISCV_PMPS; i++) {
         registers.addresses[i] = state->pmp[i].addr_reg;
         registers.configurations[i] = state->pmp[i].cfg_reg;
     }
     tilvenka_pmp_restore(&state->unit, &registers);
-    state->questions = 0;
-    env->mseccfg = read_register(env, TILVENKA_PMP_MSECCFG) | (env->mseccfg & seeds_of(env));
+    forget_runs(state);
+    env->mseccfg = read_register(env, TILVENKA_PMP_MSECCFG) | (env->mseccfg & bits_of_others(env));
 }

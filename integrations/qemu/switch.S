@@ -63,16 +63,14 @@ user:
 trap:
     csrr t0, mcause
     li t1, 8                            /* an ecall of user mode: anything else ends the run without the word DONE */
+    li t2, DEVICE
+    li t3, (3 << 16) | 0x3333
     bne t0, t1, end
     li t0, APART
     xor s1, s1, t0
     addi s0, s0, -1
     bnez s0, switch
-    li t0, DONE
-    li t1, DEVICE
-    sw t0, 0(t1)
+    li t3, DONE
 end:
-    li t0, (3 << 16) | 0x3333
-    li t1, DEVICE
-    sw t0, 0(t1)
+    sw t3, 0(t2)
     j end
