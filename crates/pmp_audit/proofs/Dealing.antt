@@ -1,7 +1,8 @@
 -- Elements dealt to workers in turn.
-use Rattle.std.proofs.Common.{◌≡◌, ℕ, zero, suc, ◌+◌, ◌*◌, ◌/◌, ◌<◌, ◌≤◌, ◌↔◌, inl, inr, List, [], ◌∷◌, ◌++◌}
+use Rattle.std.proofs.Common.{◌≡◌, ℕ, zero, suc, ◌+◌, ◌*◌, ◌/◌, ◌<◌, ◌≤◌, inl, inr, List, [], ◌∷◌, ◌++◌}
 use Rattle.std.proofs.Common.{length, Some, refl, sym, ap, ◌∙◌, arith, subst}
 use Rattle.std.specs.Prelude.{slice_get}
+use Rattle.std.proofs.Math.Nat.{mul-le-mul_right}
 use Rattle.std.proofs.lemmas.Bool.{cases_lt}
 use Rattle.std.proofs.lemmas.List.{length_push}
 use Rattle.std.proofs.lemmas.Nat.{div-add-mod'}
@@ -23,13 +24,6 @@ slice_get-push_new (a ∷ xs) x = slice_get-push_new xs x
 -- ---- a worker's share
 
 module _ {A : Type 0} (worker workers : ℕ) (all : List A) where
-  past_all : {turn turns place : ℕ} → (worker + turn * workers < length all → turn < turns) → turns ≤ turn
-      → worker + turn * workers ≡ place → length all ≤ place
-  past_all {turn} {turns} {place} within past is = elim (cases_lt (worker + turn * workers) (length all)) [
-    | inl inside ↦ let no = within inside in absurd (omega arith)
-    | inr beyond ↦ omega arith
-  ]
-
   -- after so many turns
   pub record IsDealtSoFar (turns : ℕ) (hand : List A) : Type 0 where
     pub many : length hand ≡ turns
@@ -50,14 +44,14 @@ module _ {A : Type 0} (worker workers : ℕ) (all : List A) where
         ];
       }
 
-  pub all_dealt : (turns : ℕ) (hand : List A) → IsDealtSoFar turns hand
-      → ((turn : ℕ) → (turn < turns) ↔ (worker + turn * workers < length all)) → IsDealt worker workers all hand
-  all_dealt turns hand so_far within place own =
+  pub all_dealt : (turns : ℕ) (hand : List A) → IsDealtSoFar turns hand → length all ≤ worker + turns * workers
+      → IsDealt worker workers all hand
+  all_dealt turns hand so_far ended place own =
       let turn = place / workers in
       let place_is : worker + turn * workers ≡ place = omega (arith, div-add-mod' place workers, own) in
       elim (cases_lt turn turns) [
         | inl inside ↦ so_far.each turn inside ∙ ap (slice_get all) place_is
         | inr past ↦
-            let beyond : length all ≤ place = past_all (within turn).1 past place_is in
-            slice_get_past hand turn (omega (arith, so_far.many)) ∙ sym (slice_get_past all place beyond)
+            let later : turns * workers ≤ turn * workers = mul-le-mul_right workers past in
+            slice_get_past hand turn (omega (arith, so_far.many)) ∙ sym (slice_get_past all place (omega arith))
       ]

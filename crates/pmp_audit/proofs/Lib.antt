@@ -8,7 +8,6 @@ pub mod Lists
 pub mod LongReports
 pub mod LongParts
 pub mod FilesBetween
-pub mod LongAudits
 pub mod LongSteps
 pub mod LongStops
 pub mod LongTurns

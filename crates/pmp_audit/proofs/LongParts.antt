@@ -20,7 +20,7 @@ use Rattle.pmp_audit.specs.declared.piece.PieceReport.{PieceReport}
 use Rattle.pmp_audit.specs.declared.standing.Standing.{Standing}
 use Rattle.pmp_audit.specs.LongParts.{AreJoined, IsBoth, items_of}
 use Rattle.pmp_audit.specs.LongPieces.{IsPieceReported}
-use Rattle.pmp_audit.proofs.PieceTexts.{joined_texts}
+use Rattle.pmp_audit.proofs.PieceTexts.{joined as together}
 
 -- ---- what parts have
 
@@ -59,32 +59,20 @@ module _ (script : ScriptContents) (standing middle : Standing) (front back both
       meets = ap (λ (s : Standing). s.place) fresh
           ∙ sym (ap (λ (p : Place). record p { bare = None }) joined.meets)
 
-      behind_low : middle.place ≡ record (place_behind (moments_in script) standing.place low) {
-        bare =
-            middle.place.bare;
-      }
-      behind_low = meets ∙ ap (λ (p : Place). record p { bare = None }) here.place
-          ∙ ap (λ (bare : Option ℕ). record (place_behind (moments_in script) standing.place low) { bare = bare })
+      behind_low : middle.place ≡ record front.behind.place { bare = middle.place.bare }
+      behind_low = meets ∙ ap (λ (bare : Option ℕ). record front.behind.place { bare = bare })
           (sym (ap (λ (s : Standing). s.place.bare) fresh))
 
       pub both_reported : IsPieceReported script (low ++ high) standing both
-      both_reported = record {
-        faults = here.faults + there.faults;
-        says = rw (ap items_of joined.texts ∙ flat_map-append _ front.texts.items back.texts.items)
-            (joined_texts script low standing here.faults (items_of front.texts.items) here.says high middle behind_low
-            there.faults (items_of back.texts.items) there.says);
-        place = joined.place
-            ∙ ap (λ (p : Place). record p { bare = option_or front.behind.place.bare p.bare })
-            (there.place ∙ ap (λ (p : Place). place_behind (moments_in script) p high) meets)
-            ∙ ap (λ (p : Place). place_behind (moments_in script) p high) here.place
-            ∙ sym (places_in_turn (moments_in script) standing.place low high);
-        refused =
-            let a = here.refused in
-            let b = there.refused in
-            let c = joined.faults in
-            let none = ap (λ (s : Standing). s.faults) fresh in
-            omega arith;
-      }
+      both_reported =
+          rw (ap items_of joined.texts ∙ flat_map-append _ front.texts.items back.texts.items)
+          (together here there behind_low both.behind
+          (joined.place
+          ∙ ap (λ (p : Place). record p { bare = option_or front.behind.place.bare p.bare })
+          (there.place ∙ ap (λ (p : Place). place_behind (moments_in script) p high) meets)
+          ∙ ap (λ (p : Place). place_behind (moments_in script) p high) here.place
+          ∙ sym (places_in_turn (moments_in script) standing.place low high))
+          (let faults = joined.faults in let none = ap (λ (s : Standing). s.faults) fresh in omega arith))
 
 -- a text that was cut at a line's end
 module _ (script : ScriptContents) (standing middle : Standing)
@@ -105,7 +93,7 @@ module _ (script : ScriptContents) (standing middle : Standing)
       ∙ ap (λ (l : List ℕ). before ++ l) (drop_more text end 0 inside) in
       let front_is = rw low_ends at here in
       let back_is = rw high_begins at there in
-      rw (whole, apart (moments_in script) standing.place before e ends front_is.says.fine behind)
+      rw (whole, apart (moments_in script) standing.place before e ends front_is.report.fine behind)
       (both_reported script standing middle front back both joined fresh (records_of (before ++ e ∷ []))
       (records_of (e ∷ behind)) front_is back_is)
   parts_reported (Ok front) (Err fault) here there joined = absurd joined

@@ -8,15 +8,16 @@ use Rattle.std.proofs.KnownBytes.{Appends-nil, Appends-trans, Consumes-nil, Cons
 use Rattle.std.proofs.lemmas.List.{length-append}
 use Rattle.pmp_text.specs.Contents.{ScriptContents}
 use Rattle.pmp_text.specs.Cutting.{IsFront}
-use Rattle.pmp_text.specs.LongTraces.{Records, beginning, piece_fault}
+use Rattle.pmp_text.specs.LongTraces.{Records, piece_fault}
 use Rattle.pmp_text.specs.Scripts.{script_meaning}
 use Rattle.pmp_text.specs.Tables.{records_of}
 use Rattle.pmp_text.proofs.PieceFaults as pieces
 use Rattle.pmp_text.specs.Moments.{moments_in}
 use Rattle.pmp_audit.specs.declared.standing.Standing.{Standing}
 use Rattle.pmp_audit.specs.LongAudit.{IsFrontOf}
-use Rattle.pmp_audit.specs.LongPieces.{IsPieceWritten}
-use Rattle.pmp_audit.proofs.LongAudits.{Stands, begins, one_piece}
+use Rattle.pmp_audit.specs.LongPieces.{IsReported}
+use Rattle.pmp_audit.proofs.PieceRows.{none_so_far}
+use Rattle.pmp_audit.proofs.PieceTexts.{one_after, start}
 
 -- so many pieces were read and reported, and these bytes are held of what follows
 pub record Going (script : ScriptContents) (first count : ℕ) (in_old in_new : Option (List ℕ)) (held : List ℕ)
@@ -26,20 +27,21 @@ pub record Going (script : ScriptContents) (first count : ℕ) (in_old in_new : 
   pub text : List ℕ
   pub consumed : Consumes in_old in_new (done ++ held)
   pub apart : (more : List ℕ) → records_of (done ++ (held ++ more)) ≡ records ++ records_of (held ++ more)
-  pub stands : Stands script first records standing text
+  pub stands : IsReported script records (start first) standing text
   pub written : Appends out_old out_new text
   pub many : count ≤ length done
 
 pub going_begins : (script : ScriptContents) (first : ℕ) (bytes_in : Option (List ℕ)) (held : List ℕ)
-    (bytes_out : Option (List ℕ)) (standing : Standing) → held ≡ [] → standing.place ≡ beginning first
-    → standing.faults ≡ 0 → Going script first 0 bytes_in bytes_in held bytes_out bytes_out standing
-going_begins script first bytes_in held bytes_out standing none place faults = record {
+    (bytes_out : Option (List ℕ)) (standing : Standing) → held ≡ [] → standing ≡ start first
+    → Going script first 0 bytes_in bytes_in held bytes_out bytes_out standing
+going_begins script first bytes_in held bytes_out standing none fresh = record {
   done = [];
   records = [];
   text = [];
   consumed = rw none (Consumes-nil bytes_in);
   apart = λ more. refl;
-  stands = begins script first standing place faults;
+  stands = none_so_far script (start first) standing (ap (λ (s : Standing). s.place) fresh)
+      (ap (λ (s : Standing). s.faults) fresh);
   written = Appends-nil bytes_out;
   many = omega arith;
 }
@@ -52,18 +54,18 @@ module _ {script : ScriptContents} {first count limit : ℕ} {in_old in_mid in_n
     joined more = sym (append_assoc held cut.taken more) ∙ ap (λ (l : List ℕ). l ++ more) cut.split
         ∙ append_assoc cut.before (cut.line_end ∷ cut.behind) more
 
-    pub goes_on : {out_new : Option (List ℕ)} {new : Standing}
-        → IsPieceWritten script (records_of piece) old out_mid out_new new
+    pub goes_on : {out_new : Option (List ℕ)} {new : Standing} {text : List ℕ}
+        → IsReported script (records_of piece) old new text → Appends out_mid out_new text
         → Going script first (count + 1) in_old in_new left out_old out_new new
-    goes_on {new = new} piece_written =
+    goes_on {text = text} reported wrote =
         let here = records_of piece in
         let fine = ap (λ (l : List ℕ). piece_fault (moments_in script) old.place (records_of l)) (sym cut.piece_is)
-        ∙ piece_written.says.fine in
+        ∙ reported.report.fine in
         let in_two = pieces.apart (moments_in script) old.place cut.before cut.line_end cut.ends fine in
         record {
           done = going.done ++ cut.before;
           records = going.records ++ here;
-          text = going.text ++ piece_written.text;
+          text = going.text ++ text;
           consumed =
               let all : (going.done ++ held) ++ cut.taken ≡ (going.done ++ cut.before) ++ left =
               append_assoc going.done held cut.taken ∙ ap (λ (l : List ℕ). going.done ++ l) cut.split
@@ -83,9 +85,8 @@ module _ {script : ScriptContents} {first count limit : ℕ} {in_old in_mid in_n
               (sym cut.piece_is))
               ∙ sym (append_assoc going.records here (records_of (cut.line_end ∷ (cut.behind ++ more))))
               ∙ ap (λ (l : List ℕ). (going.records ++ here) ++ records_of l) (sym rest);
-          stands = one_piece script first going.records old going.text going.stands here new piece_written.faults
-              piece_written.text piece_written.says piece_written.place piece_written.refused;
-          written = Appends-trans _ _ _ _ _ going.written piece_written.written;
+          stands = one_after going.stands reported;
+          written = Appends-trans _ _ _ _ _ going.written wrote;
           many = let some = cut.some in let most = going.many in
               let count_is = length-append going.done cut.before in omega arith;
         }
@@ -104,7 +105,7 @@ none_left None e = refl
 none_left (Some xs) e = e
 
 module _ {script : List ℕ} {contents : ScriptContents} (means : script_meaning script ≡ Ok contents) {first : ℕ}
-    {records : Records} {standing : Standing} {text : List ℕ} (stands : Stands contents first records standing text)
+    {records : Records} {standing : Standing} {text : List ℕ} (stands : IsReported contents records (start first) standing text)
     (trace : List ℕ) (behind : Records) (are : records_of trace ≡ records ++ behind) where
   -- what was written is a front of the report
   pub front_of : IsFrontOf script first trace text

@@ -1,21 +1,20 @@
 -- Where a long audit stops, and where it ends.
-use Rattle.std.proofs.Common.{◌≡◌, ◌⊎◌, ℕ, ◌+◌, ◌*◌, ◌-◌, ◌^◌, ◌≤◌, true, false, List, ◌++◌, length}
-use Rattle.std.proofs.Common.{Option, Some, None, Ok, Err, refl, sym, ap, ◌∙◌, inl, inr}
-use Rattle.std.proofs.Common.{append_assoc, arith}
+use Rattle.std.proofs.Common.{◌≡◌, ◌⊎◌, ℕ, ◌-◌, true, false, List, [], ◌++◌}
+use Rattle.std.proofs.Common.{Option, Some, None, Ok, Err, refl, sym, ap, subst, ◌∙◌, inl, inr}
+use Rattle.std.proofs.Common.{append_assoc, append-nil, arith, length}
 use Rattle.std.specs.Io.KnownBytes.{Appends, Keeps}
 use Rattle.std.proofs.KnownBytes.{Appends-trans}
-use Rattle.std.proofs.lemmas.List.{length-append}
 use Rattle.pmp_text.specs.declared.trace.TraceFault.{TraceFault}
 use Rattle.pmp_text.specs.declared.refusal.Refusal.TheVariants.{BadHeader}
 use Rattle.pmp_text.specs.declared.trace.rows.Place.{Place}
+use Rattle.pmp_text.specs.Bytes.{AppendsBeginning}
 use Rattle.pmp_text.specs.Contents.{ScriptContents}
-use Rattle.pmp_text.specs.LongTraces.{Records, beginning, long_meaning, piece_fault, place_behind, row_records}
+use Rattle.pmp_text.specs.LongTraces.{HasTooManyRows, Records, beginning, long_meaning, piece_fault}
 use Rattle.pmp_text.specs.LongTraces.{too_long_for_rows}
 use Rattle.pmp_text.specs.Outcomes.{no_input_for_rows}
 use Rattle.pmp_text.specs.Scripts.{script_meaning}
 use Rattle.pmp_text.specs.Tables.{records_of}
 use Rattle.pmp_text.specs.Flaws.{at_row, as_whole}
-use Rattle.pmp_text.proofs.CutTexts.{few_records}
 use Rattle.pmp_text.specs.Moments.{KnownMoments, moments_in}
 use Rattle.pmp_audit.specs.declared.fault.AuditFault.{AuditFault}
 use Rattle.pmp_audit.specs.declared.fault.AuditFault.TheVariants.{Trace, Memory}
@@ -23,9 +22,11 @@ use Rattle.pmp_audit.specs.declared.fault.AuditFault.TheVariants.{Output}
 use Rattle.pmp_audit.specs.declared.standing.Standing.{Standing}
 use Rattle.pmp_audit.specs.declared.trace_audit.Summary.{Summary}
 use Rattle.pmp_audit.specs.LongAudit.{IsTooLong, LongAuditSays, StopsLong, WroteFront}
-use Rattle.pmp_audit.specs.LongPieces.{PieceStops}
-use Rattle.pmp_audit.proofs.LongAudits.{Stands, bare_so_far, fault_behind, one_piece, summed}
-use Rattle.pmp_text.proofs.WholeTraces.{faulty_records, fewer_rows, fine_records, no_records}
+use Rattle.pmp_audit.specs.LongPieces.{IsReported, PieceFails}
+use Rattle.pmp_audit.specs.Report.{refused_count}
+use Rattle.pmp_audit.proofs.PieceTexts.{bare_rows_behind, fault_behind, numbered, one_after, one_each, start}
+use Rattle.pmp_audit.proofs.PieceTexts.{too_many_in_all}
+use Rattle.pmp_text.proofs.WholeTraces.{faulty_records, fine_records, no_records}
 use Rattle.pmp_audit.proofs.LongSteps.{front_of}
 
 -- the piece stands behind these records of the trace, whatever follows it
@@ -34,9 +35,8 @@ pub record IsPieceOf (moments : KnownMoments) (place : Place) (records : Records
   pub are : records_of trace ≡ records ++ tail
   pub stays : (fault : TraceFault) → piece_fault moments place (records_of piece) ≡ Some fault
       → piece_fault moments place tail ≡ Some fault
-  pub apart : piece_fault moments place (records_of piece) ≡ None
-      → (behind : Records) × (tail ≡ records_of piece ++ behind)
-  pub within : length piece ≤ length trace
+  pub fronts : (front behind : Records) → records_of piece ≡ front ++ behind → piece_fault moments place front ≡ None
+      → (others : Records) × (tail ≡ front ++ others)
 
 appends_kept : (old mid new : Option (List ℕ)) (text : List ℕ) → Appends old mid text → Keeps mid new
     → Appends old new text
@@ -47,7 +47,7 @@ appends_kept (Some xs) (Some ys) (Some zs) text written kept = kept ∙ written
 
 module _ (script : List ℕ) {contents : ScriptContents} (means : script_meaning script ≡ Ok contents) (limit : ℕ)
     {first : ℕ} {records : Records} {old : Standing} {text : List ℕ}
-    (stands : Stands contents first records old text) (out_old out_mid out_new : Option (List ℕ))
+    (stands : IsReported contents records (start first) old text) (out_old out_mid out_new : Option (List ℕ))
     (written : Appends out_old out_mid text) where
   abbrev moments : KnownMoments
   moments = moments_in contents
@@ -67,7 +67,7 @@ module _ (script : List ℕ) {contents : ScriptContents} (means : script_meaning
       wrote_front kept,
     )
 
-    pub too_long : IsTooLong limit first trace → Keeps out_mid out_new
+    pub too_long : IsTooLong limit moments first trace → Keeps out_mid out_new
         → StopsLong limit script first trace out_old out_new (Trace too_long_for_rows)
     too_long long kept = (
       record { contents = contents; script_means = means; why = inr (inr (refl, long)) },
@@ -80,54 +80,52 @@ module _ (script : List ℕ) {contents : ScriptContents} (means : script_meaning
     faulty : (fault : TraceFault) → piece_fault moments old.place (records_of piece) ≡ Some fault
         → long_meaning moments first (records_of trace) ≡ Err fault
     faulty fault found = faulty_records moments first (records_of trace) fault
-        (ap (piece_fault moments (beginning first)) here.are
-        ∙ fault_behind contents first records old text stands here.tail ∙ here.stays fault found)
+        (ap (piece_fault moments (beginning first)) here.are ∙ fault_behind stands here.tail ∙ here.stays fault found)
 
-    too_many : 2 ^ 64 ≤ (place_behind moments old.place (records_of piece)).next
-        → 2 ^ 64 ≤ first + 4 * (length trace + 1)
+    too_many : HasTooManyRows moments old.place (records_of piece)
+        → HasTooManyRows moments (beginning first) (records_of trace)
     too_many many =
-        let all = few_records trace in
-        let some = few_records piece in
-        let are : length (records_of trace) ≡ length (records ++ here.tail) =
-        ap (λ (l : Records). length l) here.are in
-        let are_two = length-append records here.tail in
-        let before : old.place.next ≡ first + length (row_records false records) =
-        ap (λ (p : Place). p.next) stands.place in
-        let few = fewer_rows false records in
-        let fewer = fewer_rows old.place.begun (records_of piece) in
-        let within = here.within in
-        omega arith
+        let (others, tail_is) = here.fronts many.front many.behind many.are many.fine in
+        let tail : HasTooManyRows moments old.place here.tail = record {
+          front = many.front;
+          behind = others;
+          are = tail_is;
+          fine = many.fine;
+          many = many.many;
+        } in
+        subst (HasTooManyRows moments (beginning first)) (sym here.are) (too_many_in_all stands here.tail tail)
 
     abbrev Why : TraceFault → Type 0
     Why fault = (long_meaning moments first (records_of trace) ≡ Err fault) ⊎ (fault ≡ no_input_for_rows)
-        ⊎ ((fault ≡ too_long_for_rows) × IsTooLong limit first trace)
+        ⊎ ((fault ≡ too_long_for_rows) × IsTooLong limit moments first trace)
 
     why : (fault : TraceFault) → (piece_fault moments old.place (records_of piece) ≡ Some fault)
         ⊎ (fault ≡ no_input_for_rows)
-        ⊎ ((fault ≡ too_long_for_rows) × (2 ^ 64 ≤ (place_behind moments old.place (records_of piece)).next))
+        ⊎ ((fault ≡ too_long_for_rows) × HasTooManyRows moments old.place (records_of piece))
         → Why fault
     why fault (inl found) = inl (faulty fault found)
     why fault (inr (inl failed)) = inr (inl failed)
-    why fault (inr (inr (long, many))) = inr (inr (long, inr (too_many many)))
+    why fault (inr (inr (long, many))) = inr (inr (long, inr (inl (too_many many))))
 
-    pub piece_stops : (fault : AuditFault) → PieceStops contents (records_of piece) old out_mid out_new fault
+    pub piece_fails : (fault : AuditFault) → PieceFails contents (records_of piece) old fault → Keeps out_mid out_new
         → StopsLong limit script first trace out_old out_new fault
-    piece_stops (Trace fault) (stops, kept) = (
-      record { contents = contents; script_means = means; why = why fault stops },
+    piece_fails (Trace fault) fails kept = (
+      record { contents = contents; script_means = means; why = why fault fails },
       wrote_front trace here.tail here.are kept,
     )
-    piece_stops Memory kept = inr (wrote_front trace here.tail here.are kept)
-    piece_stops Output (faults, more, says, (front, rest, split, wrote)) =
-        let new : Standing =
-        record { place = place_behind moments old.place (records_of piece); faults = old.faults + faults } in
-        let later =
-        one_piece contents first records old text stands (records_of piece) new faults more says refl refl in
-        let (behind, tail_is) = here.apart says.fine in
+    piece_fails Memory fails kept = inr (wrote_front trace here.tail here.are kept)
+    piece_fails fault fails kept = absurd fails
+
+    pub cut_short : (new : Standing) (more : List ℕ) → IsReported contents (records_of piece) old new more
+        → AppendsBeginning out_mid out_new more → StopsLong limit script first trace out_old out_new Output
+    cut_short new more reported (front, rest, split, wrote) =
+        let (behind, tail_is) =
+        here.fronts (records_of piece) [] (sym (append-nil (records_of piece))) reported.report.fine in
         let are : records_of trace ≡ (records ++ records_of piece) ++ behind =
         here.are ∙ ap (λ (l : Records). records ++ l) tail_is ∙ sym (append_assoc records (records_of piece) behind)
         in (
           text ++ more,
-          front_of means later trace behind are,
+          front_of means (one_after stands reported) trace behind are,
           (
             text ++ front,
             rest,
@@ -135,7 +133,6 @@ module _ (script : List ℕ) {contents : ScriptContents} (means : script_meaning
             Appends-trans _ _ _ _ _ written wrote,
           ),
         )
-    piece_stops fault stops = absurd stops
 
   -- ---- the end of the trace
 
@@ -145,6 +142,10 @@ module _ (script : List ℕ) {contents : ScriptContents} (means : script_meaning
         → LongAuditSays script first trace summary text
     says_all summary begun is =
         let done = stands.report in
+        let number = numbered stands in
+        let same = one_each stands in
+        let count : old.place.next - first ≡ length done.decisions = omega arith in
+        let refused : old.faults ≡ refused_count done.decisions = let counted = stands.counted in omega arith in
         let read = sym (ap (λ (p : Place). p.begun) stands.place) ∙ begun in
         record {
           contents = contents;
@@ -159,9 +160,9 @@ module _ (script : List ℕ) {contents : ScriptContents} (means : script_meaning
           };
           counted = is
               ∙ (λ i. record {
-                rows = summed contents first records old text stands i;
-                faults = stands.counted i;
-                bare = bare_so_far contents first records old text stands i;
+                rows = count i;
+                faults = refused i;
+                bare = bare_rows_behind stands i;
               });
         }
 

@@ -1,5 +1,5 @@
 -- What one turn of a long audit comes to, where it is the last one: its piece, in the whole trace.
-use Rattle.std.proofs.Common.{◌≡◌, ◌⊎◌, Some, None, ℕ, ◌-◌, ◌^◌, ◌≤◌, ◌∷◌, length, ap, append_assoc}
+use Rattle.std.proofs.Common.{◌≡◌, ◌⊎◌, Some, None, ℕ, ◌-◌, ◌^◌, ◌≤◌, ◌∷◌, ap, append_assoc}
 use Rattle.std.proofs.Common.{true, false, List, ◌++◌, unwrap_or, Option, Result, Ok, Err}
 use Rattle.std.proofs.Common.{IfOk, IfErr, refl, sym, ◌∙◌, inl, inr, append-nil, arith, []}
 use Rattle.std.specs.Prelude.{IfSome, MatchResult}
@@ -10,6 +10,7 @@ use Rattle.pmp_text.specs.declared.script.ScriptFault.{ScriptFault}
 use Rattle.pmp_text.specs.declared.refusal.Refusal.{Refusal}
 use Rattle.pmp_text.specs.declared.refusal.Refusal.TheVariants as kinds
 use Rattle.pmp_text.specs.declared.refusal.Refusal.TheVariants.{BadHeader}
+use Rattle.pmp_text.specs.Bytes.{AppendsBeginning}
 use Rattle.pmp_text.specs.Contents.{ScriptContents}
 use Rattle.pmp_text.specs.Cutting.{IsCut, IsFront, IsLast}
 use Rattle.pmp_text.specs.LongTraces.{HasLongLine, piece_fault}
@@ -20,16 +21,18 @@ use Rattle.pmp_text.specs.Flaws.{as_whole, at_row}
 use Rattle.pmp_text.proofs.PieceFaults as pieces
 use Rattle.pmp_text.specs.Moments.{moments_in}
 use Rattle.pmp_audit.specs.declared.fault.AuditFault.{AuditFault}
-use Rattle.pmp_audit.specs.declared.fault.AuditFault.TheVariants.{Trace}
+use Rattle.pmp_audit.specs.declared.fault.AuditFault.TheVariants.{Output, Script, Trace}
 use Rattle.pmp_audit.specs.declared.standing.Standing.{Standing}
 use Rattle.pmp_audit.specs.declared.trace_audit.Summary.{Summary}
 use Rattle.pmp_audit.specs.Answers.{IsWritten}
-use Rattle.pmp_audit.specs.Fault.{fault_of_script, script_fault_as}
+use Rattle.pmp_audit.specs.Fault.{fault_of_script}
 use Rattle.pmp_audit.specs.LongAudit.{LongAuditSays, StopsLong}
-use Rattle.pmp_audit.specs.LongPieces.{IsPieceWritten, PieceStops, fault_of_cut}
-use Rattle.pmp_audit.proofs.LongAudits.{Stands, one_piece}
+use Rattle.pmp_audit.specs.LongPieces.{IsReported, PieceFails, fault_of_cut}
+use Rattle.pmp_audit.proofs.FaultyInputs.{by_kind}
+use Rattle.pmp_audit.proofs.PieceTexts.{one_after, start}
 use Rattle.pmp_audit.proofs.LongSteps.{Going, none_left, whole_trace}
-use Rattle.pmp_audit.proofs.LongStops.{IsPieceOf, no_header, no_input, piece_stops, says_all, too_long, wrote_front}
+use Rattle.pmp_audit.proofs.LongStops.{IsPieceOf, cut_short, no_header, no_input, piece_fails, says_all, too_long}
+use Rattle.pmp_audit.proofs.LongStops.{wrote_front}
 
 -- ---- no script
 
@@ -38,14 +41,10 @@ any_trace None = tt
 any_trace (Some those) = refl
 
 module _ (limit : ℕ) (script : List ℕ) (first : ℕ) (in_old out : Option (List ℕ)) where
-  by_kind : (fault : ScriptFault) → script_meaning script ≡ Err fault → (kind : Refusal)
-      → StopsLong limit script first (unwrap_or in_old []) out out (script_fault_as kind fault)
-  by_kind fault means kinds.Memory = inl (Keeps-refl out)
-  by_kind fault means kind = (means, Keeps-refl out)
-
   refused : (fault : ScriptFault) → (script_meaning script ≡ Err fault) ⊎ (fault ≡ out_of_memory)
       → StopsLong limit script first (unwrap_or in_old []) out out (fault_of_script fault)
-  refused fault (inl means) = by_kind fault means fault.kind
+  refused fault (inl means) = by_kind (StopsLong limit script first (unwrap_or in_old []) out out)
+      (inl (Keeps-refl out)) (Script fault) (means, Keeps-refl out) fault.kind
   refused fault (inr is) = rw is (inl (Keeps-refl out))
 
   pub script_stops : (fault : ScriptFault) → (script_meaning script ≡ Err fault) ⊎ (fault ≡ out_of_memory)
@@ -117,20 +116,9 @@ module _ {script : ScriptContents} {first count : ℕ} {in_old in_mid : Option (
             stays = λ fault found.
                 pieces.fault_stays moments old.place cut.before cut.line_end cut.ends fault (found_in ∙ found)
                 later;
-            apart = λ fine. (
-              records_of (cut.line_end ∷ later),
-              pieces.apart moments old.place cut.before cut.line_end cut.ends (found_in ∙ fine) later
-                  ∙ ap (λ (l : List ℕ). records_of l ++ records_of (cut.line_end ∷ later)) (sym cut.piece_is),
-            );
-            within =
-                let size : length piece ≡ length (cut.before ++ cut.line_end ∷ []) =
-                ap (λ (l : List ℕ). length l) cut.piece_is in
-                let size_is = length-append cut.before (cut.line_end ∷ []) in
-                let joined_size : length (held ++ (cut.taken ++ rest)) ≡ length (cut.before ++ cut.line_end ∷ later) =
-                ap (λ (l : List ℕ). length l) joined in
-                let joined_is = length-append cut.before (cut.line_end ∷ later) in
-                let all = length-append going.done (held ++ (cut.taken ++ rest)) in
-                omega arith;
+            fronts = λ front behind are fine.
+                pieces.front_stays moments old.place cut.before cut.line_end cut.ends front behind
+                (ap records_of (sym cut.piece_is) ∙ are) fine later;
           }
 
     module _ (piece : List ℕ) (cut : IsLast limit held in_mid in_new piece) where
@@ -152,11 +140,7 @@ module _ {script : ScriptContents} {first count : ℕ} {in_old in_mid : Option (
         tail = records_of piece;
         are = all_are;
         stays = λ fault found. found;
-        apart = λ fine. ([], sym (append-nil (records_of piece)));
-        within =
-            let size : length piece ≡ length (held ++ cut.taken) = ap (λ (l : List ℕ). length l) cut.piece_is in
-            let all = length-append going.done (held ++ cut.taken) in
-            omega arith;
+        fronts = λ front behind are fine. (behind, are);
       }
 
     -- the audit stops so, whatever text means the script
@@ -164,27 +148,42 @@ module _ {script : ScriptContents} {first count : ℕ} {in_old in_mid : Option (
     Stops out_new fault = (text : List ℕ) → script_meaning text ≡ Ok script → (trace : List ℕ)
         × IfSome in_old (λ those. trace ≡ those) × StopsLong limit text first trace out_old out_new fault
 
-    pub front_stops : (left piece : List ℕ) → IsFront limit held in_mid in_new left piece
-        → (out_new : Option (List ℕ)) (fault : AuditFault)
-        → PieceStops script (records_of piece) old out_mid out_new fault
-        → Stops out_new fault
-    front_stops left piece cut out_new fault stops = λ text means. (
-      trace_taken cut.taken cut.consumed,
-      taken_known cut.taken cut.consumed,
-      piece_stops text means limit going.stands out_old out_mid out_new going.written piece _
-          (front_piece left piece cut) fault stops,
-    )
+    -- ---- a piece that isn't written
 
-    pub last_stops : (piece : List ℕ) → IsLast limit held in_mid in_new piece
-        → (out_new : Option (List ℕ)) (fault : AuditFault)
-        → PieceStops script (records_of piece) old out_mid out_new fault
-        → Stops out_new fault
-    last_stops piece cut out_new fault stops = λ text means. (
-      trace_all piece cut,
-      all_known piece cut,
-      piece_stops text means limit going.stands out_old out_mid out_new going.written piece _
-          (last_piece piece cut) fault stops,
-    )
+    -- a whole trace of which this is the next piece
+    pub record HasPiece (piece : List ℕ) : Type 0 where
+      trace : List ℕ
+      known : IfSome in_old (λ those. trace ≡ those)
+      here : IsPieceOf (moments_in script) old.place going.records piece trace
+
+    pub has_front : (left piece : List ℕ) → IsFront limit held in_mid in_new left piece → HasPiece piece
+    has_front left piece cut = record {
+      trace = trace_taken cut.taken cut.consumed;
+      known = taken_known cut.taken cut.consumed;
+      here = front_piece left piece cut;
+    }
+
+    pub has_last : (piece : List ℕ) → IsLast limit held in_mid in_new piece → HasPiece piece
+    has_last piece cut =
+        record { trace = trace_all piece cut; known = all_known piece cut; here = last_piece piece cut }
+
+    module _ (piece : List ℕ) (has : HasPiece piece) where
+      pub fails : (fault : AuditFault) → PieceFails script (records_of piece) old fault → Stops out_mid fault
+      fails fault why = λ text means. (
+        has.trace,
+        has.known,
+        piece_fails text means limit going.stands out_old out_mid out_mid going.written piece has.trace has.here fault
+            why (Keeps-refl out_mid),
+      )
+
+      pub stops_short : (new : Standing) (more : List ℕ) → IsReported script (records_of piece) old new more
+          → (out_new : Option (List ℕ)) → AppendsBeginning out_mid out_new more → Stops out_new Output
+      stops_short new more reported out_new wrote = λ text means. (
+        has.trace,
+        has.known,
+        cut_short text means limit going.stands out_old out_mid out_new going.written piece has.trace has.here new more
+            reported wrote,
+      )
 
     -- ---- no piece
 
@@ -218,20 +217,20 @@ module _ {script : ScriptContents} {first count : ℕ} {in_old in_mid : Option (
       held_known,
       too_long text means limit going.stands out_old out_mid out_mid going.written _ _
           (going.apart (unwrap_or in_mid []))
-          (inr (let many = going.many in
-          let size = length-append going.done (held ++ unwrap_or in_mid []) in omega arith)) (Keeps-refl out_mid),
+          (inr (inr (let many = going.many in
+          let size = length-append going.done (held ++ unwrap_or in_mid []) in omega arith))) (Keeps-refl out_mid),
     )
 
     -- ---- the last piece
 
-    module _ (piece : List ℕ) (cut : IsLast limit held in_mid in_new piece) (out_new : Option (List ℕ)) (new : Standing)
-        (wrote : IsPieceWritten script (records_of piece) old out_mid out_new new) where
-      all_read : Stands script first (going.records ++ records_of piece) new (going.text ++ wrote.text)
-      all_read = one_piece script first going.records old going.text going.stands (records_of piece) new wrote.faults
-          wrote.text wrote.says wrote.place wrote.refused
+    module _ (piece : List ℕ) (cut : IsLast limit held in_mid in_new piece) {new : Standing} {more : List ℕ}
+        (reported : IsReported script (records_of piece) old new more) (out_new : Option (List ℕ))
+        (wrote : Appends out_mid out_new more) where
+      all_read : IsReported script (going.records ++ records_of piece) (start first) new (going.text ++ more)
+      all_read = one_after going.stands reported
 
-      all_written : Appends out_old out_new (going.text ++ wrote.text)
-      all_written = Appends-trans _ _ _ _ _ going.written wrote.written
+      all_written : Appends out_old out_new (going.text ++ more)
+      all_written = Appends-trans _ _ _ _ _ going.written wrote
 
       abbrev pub Ends : Result Summary AuditFault → Type 0
       Ends result = MatchResult result
@@ -247,7 +246,7 @@ module _ {script : ScriptContents} {first count : ℕ} {in_old in_mid : Option (
         trace_all piece cut,
         all_known piece cut,
         record {
-          text = going.text ++ wrote.text;
+          text = going.text ++ more;
           says = says_all text means limit all_read out_old out_new out_new all_written _ (all_are piece cut) summary
               begun is;
           written = all_written;

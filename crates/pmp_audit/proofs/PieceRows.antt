@@ -1,35 +1,32 @@
 -- The report of a piece, one row after another.
-use Rattle.std.proofs.Common.{◌≡◌, ◌⊎◌, ℕ, ◌+◌, ◌^◌, ◌≤◌, Bool, true, false, cond, List, [], ◌∷◌}
+use Rattle.std.proofs.Common.{◌≡◌, ◌⊎◌, ℕ, ◌+◌, ◌≤◌, Bool, true, false, cond, List, [], ◌∷◌}
 use Rattle.std.proofs.Common.{◌++◌, length, Option, Some, None, Ok, refl, sym, ap, ◌∙◌, inl, inr, append_assoc}
 use Rattle.std.proofs.Common.{append-nil, arith, subst}
 use Rattle.std.specs.Prelude.{IfErr, IfOk, Result, Err, filter_map}
 use Rattle.std.specs.Option.{option_or}
 use Rattle.std.proofs.lemmas.List.{length-append}
 use Rattle.pmp_core.specs.declared.decision.Decision.{Decision}
-use Rattle.pmp_text.specs.declared.refusal.Refusal.{Refusal}
-use Rattle.pmp_text.specs.declared.refusal.Refusal.TheVariants as kinds
 use Rattle.pmp_text.specs.declared.trace.Row.{Row}
 use Rattle.pmp_text.specs.declared.trace.TraceFault.{TraceFault}
 use Rattle.pmp_text.specs.declared.trace.rows.Place.{Place}
 use Rattle.pmp_text.specs.Contents.{ScriptContents}
-use Rattle.pmp_text.specs.LongTraces.{Records, first_fault_at, has_begun, piece_fault, place_behind, report_text_from}
-use Rattle.pmp_text.specs.LongTraces.{is_bare_record, row_records, too_long_for_rows}
+use Rattle.pmp_text.specs.LongTraces.{HasTooManyRows, IsHeaded, Records, first_fault_at, has_begun, is_bare_record}
+use Rattle.pmp_text.specs.LongTraces.{piece_fault, place_behind, report_text_from, row_records, too_long_for_rows}
 use Rattle.pmp_text.specs.Outcomes.{no_input_for_rows, no_memory_for_rows}
 use Rattle.pmp_text.specs.Reports.{report_row}
-use Rattle.pmp_text.specs.RowsLeft.{IsNextRow, RowsLeft, place_after}
+use Rattle.pmp_text.specs.RowsLeft.{IsNextRow, IsOutOfNumbers, RowsLeft, place_after}
 use Rattle.pmp_text.specs.Traces.{first_row_fault, row_fault, row_fields, row_in, row_of_record}
 use Rattle.pmp_text.proofs.LeastRows.{least_of, rows_in_order}
-use Rattle.pmp_text.proofs.PieceFaults.{in_turn, places_in_turn}
-use Rattle.pmp_text.proofs.WholeTraces.{fewer_rows}
 use Rattle.pmp_text.specs.Moments.{KnownMoments, moments_in}
 use Rattle.pmp_audit.specs.declared.fault.AuditFault.{AuditFault}
 use Rattle.pmp_audit.specs.declared.fault.AuditFault.TheVariants.{Trace, Memory}
 use Rattle.pmp_audit.specs.declared.piece.PieceReport.{PieceReport}
 use Rattle.pmp_audit.specs.declared.standing.Standing.{Standing}
-use Rattle.pmp_audit.specs.Fault.{fault_of_trace, trace_fault_as}
-use Rattle.pmp_audit.specs.LongParts.{items_of}
-use Rattle.pmp_audit.specs.LongPieces.{IsPieceReported, IsPieceText, PieceFails}
-use Rattle.pmp_audit.proofs.PieceTexts.{few_refused, joined_texts}
+use Rattle.pmp_audit.specs.Fault.{fault_of_trace}
+use Rattle.pmp_audit.specs.Report.{refused_count}
+use Rattle.pmp_audit.specs.LongPieces.{IsPieceReported, IsReported, PieceFails}
+use Rattle.pmp_audit.proofs.FaultyInputs.{by_kind}
+use Rattle.pmp_audit.proofs.PieceTexts.{fault_behind, one_after, too_many_in_all}
 use Rattle.pmp_audit.proofs.Reports.{Decides, refused-push}
 
 -- some rows that stand there are reported, and these are left
@@ -37,25 +34,17 @@ pub record Reported (script : ScriptContents) (standing : Standing) (records : R
     (text : List ℕ) : Type 0 where
   pub done : Records
   pub all : records ≡ done ++ left.records
-  pub here : ℕ
-  pub says : IsPieceText script done standing here text
-  pub counted : faults ≡ standing.faults + here
-  pub place : left.place ≡ place_behind (moments_in script) standing.place done
+  pub so_far : IsReported script done standing (record { place = left.place; faults = faults }) text
   pub same : left.moments ≡ moments_in script
 
 -- ---- why a piece isn't reported
 
 module _ (script : ScriptContents) (records : Records) (standing : Standing) (fault : TraceFault) where
-  by_kind : (kind : Refusal) → piece_fault (moments_in script) standing.place records ≡ Some fault
-      → PieceFails script records standing (trace_fault_as kind fault)
-  by_kind kinds.Memory e = tt
-  by_kind kind e = inl e
-
   pub piece_fails : (piece_fault (moments_in script) standing.place records ≡ Some fault)
       ⊎ (fault ≡ no_memory_for_rows) ⊎ (fault ≡ no_input_for_rows)
-      ⊎ ((fault ≡ too_long_for_rows) × (2 ^ 64 ≤ (place_behind (moments_in script) standing.place records).next))
+      ⊎ ((fault ≡ too_long_for_rows) × HasTooManyRows (moments_in script) standing.place records)
       → PieceFails script records standing (fault_of_trace fault)
-  piece_fails (inl e) = by_kind fault.kind e
+  piece_fails (inl e) = by_kind (PieceFails script records standing) tt (Trace fault) (inl e) fault.kind
   piece_fails (inr (inl memory)) = rw memory tt
   piece_fails (inr (inr (inl input))) = rw input (inr (inl refl))
   piece_fails (inr (inr (inr (long, many)))) = rw long (inr (inr (refl, many)))
@@ -69,11 +58,6 @@ has_header false records front fields behind header e =
     let none = ap (λ (l : Records). length l) (sym (header refl) ∙ e) in
     let some = length-append front (fields ∷ behind) in
     absurd (omega arith)
-
-no_header : (begun : Bool) (records : Records) → (begun ≡ false → records ≡ [])
-    → length (row_records begun records) ≡ length records
-no_header true records header = refl
-no_header false records header = rw (header refl) refl
 
 -- ---- before the first row
 
@@ -103,27 +87,32 @@ none_said : (moments : KnownMoments) (begun : Bool) → [] ≡ filter_map (row_o
 none_said moments true = refl
 none_said moments false = refl
 
-pub none_reported : (script : ScriptContents) (standing : Standing) (left : RowsLeft) → left.place ≡ standing.place
-    → left.moments ≡ moments_in script → Reported script standing left.records left standing.faults []
+pub none_so_far : (script : ScriptContents) (old new : Standing) → new.place ≡ old.place → new.faults ≡ old.faults
+    → IsReported script [] old new []
 unfolding report_text_from
-none_reported script standing left here same =
-    let start = standing.place in record {
-      done = [];
-      all = refl;
-      here = 0;
-      says = record {
-        fine = no_fault (moments_in script) start.last start.next start.begun;
+none_so_far script old new place faults =
+    let at = old.place in
+    let number : old.faults ≡ old.faults + 0 = omega arith in record {
+      report = record {
+        fine = no_fault (moments_in script) at.last at.next at.begun;
         rows = [];
         decisions = [];
-        said = none_said (moments_in script) start.begun;
+        said = none_said (moments_in script) at.begun;
         decided = tt;
         report = refl;
-        counted = refl;
       };
-      counted = omega arith;
-      place = here ∙ at_start (moments_in script) start.begun start.last start.next start.bare;
-      same = same;
+      place = place ∙ at_start (moments_in script) at.begun at.last at.next at.bare;
+      counted = faults ∙ number;
     }
+
+pub none_reported : (script : ScriptContents) (standing : Standing) (left : RowsLeft) → left.place ≡ standing.place
+    → left.moments ≡ moments_in script → Reported script standing left.records left standing.faults []
+none_reported script standing left here same = record {
+  done = [];
+  all = refl;
+  so_far = none_so_far script standing (record { place = left.place; faults = standing.faults }) here refl;
+  same = same;
+}
 
 -- ---- one row more
 
@@ -134,21 +123,12 @@ row_place moments place fields row begun said = rw (begun, is_bare_record, said)
 module _ {script : ScriptContents} {standing : Standing} {records : Records} {left : RowsLeft} {faults : ℕ}
     {text : List ℕ} (so_far : Reported script standing records left faults text)
     (header : standing.place.begun ≡ false → records ≡ []) where
-  -- no more are refused than there are rows
-  pub few : standing.faults ≤ standing.place.next → faults ≤ left.place.next
-  few within =
-      let here = few_refused script so_far.done standing so_far.here text so_far.says in
-      let next : left.place.next ≡ (place_behind (moments_in script) standing.place so_far.done).next =
-      ap (λ (p : Place). p.next) so_far.place in
-      let counted = so_far.counted in
-      omega arith
-
   begun_before : (fields : List (List ℕ)) (behind : Records) → left.records ≡ fields ∷ behind
       → left.place.begun ≡ true
   begun_before fields behind e =
       let first = has_header standing.place.begun records so_far.done fields behind header
       (so_far.all ∙ ap (λ (l : Records). so_far.done ++ l) e) in
-      ap (λ (p : Place). p.begun) so_far.place ∙ ap (λ (b : Bool). has_begun b so_far.done) first
+      ap (λ (p : Place). p.begun) so_far.so_far.place ∙ ap (λ (b : Bool). has_begun b so_far.done) first
 
   module _ {row : Row} {after : RowsLeft} (is : IsNextRow left row after) where
     said_here : row_in (moments_in script) is.fields ≡ Ok (row_fields row)
@@ -179,35 +159,27 @@ module _ {script : ScriptContents} {standing : Standing} {records : Records} {le
         → more ≡ faults + cond decision.allowed 0 1 → Reported script standing records after more written
     unfolding report_text_from
     one_row decision written more by_bytes written_is more_is =
-        let start = standing.place in
-        let mid : Standing = record { place = left.place; faults = 0 } in
-        let own = cond decision.allowed 0 1 in
+        let mid : Standing = record { place = left.place; faults = faults } in
         let line = report_row left.place.next row.access decision in
-        let one : IsPieceText script (is.fields ∷ []) mid own line = record {
-          fine = rw begun no_row_fault;
-          rows = row ∷ [];
-          decisions = decision ∷ [];
-          said = rw (begun, said_here) refl;
-          decided = (by_bytes, tt);
-          report = sym (append-nil line);
-          counted = let pushed = refused-push [] decision in omega arith;
+        let own : cond decision.allowed 0 1 ≡ refused_count (decision ∷ []) =
+        let pushed = refused-push [] decision in omega arith in
+        let one : IsReported script (is.fields ∷ []) mid (record { place = after.place; faults = more }) line = record {
+          report = record {
+            fine = rw begun no_row_fault;
+            rows = row ∷ [];
+            decisions = decision ∷ [];
+            said = rw (begun, said_here) refl;
+            decided = (by_bytes, tt);
+            report = sym (append-nil line);
+          };
+          place = is.place ∙ row_place (moments_in script) left.place is.fields row begun said_here;
+          counted = more_is ∙ ap (λ (n : ℕ). faults + n) own;
         } in
-        let meets : left.place
-        ≡ record (place_behind (moments_in script) start so_far.done) { bare = left.place.bare } =
-        so_far.place ∙ ap (λ (bare : Option ℕ).
-        record (place_behind (moments_in script) start so_far.done) { bare = bare })
-        (sym (ap (λ (p : Place). p.bare) so_far.place)) in
         record {
           done = so_far.done ++ is.fields ∷ [];
           all = so_far.all ∙ ap (λ (l : Records). so_far.done ++ l) is.next
               ∙ sym (append_assoc so_far.done (is.fields ∷ []) after.records);
-          here = so_far.here + own;
-          says = rw written_is (joined_texts script so_far.done standing so_far.here text so_far.says (is.fields ∷ [])
-              mid meets own line one);
-          counted = let counted = so_far.counted in omega arith;
-          place = is.place ∙ row_place (moments_in script) left.place is.fields row begun said_here
-              ∙ ap (λ (p : Place). place_behind (moments_in script) p (is.fields ∷ [])) so_far.place
-              ∙ sym (places_in_turn (moments_in script) start so_far.done (is.fields ∷ []));
+          so_far = rw written_is (one_after so_far.so_far one);
           same = is.moments ∙ so_far.same;
         }
 
@@ -224,48 +196,44 @@ module _ {script : ScriptContents} {standing : Standing} {records : Records} {le
 
   fault_left : piece_fault (moments_in script) standing.place records
       ≡ first_row_fault (moments_in script) left.place.last left.place.next left.records
-  fault_left =
-      let moments = moments_in script in
-      let start = standing.place in
-      ap (piece_fault moments start) so_far.all
-      ∙ in_turn moments start.last start.next start.begun so_far.done left.records
-      ∙ ap (λ (x : Option TraceFault). option_or x
-      (piece_fault moments (place_behind (moments_in script) start so_far.done) left.records)) so_far.says.fine
-      ∙ ap (λ (p : Place). piece_fault moments p left.records) (sym so_far.place)
+  fault_left = ap (piece_fault (moments_in script) standing.place) so_far.all ∙ fault_behind so_far.so_far left.records
       ∙ rows_alone left.place.begun left.records begun_before
 
-  pub all_reported : (report : PieceReport) → left.records ≡ [] → items_of report.texts.items ≡ text
-      → report.behind ≡ record { place = left.place; faults = faults }
-      → IsPieceReported script records standing report
-  all_reported report none texts behind =
+  pub all_reported : (behind : Standing) (written : List ℕ) → left.records ≡ [] → written ≡ text
+      → behind ≡ record { place = left.place; faults = faults } → IsReported script records standing behind written
+  all_reported behind written none texts is =
       let done : so_far.done ≡ records =
       sym (append-nil so_far.done) ∙ ap (λ (l : Records). so_far.done ++ l) (sym none) ∙ sym so_far.all in
-      record {
-        faults = so_far.here;
-        says = rw (texts, ← done) so_far.says;
-        place = ap (λ (s : Standing). s.place) behind ∙ so_far.place
-            ∙ ap (place_behind (moments_in script) standing.place) done;
-        refused = ap (λ (s : Standing). s.faults) behind ∙ so_far.counted;
-      }
+      rw (texts, is, ← done) so_far.so_far
+
+  too_many : IsOutOfNumbers left → HasTooManyRows (moments_in script) standing.place records
+  too_many out =
+      let moments = moments_in script in
+      let begun = begun_before out.fields out.behind out.next in
+      let fine : row_fault (length script.batches) left.place.last (row_in moments out.fields) ≡ None =
+      subst (λ (m : KnownMoments). row_fault m.publications left.place.last (row_in m out.fields) ≡ None)
+      so_far.same out.fine in
+      let here : HasTooManyRows moments left.place left.records = record {
+        front = out.fields ∷ [];
+        behind = out.behind;
+        are = out.next;
+        fine = rw (begun, fine) refl;
+        many = rw begun out.many;
+      } in
+      subst (HasTooManyRows moments standing.place) (sym so_far.all) (too_many_in_all so_far.so_far left.records here)
 
   pub row_fails : (fault : TraceFault)
       → (first_row_fault left.moments left.place.last left.place.next left.records ≡ Some fault)
       ⊎ (fault ≡ no_memory_for_rows) ⊎ (fault ≡ no_input_for_rows)
-      ⊎ ((fault ≡ too_long_for_rows) × (2 ^ 64 ≤ left.place.next + length left.records))
+      ⊎ ((fault ≡ too_long_for_rows) × IsOutOfNumbers left)
       → PieceFails script records standing (fault_of_trace fault)
   row_fails fault (inl e) = piece_fails script records standing fault (inl (fault_left
       ∙ subst (λ (m : KnownMoments). first_row_fault m left.place.last left.place.next left.records ≡ Some fault)
       so_far.same e))
   row_fails fault (inr (inl memory)) = piece_fails script records standing fault (inr (inl memory))
   row_fails fault (inr (inr (inl input))) = piece_fails script records standing fault (inr (inr (inl input)))
-  row_fails fault (inr (inr (inr (long, many)))) =
-      let next : left.place.next ≡ (place_behind (moments_in script) standing.place so_far.done).next =
-      ap (λ (p : Place). p.next) so_far.place in
-      let fewer = fewer_rows standing.place.begun so_far.done in
-      let all = ap (λ (l : Records). length l) so_far.all in
-      let both = length-append so_far.done left.records in
-      let rows = no_header standing.place.begun records header in
-      piece_fails script records standing fault (inr (inr (inr (long, omega arith))))
+  row_fails fault (inr (inr (inr (long, out)))) =
+      piece_fails script records standing fault (inr (inr (inr (long, too_many out))))
 
 -- ---- the header
 
@@ -276,11 +244,26 @@ rows_as_left false [] = refl
 rows_as_left false (header ∷ rows) = refl
 
 fault_as_left : (moments : KnownMoments) (last : Option ℕ) (next : ℕ) (begun : Bool) (records : Records)
-    → first_fault_at moments (has_begun begun records) last next (row_records begun records)
-    ≡ first_row_fault moments last next (row_records begun records)
-fault_as_left moments last next true records = refl
-fault_as_left moments last next false [] = refl
-fault_as_left moments last next false (header ∷ rows) = refl
+    → IsHeaded begun records → first_fault_at moments begun last next records
+    ≡ first_fault_at moments (has_begun begun records) last next (row_records begun records)
+fault_as_left moments last next true records headed = refl
+fault_as_left moments last next false [] headed = refl
+fault_as_left moments last next false (header ∷ rows) headed = rw headed refl
+
+too_many_as_left : (moments : KnownMoments) (begun : Bool) (last : Option ℕ) (next : ℕ) (bare : Option ℕ)
+    (records : Records) → IsHeaded begun records
+    → HasTooManyRows moments (record { begun = has_begun begun records; last = last; next = next; bare = bare })
+    (row_records begun records)
+    → HasTooManyRows moments (record { begun = begun; last = last; next = next; bare = bare }) records
+too_many_as_left moments true last next bare records headed many = many
+too_many_as_left moments false last next bare [] headed many = many
+too_many_as_left moments false last next bare (header ∷ rows) headed many = record {
+  front = header ∷ many.front;
+  behind = many.behind;
+  are = ap (λ (l : Records). header ∷ l) many.are;
+  fine = rw headed many.fine;
+  many = many.many;
+}
 
 place_as_left : (moments : KnownMoments) (begun : Bool) (last : Option ℕ) (next : ℕ) (bare : Option ℕ)
     (records : Records)
@@ -305,51 +288,49 @@ module _ (script : ScriptContents) (standing : Standing) (records : Records) whe
   abbrev pub behind : Standing
   behind = record standing { place = record standing.place { begun = has_begun standing.place.begun records } }
 
-  module _ (opened : piece_fault (moments_in script) standing.place records
-      ≡ first_row_fault (moments_in script) standing.place.last standing.place.next rows)
-    where
-      same_fault : piece_fault (moments_in script) standing.place records
-          ≡ piece_fault (moments_in script) behind.place rows
-      same_fault = opened ∙ sym (fault_as_left (moments_in script) standing.place.last standing.place.next
-          standing.place.begun records)
+  module _ (headed : IsHeaded standing.place.begun records) where
+    same_fault : piece_fault (moments_in script) standing.place records
+        ≡ piece_fault (moments_in script) behind.place rows
+    same_fault = fault_as_left (moments_in script) standing.place.last standing.place.next standing.place.begun
+        records headed
 
-      same_place : place_behind (moments_in script) behind.place rows
-          ≡ place_behind (moments_in script) standing.place records
-      same_place = place_as_left (moments_in script) standing.place.begun standing.place.last standing.place.next
-          standing.place.bare
-          records
+    same_place : place_behind (moments_in script) behind.place rows
+        ≡ place_behind (moments_in script) standing.place records
+    same_place = place_as_left (moments_in script) standing.place.begun standing.place.last standing.place.next
+        standing.place.bare
+        records
 
-      pub with_header : (answer : Result PieceReport AuditFault) → IfOk answer (IsPieceReported script rows behind)
-          → IfOk answer (IsPieceReported script records standing)
-      with_header (Err fault) reported = reported
-      with_header (Ok report) reported =
-          let says = reported.says in
-          record {
-            faults = reported.faults;
-            says = record {
-              fine = same_fault ∙ says.fine;
-              rows = says.rows;
-              decisions = says.decisions;
-              said = says.said ∙ ap (filter_map (row_of_record (moments_in script)))
-                  (rows_as_left standing.place.begun records);
-              decided = says.decided;
-              report = says.report;
-              counted = says.counted;
-            };
-            place = reported.place ∙ same_place;
-            refused = reported.refused;
-          }
+    pub with_header : (answer : Result PieceReport AuditFault) → IfOk answer (IsPieceReported script rows behind)
+        → IfOk answer (IsPieceReported script records standing)
+    with_header (Err fault) reported = reported
+    with_header (Ok report) reported =
+        let says = reported.report in
+        record {
+          report = record {
+            fine = same_fault ∙ says.fine;
+            rows = says.rows;
+            decisions = says.decisions;
+            said = says.said ∙ ap (filter_map (row_of_record (moments_in script)))
+                (rows_as_left standing.place.begun records);
+            decided = says.decided;
+            report = says.report;
+          };
+          place = reported.place ∙ same_place;
+          counted = reported.counted;
+        }
 
-      fails_so : (fault : AuditFault) → PieceFails script rows behind fault → PieceFails script records standing fault
-      fails_so (Trace fault) (inl e) = inl (same_fault ∙ e)
-      fails_so (Trace fault) (inr (inl input)) = inr (inl input)
-      fails_so (Trace fault) (inr (inr (long, many))) =
-          let next = ap (λ (p : Place). p.next) same_place in
-          inr (inr (long, omega arith))
-      fails_so Memory why = tt
-      fails_so fault why = absurd why
+    fails_so : (fault : AuditFault) → PieceFails script rows behind fault → PieceFails script records standing fault
+    fails_so (Trace fault) (inl e) = inl (same_fault ∙ e)
+    fails_so (Trace fault) (inr (inl input)) = inr (inl input)
+    fails_so (Trace fault) (inr (inr (long, many))) = inr (inr (
+      long,
+      too_many_as_left (moments_in script) standing.place.begun standing.place.last standing.place.next
+          standing.place.bare records headed many,
+    ))
+    fails_so Memory why = tt
+    fails_so fault why = absurd why
 
-      pub fails_with_header : (answer : Result PieceReport AuditFault) → IfErr answer (PieceFails script rows behind)
-          → IfErr answer (PieceFails script records standing)
-      fails_with_header (Ok report) why = why
-      fails_with_header (Err fault) why = fails_so fault why
+    pub fails_with_header : (answer : Result PieceReport AuditFault) → IfErr answer (PieceFails script rows behind)
+        → IfErr answer (PieceFails script records standing)
+    fails_with_header (Ok report) why = why
+    fails_with_header (Err fault) why = fails_so fault why

@@ -1,5 +1,5 @@
 -- A trace that is audited as one piece.
-use Rattle.std.proofs.Common.{◌≡◌, ℕ, ◌-◌, ◌<◌, ◌≤◌, true, false, List, [], length, Option, None, Ok, Err}
+use Rattle.std.proofs.Common.{◌≡◌, ℕ, ◌-◌, ◌<◌, ◌≤◌, true, false, List, length, Option, None, Ok, Err}
 use Rattle.std.proofs.Common.{refl, sym, ap, ◌∙◌, inl, inr}
 use Rattle.std.proofs.KnownBytes.{Keeps-refl}
 use Rattle.pmp_text.specs.declared.refusal.Refusal.TheVariants.{BadHeader, TooLong}
@@ -8,7 +8,7 @@ use Rattle.pmp_text.specs.declared.trace.reader.TheConstants.{MAX_TRACE}
 use Rattle.pmp_text.specs.declared.trace.rows.Place.{Place}
 use Rattle.pmp_text.specs.Contents.{ScriptContents}
 use Rattle.pmp_text.specs.Flaws.{as_whole, at_row}
-use Rattle.pmp_text.specs.LongTraces.{beginning, piece_fault, report_text_from}
+use Rattle.pmp_text.specs.LongTraces.{report_text_from}
 use Rattle.pmp_text.specs.Reports.{report_text}
 use Rattle.pmp_text.specs.Scripts.{script_meaning}
 use Rattle.pmp_text.specs.Tables.{records_of}
@@ -18,16 +18,14 @@ use Rattle.pmp_text.proofs.WholeTraces.{few_rows, found, meaning_is, without_hea
 use Rattle.pmp_text.specs.Moments.{moments_in}
 use Rattle.pmp_audit.specs.declared.fault.AuditFault.{AuditFault}
 use Rattle.pmp_audit.specs.declared.fault.AuditFault.TheVariants.{Trace, Memory}
-use Rattle.pmp_audit.specs.declared.piece.PieceReport.{PieceReport}
 use Rattle.pmp_audit.specs.declared.standing.Standing.{Standing}
 use Rattle.pmp_audit.specs.declared.trace_audit.Summary.{Summary}
 use Rattle.pmp_audit.specs.Answers.{IsRefused}
 use Rattle.pmp_audit.specs.LongAudit.{LongAuditSays}
-use Rattle.pmp_audit.specs.LongParts.{items_of}
-use Rattle.pmp_audit.specs.LongPieces.{IsPieceReported, PieceFails}
+use Rattle.pmp_audit.specs.LongPieces.{IsReported, PieceFails}
 use Rattle.pmp_audit.specs.TraceAudit.{AuditRefuses, AuditSays}
-use Rattle.pmp_audit.proofs.LongAudits.{Stands, begins, one_piece}
 use Rattle.pmp_audit.proofs.LongStops.{says_all}
+use Rattle.pmp_audit.proofs.PieceTexts.{start}
 
 says_short : (script trace : List ℕ) (summary : Summary) (text : List ℕ) → length trace ≤ MAX_TRACE
     → LongAuditSays script 1 trace summary text → AuditSays script trace summary text
@@ -58,35 +56,26 @@ module _ (script trace : List ℕ) (contents : ScriptContents) (means : script_m
   too_long long out = refuses (at_row 0 (as_whole TooLong)) (trace_is (moments_in contents) trace
       ∙ long_text is_header (rows_meaning (moments_in contents)) trace long) out
 
-  module _ (short : length trace ≤ MAX_TRACE) (standing : Standing) (place : standing.place ≡ beginning 1)
-      (fresh : standing.faults ≡ 0)
-    where
-      pub fails : (fault : AuditFault) → PieceFails contents (records_of trace) standing fault
-          → (out : Option (List ℕ)) → Refused out out fault
-      fails (Trace fault) (inl e) out = refuses fault (found (moments_in contents) trace short fault
-          (ap (λ (p : Place). piece_fault (moments_in contents) p (records_of trace)) (sym place) ∙ e)) out
-      fails (Trace fault) (inr (inl input)) out =
-          (record { contents = contents; script_means = means; trace_means = inr input }, Keeps-refl out)
-      fails (Trace fault) (inr (inr (long, many))) out =
-          absurd (few_rows (moments_in contents) trace short (rw place at many))
-      fails Memory why out = Keeps-refl out
-      fails fault why out = absurd why
+  module _ (short : length trace ≤ MAX_TRACE) where
+    pub fails : (fault : AuditFault) → PieceFails contents (records_of trace) (start 1) fault
+        → (out : Option (List ℕ)) → Refused out out fault
+    fails (Trace fault) (inl e) out = refuses fault (found (moments_in contents) trace short fault e) out
+    fails (Trace fault) (inr (inl input)) out =
+        (record { contents = contents; script_means = means; trace_means = inr input }, Keeps-refl out)
+    fails (Trace fault) (inr (inr (long, many))) out =
+        absurd (few_rows (moments_in contents) trace short many.front many.behind many.are many.many)
+    fails Memory why out = Keeps-refl out
+    fails fault why out = absurd why
 
-      module _ (report : PieceReport) (reported : IsPieceReported contents (records_of trace) standing report) where
-        whole : Stands contents 1 (records_of trace) report.behind (items_of report.texts.items)
-        whole = one_piece contents 1 [] standing [] (begins contents 1 standing place fresh) (records_of trace)
-            report.behind reported.faults (items_of report.texts.items) reported.says reported.place reported.refused
-
-        pub says : (summary : Summary) → report.behind.place.begun ≡ true
-            → summary ≡ record {
-              rows = report.behind.place.next - 1;
-              faults = report.behind.faults;
-              bare = report.behind.place.bare;
-            } → AuditSays script trace summary (items_of report.texts.items)
-        says summary begun is = says_short script trace summary (items_of report.texts.items) short
+    module _ (behind : Standing) (text : List ℕ) (whole : IsReported contents (records_of trace) (start 1) behind text)
+      where
+        pub says : (summary : Summary) → behind.place.begun ≡ true
+            → summary ≡ record { rows = behind.place.next - 1; faults = behind.faults; bare = behind.place.bare }
+            → AuditSays script trace summary text
+        says summary begun is = says_short script trace summary text short
             (says_all script means 0 whole None None None tt trace refl summary begun is)
 
-        pub no_header : report.behind.place.begun ≡ false → (out : Option (List ℕ))
+        pub no_header : behind.place.begun ≡ false → (out : Option (List ℕ))
             → Refused out out (Trace (at_row 0 (as_whole BadHeader)))
         no_header begun out = refuses (at_row 0 (as_whole BadHeader)) (without_header (moments_in contents) trace
             short (sym (ap (λ (p : Place). p.begun) whole.place) ∙ begun)) out

@@ -11,27 +11,19 @@ use Rattle.pmp_audit.specs.declared.fault.AuditFault.TheVariants.{BadAfter, BadA
 use Rattle.pmp_audit.specs.declared.fault.AuditFault.TheVariants.{Memory, Output}
 
 -- want of memory is the same in every layer
-abbrev pub script_fault_as : Refusal → ScriptFault → AuditFault
-script_fault_as kind.Memory fault = Memory
-script_fault_as _ fault = Script fault
+abbrev pub unless_memory : Refusal → AuditFault → AuditFault
+unless_memory kind.Memory fault = Memory
+unless_memory _ fault = fault
 
 abbrev pub fault_of_script : ScriptFault → AuditFault
-fault_of_script fault = script_fault_as fault.kind fault
-
-abbrev pub trace_fault_as : Refusal → TraceFault → AuditFault
-trace_fault_as kind.Memory fault = Memory
-trace_fault_as _ fault = Trace fault
+fault_of_script fault = unless_memory fault.kind (Script fault)
 
 abbrev pub fault_of_trace : TraceFault → AuditFault
-fault_of_trace fault = trace_fault_as fault.kind fault
+fault_of_trace fault = unless_memory fault.kind (Trace fault)
 
 -- a policy has the faults of a trace
-abbrev pub policy_fault_as : Refusal → TraceFault → AuditFault
-policy_fault_as kind.Memory fault = Memory
-policy_fault_as _ fault = Policy fault
-
 abbrev pub fault_of_policy : TraceFault → AuditFault
-fault_of_policy fault = policy_fault_as fault.kind fault
+fault_of_policy fault = unless_memory fault.kind (Policy fault)
 
 abbrev pub fault_of_share : ShareFault → AuditFault
 fault_of_share share.Memory = Memory

@@ -1,15 +1,16 @@
 -- What an audit says of a trace of any length, and what it has written where it stops.
-use Rattle.std.specs.Prelude.{◌≡◌, ◌⊎◌, ℕ, ◌+◌, ◌-◌, ◌*◌, ◌^◌, ◌≤◌, List, ◌++◌, length, map, filter_map, false}
+use Rattle.std.specs.Prelude.{◌≡◌, ◌⊎◌, ℕ, ◌+◌, ◌-◌, ◌^◌, ◌≤◌, List, ◌++◌, length, map, filter_map}
 use Rattle.std.specs.Prelude.{Option, None, Ok, Err}
 use Rattle.std.specs.Io.KnownBytes.{Appends, Keeps}
 use Rattle.pmp_core.specs.declared.decision.Decision.{Decision}
 use Rattle.pmp_text.specs.declared.trace.Row.{Row}
 use Rattle.pmp_text.specs.declared.trace.TraceFault.{TraceFault}
+use Rattle.pmp_text.specs.declared.trace.rows.Place.{Place}
 use Rattle.pmp_text.specs.Bytes.{AppendsBeginning}
 use Rattle.pmp_text.specs.Contents.{ScriptContents}
-use Rattle.pmp_text.specs.Moments.{moments_in}
-use Rattle.pmp_text.specs.LongTraces.{HasLongLine, IsReportOf, Records, beginning, long_meaning, piece_fault}
-use Rattle.pmp_text.specs.LongTraces.{report_text_from, row_records, too_long_for_rows}
+use Rattle.pmp_text.specs.Moments.{KnownMoments, moments_in}
+use Rattle.pmp_text.specs.LongTraces.{HasLongLine, HasTooManyRows, IsReportOf, Records, beginning, long_meaning}
+use Rattle.pmp_text.specs.LongTraces.{piece_fault, report_text_from, row_records, too_long_for_rows}
 use Rattle.pmp_text.specs.Outcomes.{no_input_for_rows}
 use Rattle.pmp_text.specs.Reports.{AreDecided}
 use Rattle.pmp_text.specs.Scripts.{script_meaning}
@@ -31,14 +32,14 @@ pub record LongAuditSays (script : List ℕ) (first : ℕ) (trace : List ℕ) (s
 
 -- ---- an audit that stops
 
--- the records have no fault, and the text reports the decisions of their rows
-pub record IsFrontReport (script : ScriptContents) (first : ℕ) (records : Records) (text : List ℕ) : Type 0 where
-  pub fine : piece_fault (moments_in script) (beginning first) records ≡ None
+-- the records have no fault where they stand, and the text reports the decisions of their rows
+pub record IsReportAt (script : ScriptContents) (place : Place) (records : Records) (text : List ℕ) : Type 0 where
+  pub fine : piece_fault (moments_in script) place records ≡ None
   pub rows : List Row
   pub decisions : List Decision
-  pub said : map row_fields rows ≡ filter_map (row_of_record (moments_in script)) (row_records false records)
+  pub said : map row_fields rows ≡ filter_map (row_of_record (moments_in script)) (row_records place.begun records)
   pub decided : AreDecided script rows decisions
-  pub report : text ≡ report_text_from first rows decisions
+  pub report : text ≡ report_text_from place.next rows decisions
 
 -- the text reports whole rows, the first ones of the trace
 pub record IsFrontOf (script : List ℕ) (first : ℕ) (trace text : List ℕ) : Type 0 where
@@ -47,18 +48,21 @@ pub record IsFrontOf (script : List ℕ) (first : ℕ) (trace text : List ℕ) :
   pub front : Records
   pub behind : Records
   pub trace_has : records_of trace ≡ front ++ behind
-  pub report : IsFrontReport contents first front text
+  pub report : IsReportAt contents (beginning first) front text
 
--- a line is too long for a piece of `limit` bytes, or there are so many bytes that numbers may not do for rows
-abbrev pub IsTooLong : (limit first : ℕ) (trace : List ℕ) → Type 0
-IsTooLong limit first trace = HasLongLine trace (limit - 1) ⊎ (2 ^ 64 ≤ first + 4 * (length trace + 1))
+-- a line is too long for a piece of `limit` bytes, or a row without a fault, behind others, has too high a number, or
+-- there are so many bytes that pieces may not be counted
+abbrev pub IsTooLong : (limit : ℕ) → KnownMoments → (first : ℕ) (trace : List ℕ) → Type 0
+IsTooLong limit moments first trace = HasLongLine trace (limit - 1)
+    ⊎ HasTooManyRows moments (beginning first) (records_of trace) ⊎ (2 ^ 64 ≤ length trace + 1)
 
 -- the trace has this first fault, or its input failed, or it is too long
 pub record IsFaultyLong (limit : ℕ) (script : List ℕ) (first : ℕ) (trace : List ℕ) (fault : TraceFault) : Type 0 where
   pub contents : ScriptContents
   pub script_means : script_meaning script ≡ Ok contents
   pub why : (long_meaning (moments_in contents) first (records_of trace) ≡ Err fault)
-      ⊎ (fault ≡ no_input_for_rows) ⊎ ((fault ≡ too_long_for_rows) × IsTooLong limit first trace)
+      ⊎ (fault ≡ no_input_for_rows) ⊎ ((fault ≡ too_long_for_rows)
+      × IsTooLong limit (moments_in contents) first trace)
 
 module _ (limit : ℕ) (script : List ℕ) (first : ℕ) (trace : List ℕ) (before after : Option (List ℕ)) where
   -- whole rows were written, the first ones of the trace

@@ -7,12 +7,11 @@ ghost use Rattle.pmp_audit.specs.LongAudit.{LongAuditSays, StopsLong};
 
 mod parts;
 mod reporting;
-mod writing;
 
+use crate::answer::write_texts;
 use crate::fault::AuditFault;
 use crate::long_audit::parts::report_parts;
 use crate::long_audit::reporting::report_and_cut;
-use crate::long_audit::writing::write_report;
 use crate::standing::Standing;
 use crate::trace_audit::Summary;
 use pmp_text::{Cut, GrowingLog, Refusal, Script, cut_piece, read_script};
@@ -81,12 +80,15 @@ fn audit_pieces<T: Threads + Sync, R: Read, W: Write>(
                 let (report, next) = report_and_cut(
                     rt, alloc, jobs, script, &text, standing, reader, &mut held, limit,
                 );
-                standing = write_report(writer, report)?;
+                let report = report?;
+                write_texts(writer, &report.texts)?;
+                standing = report.behind;
                 cut = next;
             }
             Ok(Cut::Last(text)) => {
-                let report = report_parts(rt, alloc, jobs, script, &text, standing);
-                return write_report(writer, report)?.end(first);
+                let report = report_parts(rt, alloc, jobs, script, &text, standing)?;
+                write_texts(writer, &report.texts)?;
+                return report.behind.end(first);
             }
             Err(refusal) => return Err(AuditFault::from(refusal.whole().at_row(0))),
         }

@@ -1,11 +1,9 @@
 //! The report of rows, one after the other.
 
-ghost use Rattle.std.specs.Prelude.{◌≡◌, ◌+◌, ◌++◌, ◌^◌, ◌<◌, ◌≤◌, IfOk, OnOk, length, map, if◌then◌else◌};
-ghost use Rattle.pmp_text.specs.Contents.{ScriptContents};
-ghost use Rattle.pmp_text.specs.Reports.{AreDecided, report_row};
-ghost use Rattle.pmp_text.specs.TraceFaults.{IsInOrder, afters};
-ghost use Rattle.pmp_text.specs.Traces.{row_fields};
-ghost use Rattle.pmp_audit.specs.Report.{IsListed};
+ghost use Rattle.std.specs.Prelude.{◌≡◌, ◌++◌, IfOk, OnOk, length, if◌then◌else◌};
+ghost use Rattle.pmp_text.specs.LongTraces.{report_text_from};
+ghost use Rattle.pmp_text.specs.Reports.{report_row};
+ghost use Rattle.pmp_audit.specs.Report.{refused_count};
 
 use pmp_core::Decision;
 use pmp_text::{Row, write_row};
@@ -18,8 +16,9 @@ pub fn list_decisions(
     decisions: &[Decision],
 ) -> Result<u64, AllocError>
     requires { length decisions.now ≡ length rows.now }
-    ensures { (script : ScriptContents) → AreDecided script rows.now decisions.now
-        → IfOk result (IsListed script rows.now 1 report.old.items report.new.items) }
+    ensures text { OnOk result
+        (report.new.items ≡ report.old.items ++ report_text_from 1 rows.now decisions.now) }
+    ensures refused { IfOk result (λ faults. faults ≡ refused_count decisions.now) }
 {
     let mut faults = 0;
     for place in 0..rows.len() {

@@ -8,7 +8,6 @@ ghost use Rattle.pmp_audit.specs.TraceAudit.{AuditSays};
 
 mod asking;
 mod deciding;
-mod hand;
 mod job;
 mod merging;
 mod rounds;

@@ -21,8 +21,7 @@ pub struct Standing {
 impl Standing {
     /// Before the first piece of a trace whose first row has this number.
     pub fn beginning(first: u64) -> Standing
-        ensures place { result.place ≡ beginning first }
-        ensures faults { result.faults ≡ 0 }
+        ensures { result ≡ record { place = beginning first; faults = 0 } }
     {
         Standing {
             place: Place::beginning(first),

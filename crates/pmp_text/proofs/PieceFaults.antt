@@ -1,6 +1,6 @@
 -- The first fault of records, part by part.
 use Rattle.std.proofs.Common.{◌≡◌, ℕ, suc, ◌+◌, Bool, true, false, cond, List, [], ◌∷◌, ◌++◌, length, Option, Some}
-use Rattle.std.proofs.Common.{None, refl, sym, ap, ◌∙◌, inl, inr, arith}
+use Rattle.std.proofs.Common.{◌^◌, ◌≤◌, None, refl, sym, ap, subst, ◌∙◌, append_assoc, inl, inr, arith}
 use Rattle.std.specs.Prelude.{filter_map, option_map}
 use Rattle.std.specs.List.{position_from}
 use Rattle.std.specs.Option.{option_or}
@@ -9,7 +9,7 @@ use Rattle.std.proofs.lemmas.List.Elements.{filter_map-append}
 use Rattle.pmp_text.specs.declared.trace.TraceFault.{TraceFault}
 use Rattle.pmp_text.specs.declared.refusal.Refusal.TheVariants.{BadHeader, BadRow}
 use Rattle.pmp_text.specs.declared.trace.rows.Place.{Place}
-use Rattle.pmp_text.specs.LongTraces.{Records, first_fault_at, has_begun, is_bare_record, last_after}
+use Rattle.pmp_text.specs.LongTraces.{HasTooManyRows, Records, first_fault_at, has_begun, is_bare_record, last_after}
 use Rattle.pmp_text.specs.Tables.{is_line_end}
 use Rattle.pmp_text.specs.LongTraces.{piece_fault, place_behind, row_records}
 use Rattle.pmp_text.specs.Moments.{KnownMoments}
@@ -19,6 +19,18 @@ use Rattle.pmp_text.proofs.BrokenRows.{no_row, no_header}
 use Rattle.pmp_text.proofs.CutTexts.{IsApart, cut_in_two}
 use Rattle.pmp_text.specs.Tables.{is_broken}
 use Rattle.pmp_text.specs.Flaws.{at_row, as_whole}
+
+-- of two fronts of a list one begins the other
+in_front : (front known : Records) (one : List (List ℕ)) (rest behind : Records) → known ++ one ∷ rest ≡ front ++ behind
+    → ((mid : Records) → front ≡ known ++ one ∷ mid → ⊥) → (mid : Records) × (known ≡ front ++ mid)
+in_front [] known one rest behind same longer = (known, refl)
+in_front (first ∷ front) [] one rest behind same longer =
+    let here : first ≡ one = cc in absurd (longer front (ap (λ (r : List (List ℕ)). r ∷ front) here))
+in_front (first ∷ front) (next ∷ known) one rest behind same longer =
+    let here : next ≡ first = cc in
+    let there : known ++ one ∷ rest ≡ front ++ behind = cc in
+    let (mid, known_is) = in_front front known one rest behind there (λ mid front_is. longer mid cc) in
+    (mid, cc)
 
 or_assoc : {X : Type 0} (x y z : Option X) → option_or x (option_or y z) ≡ option_or (option_or x y) z
 or_assoc None y z = refl
@@ -110,6 +122,26 @@ module _ (moments : KnownMoments) where
           let (one, rest, are, broken) = goes_on [] in
           absurd (some_or (piece_fault moments place front) _
           (sym (ap (piece_fault moments place) are ∙ broken_in_turn place front one rest broken) ∙ fine))
+    ]
+
+    pub front_stays : (front behind : Records) → records_of (bytes ++ e ∷ []) ≡ front ++ behind
+        → piece_fault moments place front ≡ None → (more : List ℕ)
+        → (others : Records) × (records_of (bytes ++ e ∷ more) ≡ front ++ others)
+    front_stays front behind are fine more = elim (cut_in_two bytes e ends) [
+      | inl in_two ↦ (
+        behind ++ records_of (e ∷ more),
+        in_two more ∙ ap (λ (l : Records). l ++ records_of (e ∷ more)) are
+            ∙ append_assoc front behind (records_of (e ∷ more)),
+      )
+      | inr (known, goes_on) ↦
+          let (one, rest, said, broken) = goes_on [] in
+          let (other, others, said_now, is_broken) = goes_on more in
+          let (mid, known_is) = in_front front known one rest behind (sym said ∙ are) (λ mid front_is.
+          some_or (piece_fault moments place known) _ (sym (ap (piece_fault moments place) front_is
+          ∙ broken_in_turn place known one mid broken) ∙ fine)) in (
+            mid ++ other ∷ others,
+            said_now ∙ ap (λ (l : Records). l ++ other ∷ others) known_is ∙ append_assoc front mid (other ∷ others),
+          )
     ]
 
     pub fault_stays : (fault : TraceFault) → piece_fault moments place (records_of (bytes ++ e ∷ [])) ≡ Some fault
@@ -205,6 +237,20 @@ places_in_turn moments place records more =
       next = number i;
       bare = bare i;
     })
+
+-- too many rows behind records without a fault are too many with them
+pub too_many_behind : (moments : KnownMoments) (place : Place) (records more : Records)
+    → piece_fault moments place records ≡ None → HasTooManyRows moments (place_behind moments place records) more
+    → HasTooManyRows moments place (records ++ more)
+too_many_behind moments place records more fine many =
+    let behind = place_behind moments place records in record {
+      front = records ++ many.front;
+      behind = many.behind;
+      are = ap (λ (l : Records). records ++ l) many.are ∙ sym (append_assoc records many.front many.behind);
+      fine = in_turn moments place.last place.next place.begun records many.front
+          ∙ ap (λ (x : Option TraceFault). option_or x (piece_fault moments behind many.front)) fine ∙ many.fine;
+      many = subst (λ (p : Place). 2 ^ 64 ≤ p.next) (sym (places_in_turn moments place records many.front)) many.many;
+    }
 
 pub rows_in_two : (moments : KnownMoments) (begun : Bool) (records more : Records)
     → filter_map (row_of_record moments) (row_records begun (records ++ more))

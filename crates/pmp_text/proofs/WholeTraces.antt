@@ -2,7 +2,7 @@
 use Rattle.std.proofs.Common.{◌≡◌, ◌⊎◌, ℕ, ◌+◌, ◌^◌, ◌<◌, ◌≤◌, Bool, true, false, cond, List, [], ◌∷◌, ◌++◌, length, map}
 use Rattle.std.proofs.Common.{Option, Some, None, Ok, Err, refl, sym, ap, subst, ◌∙◌, inl, inr, arith, append_assoc}
 use Rattle.std.proofs.Common.{append-nil}
-use Rattle.std.proofs.lemmas.List.{map-append}
+use Rattle.std.proofs.lemmas.List.{length-append, map-append}
 use Rattle.std.specs.Prelude.{filter_map}
 use Rattle.pmp_text.specs.declared.refusal.Refusal.TheVariants.{BadHeader}
 use Rattle.pmp_text.specs.declared.trace.Row.{Row}
@@ -10,11 +10,11 @@ use Rattle.pmp_text.specs.declared.trace.TraceFault.{TraceFault}
 use Rattle.pmp_text.specs.declared.trace.rows.Place.{Place}
 use Rattle.pmp_text.specs.declared.trace.reader.TheConstants.{MAX_TRACE}
 use Rattle.pmp_text.specs.Flaws.{as_whole, at_row}
-use Rattle.pmp_text.specs.LongTraces.{Records, beginning, has_begun, long_meaning, long_rows_meaning}
+use Rattle.pmp_text.specs.LongTraces.{IsHeaded, Records, beginning, has_begun, long_meaning, long_rows_meaning}
 use Rattle.pmp_text.specs.LongTraces.{piece_fault, row_records, too_long_for_rows}
 use Rattle.pmp_text.specs.Moments.{KnownMoments}
 use Rattle.pmp_text.specs.Outcomes.{no_input_for_rows, no_memory_for_rows}
-use Rattle.pmp_text.specs.RowsLeft.{IsNextRow, RowsLeft}
+use Rattle.pmp_text.specs.RowsLeft.{IsNextRow, IsOutOfNumbers, RowsLeft}
 use Rattle.pmp_text.specs.Tables.{fault_or_rows, records_of}
 use Rattle.pmp_text.specs.Traces.{first_row_fault, is_header, row_fault, row_fields, row_in, row_of_record, rows_meaning}
 use Rattle.pmp_text.specs.Traces.{trace_meaning}
@@ -122,7 +122,7 @@ module _ (moments : KnownMoments) (first : ℕ) (all : Records) (numbered : firs
   pub not_read : (fault : TraceFault)
       → (first_row_fault left.moments left.place.last left.place.next left.records ≡ Some fault)
       ⊎ (fault ≡ no_memory_for_rows) ⊎ (fault ≡ no_input_for_rows)
-      ⊎ ((fault ≡ too_long_for_rows) × (2 ^ 64 ≤ left.place.next + length left.records))
+      ⊎ ((fault ≡ too_long_for_rows) × IsOutOfNumbers left)
       → (long_rows_meaning moments first all ≡ Err fault) ⊎ (fault ≡ no_memory_for_rows)
       ⊎ (fault ≡ no_input_for_rows)
   not_read fault (inl e) =
@@ -130,25 +130,18 @@ module _ (moments : KnownMoments) (first : ℕ) (all : Records) (numbered : firs
       inl (ap (λ (f : Option TraceFault). fault_or_rows f (filter_map (row_of_record moments) all)) found)
   not_read fault (inr (inl memory)) = inr (inl memory)
   not_read fault (inr (inr (inl input))) = inr (inr input)
-  not_read fault (inr (inr (inr (long, many)))) =
+  not_read fault (inr (inr (inr (long, out)))) =
       let count = read.count in
+      let size = ap (λ (l : Records). length l) out.next in
+      let many = out.many in
       absurd (omega arith)
 
 -- the rows behind a header mean what the records do
 behind_is : (moments : KnownMoments) (first : ℕ) (records : Records) → has_begun false records ≡ true
-    → piece_fault moments (beginning first) records
-    ≡ first_row_fault moments None first (row_records false records)
-    → long_meaning moments first records ≡ long_rows_meaning moments first (row_records false records)
-behind_is moments first [] begun opened = absurd cc
-behind_is moments first (header ∷ rows) begun opened = by (is_header header) opened
-  where
-    by : (named : Bool)
-        → cond named (first_row_fault moments None first rows) (Some (at_row 0 (as_whole BadHeader)))
-        ≡ first_row_fault moments None first rows
-        → cond named (long_rows_meaning moments first rows) (Err (at_row 0 (as_whole BadHeader)))
-        ≡ long_rows_meaning moments first rows
-    by true e = refl
-    by false e = ap (λ (f : Option TraceFault). fault_or_rows f (filter_map (row_of_record moments) rows)) e
+    → IsHeaded false records → long_meaning moments first records
+    ≡ long_rows_meaning moments first (row_records false records)
+behind_is moments first [] begun headed = absurd cc
+behind_is moments first (header ∷ rows) begun headed = rw headed refl
 
 module _ (moments : KnownMoments) (text : List ℕ) (short : length text ≤ MAX_TRACE) where
   pub meaning_is : trace_meaning moments text ≡ long_meaning moments 1 (records_of text)
@@ -156,9 +149,6 @@ module _ (moments : KnownMoments) (text : List ℕ) (short : length text ≤ MAX
 
   abbrev all : Records
   all = records_of text
-
-  abbrev rows_behind_header : Records
-  rows_behind_header = row_records false all
 
   pub without_header : has_begun false all ≡ false
       → trace_meaning moments text ≡ Err (at_row 0 (as_whole BadHeader))
@@ -175,14 +165,15 @@ module _ (moments : KnownMoments) (text : List ℕ) (short : length text ≤ MAX
   not_opened fault (inr refused) = inr refused
 
   -- numbers do for the rows of a short trace
-  pub few_rows : 2 ^ 64 ≤ 1 + length rows_behind_header → ⊥
-  few_rows many =
+  pub few_rows : (front behind : Records) → all ≡ front ++ behind → 2 ^ 64 ≤ 1 + length (row_records false front) → ⊥
+  few_rows front behind are many =
       let few = few_records text in
-      let fewer = fewer_rows false all in
+      let size : length all ≡ length (front ++ behind) = ap (λ (l : Records). length l) are in
+      let both = length-append front behind in
+      let fewer = fewer_rows false front in
       let limit = short in
       omega arith
 
-  pub behind_header : has_begun false all ≡ true
-      → piece_fault moments (beginning 1) all ≡ first_row_fault moments None 1 rows_behind_header
-      → trace_meaning moments text ≡ long_rows_meaning moments 1 rows_behind_header
-  behind_header begun opened = meaning_is ∙ behind_is moments 1 all begun opened
+  pub behind_header : has_begun false all ≡ true → IsHeaded false all
+      → trace_meaning moments text ≡ long_rows_meaning moments 1 (row_records false all)
+  behind_header begun headed = meaning_is ∙ behind_is moments 1 all begun headed

@@ -1,6 +1,6 @@
 -- What a trace of any length means, what a piece of it means where it stands, and how both are reported.
-use Rattle.std.specs.Prelude.{◌≡◌, ℕ, ◌+◌, ◌≤◌, List, [], ◌∷◌, ◌++◌, length, map, filter_map, Bool}
-use Rattle.std.specs.Prelude.{true, false}
+use Rattle.std.specs.Prelude.{◌≡◌, ℕ, ◌+◌, ◌^◌, ◌≤◌, List, [], ◌∷◌, ◌++◌, length, map, filter_map, Bool}
+use Rattle.std.specs.Prelude.{true, false, ⊤}
 use Rattle.std.specs.Prelude.{Option, Some, None, Result, Ok, if◌then◌else◌}
 use Rattle.std.specs.List.{zip, enumerate_from, flat_map, list_any, position_from}
 use Rattle.std.specs.Option.{option_or}
@@ -65,6 +65,12 @@ has_begun true records = true
 has_begun false [] = false
 has_begun false (header ∷ rows) = true
 
+-- where a first record stands there, it names the fields
+abbrev pub IsHeaded : (begun : Bool) → Records → Type 0
+IsHeaded true records = ⊤
+IsHeaded false [] = ⊤
+IsHeaded false (header ∷ rows) = is_header header ≡ true
+
 -- how many publications the last of these rows asks for; where there is none, that is `last`
 abbrev pub last_after : KnownMoments → (last : Option ℕ) → Records → Option ℕ
 last_after moments last [] = last
@@ -102,6 +108,14 @@ first_fault_at moments false last next (header ∷ rows) =
 
 abbrev pub piece_fault : KnownMoments → Place → Records → Option TraceFault
 piece_fault moments place = first_fault_at moments place.begun place.last place.next
+
+-- rows without a fault stand in front, of which the last one would have the number 2^64 - 1 or more
+pub record HasTooManyRows (moments : KnownMoments) (place : Place) (records : Records) : Type 0 where
+  pub front : Records
+  pub behind : Records
+  pub are : records ≡ front ++ behind
+  pub fine : piece_fault moments place front ≡ None
+  pub many : 2 ^ 64 ≤ (place_behind moments place front).next
 
 -- where a trace begins whose first row has this number
 abbrev pub beginning : (first : ℕ) → Place

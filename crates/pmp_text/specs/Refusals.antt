@@ -9,7 +9,7 @@ use Rattle.pmp_text.specs.declared.refusal.Refusal.TheVariants.{BadHeader, BadRo
 use Rattle.pmp_text.specs.declared.refusal.Refusal.TheVariants.{NoPlace, Full, Moved, Input, Output}
 use Rattle.pmp_text.specs.declared.refusal.Refusal.TheVariants.{LateHead, Twice, BadEntries, BadBits, NotHeld, BadGrain}
 use Rattle.pmp_text.specs.declared.refusal.Refusal.TheVariants.{BadMark, OpenMark, NoMoment, BadEntry, BadEvent, NoHart}
-use Rattle.pmp_text.specs.declared.refusal.Refusal.TheVariants.{BadFormat, TooMany}
+use Rattle.pmp_text.specs.declared.refusal.Refusal.TheVariants.{BadFormat, BadFolder, TooMany}
 
 abbrev pub number_of : Refusal → ℕ
 number_of BadLength = 3
@@ -47,6 +47,7 @@ number_of BadEvent = 60
 number_of NoHart = 61
 number_of BadFormat = 62
 number_of TooMany = 63
+number_of BadFolder = 64
 
 abbrev pub name_of : Refusal → List ℕ
 name_of BadLength = codes "BadLength"
@@ -84,6 +85,7 @@ name_of BadEvent = codes "BadEvent"
 name_of NoHart = codes "NoHart"
 name_of BadFormat = codes "BadFormat"
 name_of TooMany = codes "TooMany"
+name_of BadFolder = codes "BadFolder"
 
 -- the program's exit status: 3 where memory, input, output or a shared unit failed, and else 2
 abbrev pub status_of : Refusal → ℕ

@@ -1,5 +1,5 @@
 -- Reading the rows of a trace one after the other.
-use Rattle.std.specs.Prelude.{◌≡◌, ℕ, ◌+◌, ◌^◌, ◌<◌, List, ◌∷◌, Some, None, Ok, if◌then◌else◌}
+use Rattle.std.specs.Prelude.{◌≡◌, ℕ, ◌+◌, ◌^◌, ◌<◌, ◌≤◌, List, ◌∷◌, Some, None, Ok, if◌then◌else◌}
 use Rattle.std.specs.Option.{option_or}
 use Rattle.pmp_text.specs.declared.trace.Row.{Row}
 use Rattle.pmp_text.specs.declared.trace.rows.Place.{Place}
@@ -31,3 +31,11 @@ pub record IsNextRow (before : RowsLeft) (row : Row) (after : RowsLeft) : Type 0
   pub moments : after.moments ≡ before.moments
   pub place : after.place ≡ place_after before.place row
   pub numbered : before.place.next + 1 < 2 ^ 64
+
+-- the next record says a row without a fault, whose number would be 2^64 - 1 or more
+pub record IsOutOfNumbers (before : RowsLeft) : Type 0 where
+  pub fields : List (List ℕ)
+  pub behind : Records
+  pub next : before.records ≡ fields ∷ behind
+  pub fine : row_fault before.moments.publications before.place.last (row_in before.moments fields) ≡ None
+  pub many : 2 ^ 64 ≤ before.place.next + 1

@@ -27,9 +27,9 @@ pub use expectation::Expectation;
 pub use flaw::Flaw;
 pub use input::{MAX_LIMIT, read_bytes};
 pub use lines::{
-    Breach, Change, EventPlace, NoMemory, Only, Since, Verdict, append_line, write_change,
-    write_effect, write_entries, write_expected, write_picture, write_registers, write_row,
-    write_runs, write_script, write_verdict,
+    ADDRESS_DIGITS, Breach, Change, EventPlace, NoMemory, Only, Since, Verdict, append_line,
+    write_change, write_effect, write_entries, write_expected, write_picture, write_registers,
+    write_row, write_runs, write_script, write_verdict,
 };
 pub use mark::{Mark, NAME_BYTES, Name};
 pub use moments::{Coming, Lasting, MomentName, Moments, When};

@@ -81,6 +81,9 @@ pub enum Refusal {
     BadFormat = 62,
     /// More than 1,048,576 events or publications of a script.
     TooMany = 63,
+    /// A folder without scripts, with too many, or with a name that rows can't begin with, or two folders with other
+    /// names.
+    BadFolder = 64,
 }
 
 /// Why a script is refused: 10 to 17, 40, and in version 3 50 to 57, 59 and 63.
@@ -138,6 +141,7 @@ impl Refusal {
             Refusal::NoHart => "NoHart",
             Refusal::BadFormat => "BadFormat",
             Refusal::TooMany => "TooMany",
+            Refusal::BadFolder => "BadFolder",
         }
     }
 
@@ -207,6 +211,8 @@ impl Refusal {
             Refusal::NoHart => "a log with a write or a register of the hart",
             Refusal::BadFormat => "qemu, gdb, openocd, spike or dump",
             Refusal::TooMany => "at most 1048576 events and as many publications",
+            Refusal::BadFolder =>
+                "1 to 4096 scripts in the folder, each NAME.pmp of at most 255 letters, digits, - _ and .; in two folders the same names",
         }
     }
 
@@ -262,6 +268,7 @@ impl Refusal {
             Refusal::BadFormat => "name the program that wrote the log, in lower case",
             Refusal::TooMany =>
                 "cut the script at a publish, and begin the next one with the registers that it leaves",
+            Refusal::BadFolder => "put one script a hart there, named as hart0.pmp is",
         }
     }
 }

@@ -4,7 +4,6 @@ ghost use Rattle.std.specs.Prelude.{◌+◌, ◌^◌, ◌<◌, ◌≤◌, IfOk, 
 ghost use Rattle.pmp_share.specs.declared.opening.TheConstants.{CHECKERS};
 ghost use Rattle.pmp_audit.specs.Rounds.{AreResults, IsResult};
 
-use super::hand::Hand;
 use super::job::{Done, Job};
 use super::working::work;
 use crate::fault::AuditFault;
@@ -16,33 +15,6 @@ use std::thread::Threads;
 
 /// In about the time that a thread takes to start, a worker decides so many rows.
 const FEW: usize = 512;
-
-/// Does the job of one of so many workers: decides its rows of a round, of which the first has this number.
-fn do_job<G: Gate>(
-    alloc: Global,
-    gate: &G,
-    job: Job,
-    workers: u8,
-    rows: &[Row],
-    first: u64,
-) -> Result<Done, AuditFault>
-    requires some { 0 < workers }
-    requires numbered { first + length rows.now ≤ 2 ^ 64 }
-    ensures { IsResult workers first rows.now job result }
-{
-    let Job {
-        worker,
-        checker,
-        notice,
-    } = job;
-    let hand = Hand {
-        rows,
-        first,
-        worker,
-        workers,
-    };
-    work(alloc, checker, notice, hand, gate)
-}
 
 /// Does the jobs of all workers: each on a thread of its own, or in turn where these have few rows and don't wait for
 /// one another. All have ended then.
@@ -67,12 +39,12 @@ pub(crate) fn run_jobs<R: Threads + Sync, G: Gate + Sync>(
             &|job: Job| -> Result<Done, AuditFault>
                 requires { (0 < workers) × (first + length rows.now ≤ 2 ^ 64) }
                 ensures { IsResult workers first rows.entry.now job result }
-            { do_job(alloc, gate, job, workers, rows, first) },
+            { work(alloc, gate, job, workers, rows, first) },
         );
     }
     let mut results = Vec::new(alloc);
     for job in jobs {
-        results.push(do_job(alloc, gate, job, workers, rows, first))?;
+        results.push(work(alloc, gate, job, workers, rows, first))?;
     }
     Ok(results)
 }

@@ -1,17 +1,17 @@
 //! A worker: it decides its rows of one round, in just what its notice tells of.
 
-ghost use Rattle.std.specs.Prelude.{◌≡◌, ◌<◌, OnOk, IfOk, IfErr, length};
+ghost use Rattle.std.specs.Prelude.{◌≡◌, ◌+◌, ◌^◌, ◌<◌, ◌≤◌, OnOk, IfOk, IfErr, length};
 ghost use Rattle.pmp_core.specs.Ranges.{decision_of};
-ghost use Rattle.pmp_audit.specs.Working.{HasLearnt, IsDone, StopsRound};
-ghost use Rattle.pmp_share.specs.Batches.{event_count, file_from};
+ghost use Rattle.pmp_audit.specs.Rounds.{IsResult};
+ghost use Rattle.pmp_audit.specs.Working.{HasLearnt};
+ghost use Rattle.pmp_share.specs.Batches.{event_count};
 
-use super::hand::Hand;
-use super::job::Done;
+use super::job::{Done, Job};
 use crate::fault::AuditFault;
 use crate::gate::Gate;
 use pmp_core::{Decision, RegFile};
 use pmp_share::laws::law_same_events;
-use pmp_share::{Checker, Moved, Notice};
+use pmp_share::{Checker, Moved};
 use pmp_text::Row;
 use std::alloc::Global;
 
@@ -30,32 +30,39 @@ fn ask(checker: &mut Checker, count: u64, file: &RegFile, row: &Row) -> Result<D
     Ok(decision)
 }
 
-/// Learns the notice and decides the worker's rows in what it tells of, which the checker then has looked at, and no
-/// more. After each row it passes the gate.
+/// Does the job of one of so many workers: learns its notice, and decides in what that tells of, which the checker then
+/// has looked at, and no more, the worker's rows of a round. These are those whose place, from 0, modulo the number of
+/// workers is the worker's; the first row has the number `first`. After each row it passes the gate.
 pub(crate) fn work<G: Gate>(
     alloc: Global,
-    mut checker: Checker,
-    notice: Notice,
-    hand: Hand,
     gate: &G,
+    job: Job,
+    workers: u8,
+    rows: &[Row],
+    first: u64,
 ) -> Result<Done, AuditFault>
-    requires { notice.unit ≡ checker.unit }
-    ensures done { IfOk result (IsDone checker.unit (file_from checker.unit.base notice.list)
-        hand.entry.worker hand.entry.workers hand.entry.first hand.entry.rows.now) }
+    requires some { 0 < workers }
+    requires numbered { first + length rows.now ≤ 2 ^ 64 }
+    ensures result { IsResult workers first rows.now job result }
     ensures asked { IfOk result (λ done. 0 < length done.decisions.items →
-        event_count done.checker.list ≡ event_count notice.list) }
-    ensures refused { IfErr result (StopsRound notice.list) }
+        event_count done.checker.list ≡ event_count job.notice.list) }
 {
+    let Job {
+        worker,
+        mut checker,
+        notice,
+    } = job;
     let count = notice.len();
     let file = notice.file();
     checker.learn(notice);
     let mut decisions = Vec::new(alloc);
-    for turn in 0..hand.count() {
-        let place = hand.place(turn);
-        let number = hand.first + place as u64;
-        let decision = ask(&mut checker, count, &file, &hand.rows[place])?;
+    let mut place = usize::from(worker);
+    while place < rows.len() {
+        let number = first + place as u64;
+        let decision = ask(&mut checker, count, &file, &rows[place])?;
         decisions.push((number, decision))?;
-        gate.pass(hand.worker, number);
+        gate.pass(worker, number);
+        place += usize::from(workers);
     }
     Ok(Done { checker, decisions })
 }

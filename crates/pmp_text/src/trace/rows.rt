@@ -1,11 +1,12 @@
 //! The rows of a piece of a trace, one after the other, read where the piece stands.
 
 ghost use Rattle.std.specs.Prelude.{◌≡◌, ◌+◌, ◌^◌, ◌<◌, ◌≤◌, ◌⊎◌, ◌∷◌, [], IfErr, IfOk, IfSome, List, ℕ, None, Ok};
-ghost use Rattle.std.specs.Prelude.{Some, if◌then◌else◌, length};
+ghost use Rattle.std.specs.Prelude.{Some, if◌then◌else◌};
 ghost use Rattle.std.specs.Option.{option_or};
-ghost use Rattle.pmp_text.specs.LongTraces.{beginning, has_begun, piece_fault, row_records, too_long_for_rows};
+ghost use Rattle.pmp_text.specs.LongTraces.{IsHeaded, beginning, has_begun, piece_fault, row_records};
+ghost use Rattle.pmp_text.specs.LongTraces.{too_long_for_rows};
 ghost use Rattle.pmp_text.specs.Outcomes.{no_input_for_rows, no_memory_for_rows};
-ghost use Rattle.pmp_text.specs.RowsLeft.{IsNextRow, place_after};
+ghost use Rattle.pmp_text.specs.RowsLeft.{IsNextRow, IsOutOfNumbers, place_after};
 ghost use Rattle.pmp_text.specs.Steps.Records.{IsNext};
 ghost use Rattle.pmp_text.specs.Tables.{records_of};
 ghost use Rattle.pmp_text.specs.Traces.{first_row_fault, row_fault, row_fields, row_in};
@@ -119,8 +120,7 @@ impl<'a> RowReader<'a> {
         moments: &'a Moments<'a>,
         place: Place,
     ) -> Result<RowReader<'a>, TraceFault>
-        ensures fault { IfOk result (λ rows. piece_fault moments.now place (records_of text.now)
-            ≡ first_row_fault moments.now place.last place.next rows.records) }
+        ensures header { IfOk result (λ _. IsHeaded place.begun (records_of text.now)) }
         ensures rows { IfOk result (λ rows. rows ≡ record {
           records = row_records place.begun (records_of text.now);
           moments = moments.now;
@@ -203,7 +203,7 @@ impl<'a> RowReader<'a> {
         ensures err { IfErr result (λ fault.
             (first_row_fault self.old.moments self.old.place.last self.old.place.next self.old.records
             ≡ Some fault) ⊎ (fault ≡ no_memory_for_rows) ⊎ (fault ≡ no_input_for_rows)
-            ⊎ ((fault ≡ too_long_for_rows) × (2 ^ 64 ≤ self.old.place.next + length self.old.records))) }
+            ⊎ ((fault ≡ too_long_for_rows) × IsOutOfNumbers self.old)) }
     {
         let Some(said) = self.next_fields()? else {
             return Ok(None);

@@ -9,12 +9,12 @@ report_rows-requires-clause-header c =
 
 pub returns-clause-ok : goal.returns-clause-ok
 returns-clause-ok c =
-    let opened = rw (c.in_ok-rows.ensures.rows, c.moments-moments.ensures) at c.in_ok-rows.ensures.fault in
-    with_header c.args.script.now c.args.standing (records_of c.args.text.now) opened c.report_rows.result
+    with_header c.args.script.now c.args.standing (records_of c.args.text.now) c.in_ok-rows.ensures.header
+    c.report_rows.result
     (rw (c.place.ensures, c.in_ok-rows.ensures.rows) at c.report_rows.ensures.ok)
 
 pub returns-clause-err : goal.returns-clause-err
 returns-clause-err c =
-    let opened = rw (c.in_ok-rows.ensures.rows, c.moments-moments.ensures) at c.in_ok-rows.ensures.fault in
-    fails_with_header c.args.script.now c.args.standing (records_of c.args.text.now) opened c.report_rows.result
+    fails_with_header c.args.script.now c.args.standing (records_of c.args.text.now) c.in_ok-rows.ensures.header
+    c.report_rows.result
     (rw (c.place.ensures, c.in_ok-rows.ensures.rows) at c.report_rows.ensures.err)

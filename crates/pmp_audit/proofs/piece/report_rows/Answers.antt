@@ -4,7 +4,8 @@ use Rattle.pmp_core.specs.Decision.{IsDecision}
 use Rattle.pmp_text.specs.Contents.{ScriptContents}
 use Rattle.pmp_text.specs.Reports.{file_of_script}
 use Rattle.pmp_audit.proofs.LongParts.{one_alone}
-use Rattle.pmp_audit.proofs.PieceRows.{all_reported, few, in_order, last_is, none_reported, one_row, row_fails}
+use Rattle.pmp_audit.proofs.PieceRows.{all_reported, in_order, last_is, none_reported, one_row, row_fails}
+use Rattle.pmp_audit.proofs.PieceTexts.{few_refused}
 use Rattle.pmp_audit.proofs.piece.report_rows.Goals as goal
 
 pub loop-report-init : goal.loop-report-init
@@ -38,7 +39,7 @@ advance-requires-clause-within c =
 pub overflow_add-faults : goal.overflow_add-faults
 overflow_add-faults c =
     let is = rw c.in-Some.is at c.in_ok-row.ensures.row in
-    let within = few c.loop-report.invariant.reported c.requires.header c.requires.faults in
+    let within = few_refused c.loop-report.invariant.reported.so_far c.requires.faults in
     let numbered = is.numbered in
     let one_at_most : c.in_ok-faults.field-0 ≤ 1 = search rules in
     omega arith
@@ -65,7 +66,7 @@ loop-report-preserved c =
 
 pub returns-clause-ok : goal.returns-clause-ok
 returns-clause-ok c =
-    all_reported c.loop-report.invariant.reported c.requires.header _
+    all_reported c.loop-report.invariant.reported c.requires.header _ _
     (c.in_ok-row.ensures.end (ap Ok c.in_default.is)).0
     (rw (c.in_ok-push.ensures.items, c.new-texts.ensures.items) (one_alone c.loop-report.report))
     (ap (λ p. record { place = p; faults = c.loop-report.faults }) c.loop-report.invariant.place)

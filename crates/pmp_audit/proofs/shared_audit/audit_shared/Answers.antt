@@ -33,11 +33,11 @@ says g c =
     subst (AreDecided script rows) (sym made)
     (are_decided c.law_decided_by_ranges.ensures script
     (c.law_legal_start.ensures c.args.script.now script c.in_ok-script.ensures) rows) in
-    audit_says c.args.script.now c.args.trace.now script rows _ _ c.deref-4.result.now c.in_ok-faults.faults _
-    c.in_ok-script.ensures trace_means
-    (rw c.deref-2.ensures.value
-    at (c.in_ok-faults.ensures script (rw (c.deref-2.ensures.value, c.deref-3.ensures.value) decided)))
-    c.new-report.ensures.items c.deref-4.ensures.value (rw c.deref-5.ensures.value at c.of.ensures)
+    audit_says c.args.script.now c.args.trace.now script rows decisions _ _ c.deref-4.result.now c.in_ok-faults.faults _
+    c.in_ok-script.ensures trace_means decided
+    (rw (c.deref-2.ensures.value, c.deref-3.ensures.value) at c.in_ok-faults.ensures.text) c.new-report.ensures.items
+    c.deref-4.ensures.value (rw c.deref-3.ensures.value at c.in_ok-faults.ensures.refused)
+    (rw c.deref-5.ensures.value at c.of.ensures)
 
 pub returns-clause-ok : goal.returns-clause-ok
 returns-clause-ok g c =

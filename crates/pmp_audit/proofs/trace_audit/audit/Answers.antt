@@ -22,16 +22,16 @@ pub returns-in_err-report-clause-err : goal.returns-in_err-report-clause-err
 returns-in_err-report-clause-err g c =
     let p = err_from_is_err_and c.from_residual-in_err-report.result c.from_residual-in_err-report.ensures.1 in
     rw (p.1, p.2) (fails c.args.script.now c.args.trace.now c.in_ok-script.script c.in_ok-script.ensures (omega arith)
-    c.beginning.result c.beginning.ensures.place c.beginning.ensures.faults c.in_err-report.field-0.0
-    c.in_err-report.ensures.err (g.W.Write.contents c.args.writer.now))
+    c.in_err-report.field-0.0 (rw c.beginning.ensures at c.in_err-report.ensures.err)
+    (g.W.Write.contents c.args.writer.now))
 
 pub returns-in_err-summary-clause-err : goal.returns-in_err-summary-clause-err
 returns-in_err-summary-clause-err g c =
     let p = err_from_is_err_and c.from_residual-in_err-summary.result c.from_residual-in_err-summary.ensures.1 in
     let (begun, is) = c.in_err-summary.ensures in
     rw (p.1, p.2, is) (no_header c.args.script.now c.args.trace.now c.in_ok-script.script c.in_ok-script.ensures
-    (omega arith) c.beginning.result c.beginning.ensures.place c.beginning.ensures.faults c.in_ok-report.report
-    c.in_ok-report.ensures.ok begun (g.W.Write.contents c.args.writer.now))
+    (omega arith) c.in_ok-report.report.behind _ (rw c.beginning.ensures at c.in_ok-report.ensures.ok) begun
+    (g.W.Write.contents c.args.writer.now))
 
 pub returns-in_err-write_texts-clause-err : goal.returns-in_err-write_texts-clause-err
 returns-in_err-write_texts-clause-err g c =
@@ -42,8 +42,8 @@ returns-in_err-write_texts-clause-err g c =
       answer = c.in_ok-summary.summary;
       text = items_of c.in_ok-report.report.texts.items;
       says = says c.args.script.now c.args.trace.now c.in_ok-script.script c.in_ok-script.ensures (omega arith)
-          c.beginning.result c.beginning.ensures.place c.beginning.ensures.faults c.in_ok-report.report
-          c.in_ok-report.ensures.ok c.in_ok-summary.summary begun is;
+          c.in_ok-report.report.behind _ (rw c.beginning.ensures at c.in_ok-report.ensures.ok) c.in_ok-summary.summary
+          begun is;
       front = rw c.deref.ensures.value at c.in_err-write_texts.ensures.err;
     })
 
@@ -52,7 +52,7 @@ returns-clause-ok g c =
     let (begun, is) = c.in_ok-summary.ensures in record {
       text = items_of c.in_ok-report.report.texts.items;
       says = says c.args.script.now c.args.trace.now c.in_ok-script.script c.in_ok-script.ensures (omega arith)
-          c.beginning.result c.beginning.ensures.place c.beginning.ensures.faults c.in_ok-report.report
-          c.in_ok-report.ensures.ok c.in_ok-summary.summary begun is;
+          c.in_ok-report.report.behind _ (rw c.beginning.ensures at c.in_ok-report.ensures.ok) c.in_ok-summary.summary
+          begun is;
       written = rw c.deref.ensures.value at c.in_ok-write_texts.ensures.ok;
     }

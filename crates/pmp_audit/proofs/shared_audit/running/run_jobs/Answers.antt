@@ -43,5 +43,5 @@ loop-job-preserved g c =
           let short = ap length steps in
           omega arith;
       results = rw c.in_ok-push.ensures.items (one_result c.len.result c.args.first c.args.rows.now at.yielded
-          at.results.items at.invariant.results x c.do_job.result c.do_job.ensures);
+          at.results.items at.invariant.results x c.work.result c.work.ensures.result);
     }

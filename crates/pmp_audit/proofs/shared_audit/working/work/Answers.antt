@@ -1,8 +1,9 @@
 use Rattle.std.proofs.Common.{rules}
-use Rattle.std.proofs.Common.{◌≡◌, ◌∙◌, ◌+◌, ◌<◌, ℕ, List, Some, ap, sym, length, arith, get_or}
+use Rattle.std.proofs.Common.{◌≡◌, ◌∙◌, ◌+◌, ◌*◌, ◌<◌, ℕ, List, Some, ap, sym, length, arith, get_or}
+use Rattle.std.proofs.Math.Nat.{add-mul}
 use Rattle.std.specs.Prelude.{slice_get}
 use Rattle.std.specs.List.{enumerate_from}
-use Rattle.std.proofs.lemmas.List.{get_or-map, length-map}
+use Rattle.std.proofs.lemmas.List.{get_or-map, length-map, length_push}
 use Rattle.std.proofs.lemmas.List.FromFn.{get_or-enumerate_from, length-enumerate_from}
 use Rattle.std.proofs.lemmas.Option.{slice_get-get_or}
 use Rattle.pmp_core.specs.declared.decision.Decision.{Decision}
@@ -26,42 +27,49 @@ at_place first file rows place row decision inside is =
     ∙ ap (λ (d : Decision). Some (first + place, d)) (get_or-map decide rows place row decision inside
     ∙ sym is)
 
-pub loop-turn-preserved : goal.loop-turn-preserved
-loop-turn-preserved g c =
-    let hand = c.args.hand in
-    let rows = hand.rows.now in
-    let turn = c.loop-turn.turn in
-    let place = c.place-place.result in
-    let inside : place < length rows =
-    rw c.place-place.ensures ((c.count-turn-end.ensures turn).0 c.loop-turn-test.true) in
-    let own = at_place hand.first c.file-file.result rows place c.index-hand-place.result c.in_ok-decision.decision
-    inside c.in_ok-decision.ensures.decided in
+pub loop-place-preserved : goal.loop-place-preserved
+loop-place-preserved g c =
+    let at = c.loop-place in
+    let rows = c.args.rows.now in
+    let numbered = enumerate_from c.args.first (decided_in c.file-file.result rows) in
+    let turns = length at.decisions.items in
+    let own = at_place c.args.first c.file-file.result rows at.place c.index-rows-place.result c.in_ok-decision.decision
+    c.loop-place-test.true (c.in_ok-decision.ensures.decided
+    ∙ ap (λ (row : Row). decision_of c.file-file.result row.access) c.index-rows-place.is) in
+    let size = length_push at.decisions.items (c.args.first + at.place, c.in_ok-decision.decision) in
+    let one_more : length c.push.new.self.items ≡ turns + 1 = ap (λ (l : List (ℕ × Decision)). length l)
+    c.in_ok-push.ensures.items ∙ size in
     record {
-      same_unit = c.ask.ensures.unit ∙ c.loop-turn.invariant.same_unit;
+      same_unit = c.ask.ensures.unit ∙ at.invariant.same_unit;
       learnt = c.in_ok-decision.ensures.learnt;
-      file_is = c.loop-turn.invariant.file_is;
-      dealt = rw c.in_ok-push.ensures.items (one_dealt hand.worker hand.workers _ turn c.loop-turn.decisions.items _
-          c.loop-turn.invariant.dealt
-          (ap (slice_get (enumerate_from hand.first (decided_in c.file-file.result rows))) (sym c.place-place.ensures)
-          ∙ own));
+      file_is = at.invariant.file_is;
+      place_is =
+          let was = at.invariant.place_is in
+          let turn = add-mul turns 1 c.args.workers in
+          let next : length c.push.new.self.items * c.args.workers ≡ (turns + 1) * c.args.workers =
+          ap (λ (n : ℕ). n * c.args.workers) one_more in
+          omega arith;
+      dealt = rw (one_more, c.in_ok-push.ensures.items) (one_dealt c.args.job.worker c.args.workers numbered turns
+          at.decisions.items _ at.invariant.dealt (ap (slice_get numbered) (sym at.invariant.place_is) ∙ own));
       asked = λ _. c.in_ok-decision.ensures.asked;
-      count_is = c.loop-turn.invariant.count_is;
+      count_is = at.invariant.count_is;
     }
 
-pub returns-clause-done : goal.returns-clause-done
-returns-clause-done g c =
-    let hand = c.args.hand in
-    let made = decided_in c.file-file.result hand.rows.now in
-    let count = c.count-turn-end.result in
-    let last : c.loop-turn.turn ≡ count = omega arith in
-    let many : length (enumerate_from hand.first made) ≡ length hand.rows.now =
-    length-enumerate_from hand.first made ∙ length-map hand.rows.now _ in
+pub returns-clause-result : goal.returns-clause-result
+returns-clause-result g c =
+    let at = c.loop-place in
+    let made = decided_in c.file-file.result c.args.rows.now in
+    let many : length (enumerate_from c.args.first made) ≡ length c.args.rows.now =
+    length-enumerate_from c.args.first made ∙ length-map c.args.rows.now _ in
     record {
-      same_unit = c.loop-turn.invariant.same_unit;
-      dealt = rw (← c.loop-turn.invariant.file_is) (all_dealt hand.worker hand.workers (enumerate_from hand.first made)
-          count c.loop-turn.decisions.items (rw last at c.loop-turn.invariant.dealt)
-          (rw many c.count-turn-end.ensures));
+      done = record {
+        same_unit = at.invariant.same_unit;
+        dealt = rw (← at.invariant.file_is) (all_dealt c.args.job.worker c.args.workers
+            (enumerate_from c.args.first made) (length at.decisions.items) at.decisions.items at.invariant.dealt
+            (let place_is = at.invariant.place_is in omega arith));
+      };
+      refused = tt;
     }
 
-pub loop-turn-init : goal.loop-turn-init
-loop-turn-init g c = search rules
+pub loop-place-init : goal.loop-place-init
+loop-place-init g c = search rules

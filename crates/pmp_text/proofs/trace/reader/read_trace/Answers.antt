@@ -1,10 +1,11 @@
-use Rattle.std.proofs.Common.{◌∙◌, ℕ, List, Result, Ok, Err, Vec, Global, map, refl, inl, sym, ap, arith}
+use Rattle.std.proofs.Common.{◌∙◌, ℕ, List, [], Result, Ok, Err, Vec, Global, map, refl, inl, sym, ap, append-nil, arith}
 use Rattle.std.specs.Prelude.{IfOk}
 use Rattle.std.proofs.lemmas.Result.{err_from_is_err_and}
 use Rattle.pmp_text.specs.declared.trace.Row.{Row}
 use Rattle.pmp_text.specs.declared.trace.TraceFault.{TraceFault}
 use Rattle.pmp_text.specs.Moments.{KnownMoments}
 use Rattle.pmp_text.specs.Outcomes.{GivesRows}
+use Rattle.pmp_text.specs.Tables.{records_of}
 use Rattle.pmp_text.specs.TraceFaults.{IsInOrder, afters}
 use Rattle.pmp_text.specs.Traces.{is_header, row_fields, rows_meaning, trace_meaning}
 use Rattle.pmp_text.proofs.LeastRows.{trace_in_order}
@@ -28,15 +29,16 @@ read_rows-requires-clause-first c = rw (c.in_ok-left.ensures.rows, c.beginning.e
 
 pub read_rows-requires-clause-numbered : goal.read_rows-requires-clause-numbered
 read_rows-requires-clause-numbered c =
-    let few = few_rows c.args.moments.now c.args.text.now (omega arith) in
+    let all = records_of c.args.text.now in
+    let few = few_rows c.args.moments.now c.args.text.now (omega arith) all [] (sym (append-nil all)) in
     rw (c.in_ok-left.ensures.rows, c.beginning.ensures) (omega (arith, few))
 
 pub returns-then-place-clause-given : goal.returns-then-place-clause-given
 returns-then-place-clause-given c =
     let rows = rw c.beginning.ensures at c.in_ok-left.ensures.rows in
-    let opened = rw (c.beginning.ensures, rows) at c.in_ok-left.ensures.fault in
+    let headed = rw c.beginning.ensures at c.in_ok-left.ensures.header in
     let begun = sym (ap (λ r. r.place.begun) rows) ∙ (rw c.place.ensures at c.if-place.true) in
-    rw (behind_header c.args.moments.now c.args.text.now (omega arith) begun opened)
+    rw (behind_header c.args.moments.now c.args.text.now (omega arith) begun headed)
     (rw rows at c.read_rows.ensures)
 
 in_order : (moments : KnownMoments) (text : List ℕ) (answer : Result (Vec Row Global) TraceFault)
