@@ -9,11 +9,12 @@ _pmp() {
     case ${COMP_WORDS[1]} in
         check) words='--explain --after --expect M S U fetch load store stdin'; files=yes ;;
         audit) words='--explain --checkers --long --jobs --first-row stdin'; files=yes ;;
-        policy) words='--explain --each-write stdin'; files=yes ;;
+        policy) words='--explain --each-write --names stdin'; files=yes ;;
         dump) words='--explain --after --script stdin'; files=yes ;;
-        map | picture | entries) words='--explain --after stdin'; files=yes ;;
+        map | entries) words='--explain --after --names stdin'; files=yes ;;
+        picture) words='--explain --after stdin'; files=yes ;;
         writes) words='--explain stdin'; files=yes ;;
-        diff) words='--explain --old-after --new-after --only stdin'; files=yes ;;
+        diff) words='--explain --old-after --new-after --only --names stdin'; files=yes ;;
         import)
             words='--explain --hart --xlen --entries --grain --address-bits --smepmp --bursts stdin'
             if [ "$COMP_CWORD" = 2 ]; then words='qemu gdb openocd spike dump'; else files=yes; fi
@@ -28,6 +29,7 @@ _pmp() {
         --smepmp) words='yes no' files= ;;
         --after | --old-after | --new-after) words='last mml mmwp rlb-clear' files= ;;
         --jobs | --first-row) words= files= ;;
+        --names) words= files=yes ;;
         --hart | --entries | --grain | --address-bits) words= files= ;;
     esac
     COMPREPLY=($(compgen -W "$words" -- "$word"))

@@ -17,6 +17,8 @@ complete -c pmp -n '__fish_seen_subcommand_from help' -f -a "$commands script tr
 complete -c pmp -n "__fish_seen_subcommand_from $commands" -l explain -d 'explain a refusal'
 complete -c pmp -n '__fish_seen_subcommand_from check dump map picture entries' -l after -x \
     -a 'last mml mmwp rlb-clear' -d 'take the first N publications'
+complete -c pmp -n '__fish_seen_subcommand_from policy map entries diff' -l names -r \
+    -d 'write the names of the bytes behind each row'
 complete -c pmp -n '__fish_seen_subcommand_from dump' -l script -d 'write a script of these registers'
 complete -c pmp -n '__fish_seen_subcommand_from check' -l expect -x -a 'allow fault' \
     -d 'end with status 0 where this is the answer'

@@ -9,13 +9,13 @@ use Rattle.pmp_text.specs.Refusals.{name_of, number_of}
 use Rattle.pmp_text.specs.declared.refusal.Refusal.{Refusal}
 use Rattle.pmp_text.specs.declared.refusal.Refusal.TheVariants.{BadLength}
 use Rattle.pmp_tool.specs.FaultLines.{place_text, side_text}
-use Rattle.pmp_tool.specs.LineLengths.{IsNumbered, IsNumberedNote, LineFitsLaw, NoteFitsLaw}
+use Rattle.pmp_tool.specs.LineLengths.{HartLineFitsLaw, IsNumbered, IsNumberedNote, LineFitsLaw, NoteFitsLaw}
 use Rattle.pmp_tool.specs.Notes.{left_text, note_text}
 use Rattle.pmp_tool.specs.declared.note.Note.{Note}
 use Rattle.pmp_tool.specs.declared.note.Note.TheVariants as note
 use Rattle.pmp_tool.specs.declared.fault_line.Place.{Place}
 use Rattle.pmp_tool.specs.declared.fault_line.Place.TheVariants.{Nowhere, Word, ScriptLine, TraceRow, PolicyRow}
-use Rattle.pmp_tool.specs.declared.fault_line.Place.TheVariants.{Script, LineOf, LogLine}
+use Rattle.pmp_tool.specs.declared.fault_line.Place.TheVariants.{Script, LineOf, LogLine, NamesRow}
 
 -- a refusal's number has two digits, and its name eleven letters
 number_fits : (refusal : Refusal) → number_of refusal < 10 ^ 2
@@ -43,12 +43,19 @@ place_fits (Script side) small = simp length-append (omega (arith, side_fits sid
 place_fits (LineOf side fault) small =
     simp length-append (omega (arith, side_fits side, digits_fit fault.line small))
 place_fits (LogLine fault) small = simp length-append (omega (arith, digits_fit fault.line small))
+place_fits (NamesRow fault) small = simp length-append (omega (arith, digits_fit fault.row small))
 
 pub line_fits : LineFitsLaw
 line_fits refusal place small =
     let digits = length-decimal-le 2 (number_of refusal) (omega arith) (number_fits refusal)
     (let small = number_fits refusal in omega arith) in
     simp length-append (omega (arith, digits, name_fits refusal, place_fits place small))
+
+pub hart_line_fits : HartLineFitsLaw
+hart_line_fits name refusal place short small =
+    let digits = length-decimal-le 2 (number_of refusal) (omega arith) (number_fits refusal)
+    (let small = number_fits refusal in omega arith) in
+    simp length-append (omega (arith, short, digits, name_fits refusal, place_fits place small))
 
 none_fits : (none : Bool) (text : List ℕ) (most : ℕ) → length text ≤ most → length (cond none [] text) ≤ most
 none_fits true text most fits = omega arith

@@ -1,7 +1,8 @@
 -- Why a run gives no answer.
 use Rattle.std.proofs.Common.{◌≡◌, ◌≢◌, ◌⊎◌, ◌∙◌, refl, sym, ap, subst, inl, inr, ℕ, List, Option, Result, Ok, Err}
-use Rattle.std.proofs.Common.{IfErr}
-use Rattle.std.specs.Io.KnownBytes.{Keeps}
+use Rattle.std.proofs.Common.{Bor, IfErr, IfOk, None, Some, option_map}
+use Rattle.std.proofs.lemmas.Result.{IfErr-weaker, IfOk-weaker}
+use Rattle.std.specs.Io.KnownBytes.{Appends, Keeps}
 use Rattle.clap.specs.Words.{HasKind, IsAmong, Text, fault_of, kind_of}
 use Rattle.clap.specs.declared.error.Error.{Error}
 use Rattle.clap.specs.declared.error.kind.ErrorKind.{ErrorKind}
@@ -16,19 +17,31 @@ use Rattle.pmp_tool.specs.declared.argument.Argument.{Argument}
 use Rattle.pmp_tool.specs.declared.command.Command.{Command}
 use Rattle.pmp_tool.specs.declared.failure.Failure.{Failure}
 use Rattle.pmp_tool.specs.declared.outcome.Outcome.{Outcome}
+use Rattle.pmp_tool.specs.declared.outcome.Outcome.TheVariants.{Told}
 use Rattle.pmp_tool.specs.declared.request.Import.{Import}
 use Rattle.pmp_tool.specs.declared.request.LongAudit.{LongAudit}
 use Rattle.pmp_tool.specs.declared.request.Request.{Request}
 use Rattle.pmp_tool.specs.declared.request.Request.TheVariants as request
 use Rattle.pmp_tool.specs.CommandLines.{AsksForPieces, MayAskForText, WordsAskFor, pmp_app}
 use Rattle.pmp_tool.specs.Commands.{asked, task_of}
+use Rattle.pmp_names.specs.declared.address_names.NamesFault.{NamesFault}
+use Rattle.pmp_names.specs.AddressNames.{names_said}
+use Rattle.pmp_names.specs.NameLists.{no_memory as no_memory_for_names}
 use Rattle.pmp_tool.specs.Failures.{failure_status, unaudited, unparsed, unparsed_as}
-use Rattle.pmp_tool.specs.Inputs.{Inputs}
+use Rattle.pmp_tool.specs.Failures.{unnamed as unnamed_so}
+use Rattle.pmp_tool.specs.Inputs.{AreBytesOf, Folders, Inputs}
 use Rattle.pmp_tool.specs.Requests.{Declines, InputFails, MomentFails, RequestFails, allowed, taken, unnamed, untaken}
-use Rattle.pmp_tool.specs.Runs.{CommandFails, Fails, TextFails}
-use Rattle.pmp_tool.specs.Runs.{no_script, of_script, no_room, no_output, refused_words, refused_word, no_memory, no_text, no_command}
+use Rattle.pmp_tool.specs.declared.harts.Harts.{Harts}
+use Rattle.pmp_tool.specs.declared.naming.Naming.{Naming}
+use Rattle.pmp_tool.specs.CommandAnswers.{CommandFails, no_script, of_script}
+use Rattle.pmp_tool.specs.Harts.{HartsFail, on_hart}
+use Rattle.pmp_tool.specs.Harts.{no_output as no_rows, no_room as no_rows_kept}
+use Rattle.pmp_tool.specs.NamedAnswers.{OneFails, apart, at_once, unkept, unwritten}
+use Rattle.pmp_tool.specs.Runs.{Answers, Done, Fails, TextFails, Undone, UndoneAt, UndoneBy, UndoneWith, bad_names, does}
+use Rattle.pmp_tool.specs.Runs.{no_command, no_harts, no_memory, no_names, no_output, no_room, no_room_for_names}
+use Rattle.pmp_tool.specs.Runs.{no_text, of_harts, of_one, refused_word, refused_words, tells, undone_by}
 
-module _ (words : List Text) (scripts traces : Inputs) (before after : Option (List ℕ)) (error : Error)
+module _ (words : List Text) (scripts traces : Inputs) (folders : Folders) (before after : Option (List ℕ)) (error : Error)
     (has : HasKind (fault_of pmp_app words) error)
     (no_help : kind_of error ≢ DisplayHelp) (no_version : kind_of error ≢ DisplayVersion)
     (keeps : Keeps before after) where
@@ -38,14 +51,14 @@ module _ (words : List Text) (scripts traces : Inputs) (before after : Option (L
   among kind is room (inr kinds) = kinds
 
   unparsed_words : (kind : ErrorKind) → kind_of error ≡ kind
-      → Fails words scripts traces before after (unparsed_as kind error)
+      → Fails words scripts traces folders before after (unparsed_as kind error)
   unparsed_words OutOfMemory is = no_memory keeps
   unparsed_words kind is =
       refused_words error
       (record { kind = among kind is (λ e. absurd cc) has; no_help = no_help; no_version = no_version }) keeps
 
   -- clap refuses the words, or has no memory
-  pub refused_by_clap : Fails words scripts traces before after (unparsed error)
+  pub refused_by_clap : Fails words scripts traces folders before after (unparsed error)
   refused_by_clap = unparsed_words (kind_of error) refl
 
 -- the words ask for a text
@@ -128,18 +141,68 @@ module _ (before after : Option (List ℕ)) (scripts traces : Inputs) where
   command_keeps command _ (of_script script failure are fails) two =
       request_keeps script command.request failure fails two
 
+harts_keep : {scripts traces : Inputs} {command : Command} {naming : Option Naming} {harts : Harts} {before after : Option (List ℕ)}
+    {failure : Failure} → HartsFail scripts traces command naming harts before after failure → failure_status failure ≡ 2
+    → Keeps before after
+harts_keep (on_hart answers hart rest one failure part are is fails keeps) two = keeps
+harts_keep (no_rows_kept keeps) two = keeps
+harts_keep (no_rows answers are front) two = absurd cc
+
+one_keeps : {scripts traces : Inputs} {command : Command} {before after : Option (List ℕ)} {naming : Option Naming}
+    {failure : Failure} → OneFails scripts traces command before after naming failure → failure_status failure ≡ 2
+    → IsLong command.request ⊎ Keeps before after
+one_keeps {command = command} (at_once failure fails) two = command_keeps _ _ _ _ command failure fails two
+one_keeps (apart naming failure fails keeps) two = inr keeps
+one_keeps (unkept naming keeps) two = inr keeps
+one_keeps (unwritten naming outcome rows answers front) two = absurd cc
+
+by_keeps : {scripts traces : Inputs} {folders : Folders} {command : Command} {before after : Option (List ℕ)}
+    {naming : Option Naming} {failure : Failure}
+    → UndoneBy scripts traces folders command before after naming failure → failure_status failure ≡ 2
+    → IsLong command.request ⊎ Keeps before after
+by_keeps (no_harts failure unfound keeps) two = inr keeps
+by_keeps (of_one failure none fails) two = one_keeps fails two
+by_keeps (of_harts harts failure some fails) two = inr (harts_keep fails two)
+
+with_keeps : {scripts traces : Inputs} {folders : Folders} {command : Command} {before after : Option (List ℕ)}
+    {path : List ℕ} {failure : Failure}
+    → UndoneWith scripts traces folders command before after path failure → failure_status failure ≡ 2
+    → IsLong command.request ⊎ Keeps before after
+with_keeps (no_names fault cant keeps) two = inr keeps
+with_keeps (bad_names text fault is bad keeps) two = inr keeps
+with_keeps (no_room_for_names keeps) two = inr keeps
+with_keeps (undone_by naming failure is undone) two = by_keeps undone two
+
+at_keeps : (scripts traces : Inputs) (folders : Folders) (command : Command) (before after : Option (List ℕ))
+    (failure : Failure) (names : Option (Bor (List ℕ)))
+    → UndoneAt scripts traces folders command before after names failure → failure_status failure ≡ 2
+    → IsLong command.request ⊎ Keeps before after
+at_keeps scripts traces folders command before after failure None undone two = by_keeps undone two
+at_keeps scripts traces folders command before after failure (Some path) undone two = with_keeps undone two
+
 text_keeps : {before after : Option (List ℕ)} {failure : Failure} → TextFails before after failure
     → failure_status failure ≡ 2 → Keeps before after
 text_keeps (no_room keeps) two = keeps
 text_keeps (no_output text front) two = absurd cc
 
--- a command that the words ask for fails
-pub unanswered : (words : List Text) (scripts traces : Inputs) (command : Command) (before after : Option (List ℕ))
-    → WordsAskFor words (asked command) → (result : Result Outcome Failure)
-    → IfErr result (CommandFails scripts traces command before after)
-    → IfErr result (Fails words scripts traces before after)
-unanswered words scripts traces command before after asks (Ok outcome) fails = tt
-unanswered words scripts traces command before after asks (Err failure) fails = no_command command failure asks fails
+-- what a command that the words ask for does is what they ask for
+module _ (words : List Text) (scripts traces : Inputs) (folders : Folders) (command : Command)
+    (before after : Option (List ℕ)) (asks : WordsAskFor words (asked command)) (result : Result Outcome Failure) where
+  pub answered : IfOk result (Done scripts traces folders command before after)
+      → IfOk result (Answers words scripts traces folders before after)
+  answered = IfOk-weaker result _ _ (λ outcome is. does command outcome asks is)
+
+  pub unanswered : IfErr result (Undone scripts traces folders command before after)
+      → IfErr result (Fails words scripts traces folders before after)
+  unanswered = IfErr-weaker result _ _ (λ failure is. no_command command failure asks is)
+
+-- a text that they ask for was written
+pub text_told : (words : List Text) (scripts traces : Inputs) (folders : Folders) (before after : Option (List ℕ))
+    → MayAskForText words → (result : Result Outcome Failure)
+    → IfOk result (λ outcome. (outcome ≡ Told) × ((bytes : List ℕ) × Appends before after bytes))
+    → IfOk result (Answers words scripts traces folders before after)
+text_told words scripts traces folders before after may (Ok outcome) (is, (text, written)) = rw is (tells text may written)
+text_told words scripts traces folders before after may (Err failure) told = tt
 
 -- a command of a long audit is what the words ask for
 long_or_kept : (words : List Text) (command : Command) (before after : Option (List ℕ))
@@ -151,7 +214,15 @@ long_or_kept words command before after asks (inl (inr (import, is))) =
       log = import.log.now;
       format = import.format;
       options = import.options;
-      task = (asks.0, asks.1 ∙ ap (λ asked. Ok (record { script = command.script.now; task = task_of asked })) is);
+      names = option_map (λ path. path.now) command.names;
+      task = (
+        asks.0,
+        asks.1 ∙ ap (λ asked. Ok (record {
+          script = command.script.now;
+          names = option_map (λ path. path.now) command.names;
+          task = task_of asked;
+        })) is,
+      );
     }))
 long_or_kept words command before after asks (inl (inl (audit, is))) =
     inl (inl (record {
@@ -159,16 +230,34 @@ long_or_kept words command before after asks (inl (inl (audit, is))) =
       trace = audit.trace.now;
       jobs = audit.jobs;
       first = audit.first;
-      task = (asks.0, asks.1 ∙ ap (λ asked. Ok (record { script = command.script.now; task = task_of asked })) is);
+      names = option_map (λ path. path.now) command.names;
+      task = (
+        asks.0,
+        asks.1 ∙ ap (λ asked. Ok (record {
+          script = command.script.now;
+          names = option_map (λ path. path.now) command.names;
+          task = task_of asked;
+        })) is,
+      );
     }))
 long_or_kept words command before after asks (inr keeps) = inr keeps
 
-pub keeps_at_two : {words : List Text} {scripts traces : Inputs} {before after : Option (List ℕ)} {failure : Failure}
-    → Fails words scripts traces before after failure → failure_status failure ≡ 2
+pub keeps_at_two : {words : List Text} {scripts traces : Inputs} {folders : Folders} {before after : Option (List ℕ)} {failure : Failure}
+    → Fails words scripts traces folders before after failure → failure_status failure ≡ 2
     → AsksForPieces words ⊎ Keeps before after
 keeps_at_two (refused_words error refused keeps) two = inr keeps
 keeps_at_two (refused_word fault refused keeps) two = inr keeps
 keeps_at_two (no_memory keeps) two = inr keeps
 keeps_at_two (no_text failure asked fails) two = inr (text_keeps fails two)
 keeps_at_two {words = words} (no_command command failure asks fails) two =
-    long_or_kept words command _ _ asks (command_keeps _ _ _ _ command failure fails two)
+    long_or_kept words command _ _ asks (at_keeps _ _ _ command _ _ failure command.names fails two)
+
+-- names that can't be read are why a command gets no answer
+pub names_fail : (scripts traces : Inputs) (folders : Folders) (command : Command) (before after : Option (List ℕ))
+    (path text : List ℕ) (fault : NamesFault) → AreBytesOf (traces path) text
+    → (fault ≡ no_memory_for_names) ⊎ (names_said text ≡ Err fault) → Keeps before after
+    → UndoneWith scripts traces folders command before after path (unnamed_so fault)
+names_fail scripts traces folders command before after path text fault is (inl memory) keeps =
+    rw memory (no_room_for_names keeps)
+names_fail scripts traces folders command before after path text fault is (inr bad) keeps =
+    bad_names text fault is bad keeps

@@ -60,6 +60,7 @@ rule_in argument.Grain = option_rule (codes "grain")
 rule_in argument.AddressBits = option_rule (codes "address-bits")
 rule_in argument.Smepmp = option_rule (codes "smepmp")
 rule_in argument.Bursts = flag_rule (codes "bursts")
+rule_in argument.Names = option_rule (codes "names")
 
 -- the id by which clap knows it
 abbrev pub id_of : Argument → Text
@@ -89,14 +90,16 @@ arguments_of Check =
 arguments_of Audit =
     argument.Script ∷ argument.Explain ∷ argument.Trace ∷ argument.Checkers ∷ argument.Long ∷ argument.Jobs
     ∷ argument.FirstRow ∷ []
-arguments_of Policy = argument.Script ∷ argument.Explain ∷ argument.Policy ∷ argument.EachWrite ∷ []
+arguments_of Policy =
+    argument.Script ∷ argument.Explain ∷ argument.Policy ∷ argument.EachWrite ∷ argument.Names ∷ []
 arguments_of Dump = argument.Script ∷ argument.Explain ∷ argument.After ∷ argument.AsScript ∷ []
-arguments_of Map = argument.Script ∷ argument.Explain ∷ argument.After ∷ []
+arguments_of Map = argument.Script ∷ argument.Explain ∷ argument.After ∷ argument.Names ∷ []
 arguments_of Picture = argument.Script ∷ argument.Explain ∷ argument.After ∷ []
-arguments_of Entries = argument.Script ∷ argument.Explain ∷ argument.After ∷ []
+arguments_of Entries = argument.Script ∷ argument.Explain ∷ argument.After ∷ argument.Names ∷ []
 arguments_of Writes = argument.Script ∷ argument.Explain ∷ []
 arguments_of Diff =
-    argument.Old ∷ argument.Explain ∷ argument.New ∷ argument.OldAfter ∷ argument.NewAfter ∷ argument.Only ∷ []
+    argument.Old ∷ argument.Explain ∷ argument.New ∷ argument.OldAfter ∷ argument.NewAfter ∷ argument.Only
+    ∷ argument.Names ∷ []
 arguments_of Import =
     argument.Format ∷ argument.Explain ∷ argument.Log ∷ argument.Hart ∷ argument.Xlen ∷ argument.Entries ∷ argument.Grain
     ∷ argument.AddressBits ∷ argument.Smepmp ∷ argument.Bursts ∷ []

@@ -64,7 +64,8 @@ pub record AsksForLongAudit (words : List Text) : Type 0 where
   pub trace : Text
   pub jobs : Option ℕ
   pub first : ℕ
-  pub task : WordsAskFor words (record { script = script; task = LongAudit trace jobs first })
+  pub names : Option Text
+  pub task : WordsAskFor words (record { script = script; names = names; task = LongAudit trace jobs first })
 
 -- the words ask for an import
 pub record AsksForImport (words : List Text) : Type 0 where
@@ -72,7 +73,8 @@ pub record AsksForImport (words : List Text) : Type 0 where
   pub log : Text
   pub format : Format
   pub options : Options
-  pub task : WordsAskFor words (record { script = script; task = Import log format options })
+  pub names : Option Text
+  pub task : WordsAskFor words (record { script = script; names = names; task = Import log format options })
 
 -- the words ask for what is written piece by piece
 abbrev pub AsksForPieces : List Text → Type 0

@@ -37,7 +37,7 @@ use Rattle.pmp_tool.specs.declared.fault_line.FaultLine.{FaultLine}
 use Rattle.pmp_tool.specs.declared.word.Xlen.{Xlen}
 use Rattle.pmp_tool.specs.Arguments.{command_word, commands}
 use Rattle.pmp_tool.specs.Words.{and_then, asked_in, count_in, expected_named, is_bare_word, is_set, is_used}
-use Rattle.pmp_tool.specs.Words.{needed_in, of_no_word, of_word, only_named, smepmp_named, xlen_named}
+use Rattle.pmp_tool.specs.Words.{needed_in, of_no_word, of_word, only_named, smepmp_named, word_in, xlen_named}
 
 -- an access, in plain values
 pub record AccessTask : Type 0 where
@@ -70,13 +70,18 @@ task_of request.Writes = Writes
 task_of (request.Diff diff) = Diff diff.new.now diff.old_after diff.new_after diff.only
 task_of (request.Import log) = Import log.log.now log.format log.options
 
--- a task, and the path of the script
+-- a task, the path of the script, and that of names for its rows
 pub record Asked : Type 0 where
   pub script : Text
+  pub names : Option Text
   pub task : Task
 
 abbrev pub asked : Command → Asked
-asked command = record { script = command.script.now; task = task_of command.request }
+asked command = record {
+  script = command.script.now;
+  names = option_map (λ path. path.now) command.names;
+  task = task_of command.request;
+}
 
 -- the path in a place that its command requires
 abbrev pub path_in : Argument → List Row → Result Text FaultLine
@@ -206,7 +211,11 @@ abbrev pub asked_below : Text × List Row → Result Asked FaultLine
 asked_below (word, rows) =
     and_then (ok_or (command_named word) (of_no_word BadWord)) (λ name.
     and_then (path_in argument.Script rows) (λ script.
-    and_then (task_in name rows) (λ task. Ok (record { script = script; task = task }))))
+    and_then (task_in name rows) (λ task. Ok (record {
+      script = script;
+      names = word_in argument.Names rows;
+      task = task;
+    }))))
 
 -- what the subcommand that clap found asks for
 unfoldable pub asked_of : Option (Text × List Row) → Result Asked FaultLine

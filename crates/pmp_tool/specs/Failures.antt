@@ -1,5 +1,6 @@
 -- How the program tells of a failure, and the status of that.
 use Rattle.std.specs.Prelude.{ℕ, List, Option, Some, None, IfSome}
+use Rattle.arrayvec.specs.declared.array_string.ArrayString.{ArrayString}
 use Rattle.clap.specs.Words.{kind_of}
 use Rattle.clap.specs.declared.error.Error.{Error}
 use Rattle.clap.specs.declared.error.kind.ErrorKind.{ErrorKind}
@@ -7,20 +8,24 @@ use Rattle.clap.specs.declared.error.kind.ErrorKind.TheVariants.{OutOfMemory}
 use Rattle.pmp_text.specs.Bytes.{AppendsBeginning}
 use Rattle.pmp_text.specs.Refusals.{status_of}
 use Rattle.pmp_text.specs.declared.refusal.Refusal.{Refusal}
-use Rattle.pmp_text.specs.declared.refusal.Refusal.TheVariants.{Memory}
+use Rattle.pmp_text.specs.declared.refusal.Refusal.TheVariants.{Memory, Output}
+use Rattle.pmp_names.specs.declared.address_names.NamesFault.{NamesFault}
+use Rattle.pmp_names.specs.declared.hart_name.TheConstants.{HART_NAME}
 use Rattle.pmp_audit.specs.Fault.{refusal_of}
 use Rattle.pmp_audit.specs.declared.fault.AuditFault.{AuditFault}
 use Rattle.pmp_audit.specs.declared.fault.Side.{Side}
 use Rattle.pmp_import.specs.declared.fault.ImportFault.{ImportFault}
-use Rattle.pmp_tool.specs.FaultLines.{line_text, place_in_log, place_of}
+use Rattle.pmp_tool.specs.FaultLines.{hart_line_text, line_text, place_in_log, place_in_names, place_of}
 use Rattle.pmp_tool.specs.declared.failure.Failure.{Failure}
-use Rattle.pmp_tool.specs.declared.failure.Failure.TheVariants.{Words, Refused}
+use Rattle.pmp_tool.specs.declared.fault_line.FaultLine.{FaultLine}
+use Rattle.pmp_tool.specs.declared.failure.Failure.TheVariants.{OfHart, Refused, Words}
 use Rattle.pmp_tool.specs.declared.fault_line.Place.{Place}
 use Rattle.pmp_tool.specs.declared.fault_line.Place.TheVariants.{Nowhere, Script}
 
 abbrev pub failure_status : Failure → ℕ
 failure_status (Words error) = 2
 failure_status (Refused line) = status_of line.refusal
+failure_status (OfHart name line) = status_of line.refusal
 
 abbrev pub refused_at : Refusal → Place → Failure
 refused_at refusal place = Refused (record { refusal = refusal; place = place })
@@ -32,6 +37,24 @@ refused refusal = refused_at refusal Nowhere
 abbrev pub unread : Refusal → Option Side → Failure
 unread refusal None = refused refusal
 unread refusal (Some side) = refused_at refusal (Script side)
+
+-- a fault of names, where it is
+abbrev pub unnamed : NamesFault → Failure
+unnamed fault = refused_at fault.refusal (place_in_names fault)
+
+-- a failure of an answer whose rows are kept in memory, which they may lack
+abbrev pub failure_in : Refusal → FaultLine → Failure
+failure_in Output line = refused Memory
+failure_in _ line = Refused line
+
+abbrev pub in_memory : Failure → Failure
+in_memory (Refused line) = failure_in line.refusal line
+in_memory failure = failure
+
+-- a failure on one hart of several
+abbrev pub of_hart : ArrayString HART_NAME → Failure → Failure
+of_hart name (Refused line) = OfHart name line
+of_hart name failure = failure
 
 -- words that clap refuses; it may run out of memory, too
 abbrev pub unparsed_as : ErrorKind → Error → Failure
@@ -53,6 +76,7 @@ unimported fault = refused_at fault.kind (place_in_log fault)
 abbrev pub failure_text : Failure → Option (List ℕ)
 failure_text (Words error) = None
 failure_text (Refused line) = Some (line_text line.refusal line.place)
+failure_text (OfHart name line) = Some (hart_line_text name.bytes line.refusal line.place)
 
 -- known bytes grow by a failure's text or by a beginning of it
 abbrev pub Tells : Failure → (before after : Option (List ℕ)) → Type 0

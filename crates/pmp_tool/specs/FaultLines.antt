@@ -7,9 +7,10 @@ use Rattle.pmp_audit.specs.declared.fault.AuditFault.TheVariants as audit
 use Rattle.pmp_audit.specs.declared.fault.Side.{Side}
 use Rattle.pmp_audit.specs.declared.fault.Side.TheVariants.{Old, New}
 use Rattle.pmp_import.specs.declared.fault.ImportFault.{ImportFault}
+use Rattle.pmp_names.specs.declared.address_names.NamesFault.{NamesFault}
 use Rattle.pmp_tool.specs.declared.fault_line.Place.{Place}
 use Rattle.pmp_tool.specs.declared.fault_line.Place.TheVariants.{Nowhere, Word, ScriptLine, TraceRow, PolicyRow}
-use Rattle.pmp_tool.specs.declared.fault_line.Place.TheVariants.{Script, LineOf, LogLine}
+use Rattle.pmp_tool.specs.declared.fault_line.Place.TheVariants.{Script, LineOf, LogLine, NamesRow}
 
 -- where a fault of an answer is: line 0 stands for none, and so does row 0
 abbrev pub place_of : AuditFault → Place
@@ -25,6 +26,10 @@ place_of _ = Nowhere
 abbrev pub place_in_log : ImportFault → Place
 place_in_log fault = if fault.line == 0 then Nowhere else LogLine fault
 
+-- and of names
+abbrev pub place_in_names : NamesFault → Place
+place_in_names fault = if fault.row == 0 then Nowhere else NamesRow fault
+
 abbrev pub side_text : Side → List ℕ
 side_text Old = codes "old"
 side_text New = codes "new"
@@ -39,10 +44,16 @@ place_text (PolicyRow fault) = codes "policy row " ++ (decimal fault.row ++ code
 place_text (Script side) = side_text side ++ codes ": "
 place_text (LineOf side fault) = side_text side ++ (codes " line " ++ (decimal fault.line ++ codes ": "))
 place_text (LogLine fault) = codes "log line " ++ (decimal fault.line ++ codes ": ")
+place_text (NamesRow fault) = codes "names row " ++ (decimal fault.row ++ codes ": ")
 
 abbrev pub fault_text : Refusal → Place → List ℕ
-fault_text refusal place = codes "pmp: " ++ (place_text place ++ (codes "refused " ++ refusal_text refusal))
+fault_text refusal place = place_text place ++ (codes "refused " ++ refusal_text refusal)
 
 -- with its LF
 abbrev pub line_text : Refusal → Place → List ℕ
-line_text refusal place = fault_text refusal place ++ codes "\n"
+line_text refusal place = codes "pmp: " ++ (fault_text refusal place ++ codes "\n")
+
+-- of a hart of several
+abbrev pub hart_line_text : (name : List ℕ) → Refusal → Place → List ℕ
+hart_line_text name refusal place =
+    codes "pmp: " ++ (name ++ (codes ": " ++ (fault_text refusal place ++ codes "\n")))

@@ -7,6 +7,14 @@ use Rattle.pmp_text.specs.declared.refusal.Refusal.TheVariants.{TooLong, Input, 
 abbrev pub Inputs : Type 0
 Inputs = List ℕ → Option (List ℕ)
 
+-- the names of the files of the folder at each path, or none where no folder is there, where that is known
+abbrev pub Folders : Type 0
+Folders = List ℕ → Option (Option (List (List ℕ)))
+
+-- a folder with these files is at a path, as far as it is known, or none is
+abbrev pub IsFolder : (known : Option (Option (List (List ℕ)))) → (found : Option (List (List ℕ))) → Type 0
+IsFolder known found = IfSome known (λ listed. found ≡ listed)
+
 -- the bytes are those of an input, as far as they are known
 abbrev pub AreBytesOf : Option (List ℕ) → List ℕ → Type 0
 AreBytesOf known bytes = IfSome known (λ those. bytes ≡ those)

@@ -8,6 +8,10 @@ pub mod Failures
 pub mod Inputs
 pub mod FaultLines
 pub mod Requests
+pub mod CommandAnswers
+pub mod Names
+pub mod NamedAnswers
+pub mod Harts
 pub mod Runs
 pub mod Words
 -- A law of these definitions, which is proved.
@@ -15,3 +19,5 @@ pub mod LineLengths
 pub mod Notes
 -- The rest, which only private contracts cite.
 pub mod Building
+pub mod Finding
+pub mod HartSteps

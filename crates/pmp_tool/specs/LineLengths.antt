@@ -1,10 +1,12 @@
 -- How long the line is that tells of a refusal, and a note's.
-use Rattle.std.specs.Prelude.{◌<◌, ◌≤◌, ◌^◌, length, ⊤}
+use Rattle.std.specs.Prelude.{ℕ, List, ◌<◌, ◌≤◌, ◌^◌, length, ⊤}
 use Rattle.pmp_text.specs.declared.refusal.Refusal.{Refusal}
-use Rattle.pmp_tool.specs.FaultLines.{line_text}
+use Rattle.pmp_names.specs.declared.hart_name.TheConstants.{HART_NAME}
+use Rattle.pmp_tool.specs.FaultLines.{hart_line_text, line_text}
 use Rattle.pmp_tool.specs.declared.fault_line.Place.{Place}
 use Rattle.pmp_tool.specs.declared.fault_line.Place.TheVariants.{ScriptLine, TraceRow, PolicyRow, LineOf, LogLine}
-use Rattle.pmp_tool.specs.declared.fault_line.TheConstants.{LONGEST_LINE}
+use Rattle.pmp_tool.specs.declared.fault_line.Place.TheVariants.{NamesRow}
+use Rattle.pmp_tool.specs.declared.fault_line.TheConstants.{LONGEST_LINE, LONGEST_OF_HART}
 use Rattle.pmp_tool.specs.Notes.{note_line}
 use Rattle.pmp_tool.specs.declared.note.Note.{Note}
 use Rattle.pmp_tool.specs.declared.note.Note.TheVariants as note
@@ -17,11 +19,17 @@ IsNumbered (TraceRow fault) = fault.row < 2 ^ 64
 IsNumbered (PolicyRow fault) = fault.row < 2 ^ 64
 IsNumbered (LineOf side fault) = fault.line < 2 ^ 64
 IsNumbered (LogLine fault) = fault.line < 2 ^ 64
+IsNumbered (NamesRow fault) = fault.row < 2 ^ 64
 IsNumbered _ = ⊤
 
 -- the line of a refusal, with its LF, fits the room that the program has for it
 abbrev pub LineFitsLaw : Type 0
 LineFitsLaw = (refusal : Refusal) (place : Place) → IsNumbered place → length (line_text refusal place) ≤ LONGEST_LINE
+
+-- and so does that of a hart of several
+abbrev pub HartLineFitsLaw : Type 0
+HartLineFitsLaw = (name : List ℕ) (refusal : Refusal) (place : Place) → length name ≤ HART_NAME → IsNumbered place
+    → length (hart_line_text name refusal place) ≤ LONGEST_OF_HART
 
 abbrev pub IsNumberedNote : Note → Type 0
 IsNumberedNote note.Start = ⊤

@@ -1,60 +1,84 @@
 -- What a run of the program answers, and why it gives no answer.
-use Rattle.std.specs.Prelude.{ℕ, List, Option, ◌==◌, if◌then◌else◌, ⊤}
+use Rattle.std.specs.Prelude.{◌≡◌, ◌⊎◌, ℕ, List, Option, Some, None, Err}
 use Rattle.std.specs.Io.KnownBytes.{Appends, Keeps}
+use Rattle.std.proofs.Common.{Bor}
 use Rattle.clap.specs.Words.{Text}
 use Rattle.clap.specs.declared.error.Error.{Error}
 use Rattle.pmp_text.specs.Bytes.{AppendsBeginning}
-use Rattle.pmp_audit.specs.Answers.{IsWritten}
+use Rattle.pmp_text.specs.declared.refusal.Refusal.{Refusal}
+use Rattle.pmp_text.specs.declared.refusal.Refusal.TheVariants.{Memory, Output}
+use Rattle.pmp_text.specs.declared.trace.reader.TheConstants.{MAX_TRACE}
+use Rattle.pmp_names.specs.declared.address_names.NamesFault.{NamesFault}
+use Rattle.pmp_names.specs.AddressNames.{names_said}
 use Rattle.pmp_tool.specs.declared.command.Command.{Command}
 use Rattle.pmp_tool.specs.declared.failure.Failure.{Failure}
 use Rattle.pmp_tool.specs.declared.failure.Failure.TheVariants.{Refused, Words}
-use Rattle.pmp_text.specs.declared.refusal.Refusal.TheVariants.{Memory, Output}
-use Rattle.pmp_tool.specs.declared.outcome.Outcome.{Outcome}
-use Rattle.pmp_tool.specs.declared.outcome.Outcome.TheVariants.{Decided, Audited, Judged, Replayed, Compared, Told}
 use Rattle.pmp_tool.specs.declared.fault_line.FaultLine.{FaultLine}
+use Rattle.pmp_tool.specs.declared.harts.Harts.{Harts}
+use Rattle.pmp_tool.specs.declared.naming.Naming.{Naming}
+use Rattle.pmp_tool.specs.declared.outcome.Outcome.{Outcome}
+use Rattle.pmp_tool.specs.declared.outcome.Outcome.TheVariants.{Told}
 use Rattle.pmp_tool.specs.CommandLines.{IsRefusedCommandLine, MayAskForText, WordsAskFor, WordsAreRefused}
 use Rattle.pmp_tool.specs.Commands.{asked}
-use Rattle.pmp_tool.specs.Expected.{is_met}
-use Rattle.pmp_tool.specs.Failures.{refused, unread}
-use Rattle.pmp_tool.specs.Inputs.{AreBytesOf, CantBeRead, Inputs}
-use Rattle.pmp_tool.specs.Requests.{RequestFails, RequestSays, old_side}
-use Rattle.pmp_tool.specs.declared.request.Request.{Request}
-use Rattle.pmp_tool.specs.declared.request.Request.TheVariants.{Import as OfLog}
-use Rattle.pmp_audit.specs.declared.fault.Side.{Side}
-use Rattle.pmp_text.specs.declared.refusal.Refusal.{Refusal}
-use Rattle.pmp_text.specs.declared.script.reader.TheConstants.{MAX_HEADED_SCRIPT}
+use Rattle.pmp_tool.specs.Failures.{refused, unnamed}
+use Rattle.pmp_tool.specs.Harts.{AreUnfound, HartsAnswer, HartsFail, IsOfNone, IsOfSome}
+use Rattle.pmp_tool.specs.Inputs.{AreBytesOf, CantBeRead, Folders, Inputs}
+use Rattle.pmp_tool.specs.NamedAnswers.{OneAnswer, OneFails}
+use Rattle.pmp_tool.specs.Names.{IsNamingOf}
 
--- the bytes are those of the command's script; an import has none
-abbrev pub IsScriptOf : Request → (known : Option (List ℕ)) → List ℕ → Type 0
-IsScriptOf (OfLog import) known script = ⊤
-IsScriptOf _ known script = AreBytesOf known script
+module _ (scripts traces : Inputs) (folders : Folders) (command : Command) (before after : Option (List ℕ)) where
+  -- what a command asks for was written: of the hart of its script, or of each hart of a folder
+  abbrev pub DoneBy : Option Naming → Outcome → Type 0
+  DoneBy naming outcome = (IsOfNone folders command × OneAnswer scripts traces command before after naming outcome)
+      ⊎ ((harts : Harts) × IsOfSome folders command harts
+      × HartsAnswer scripts traces command naming harts before after outcome)
 
--- the script of a command was read, and what the command asks for was written
-pub record CommandAnswers (scripts traces : Inputs) (command : Command) (before after : Option (List ℕ))
-    (outcome : Outcome) : Type 0 where
-  pub script : List ℕ
-  pub read : IsScriptOf command.request (scripts command.script.now) script
-  pub written : IsWritten (RequestSays scripts traces script command.request) before after outcome
+  -- why it gets no answer
+  pub data UndoneBy (naming : Option Naming) : Failure → Type 0 where
+    no_harts : (failure : Failure) → AreUnfound folders command failure → Keeps before after
+        → UndoneBy naming failure
+    of_one : (failure : Failure) → IsOfNone folders command
+        → OneFails scripts traces command before after naming failure → UndoneBy naming failure
+    of_harts : (harts : Harts) (failure : Failure) → IsOfSome folders command harts
+        → HartsFail scripts traces command naming harts before after failure → UndoneBy naming failure
+
+  -- with the names of the text at a path
+  abbrev pub DoneWith : (path : List ℕ) → Outcome → Type 0
+  DoneWith path outcome =
+      (naming : Option Naming) × IsNamingOf (traces path) command.request naming × DoneBy naming outcome
+
+  pub data UndoneWith (path : List ℕ) : Failure → Type 0 where
+    no_names : (fault : Refusal) → CantBeRead MAX_TRACE (traces path) fault → Keeps before after
+        → UndoneWith path (refused fault)
+    bad_names : (text : List ℕ) (fault : NamesFault) → AreBytesOf (traces path) text → names_said text ≡ Err fault
+        → Keeps before after → UndoneWith path (unnamed fault)
+    no_room_for_names : Keeps before after → UndoneWith path (refused Memory)
+    undone_by : (naming : Option Naming) (failure : Failure) → IsNamingOf (traces path) command.request naming
+        → UndoneBy naming failure → UndoneWith path failure
+
+  -- with the names that it asks for, where it does
+  abbrev pub DoneAt : Option (Bor (List ℕ)) → Outcome → Type 0
+  DoneAt None = DoneBy None
+  DoneAt (Some path) = DoneWith path.now
+
+  abbrev pub UndoneAt : Option (Bor (List ℕ)) → Failure → Type 0
+  UndoneAt None = UndoneBy None
+  UndoneAt (Some path) = UndoneWith path.now
+
+  abbrev pub Done : Outcome → Type 0
+  Done = DoneAt command.names
+
+  abbrev pub Undone : Failure → Type 0
+  Undone = UndoneAt command.names
 
 -- what the words ask for was written: help or the version, or the answer to a command
-abbrev pub Answers : (words : List Text) (scripts traces : Inputs) (before after : Option (List ℕ)) → Outcome → Type 0
-Answers words scripts traces before after Told = MayAskForText words × ((text : List ℕ) × Appends before after text)
-Answers words scripts traces before after outcome =
-    (command : Command) × WordsAskFor words (asked command) × CommandAnswers scripts traces command before after outcome
-
--- a script can't be read, of two scripts the one on a side, or what is done with it fails
-pub data IsUnscripted (before after : Option (List ℕ)) (known : Option (List ℕ)) (side : Option Side) (request : Request)
-    (Fails : List ℕ → Failure → Type 0) : Failure → Type 0 where
-  no_script : (fault : Refusal) → CantBeRead MAX_HEADED_SCRIPT known fault → Keeps before after
-      → IsUnscripted before after known side request Fails (unread fault side)
-  of_script : (script : List ℕ) (failure : Failure) → IsScriptOf request known script → Fails script failure
-      → IsUnscripted before after known side request Fails failure
-
--- why a command gets no answer: its script can't be read, or what it asks for of the script fails
-abbrev pub CommandFails : (scripts traces : Inputs) → Command → (before after : Option (List ℕ)) → Failure → Type 0
-CommandFails scripts traces command before after =
-    IsUnscripted before after (scripts command.script.now) (old_side command.request) command.request
-    (λ script. RequestFails before after scripts traces script command.request)
+pub data Answers (words : List Text) (scripts traces : Inputs) (folders : Folders) (before after : Option (List ℕ))
+    : Outcome → Type 0 where
+  tells : (text : List ℕ) → MayAskForText words → Appends before after text
+      → Answers words scripts traces folders before after Told
+  does : (command : Command) (outcome : Outcome) → WordsAskFor words (asked command)
+      → Done scripts traces folders command before after outcome
+      → Answers words scripts traces folders before after outcome
 
 -- why a text of help, or the version, isn't written wholly
 pub data TextFails (before after : Option (List ℕ)) : Failure → Type 0 where
@@ -62,29 +86,20 @@ pub data TextFails (before after : Option (List ℕ)) : Failure → Type 0 where
   no_output : (text : List ℕ) → AppendsBeginning before after text → TextFails before after (refused Output)
 
 -- why words get no answer
-pub data Fails (words : List Text) (scripts traces : Inputs) (before after : Option (List ℕ)) : Failure → Type 0 where
+pub data Fails (words : List Text) (scripts traces : Inputs) (folders : Folders)
+    (before after : Option (List ℕ)) : Failure → Type 0 where
   -- clap refuses them
   refused_words : (error : Error) → IsRefusedCommandLine words error → Keeps before after
-      → Fails words scripts traces before after (Words error)
+      → Fails words scripts traces folders before after (Words error)
   -- a word isn't what its place asks for, or numbers make no access
   refused_word : (fault : FaultLine) → WordsAreRefused words fault → Keeps before after
-      → Fails words scripts traces before after (Refused fault)
+      → Fails words scripts traces folders before after (Refused fault)
   -- there is no memory for what clap makes of them
-  no_memory : Keeps before after → Fails words scripts traces before after (refused Memory)
+  no_memory : Keeps before after → Fails words scripts traces folders before after (refused Memory)
   -- they ask for help or the version, which isn't written wholly
   no_text : (failure : Failure) → MayAskForText words → TextFails before after failure
-      → Fails words scripts traces before after failure
+      → Fails words scripts traces folders before after failure
   -- they ask for something of a script that gets no answer
   no_command : (command : Command) (failure : Failure) → WordsAskFor words (asked command)
-      → CommandFails scripts traces command before after failure → Fails words scripts traces before after failure
-
--- a check ends well where the answer is the expected one, an audit where all accesses are allowed, a policy where no
--- row is broken, writes where all are stored as written, a comparison where no row is written, and all else does
-abbrev pub outcome_status : Outcome → ℕ
-outcome_status (Decided decision asked) = if is_met asked.expected decision then 0 else 1
-outcome_status (Audited summary) = if summary.faults == 0 then 0 else 1
-outcome_status (Judged summary) = if summary.broken == 0 then 0 else 1
-outcome_status (Replayed summary) =
-    if summary.differing == 0 then (if summary.not_stored == 0 then 0 else 1) else 1
-outcome_status (Compared rows) = if rows == 0 then 0 else 1
-outcome_status _ = 0
+      → Undone scripts traces folders command before after failure
+      → Fails words scripts traces folders before after failure

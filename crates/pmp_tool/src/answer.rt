@@ -5,7 +5,7 @@ ghost use Rattle.pmp_tool.specs.Inputs.{AreBytesOf, Inputs};
 ghost use Rattle.pmp_audit.specs.Answers.{IsWritten};
 ghost use Rattle.pmp_tool.specs.Requests.{ImportFails, IsGiven, IsUnread, RequestFails, RequestSays, has_names};
 ghost use Rattle.pmp_tool.specs.Requests.{name_allowed, old_side};
-ghost use Rattle.pmp_tool.specs.Runs.{CommandAnswers, CommandFails, IsScriptOf};
+ghost use Rattle.pmp_tool.specs.CommandAnswers.{CommandAnswers, CommandFails, IsScriptOf};
 ghost use Rattle.pmp_tool.specs.declared.request.Request.TheVariants as request;
 
 use crate::argument::Argument;
@@ -40,6 +40,8 @@ pub fn answer<R: Threads + Wait + Sync, I: Inputs, O: Write>(
         (O.contents out.old) (O.contents out.new)) }
     ensures err { IfErr result (CommandFails (I.scripts inputs.old) (I.traces inputs.old) command.entry
         (O.contents out.old) (O.contents out.new)) }
+    ensures scripts { I.scripts inputs.new ≡ I.scripts inputs.old }
+    ensures traces { I.traces inputs.new ≡ I.traces inputs.old }
 {
     let script = script_of(alloc, inputs, command)?;
     answer_request(rt, alloc, &script, command.request, inputs, out)
@@ -58,6 +60,8 @@ fn answer_request<R: Threads + Wait + Sync, I: Inputs, O: Write>(
         request.entry) (O.contents out.old) (O.contents out.new)) }
     ensures err { IfErr result (RequestFails (O.contents out.old) (O.contents out.new) (I.scripts inputs.old)
         (I.traces inputs.old) script.now request.entry) }
+    ensures scripts { I.scripts inputs.new ≡ I.scripts inputs.old }
+    ensures traces { I.traces inputs.new ≡ I.traces inputs.old }
 {
     match request {
         Request::Check(asked) => answer_check(alloc, script, asked, out),
@@ -136,6 +140,8 @@ fn answer_audit<R: Threads + Wait + Sync, I: Inputs, O: Write>(
         (request.Audit asked.entry)) (O.contents out.old) (O.contents out.new)) }
     ensures err { IfErr result (RequestFails (O.contents out.old) (O.contents out.new) (I.scripts inputs.old)
         (I.traces inputs.old) script.now (request.Audit asked.entry)) }
+    ensures scripts { I.scripts inputs.new ≡ I.scripts inputs.old }
+    ensures traces { I.traces inputs.new ≡ I.traces inputs.old }
 {
     let trace = inputs.trace(asked.trace)?;
     let summary = match asked.checkers {
@@ -158,6 +164,8 @@ fn answer_long_audit<R: Threads + Wait + Sync, I: Inputs, O: Write>(
         (request.LongAudit asked.entry)) (O.contents out.old) (O.contents out.new)) }
     ensures err { IfErr result (RequestFails (O.contents out.old) (O.contents out.new) (I.scripts inputs.old)
         (I.traces inputs.old) script.now (request.LongAudit asked.entry)) }
+    ensures scripts { I.scripts inputs.new ≡ I.scripts inputs.old }
+    ensures traces { I.traces inputs.new ≡ I.traces inputs.old }
 {
     let mut rows = inputs.open_trace(asked.trace)?;
     let jobs = asked.jobs.unwrap_or_else(|| processors(rt)) as usize;
@@ -178,6 +186,8 @@ fn answer_policy<I: Inputs, O: Write>(
         (request.Policy path.entry pace)) (O.contents out.old) (O.contents out.new)) }
     ensures err { IfErr result (RequestFails (O.contents out.old) (O.contents out.new) (I.scripts inputs.old)
         (I.traces inputs.old) script.now (request.Policy path.entry pace)) }
+    ensures scripts { I.scripts inputs.new ≡ I.scripts inputs.old }
+    ensures traces { I.traces inputs.new ≡ I.traces inputs.old }
 {
     let policy = inputs.trace(path)?;
     Ok(Outcome::Judged(check_policy(alloc, pace, script, &policy, out)?))
@@ -195,6 +205,8 @@ fn answer_diff<I: Inputs, O: Write>(
         (request.Diff asked.entry)) (O.contents out.old) (O.contents out.new)) }
     ensures err { IfErr result (RequestFails (O.contents out.old) (O.contents out.new) (I.scripts inputs.old)
         (I.traces inputs.old) script.now (request.Diff asked.entry)) }
+    ensures scripts { I.scripts inputs.new ≡ I.scripts inputs.old }
+    ensures traces { I.traces inputs.new ≡ I.traces inputs.old }
 {
     let (old_after, new_after) = (asked.old_after, asked.new_after);
     allow_name(script, Argument::OldAfter, old_after)?;
@@ -215,6 +227,8 @@ fn answer_import<I: Inputs, O: Write>(
         script (request.Import asked.entry)) (O.contents out.old) (O.contents out.new)) }
     ensures err { (script : List ℕ) → IfErr result (RequestFails (O.contents out.old) (O.contents out.new)
         (I.scripts inputs.old) (I.traces inputs.old) script (request.Import asked.entry)) }
+    ensures scripts { I.scripts inputs.new ≡ I.scripts inputs.old }
+    ensures traces { I.traces inputs.new ≡ I.traces inputs.old }
 {
     let (given, note) = given_of(alloc, asked, inputs)?;
     let mut log = inputs.open_trace(asked.log)?;
@@ -231,6 +245,7 @@ fn given_of<I: Inputs>(
     ensures ok { IfOk result (λ both. IsGiven (I.traces inputs.old asked.entry.log.now) asked.entry both.0 both.1) }
     ensures err { (out : Option (List ℕ)) → IfErr result (ImportFails (I.traces inputs.old asked.entry.log.now)
         asked.entry out out) }
+    ensures scripts { I.scripts inputs.new ≡ I.scripts inputs.old }
     ensures traces { I.traces inputs.new ≡ I.traces inputs.old }
 {
     if asked.log == "stdin" {
@@ -263,7 +278,7 @@ fn script_of<I: Inputs>(
 }
 
 /// Which side the command's script is on, where there are two.
-fn old_side(request: Request<'_>) -> Option<Side>
+pub fn old_side(request: Request<'_>) -> Option<Side>
     ensures { result ≡ old_side request.entry }
 {
     match request {

@@ -47,6 +47,7 @@ pub enum Argument {
     AddressBits,
     Smepmp,
     Bursts,
+    Names,
 }
 
 impl Argument {
@@ -85,6 +86,7 @@ impl Argument {
             AddressBits => "address-bits",
             Smepmp => "smepmp",
             Bursts => "bursts",
+            Names => "names",
         }
     }
 
@@ -107,6 +109,7 @@ impl Argument {
             Smepmp => "ANSWER",
             Format => "FORMAT",
             Log => "LOG",
+            Names => "FILE",
             NewAfter => "M",
             Expect => "ANSWER",
             Only => "CHANGE",
@@ -148,6 +151,7 @@ impl Argument {
             AddressBits => help::ADDRESS_BITS,
             Smepmp => help::SMEPMP,
             Bursts => help::BURSTS,
+            Names => help::NAMES,
         }
     }
 
@@ -173,7 +177,8 @@ impl Argument {
             | Entries
             | Grain
             | AddressBits
-            | Smepmp => option(alloc, id, name, help),
+            | Smepmp
+            | Names => option(alloc, id, name, help),
             Checkers => count(alloc, id, name, CHECKERS, help),
             Jobs => count(alloc, id, name, JOBS, help),
             Script | Old | New | Trace | Policy | Mode | Kind | Start | Length | Log | Format => {

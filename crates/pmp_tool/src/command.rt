@@ -27,6 +27,8 @@ use pmp_text::Refusal;
 pub struct Command<'a> {
     /// The path of the script.
     pub script: &'a str,
+    /// The path of the names, where rows are to have names.
+    pub names: Option<&'a str>,
     pub request: Request<'a>,
 }
 
@@ -55,8 +57,13 @@ pub fn read_command<'a>(matches: &ArgMatches<'a>) -> Result<Command<'a>, FaultLi
     let (name, words) = found(matches).ok_or(Refusal::BadWord)?;
     let name = read_name(name).ok_or(Refusal::BadWord)?;
     let script = path(words, Argument::Script)?;
+    let names = word(words, Argument::Names);
     let request = read_request(name, words)?;
-    Ok(Command { script, request })
+    Ok(Command {
+        script,
+        names,
+        request,
+    })
 }
 
 /// What the command with this name asks for of the script.

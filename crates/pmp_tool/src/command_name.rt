@@ -94,13 +94,13 @@ impl CommandName {
         match self {
             CommandName::Check => &[Script, Explain, Mode, Kind, Start, Length, After, Expect],
             CommandName::Audit => &[Script, Explain, Trace, Checkers, Long, Jobs, FirstRow],
-            CommandName::Policy => &[Script, Explain, Policy, EachWrite],
+            CommandName::Policy => &[Script, Explain, Policy, EachWrite, Names],
             CommandName::Dump => &[Script, Explain, After, AsScript],
-            CommandName::Map => &[Script, Explain, After],
+            CommandName::Map => &[Script, Explain, After, Names],
             CommandName::Picture => &[Script, Explain, After],
-            CommandName::Entries => &[Script, Explain, After],
+            CommandName::Entries => &[Script, Explain, After, Names],
             CommandName::Writes => &[Script, Explain],
-            CommandName::Diff => &[Old, Explain, New, OldAfter, NewAfter, Only],
+            CommandName::Diff => &[Old, Explain, New, OldAfter, NewAfter, Only, Names],
             CommandName::Import => &[
                 Format,
                 Explain,

@@ -17,7 +17,9 @@ use crate::failure::Failure;
 use crate::fault_line::{FaultLine, Place};
 use crate::inputs::Inputs;
 use crate::kept::{Kept, KeptInput};
-use fields::{is_policy_address, is_trace_address, policy_field, policy_place, trace_field};
+use fields::{
+    is_policy_address, is_trace_address, names_field, policy_field, policy_place, trace_field,
+};
 use names::write_names;
 use pmp_audit::Side;
 use pmp_text::{GrowingLog, Refusal, read_script, write_out};
@@ -62,7 +64,7 @@ pub fn tell_and_explain<I: Inputs, E: Write>(
 fn explain<E: Write>(alloc: Global, words: &[String], failure: &Failure, kept: &Kept, err: &mut E)
     ensures { (text : List ℕ) × AppendsBeginning (E.contents err.old) (E.contents err.new) text }
 {
-    let Failure::Refused(line) = failure else {
+    let Some(line) = failure.line() else {
         return;
     };
     if let Ok(text) = explanation(alloc, words, line, kept) {
@@ -184,6 +186,7 @@ fn wanted_field(line: &FaultLine) -> Option<&'static str> {
     match (line.refusal, line.place) {
         (Refusal::BadRow, Place::TraceRow(fault)) => trace_field(fault.field?),
         (Refusal::BadRow, Place::PolicyRow(fault)) => policy_field(fault.field?),
+        (Refusal::BadRow, Place::NamesRow(fault)) => names_field(fault.field?),
         _ => None,
     }
 }
@@ -197,6 +200,7 @@ fn input_of<'a>(line: &FaultLine, kept: &'a Kept) -> Option<&'a KeptInput> {
         (Place::Nowhere, Refusal::TooLong | Refusal::BadHeader | Refusal::Input) => kept
             .inputs()
             .last(),
+        (_, Refusal::BadFolder) | (Place::NamesRow(_), _) => kept.inputs().last(),
         (Place::Nowhere, Refusal::BadAfter | Refusal::NoMoment) => kept.inputs().first(),
         (Place::Nowhere, Refusal::NoHart) | (Place::LogLine(_), _) => kept.inputs().last(),
         (Place::Nowhere | Place::Word(_), _) => None,
@@ -211,6 +215,7 @@ fn spot_of<'a>(line: &FaultLine, input: &'a KeptInput) -> Option<Spot<'a>> {
             Some(Spot::of_line(&input.bytes, fault.line, fault.word))
         }
         Place::TraceRow(fault) => Spot::of_row(&input.bytes, fault.row, fault.field),
+        Place::NamesRow(fault) => Spot::of_row(&input.bytes, fault.row, fault.field),
         Place::PolicyRow(fault) => {
             let header = Spot::header(&input.bytes);
             let place = fault.field.map(|index| policy_place(header, index));

@@ -3,13 +3,15 @@
 ghost use Rattle.std.specs.Prelude.{◌≡◌, ◌≤◌, IfSome, OnOk};
 ghost use Rattle.std.specs.Io.KnownBytes.{Appends};
 ghost use Rattle.pmp_text.specs.declared.refusal.Refusal.TheVariants.{Memory, Output};
-ghost use Rattle.pmp_tool.specs.Failures.{Tells, failure_status, failure_text, refused, unaudited, unimported, unparsed, unread};
+ghost use Rattle.pmp_tool.specs.Failures.{Tells, failure_status, failure_text, in_memory, of_hart, refused, unaudited, unimported, unnamed, unparsed, unread};
 ghost use Rattle.pmp_tool.specs.declared.failure.Failure.TheVariants.{Refused};
 
 use crate::fault_line::{FaultLine, Place};
+use arrayvec::ArrayString;
 use clap::error::ErrorKind;
 use pmp_audit::{AuditFault, Side};
 use pmp_import::ImportFault;
+use pmp_names::{HART_NAME, NamesFault};
 use pmp_text::{InputFault, OutputFault, Refusal};
 use std::alloc::AllocError;
 use std::io::Write;
@@ -23,6 +25,8 @@ pub enum Failure {
     /// What `clap` says of the words.
     Words(clap::Error),
     Refused(FaultLine),
+    /// The same of the hart whose script has this name, of several.
+    OfHart(ArrayString<HART_NAME>, FaultLine),
 }
 
 impl Failure {
@@ -33,7 +37,7 @@ impl Failure {
     {
         match self {
             Failure::Words(_) => UNKNOWN_WORDS,
-            Failure::Refused(line) => line.refusal.status(),
+            Failure::Refused(line) | Failure::OfHart(_, line) => line.refusal.status(),
         }
     }
 
@@ -46,6 +50,37 @@ impl Failure {
         match self {
             Failure::Words(error) => Ok(write!(writer, "{error}")?),
             Failure::Refused(line) => line.write_to(writer),
+            Failure::OfHart(name, line) => line.write_of_hart(name, writer),
+        }
+    }
+
+    /// The line that tells of a refusal.
+    pub fn line(&self) -> Option<&FaultLine> {
+        match self {
+            Failure::Words(_) => None,
+            Failure::Refused(line) | Failure::OfHart(_, line) => Some(line),
+        }
+    }
+
+    /// The same of an answer whose rows are kept in memory, which they may lack.
+    pub fn in_memory(self) -> Failure
+        ensures { result ≡ in_memory self }
+    {
+        match self {
+            Failure::Refused(line) if line.refusal == Refusal::Output => Failure::from(
+                Refusal::Memory,
+            ),
+            failure => failure,
+        }
+    }
+
+    /// The same of a hart of several.
+    pub fn of_hart(self, name: ArrayString<HART_NAME>) -> Failure
+        ensures { result ≡ of_hart name self }
+    {
+        match self {
+            Failure::Refused(line) => Failure::OfHart(name, line),
+            failure => failure,
         }
     }
 
@@ -111,6 +146,17 @@ impl From<ImportFault> for Failure {
         Failure::Refused(FaultLine {
             refusal: fault.kind,
             place: Place::of_log(fault),
+        })
+    }
+}
+
+impl From<NamesFault> for Failure {
+    ghost from_gives = { λ fault failure. failure ≡ unnamed fault };
+
+    fn from(fault: NamesFault) -> Failure {
+        Failure::Refused(FaultLine {
+            refusal: fault.refusal,
+            place: Place::of_names(fault),
         })
     }
 }

@@ -3,8 +3,9 @@
 ghost use Rattle.std.specs.Prelude.{◌≡◌, Some, OnOk, OnErr};
 ghost use Rattle.std.specs.Io.KnownBytes.{Appends};
 ghost use Rattle.pmp_text.specs.Bytes.{AppendsBeginning};
-ghost use Rattle.pmp_tool.specs.FaultLines.{fault_text, line_text, place_in_log, place_of, place_text, side_text};
-ghost use Rattle.pmp_tool.specs.LineLengths.{LineFitsLaw};
+ghost use Rattle.pmp_tool.specs.FaultLines.{fault_text, hart_line_text, line_text, place_in_log};
+ghost use Rattle.pmp_tool.specs.FaultLines.{place_in_names, place_of, place_text, side_text};
+ghost use Rattle.pmp_tool.specs.LineLengths.{HartLineFitsLaw, LineFitsLaw};
 ghost use Rattle.pmp_tool.specs.Commands.{access_line};
 ghost use Rattle.pmp_tool.specs.declared.fault_line.Place.TheVariants.{Nowhere};
 
@@ -13,6 +14,7 @@ use arrayvec::ArrayString;
 use pmp_audit::{AuditFault, Side};
 use pmp_core::AccessFault;
 use pmp_import::ImportFault;
+use pmp_names::{HART_NAME, NamesFault};
 use pmp_text::{OutputFault, Refusal, ScriptFault, TraceFault, write_out};
 use std::fmt;
 use std::fmt::Write as TextWrite;
@@ -37,6 +39,8 @@ pub enum Place {
     LineOf(Side, ScriptFault),
     /// In a line of the log, from 1.
     LogLine(ImportFault),
+    /// In a row of the names, from 1.
+    NamesRow(NamesFault),
 }
 
 impl Place {
@@ -68,6 +72,19 @@ impl Place {
     }
 }
 
+impl Place {
+    /// Where this fault of names is.
+    pub fn of_names(fault: NamesFault) -> Place
+        ensures { result ≡ place_in_names fault }
+    {
+        if fault.row > 0 {
+            Place::NamesRow(fault)
+        } else {
+            Place::Nowhere
+        }
+    }
+}
+
 fn side_word(side: Side) -> &'static str
     ensures { result.now ≡ side_text side }
 {
@@ -90,6 +107,7 @@ impl fmt::Display for Place {
             Place::Script(side) => write!(f, "{}: ", side_word(side)),
             Place::LineOf(side, fault) => write!(f, "{} line {}: ", side_word(side), fault.line),
             Place::LogLine(fault) => write!(f, "log line {}: ", fault.line),
+            Place::NamesRow(fault) => write!(f, "names row {}: ", fault.row),
         }
     }
 }
@@ -97,8 +115,15 @@ impl fmt::Display for Place {
 /// The bytes of the longest line: its number has 20 digits, and the refusal's name 11 letters.
 const LONGEST_LINE: usize = 62;
 
+/// The bytes of the longest line that begins with a hart's name, a colon and a blank behind the program's.
+const LONGEST_OF_HART: usize = LONGEST_LINE + HART_NAME + 2;
+
 fn law_line_fits()
     ensures { LineFitsLaw }
+{}
+
+fn law_hart_line_fits()
+    ensures { HartLineFitsLaw }
 {}
 
 /// The line that tells of a refusal.
@@ -119,7 +144,24 @@ impl FaultLine {
     {
         law_line_fits();
         let mut line = ArrayString::<LONGEST_LINE>::new();
-        writeln!(line, "{self}").map_err(|_| OutputFault)?;
+        writeln!(line, "pmp: {self}").map_err(|_| OutputFault)?;
+        write_out(writer, line.as_str().as_bytes())
+    }
+
+    /// The same of a hart of several.
+    pub fn write_of_hart<W: Write>(
+        &self,
+        name: &ArrayString<HART_NAME>,
+        writer: &mut W,
+    ) -> Result<(), OutputFault>
+        ensures ok { OnOk result (Appends (W.contents writer.old) (W.contents writer.new)
+            (hart_line_text name.now.bytes self.now.refusal self.now.place)) }
+        ensures err { OnErr result (AppendsBeginning (W.contents writer.old) (W.contents writer.new)
+            (hart_line_text name.now.bytes self.now.refusal self.now.place)) }
+    {
+        law_hart_line_fits();
+        let mut line = ArrayString::<LONGEST_OF_HART>::new();
+        writeln!(line, "pmp: {name}: {self}").map_err(|_| OutputFault)?;
         write_out(writer, line.as_str().as_bytes())
     }
 }
@@ -150,12 +192,12 @@ impl From<AccessFault> for FaultLine {
     }
 }
 
-/// Without its LF.
+/// What it says behind the program's name.
 impl fmt::Display for FaultLine {
     ghost output = { λ line. Some (fault_text line.refusal line.place) };
 
     fn fmt<W: fmt::Write>(&self, f: &mut fmt::Formatter<W>) -> fmt::Result {
         let FaultLine { refusal, place } = *self;
-        write!(f, "pmp: {place}refused {refusal}")
+        write!(f, "{place}refused {refusal}")
     }
 }

@@ -121,3 +121,6 @@ pub const SMEPMP: &str = "Says whether the hart has Smepmp, yes or no; it has wi
 
 pub const BURSTS: &str =
     "Makes one publication of writes on lines side by side, of at most 64; each has its own without this option";
+
+pub const NAMES: &str =
+    "Writes the names that each row's bytes have behind it; the file has the line first,last,name and one for each name";

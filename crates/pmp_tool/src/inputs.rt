@@ -1,19 +1,20 @@
 //! Where the program's inputs come from.
 
-ghost use Rattle.std.specs.Prelude.{◌≡◌, ℕ, ◌≤◌, List, length, Option, None, IfOk, IfErr};
+ghost use Rattle.std.specs.Prelude.{◌≡◌, ℕ, ◌≤◌, List, length, map, string_bytes, option_map, Option, None, IfOk, IfErr};
 ghost use Rattle.pmp_text.specs.declared.input.TheConstants.{MAX_LIMIT};
 ghost use Rattle.pmp_text.specs.declared.script.reader.TheConstants.{MAX_HEADED_SCRIPT};
 ghost use Rattle.pmp_text.specs.declared.trace.reader.TheConstants.{MAX_TRACE};
-ghost use Rattle.pmp_tool.specs.Inputs.{AreBytesOf, CantBeOpened, CantBeRead, GivesBytesOf};
+ghost use Rattle.pmp_tool.specs.Inputs.{AreBytesOf, CantBeOpened, CantBeRead, GivesBytesOf, IsFolder};
 
 use crate::kept::Kept;
 use crate::progress::Watched;
 use crate::trace_input::TraceInput;
-use pmp_text::{InputFault, MAX_HEADED_SCRIPT, MAX_LIMIT, MAX_TRACE, read_bytes};
-use std::fs;
-use std::io::{Read, Write};
+use pmp_text::{InputFault, MAX_HEADED_SCRIPT, MAX_LIMIT, MAX_TRACE, Refusal, read_bytes};
+use std::alloc::{AllocError, Global};
+use std::io::{ErrorKind, Read, Write};
 use std::rt::Files;
 use std::time::Clock;
+use std::{fs, io};
 
 /// The inputs that the program's words name.
 pub trait Inputs {
@@ -26,6 +27,9 @@ pub trait Inputs {
     /// The bytes of the trace, the policy or the log at a path, where it is known what they are.
     ghost traces: { Self → List ℕ → Option (List ℕ) } = { λ _ _. None };
 
+    /// The names of the files of the folder at a path, or none where no folder is there, where that is known.
+    ghost folders: { Self → List ℕ → Option (Option (List (List ℕ))) } = { λ _ _. None };
+
     /// The bytes of the script at this path.
     fn script(&mut self, path: &str) -> Result<Vec<u8>, InputFault>
         ensures read { IfOk result (λ bytes. AreBytesOf (scripts self.old path.now) bytes.items) }
@@ -36,7 +40,10 @@ pub trait Inputs {
     /// The bytes of the trace or the policy at this path.
     fn trace(&mut self, path: &str) -> Result<Vec<u8>, InputFault>
         ensures read { IfOk result (λ bytes. AreBytesOf (traces self.old path.now) bytes.items) }
-        ensures unread { IfErr result (CantBeRead MAX_TRACE (traces self.old path.now)) };
+        ensures unread { IfErr result (CantBeRead MAX_TRACE (traces self.old path.now)) }
+        ensures scripts { scripts self.new ≡ scripts self.old }
+        ensures traces { traces self.new ≡ traces self.old }
+        ensures folders { folders self.new ≡ folders self.old };
 
     /// A reader of the trace or the log at this path, of which no byte is read yet.
     fn open_trace(&mut self, path: &str) -> Result<Self::Trace, InputFault>
@@ -44,6 +51,21 @@ pub trait Inputs {
         ensures unopened { IfErr result CantBeOpened }
         ensures scripts { scripts self.new ≡ scripts self.old }
         ensures traces { traces self.new ≡ traces self.old };
+
+    /// The names of the files of the folder at this path, or none where no folder is there.
+    fn folder(&mut self, path: &str) -> Result<Option<Vec<String>>, InputFault>
+        ensures listed { IfOk result (λ found. IsFolder (folders self.old path.now)
+            (option_map (λ files. map string_bytes files.items) found)) }
+        ensures unlisted { IfErr result CantBeOpened }
+        ensures scripts { scripts self.new ≡ scripts self.old }
+        ensures traces { traces self.new ≡ traces self.old }
+        ensures folders { folders self.new ≡ folders self.old };
+
+    /// Forgets the inputs that are kept.
+    fn forget(&mut self)
+        ensures scripts { scripts self.new ≡ scripts self.old }
+        ensures traces { traces self.new ≡ traces self.old }
+        ensures folders { folders self.new ≡ folders self.old };
 
     /// What is kept of the inputs so far.
     fn kept(&self) -> &Kept;
@@ -70,7 +92,7 @@ impl<'a, R: AllocGlobal, E> SystemInputs<'a, R, E> {
     }
 }
 
-impl<'a, R: Files + Input + AllocGlobal + Clock, E: Write + Drop> Inputs
+impl<'a, R: Files + Input + AllocGlobal + Clock + Clone + Drop, E: Write + Drop> Inputs
     for SystemInputs<'a, R, E> {
     type Trace = Watched<'a, TraceInput<R>, R, E>;
 
@@ -94,9 +116,69 @@ impl<'a, R: Files + Input + AllocGlobal + Clock, E: Write + Drop> Inputs
         Ok(Watched::new(input, self.runtime, self.terminal.take()))
     }
 
+    fn folder(&mut self, path: &str) -> Result<Option<Vec<String>>, InputFault> {
+        if !is_folder(self.runtime, path)? {
+            return Ok(None);
+        }
+        self.kept.begin(path);
+        Ok(Some(files_of(self.runtime, path)?))
+    }
+
+    fn forget(&mut self) {
+        self.kept.forget();
+    }
+
     fn kept(&self) -> &Kept {
         &self.kept
     }
+}
+
+/// Why a folder can't be read.
+fn folder_fault(error: io::Error) -> InputFault
+    ensures { CantBeOpened result }
+{
+    match error.kind() {
+        ErrorKind::OutOfMemory => Refusal::Memory,
+        _ => Refusal::Input,
+    }
+}
+
+fn is_folder<R: Files>(runtime: &R, path: &str) -> Result<bool, InputFault>
+    ensures { IfErr result CantBeOpened }
+{
+    if path == "stdin" {
+        return Ok(false);
+    }
+    match fs::metadata(runtime, path) {
+        Ok(found) => Ok(found.is_dir()),
+        Err(error) if error.kind() == ErrorKind::OutOfMemory => Err(Refusal::Memory),
+        Err(_) => Ok(false),
+    }
+}
+
+/// The names of the files in a folder.
+fn files_of<R: Files + AllocGlobal + Clone + Drop>(
+    runtime: &R,
+    path: &str,
+) -> Result<Vec<String>, InputFault>
+    ensures { IfErr result CantBeOpened }
+{
+    let mut files = Vec::new(runtime.alloc());
+    let listing = match fs::read_dir(runtime, path) {
+        Ok(listing) => listing,
+        Err(error) => return Err(folder_fault(error)),
+    };
+    for entry in listing {
+        match entry {
+            Ok(entry) => add_file(runtime.alloc(), &mut files, entry.file_name())?,
+            Err(error) => return Err(folder_fault(error)),
+        }
+    }
+    Ok(files)
+}
+
+fn add_file(alloc: Global, files: &mut Vec<String>, name: &str) -> Result<(), AllocError> {
+    Ok(files.push(String::from_str(alloc, name)?)?)
 }
 
 fn read_script_at<R: Files + Input + AllocGlobal>(

@@ -51,6 +51,11 @@ impl Kept {
         }
     }
 
+    /// Forgets them, and keeps those that come as before.
+    pub fn forget(&mut self) {
+        self.inputs.clear();
+    }
+
     pub fn inputs(&self) -> &[KeptInput] {
         &self.inputs
     }

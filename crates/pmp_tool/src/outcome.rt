@@ -2,7 +2,8 @@
 
 ghost use Rattle.std.specs.Prelude.{◌≡◌, ◌==◌, if◌then◌else◌};
 ghost use Rattle.pmp_tool.specs.Notes.{note_of};
-ghost use Rattle.pmp_tool.specs.Runs.{outcome_status};
+ghost use Rattle.pmp_tool.specs.Harts.{worse};
+ghost use Rattle.pmp_tool.specs.CommandAnswers.{outcome_status};
 
 use crate::note::Note;
 use crate::request::Check;
@@ -52,6 +53,13 @@ impl Outcome {
             Outcome::Compared(rows) => status_of(rows),
             _ => DONE,
         }
+    }
+
+    /// Of two outcomes, the first one where it doesn't end well.
+    pub fn worse(self, next: Outcome) -> Outcome
+        ensures { result ≡ worse self next }
+    {
+        if self.status() == DONE { next } else { self }
     }
 
     /// What standard error tells beside it.

@@ -6,19 +6,24 @@ ghost use Rattle.pmp_tool.specs.CommandLines.{AsksForPieces};
 ghost use Rattle.pmp_tool.specs.Explanations.{TellsAndExplains};
 ghost use Rattle.pmp_tool.specs.Failures.{failure_status};
 ghost use Rattle.pmp_tool.specs.Notes.{Notes};
-ghost use Rattle.pmp_tool.specs.Runs.{Answers, Fails, TextFails, outcome_status};
+ghost use Rattle.pmp_tool.specs.CommandAnswers.{outcome_status};
+ghost use Rattle.pmp_tool.specs.Runs.{Answers, Done, DoneBy, DoneWith, Fails, TextFails, Undone, UndoneBy};
+ghost use Rattle.pmp_tool.specs.Runs.{UndoneWith};
 ghost use Rattle.pmp_tool.specs.declared.failure.Failure.{Failure};
 ghost use Rattle.pmp_tool.specs.declared.outcome.Outcome.{Outcome};
 ghost use Rattle.pmp_tool.specs.declared.outcome.Outcome.TheVariants.{Told};
 
-use crate::answer::answer;
-use crate::command::read_command;
+use crate::command::{Command, read_command};
 use crate::command_line::parse_words;
 use crate::explanation::tell_and_explain;
 use crate::failure::Failure;
+use crate::hart_answers::{answer_harts, answer_one};
+use crate::harts::Harts;
 use crate::inputs::Inputs;
+use crate::naming::Naming;
 use crate::note::tell_note;
 use crate::outcome::Outcome;
+use pmp_names::read_names;
 use pmp_text::write_out;
 use std::alloc::Global;
 use std::io::Write;
@@ -46,14 +51,14 @@ pub fn run_tool<R: Threads + Wait + Sync, I: Inputs, O: Write, E: Write>(
 
     // What the words ask for was written, and to standard error only the answer's note.
     ensures answered { result ≤ 1 → (outcome : Outcome) × (result ≡ outcome_status outcome)
-        × Answers (map string_bytes words.now) (I.scripts inputs.old) (I.traces inputs.old)
+        × Answers (map string_bytes words.now) (I.scripts inputs.old) (I.traces inputs.old) (I.folders inputs.old)
         (O.contents out.old) (O.contents out.new) outcome
         × Notes outcome (E.contents err.old) (E.contents err.new) }
 
     // Why it wasn't, or not wholly, and how standard error tells of that: behind its line stands an explanation, where
     // the words ask for one.
     ensures failed { 2 ≤ result → (failure : Failure) × (result ≡ failure_status failure)
-        × Fails (map string_bytes words.now) (I.scripts inputs.old) (I.traces inputs.old)
+        × Fails (map string_bytes words.now) (I.scripts inputs.old) (I.traces inputs.old) (I.folders inputs.old)
         (O.contents out.old) (O.contents out.new) failure
         × TellsAndExplains (map string_bytes words.now) failure (E.contents err.old) (E.contents err.new) }
 
@@ -81,15 +86,75 @@ fn run<R: Threads + Wait + Sync, I: Inputs, O: Write>(
     inputs: &mut I,
     out: &mut O,
 ) -> Result<Outcome, Failure>
-    ensures ok { IfOk result (Answers (map string_bytes words.now) (I.scripts inputs.old) (I.traces inputs.old)
+    ensures ok { IfOk result (Answers (map string_bytes words.now) (I.scripts inputs.old) (I.traces inputs.old) (I.folders inputs.old)
         (O.contents out.old) (O.contents out.new)) }
-    ensures err { IfErr result (Fails (map string_bytes words.now) (I.scripts inputs.old) (I.traces inputs.old)
+    ensures err { IfErr result (Fails (map string_bytes words.now) (I.scripts inputs.old) (I.traces inputs.old) (I.folders inputs.old)
         (O.contents out.old) (O.contents out.new)) }
 {
     match parse_words(alloc, words) {
-        Ok(matches) => answer(rt, alloc, read_command(&matches)?, inputs, out),
+        Ok(matches) => answer_all(rt, alloc, read_command(&matches)?, inputs, out),
         Err(error) if error.use_stderr() => Err(Failure::from(error)),
         Err(text) => tell(alloc, &text, out),
+    }
+}
+
+/// Answers a command, with the names that it asks for.
+fn answer_all<R: Threads + Wait + Sync, I: Inputs, O: Write>(
+    rt: &R,
+    alloc: Global,
+    command: Command<'_>,
+    inputs: &mut I,
+    out: &mut O,
+) -> Result<Outcome, Failure>
+    ensures ok { IfOk result (Done (I.scripts inputs.old) (I.traces inputs.old) (I.folders inputs.old) command.entry
+        (O.contents out.old) (O.contents out.new)) }
+    ensures err { IfErr result (Undone (I.scripts inputs.old) (I.traces inputs.old) (I.folders inputs.old)
+        command.entry (O.contents out.old) (O.contents out.new)) }
+{
+    match command.names {
+        None => answer_by(rt, alloc, command, None, inputs, out),
+        Some(path) => answer_with(rt, alloc, command, path, inputs, out),
+    }
+}
+
+/// Answers a command, with the names of the text at this path.
+fn answer_with<R: Threads + Wait + Sync, I: Inputs, O: Write>(
+    rt: &R,
+    alloc: Global,
+    command: Command<'_>,
+    path: &str,
+    inputs: &mut I,
+    out: &mut O,
+) -> Result<Outcome, Failure>
+    ensures ok { IfOk result (DoneWith (I.scripts inputs.old) (I.traces inputs.old) (I.folders inputs.old)
+        command.entry (O.contents out.old) (O.contents out.new) path.now) }
+    ensures err { IfErr result (UndoneWith (I.scripts inputs.old) (I.traces inputs.old) (I.folders inputs.old)
+        command.entry (O.contents out.old) (O.contents out.new) path.now) }
+{
+    let text = inputs.trace(path)?;
+    let names = read_names(alloc, &text)?;
+    inputs.forget();
+    let naming = Naming::of(&names, command.request);
+    answer_by(rt, alloc, command, naming, inputs, out)
+}
+
+/// Answers a command: of the hart of its script, or of each hart where a folder stands in the script's place.
+fn answer_by<R: Threads + Wait + Sync, I: Inputs, O: Write>(
+    rt: &R,
+    alloc: Global,
+    command: Command<'_>,
+    naming: Option<Naming<'_>>,
+    inputs: &mut I,
+    out: &mut O,
+) -> Result<Outcome, Failure>
+    ensures ok { IfOk result (DoneBy (I.scripts inputs.old) (I.traces inputs.old) (I.folders inputs.old) command.entry
+        (O.contents out.old) (O.contents out.new) naming.entry) }
+    ensures err { IfErr result (UndoneBy (I.scripts inputs.old) (I.traces inputs.old) (I.folders inputs.old)
+        command.entry (O.contents out.old) (O.contents out.new) naming.entry) }
+{
+    match Harts::find(alloc, command, inputs)? {
+        None => answer_one(rt, alloc, command, naming, inputs, out),
+        Some(harts) => answer_harts(rt, alloc, command, naming, &harts, inputs, out),
     }
 }
 

@@ -82,6 +82,12 @@ the entry.
 `reset` or `publish`, in any order, each field of the hart once, and each
 register once. A `reset` leaves nothing of what is set, and keeps the hart.
 
+Where a folder stands in the place of SCRIPT, OLD or NEW, `check`, `audit`,
+`policy`, `map`, `entries`, `writes` and `diff` are asked of each hart: of each
+file there whose name ends with `.pmp` and begins with no dot. Each line of the
+answer begins with that name and a comma, and all is well where it is on each
+hart.
+
 A number is 1 to 20 decimal digits, or `0x` and 1 to 16 hexadecimal digits, and
 is below 2^64. Without `0x` it is decimal, whatever its digits.
 
@@ -358,6 +364,21 @@ With `--each-write` a policy asks after each event behind publication `from`
 too, up to `to`, which still count publications. DONE is then how many events
 are done, which is N of the event rows.
 
+With `--names FILE`, `policy`, `map`, `entries` and `diff` write behind each row
+a comma and the names that the bytes from FIRST to LAST have, in the order of
+the file, with blanks between them: NAME where all that has the name is in the
+range, and NAME`+0x`OFFSET where only a part is, which begins OFFSET bytes
+behind the first byte of NAME.
+
+  first,last,name
+  0x80000000,0x8003ffff,firmware
+  0x10000000,0x10000fff,uart
+
+The file has that first line, and a line with these fields for each name: the
+byte address of the first byte, that of the last one, not below, and the name: 1
+to 64 printable bytes, no blank, `\"`, `+` or `,`, of which the first is no
+digit.
+
 Exit status:
   0  every row holds, as where there are none
   1  a row is broken
@@ -416,6 +437,21 @@ row that have one owner, the lowest-numbered entry that matches them, or none.
 
 An access that lies in one run is decided by that run's rights. One that
 straddles runs is refused, as `split` by the least owner in it.
+
+With `--names FILE`, `policy`, `map`, `entries` and `diff` write behind each row
+a comma and the names that the bytes from FIRST to LAST have, in the order of
+the file, with blanks between them: NAME where all that has the name is in the
+range, and NAME`+0x`OFFSET where only a part is, which begins OFFSET bytes
+behind the first byte of NAME.
+
+  first,last,name
+  0x80000000,0x8003ffff,firmware
+  0x10000000,0x10000fff,uart
+
+The file has that first line, and a line with these fields for each name: the
+byte address of the first byte, that of the last one, not below, and the name: 1
+to 64 printable bytes, no blank, `\"`, `+` or `,`, of which the first is no
+digit.
 
 Exit status:
   0  the answer is written
@@ -494,6 +530,21 @@ publication HOLDS on: until a reset, no write allows what the entry refuses, and
 none refuses what it allows while MML stays as it is. Where an entry is frozen
 and HOLDS is empty, one with a lower number isn't frozen, and may be able to
 take its bytes.
+
+With `--names FILE`, `policy`, `map`, `entries` and `diff` write behind each row
+a comma and the names that the bytes from FIRST to LAST have, in the order of
+the file, with blanks between them: NAME where all that has the name is in the
+range, and NAME`+0x`OFFSET where only a part is, which begins OFFSET bytes
+behind the first byte of NAME.
+
+  first,last,name
+  0x80000000,0x8003ffff,firmware
+  0x10000000,0x10000fff,uart
+
+The file has that first line, and a line with these fields for each name: the
+byte address of the first byte, that of the last one, not below, and the name: 1
+to 64 printable bytes, no blank, `\"`, `+` or `,`, of which the first is no
+digit.
 
 Exit status:
   0  the answer is written
@@ -593,6 +644,21 @@ the modes do, whoever owns the bytes, from the lowest address on.
 With `--only more` no row says `less`, and with `--only less` no row says
 `more`; rows that say `both` stay. The two states alone are compared: neither
 what was open before them, nor how entries are locked.
+
+With `--names FILE`, `policy`, `map`, `entries` and `diff` write behind each row
+a comma and the names that the bytes from FIRST to LAST have, in the order of
+the file, with blanks between them: NAME where all that has the name is in the
+range, and NAME`+0x`OFFSET where only a part is, which begins OFFSET bytes
+behind the first byte of NAME.
+
+  first,last,name
+  0x80000000,0x8003ffff,firmware
+  0x10000000,0x10000fff,uart
+
+The file has that first line, and a line with these fields for each name: the
+byte address of the first byte, that of the last one, not below, and the name: 1
+to 64 printable bytes, no blank, `\"`, `+` or `,`, of which the first is no
+digit.
 
 Exit status:
   0  there is no row to write

@@ -24,6 +24,18 @@ const POLICY: [&str; 9] = [
     "comment: any text without control bytes, or nothing",
 ];
 
+/// Those of names.
+const NAMES: [&str; 3] = [
+    "first: a byte address, in decimal or with 0x",
+    "last: a byte address that isn't below first, in decimal or with 0x",
+    "name: 1 to 64 printable bytes without blanks, quotes, + and commas, of which the first is no digit",
+];
+
+/// What the field of names with this index has to be.
+pub fn names_field(index: usize) -> Option<&'static str> {
+    NAMES.get(index).copied()
+}
+
 /// What the field of a trace with this index has to be.
 pub fn trace_field(index: usize) -> Option<&'static str> {
     TRACE.get(index).copied()

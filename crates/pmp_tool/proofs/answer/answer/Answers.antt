@@ -1,6 +1,6 @@
 use Rattle.std.proofs.lemmas.Result.{IfErr-weaker, IfOk-weaker, err_from_is_err_and}
 use Rattle.std.proofs.KnownBytes.{Keeps-refl}
-use Rattle.pmp_tool.specs.Runs.{no_script, of_script}
+use Rattle.pmp_tool.specs.CommandAnswers.{no_script, of_script}
 use Rattle.pmp_tool.proofs.answer.answer.Goals as goal
 
 pub returns-in_err-script-clause-err : goal.returns-in_err-script-clause-err

@@ -3,7 +3,7 @@ use Rattle.std.proofs.lemmas.Result.{IfErr-weaker, err_from_is_err_and}
 use Rattle.std.proofs.KnownBytes.{Keeps-refl}
 use Rattle.pmp_tool.specs.Commands.{asked_of}
 use Rattle.pmp_tool.specs.Runs.{no_text, refused_word}
-use Rattle.pmp_tool.proofs.Running.{asked_for_text, refused_by_clap, unanswered}
+use Rattle.pmp_tool.proofs.Running.{answered, asked_for_text, refused_by_clap, text_told, unanswered}
 use Rattle.pmp_tool.proofs.run.run.Goals as goal
 
 pub returns-in_err-read_command-in-Ok-clause-err : goal.returns-in_err-read_command-in-Ok-clause-err
@@ -14,17 +14,35 @@ returns-in_err-read_command-in-Ok-clause-err g c =
     (refused_word c.in_err-read_command-in-Ok.field-0.0
     (taken.0, sym (ap asked_of taken.1) ∙ sym c.in_err-read_command-in-Ok.ensures) (Keeps-refl _))
 
+pub returns-in_ok-read_command-in-Ok-clause-ok : goal.returns-in_ok-read_command-in-Ok-clause-ok
+returns-in_ok-read_command-in-Ok-clause-ok g c =
+    let taken = c.in-Ok.ensures.ok in
+    answered (map string_bytes c.args.words.now) (g.I.Inputs.scripts c.args.inputs.now)
+    (g.I.Inputs.traces c.args.inputs.now) (g.I.Inputs.folders c.args.inputs.now)
+    c.in_ok-read_command-in-Ok.field-0 _ _
+    (taken.0, sym (ap asked_of taken.1) ∙ sym c.in_ok-read_command-in-Ok.ensures) c.answer_all.result
+    c.answer_all.ensures.ok
+
 pub returns-in_ok-read_command-in-Ok-clause-err : goal.returns-in_ok-read_command-in-Ok-clause-err
 returns-in_ok-read_command-in-Ok-clause-err g c =
     let taken = c.in-Ok.ensures.ok in
     unanswered (map string_bytes c.args.words.now) (g.I.Inputs.scripts c.args.inputs.now)
-    (g.I.Inputs.traces c.args.inputs.now) c.in_ok-read_command-in-Ok.field-0 _ _
-    (taken.0, sym (ap asked_of taken.1) ∙ sym c.in_ok-read_command-in-Ok.ensures) c.answer.result c.answer.ensures.err
+    (g.I.Inputs.traces c.args.inputs.now) (g.I.Inputs.folders c.args.inputs.now)
+    c.in_ok-read_command-in-Ok.field-0 _ _
+    (taken.0, sym (ap asked_of taken.1) ∙ sym c.in_ok-read_command-in-Ok.ensures) c.answer_all.result
+    c.answer_all.ensures.err
 
 pub returns-in-Err-clause-err : goal.returns-in-Err-clause-err
 returns-in-Err-clause-err g c =
     let kinds = c.if-use_stderr.ensures.0 refl in
-    rw c.from.ensures (refused_by_clap _ _ _ _ _ c.in-Err.error c.in-Err.ensures.err kinds.0 kinds.1 (Keeps-refl _))
+    rw c.from.ensures (refused_by_clap _ _ _ _ _ _ c.in-Err.error c.in-Err.ensures.err kinds.0 kinds.1 (Keeps-refl _))
+
+pub returns-in-Err-2-clause-ok : goal.returns-in-Err-2-clause-ok
+returns-in-Err-2-clause-ok g c =
+    let asked =
+    asked_for_text (map string_bytes c.args.words.now) c.in-Err.error c.in-Err.ensures.err
+    (λ refused. true≢false (sym (c.if-use_stderr.ensures.1 refused))) in
+    text_told _ _ _ _ _ _ asked c.tell.result c.tell.ensures.ok
 
 pub returns-in-Err-2-clause-err : goal.returns-in-Err-2-clause-err
 returns-in-Err-2-clause-err g c =

@@ -1,0 +1,94 @@
+//! A name of a range of addresses.
+
+ghost use Rattle.std.specs.Prelude.{◌≡◌, option_map, position};
+ghost use Rattle.std.specs.List.{list_all};
+ghost use Rattle.pmp_names.specs.AddressNames.{begins_as_name, is_comma, is_name, is_name_byte, name_of_fields, name_said};
+ghost use Rattle.pmp_names.specs.AddressNames.{split_comma};
+ghost use Rattle.pmp_names.specs.NameLists.{said_so};
+
+use pmp_text::read_word_number;
+
+/// The most bytes of a name.
+pub const NAME_BYTES: usize = 64;
+
+/// A name of the bytes from `first` to `last`.
+#[derive(Clone, Copy)]
+pub struct AddressName<'a> {
+    /// The address of the first byte.
+    pub first: u64,
+    /// That of the last byte.
+    pub last: u64,
+    pub name: &'a [u8],
+}
+
+fn is_name_byte(byte: u8) -> bool
+    ensures { result ≡ is_name_byte byte }
+{
+    (33..=126).contains(&byte) && !matches!(byte, b'"' | b'+' | b',')
+}
+
+fn begins_as_name(name: &[u8]) -> bool
+    ensures { result ≡ begins_as_name name.now }
+{
+    match name {
+        [first, ..] => !first.is_ascii_digit(),
+        [] => false,
+    }
+}
+
+fn are_name_bytes(name: &[u8]) -> bool
+    ensures { result ≡ list_all is_name_byte name.now }
+{
+    name.iter().all(|byte| is_name_byte(*byte))
+}
+
+fn is_name(name: &[u8]) -> bool
+    ensures { result ≡ is_name name.now }
+{
+    begins_as_name(name) && are_name_bytes(name) && name.len() <= NAME_BYTES
+}
+
+fn first_comma(line: &[u8]) -> Option<usize>
+    ensures { result ≡ position is_comma line.now }
+{
+    line.iter().position(|byte| *byte == b',')
+}
+
+/// What stands before the first comma, and what stands after it.
+pub fn split_comma(line: &[u8]) -> Option<(&[u8], &[u8])>
+    ensures { option_map (λ parts. (parts.0.now, parts.1.now)) result ≡ split_comma line.now }
+{
+    match first_comma(line) {
+        Some(end) => Some((&line[..end], &line[end + 1..])),
+        None => None,
+    }
+}
+
+impl<'a> AddressName<'a> {
+    /// The name that a line gives, or which of its fields is at fault; none where it hasn't three.
+    pub fn read(line: &'a [u8]) -> Result<AddressName<'a>, Option<usize>>
+        ensures { said_so result ≡ name_said line.now }
+    {
+        let (first, rest) = split_comma(line).ok_or(None)?;
+        let (last, name) = split_comma(rest).ok_or(None)?;
+        AddressName::of_fields(read_word_number(first), read_word_number(last), name)
+    }
+
+    fn of_fields(
+        first: Option<u64>,
+        last: Option<u64>,
+        name: &'a [u8],
+    ) -> Result<AddressName<'a>, Option<usize>>
+        ensures { said_so result ≡ name_of_fields first last name.now }
+    {
+        let first = first.ok_or(Some(0))?;
+        let last = last.ok_or(Some(1))?;
+        if last < first {
+            return Err(Some(1));
+        }
+        if !is_name(name) {
+            return Err(Some(2));
+        }
+        Ok(AddressName { first, last, name })
+    }
+}

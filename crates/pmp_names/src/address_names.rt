@@ -1,0 +1,91 @@
+//! The names of addresses that a text gives.
+
+ghost use Rattle.std.specs.Prelude.{◌≡◌, ◌⊎◌, ◌++◌, ◌∷◌, [], Err, IfErr, IfOk, Ok, OnOk, map};
+ghost use Rattle.pmp_text.specs.Lines.{lines};
+ghost use Rattle.pmp_names.specs.AddressNames.{names_from, names_said, no_header};
+ghost use Rattle.pmp_names.specs.NameLists.{AddsName, IsFaultOf, named, no_memory};
+
+use crate::address_name::AddressName;
+use pmp_text::{Refusal, split_first_line};
+use std::alloc::{AllocError, Global};
+
+/// Why a text gives no names: `BadHeader`, `BadRow` or `Memory`.
+#[derive(Clone, Copy, Debug, PartialEq, Eq)]
+pub struct NamesFault {
+    pub refusal: Refusal,
+    /// The row, counted from 1 behind the header, or 0 where the fault is of none.
+    pub row: u64,
+    /// The field of the row, counted from 0, or none where the whole row is at fault.
+    pub field: Option<usize>,
+}
+
+impl From<AllocError> for NamesFault {
+    ghost from_gives = { λ _ fault. fault ≡ no_memory };
+
+    fn from(_: AllocError) -> NamesFault {
+        NamesFault {
+            refusal: Refusal::Memory,
+            row: 0,
+            field: None,
+        }
+    }
+}
+
+fn no_header() -> NamesFault
+    ensures { result ≡ no_header }
+{
+    NamesFault {
+        refusal: Refusal::BadHeader,
+        row: 0,
+        field: None,
+    }
+}
+
+/// The names that a text gives: the line `first,last,name`, and a line with these three fields for each.
+pub fn read_names<'a>(alloc: Global, text: &'a [u8]) -> Result<Vec<AddressName<'a>>, NamesFault>
+    ensures ok { IfOk result (λ names. names_said text.now ≡ Ok (map named names.items)) }
+    ensures err { IfErr result (λ fault. (fault ≡ no_memory) ⊎ (names_said text.now ≡ Err fault)) }
+{
+    match split_first_line(text) {
+        Some((header, rows)) if header == b"first,last,name".as_slice() => read_rows(alloc, rows),
+        _ => Err(no_header()),
+    }
+}
+
+fn read_rows<'a>(alloc: Global, text: &'a [u8]) -> Result<Vec<AddressName<'a>>, NamesFault>
+    ensures ok { IfOk result (λ names. names_from 1 (lines text.now) ≡ Ok (map named names.items)) }
+    ensures err { IfErr result (λ fault. (fault ≡ no_memory) ⊎ (names_from 1 (lines text.now) ≡ Err fault)) }
+{
+    let mut names = Vec::new(alloc);
+    let mut row = 1u64;
+    let mut rest = text;
+    while let Some((line, behind)) = split_first_line(rest) {
+        add(&mut names, line, row)?;
+        row = row.saturating_add(1);
+        rest = behind;
+    }
+    Ok(names)
+}
+
+fn add<'a>(names: &mut Vec<AddressName<'a>>, line: &'a [u8], row: u64) -> Result<(), NamesFault>
+    ensures ok { OnOk result (AddsName line.now names.old.items names.new.items) }
+    ensures err { IfErr result (λ fault. (fault ≡ no_memory) ⊎ IsFaultOf line.now row fault) }
+{
+    match AddressName::read(line) {
+        Ok(name) => push(names, name)?,
+        Err(field) => {
+            return Err(NamesFault {
+                refusal: Refusal::BadRow,
+                row,
+                field,
+            });
+        }
+    }
+    Ok(())
+}
+
+fn push<'a>(names: &mut Vec<AddressName<'a>>, name: AddressName<'a>) -> Result<(), AllocError>
+    ensures { OnOk result (names.new.items ≡ names.old.items ++ name.entry ∷ []) }
+{
+    Ok(names.push(name)?)
+}

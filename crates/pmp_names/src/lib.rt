@@ -1,0 +1,17 @@
+//! Names in front of rows and behind them: the harts of a folder, and ranges of addresses.
+#![tactic(auto)]
+
+mod address_name;
+mod address_names;
+mod hart_name;
+mod hart_rows;
+mod harts;
+mod named_rows;
+mod order_key;
+
+pub use address_name::AddressName;
+pub use address_names::{NamesFault, read_names};
+pub use hart_name::{HART_NAME, HartName};
+pub use hart_rows::append_rows;
+pub use harts::{are_same, read_harts};
+pub use named_rows::{Columns, append_named};

@@ -1,0 +1,54 @@
+-- What a command answers of one hart, why it gets no answer, and which outcomes end well.
+use Rattle.std.specs.Prelude.{ℕ, List, Option, ◌==◌, if◌then◌else◌, ⊤}
+use Rattle.std.specs.Io.KnownBytes.{Keeps}
+use Rattle.pmp_audit.specs.Answers.{IsWritten}
+use Rattle.pmp_audit.specs.declared.fault.Side.{Side}
+use Rattle.pmp_text.specs.declared.refusal.Refusal.{Refusal}
+use Rattle.pmp_text.specs.declared.script.reader.TheConstants.{MAX_HEADED_SCRIPT}
+use Rattle.pmp_tool.specs.declared.command.Command.{Command}
+use Rattle.pmp_tool.specs.declared.failure.Failure.{Failure}
+use Rattle.pmp_tool.specs.declared.outcome.Outcome.{Outcome}
+use Rattle.pmp_tool.specs.declared.outcome.Outcome.TheVariants.{Decided, Audited, Judged, Replayed, Compared}
+use Rattle.pmp_tool.specs.declared.request.Request.{Request}
+use Rattle.pmp_tool.specs.declared.request.Request.TheVariants.{Import as OfLog}
+use Rattle.pmp_tool.specs.Expected.{is_met}
+use Rattle.pmp_tool.specs.Failures.{unread}
+use Rattle.pmp_tool.specs.Inputs.{AreBytesOf, CantBeRead, Inputs}
+use Rattle.pmp_tool.specs.Requests.{RequestFails, RequestSays, old_side}
+
+-- the bytes are those of the command's script; an import has none
+abbrev pub IsScriptOf : Request → (known : Option (List ℕ)) → List ℕ → Type 0
+IsScriptOf (OfLog import) known script = ⊤
+IsScriptOf _ known script = AreBytesOf known script
+
+-- the script of a command was read, and what the command asks for was written
+pub record CommandAnswers (scripts traces : Inputs) (command : Command) (before after : Option (List ℕ))
+    (outcome : Outcome) : Type 0 where
+  pub script : List ℕ
+  pub read : IsScriptOf command.request (scripts command.script.now) script
+  pub written : IsWritten (RequestSays scripts traces script command.request) before after outcome
+
+-- a script can't be read, of two scripts the one on a side, or what is done with it fails
+pub data IsUnscripted (before after : Option (List ℕ)) (known : Option (List ℕ)) (side : Option Side) (request : Request)
+    (Fails : List ℕ → Failure → Type 0) : Failure → Type 0 where
+  no_script : (fault : Refusal) → CantBeRead MAX_HEADED_SCRIPT known fault → Keeps before after
+      → IsUnscripted before after known side request Fails (unread fault side)
+  of_script : (script : List ℕ) (failure : Failure) → IsScriptOf request known script → Fails script failure
+      → IsUnscripted before after known side request Fails failure
+
+-- why a command gets no answer: its script can't be read, or what it asks for of the script fails
+abbrev pub CommandFails : (scripts traces : Inputs) → Command → (before after : Option (List ℕ)) → Failure → Type 0
+CommandFails scripts traces command before after =
+    IsUnscripted before after (scripts command.script.now) (old_side command.request) command.request
+    (λ script. RequestFails before after scripts traces script command.request)
+
+-- a check ends well where the answer is the expected one, an audit where all accesses are allowed, a policy where no
+-- row is broken, writes where all are stored as written, a comparison where no row is written, and all else does
+abbrev pub outcome_status : Outcome → ℕ
+outcome_status (Decided decision asked) = if is_met asked.expected decision then 0 else 1
+outcome_status (Audited summary) = if summary.faults == 0 then 0 else 1
+outcome_status (Judged summary) = if summary.broken == 0 then 0 else 1
+outcome_status (Replayed summary) =
+    if summary.differing == 0 then (if summary.not_stored == 0 then 0 else 1) else 1
+outcome_status (Compared rows) = if rows == 0 then 0 else 1
+outcome_status _ = 0

@@ -1,0 +1,195 @@
+//! The harts that a command is asked of, where a folder of scripts stands in a script's place.
+
+ghost use Rattle.std.specs.Prelude.{◌≡◌, IfErr, IfOk, Some, map, option_map, string_bytes};
+ghost use Rattle.pmp_names.specs.HartLists.{names_of};
+ghost use Rattle.pmp_tool.specs.Finding.{AreFoundAt, AreFoundNew, AreJoined, AreUnfoundAt, AreUnfoundNew, AreUnjoined};
+ghost use Rattle.pmp_names.specs.HartNames.{AreHarts};
+ghost use Rattle.pmp_tool.specs.Finding.{IsUnfit, IsUnlisted, names_in};
+ghost use Rattle.pmp_tool.specs.Inputs.{IsFolder};
+ghost use Rattle.pmp_tool.specs.Harts.{AreFound, AreUnfound, new_script, reads_stdin, second_input, takes_folder};
+
+use crate::answer::old_side;
+use crate::command::Command;
+use crate::failure::Failure;
+use crate::inputs::Inputs;
+use crate::request::Request;
+use pmp_audit::{Side, View};
+use pmp_names::{HartName, are_same, read_harts};
+use pmp_text::Refusal;
+use std::alloc::Global;
+
+/// The harts that a command is asked of.
+#[derive(Drop)]
+pub struct Harts {
+    /// Whether the path of the command's script is a folder's.
+    pub old: bool,
+    /// Whether that of its new script is.
+    pub new: bool,
+    /// The names of their scripts in the folder, or in both.
+    pub names: Vec<HartName>,
+}
+
+/// Whether a folder may stand where a script does.
+fn takes_folder(request: Request<'_>) -> bool
+    ensures { result ≡ takes_folder request.entry }
+{
+    match request {
+        Request::Check(_) | Request::Audit(_) | Request::Policy(..) => true,
+        Request::Show(View::Runs | View::Entries, _) | Request::Writes | Request::Diff(_) => true,
+        Request::LongAudit(_) | Request::Show(..) | Request::Import(_) => false,
+    }
+}
+
+/// The path of the new one of two scripts.
+pub fn new_script<'a>(request: Request<'a>) -> Option<&'a str>
+    ensures { option_map (λ path. path.now) result ≡ new_script request.entry }
+{
+    match request {
+        Request::Diff(asked) => Some(asked.new),
+        _ => None,
+    }
+}
+
+/// The path of the second input.
+fn second_input<'a>(request: Request<'a>) -> Option<&'a str>
+    ensures { option_map (λ path. path.now) result ≡ second_input request.entry }
+{
+    match request {
+        Request::Audit(asked) => Some(asked.trace),
+        Request::Policy(path, _) => Some(path),
+        _ => new_script(request),
+    }
+}
+
+/// Whether an input is standard input.
+fn reads_stdin(command: Command<'_>) -> bool
+    ensures { result ≡ reads_stdin command.entry }
+{
+    command.script == "stdin" || second_input(command.request).is_some_and(|path| path == "stdin")
+}
+
+/// The files of the folder at a path, where one is there.
+fn listed<I: Inputs>(
+    inputs: &mut I,
+    path: &str,
+    side: Option<Side>,
+) -> Result<Option<Vec<String>>, Failure>
+    ensures listed { IfOk result (λ found. IsFolder (I.folders inputs.old path.now)
+        (option_map (λ files. map string_bytes files.items) found)) }
+    ensures unlisted { IfErr result (IsUnlisted side) }
+    ensures scripts { I.scripts inputs.new ≡ I.scripts inputs.old }
+    ensures traces { I.traces inputs.new ≡ I.traces inputs.old }
+    ensures folders { I.folders inputs.new ≡ I.folders inputs.old }
+{
+    inputs
+        .folder(path)
+        .map_err(|fault| Failure::unread(fault, side))
+}
+
+/// The harts of a folder with these files.
+fn harts_of(alloc: Global, files: &[String], side: Option<Side>) -> Result<Vec<HartName>, Failure>
+    ensures ok { IfOk result (λ harts. AreHarts (map string_bytes files.now) (names_of harts.items)) }
+    ensures err { IfErr result (IsUnfit (map string_bytes files.now) side) }
+{
+    read_harts(alloc, files).map_err(|fault| Failure::unread(fault, side))
+}
+
+/// The harts of the folder at a path, where one is there: of two scripts, at that of the one on a side.
+fn harts_at<I: Inputs>(
+    alloc: Global,
+    inputs: &mut I,
+    path: &str,
+    side: Option<Side>,
+) -> Result<Option<Vec<HartName>>, Failure>
+    ensures found { IfOk result (λ harts. AreFoundAt (I.folders inputs.old path.now) (names_in harts)) }
+    ensures unfound { IfErr result (AreUnfoundAt (I.folders inputs.old path.now) side) }
+    ensures scripts { I.scripts inputs.new ≡ I.scripts inputs.old }
+    ensures traces { I.traces inputs.new ≡ I.traces inputs.old }
+    ensures folders { I.folders inputs.new ≡ I.folders inputs.old }
+{
+    let Some(files) = listed(inputs, path, side)? else {
+        return Ok(None);
+    };
+    Ok(Some(harts_of(alloc, &files, side)?))
+}
+
+/// The harts of the folder at the path of the new script, where one is there.
+fn new_harts<I: Inputs>(
+    alloc: Global,
+    inputs: &mut I,
+    request: Request<'_>,
+) -> Result<Option<Vec<HartName>>, Failure>
+    ensures found { IfOk result (λ harts. AreFoundNew (I.folders inputs.old) (new_script request.entry)
+        (names_in harts)) }
+    ensures unfound { IfErr result (AreUnfoundNew (I.folders inputs.old) (new_script request.entry)) }
+    ensures scripts { I.scripts inputs.new ≡ I.scripts inputs.old }
+    ensures traces { I.traces inputs.new ≡ I.traces inputs.old }
+{
+    match new_script(request) {
+        Some(path) => harts_at(alloc, inputs, path, Some(Side::New)),
+        None => Ok(None),
+    }
+}
+
+/// The harts of one folder, or of two that have the same.
+fn joined(old: Option<Vec<HartName>>, new: Option<Vec<HartName>>) -> Result<Option<Harts>, Refusal>
+    ensures ok { IfOk result (AreJoined (names_in old) (names_in new)) }
+    ensures err { IfErr result (AreUnjoined (names_in old) (names_in new)) }
+{
+    match (old, new) {
+        (None, None) => Ok(None),
+        (Some(names), None) => Ok(Some(Harts {
+            old: true,
+            new: false,
+            names,
+        })),
+        (None, Some(names)) => Ok(Some(Harts {
+            old: false,
+            new: true,
+            names,
+        })),
+        (Some(names), Some(others)) => Ok(Some(both(names, &others)?)),
+    }
+}
+
+/// The harts of two folders, which have to be the same.
+fn both(names: Vec<HartName>, others: &[HartName]) -> Result<Harts, Refusal>
+    ensures ok { IfOk result (λ harts. AreJoined (Some (names_of names.items)) (Some (names_of others.now)) (Some harts)) }
+    ensures err { IfErr result (AreUnjoined (Some (names_of names.items)) (Some (names_of others.now))) }
+{
+    if !are_same(&names, others) {
+        return Err(Refusal::BadFolder);
+    }
+    Ok(Harts {
+        old: true,
+        new: true,
+        names,
+    })
+}
+
+impl Harts {
+    /// The harts that a command is asked of, where a folder stands in a script's place.
+    pub fn find<I: Inputs>(
+        alloc: Global,
+        command: Command<'_>,
+        inputs: &mut I,
+    ) -> Result<Option<Harts>, Failure>
+        ensures found { IfOk result (AreFound (I.folders inputs.old) command.entry) }
+        ensures unfound { IfErr result (AreUnfound (I.folders inputs.old) command.entry) }
+        ensures scripts { I.scripts inputs.new ≡ I.scripts inputs.old }
+        ensures traces { I.traces inputs.new ≡ I.traces inputs.old }
+    {
+        if !takes_folder(command.request) {
+            return Ok(None);
+        }
+        let old = harts_at(alloc, inputs, command.script, old_side(command.request))?;
+        let new = new_harts(alloc, inputs, command.request)?;
+        let Some(harts) = joined(old, new)? else {
+            return Ok(None);
+        };
+        if reads_stdin(command) {
+            return Err(Failure::from(Refusal::BadWord));
+        }
+        Ok(Some(harts))
+    }
+}

@@ -1,0 +1,58 @@
+//! The names that a command's rows are to have behind them.
+
+ghost use Rattle.std.specs.Prelude.{◌≡◌, IfOk, map, option_map};
+ghost use Rattle.pmp_names.specs.NameLists.{named};
+ghost use Rattle.pmp_tool.specs.Names.{columns_of, named_by, plain_naming};
+
+use crate::request::Request;
+use pmp_audit::View;
+use pmp_names::{AddressName, Columns, append_named};
+use std::alloc::{AllocError, Global};
+
+/// Names of addresses, and which fields of a command's rows are addresses.
+#[derive(Clone, Copy)]
+pub struct Naming<'a> {
+    pub names: &'a [AddressName<'a>],
+    pub columns: Columns,
+}
+
+/// Which fields of its rows are addresses.
+fn columns_of(request: Request<'_>) -> Option<Columns>
+    ensures { result ≡ columns_of request.entry }
+{
+    match request {
+        Request::Show(View::Runs, _) | Request::Diff(_) => Some(Columns { first: 0, last: 1 }),
+        Request::Show(View::Entries, _) => Some(Columns { first: 2, last: 3 }),
+        Request::Policy(..) => Some(Columns { first: 3, last: 4 }),
+        _ => None,
+    }
+}
+
+impl<'a> Naming<'a> {
+    /// These names, for the rows of a request.
+    pub fn of(names: &'a [AddressName<'a>], request: Request<'_>) -> Option<Naming<'a>>
+        ensures { plain_naming result ≡ option_map (λ columns. (map named names.now, columns))
+            (columns_of request.entry) }
+    {
+        match columns_of(request) {
+            Some(columns) => Some(Naming { names, columns }),
+            None => None,
+        }
+    }
+}
+
+/// The rows with names behind them, where they are to have some.
+pub fn with_names(
+    alloc: Global,
+    naming: Option<Naming<'_>>,
+    rows: Vec<u8>,
+) -> Result<Vec<u8>, AllocError>
+    ensures { IfOk result (λ all. all.items ≡ named_by naming.entry rows.items) }
+{
+    let Some(naming) = naming else {
+        return Ok(rows);
+    };
+    let mut all = Vec::new(alloc);
+    append_named(&mut all, naming.names, naming.columns, &rows)?;
+    Ok(all)
+}
