@@ -20,7 +20,8 @@
 # make mutants              turns each rule of plain harts in each way, and has the cases of make conformance find it
 # make rv32                 boots an RV32 hart of QEMU, and compares what it refuses with what pmp refuses
 # make captures             boots OpenSBI 1.1, 1.6 and 1.9 on QEMU 7.2, 10 and 11, and compares likewise
-# make qemu                 builds QEMU 7.2 as it is and over the library, boots OpenSBI and U-Boot on both, and compares
+# make qemu                 builds QEMU 10.0 as it is and over the library, boots OpenSBI, U-Boot and Linux on both, and
+#                           compares; VERSION=10.2 has the other one
 # make test                 proves and tests everything, has the prover refuse the wrong bodies, then tries the program, the
 #                           libraries, the launcher and the documents; its last line is the sum of all
 PREFIX ?= /usr/local
@@ -117,7 +118,7 @@ rv32: build
 	checks/rv32 $(PROGRAM)
 
 qemu: library
-	@integrations/qemu/try
+	@integrations/qemu/try $(or $(VERSION),10.0)
 
 install: build library
 	@release/install program library
