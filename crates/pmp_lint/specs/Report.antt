@@ -1,0 +1,39 @@
+-- All findings of a script, and the text that tells them.
+use Rattle.std.specs.Prelude.{◌≡◌, ℕ, List, ◌++◌, length}
+use Rattle.std.specs.Option.{option_to_list}
+use Rattle.pmp_map.specs.declared.run.Run.{Run}
+use Rattle.pmp_map.specs.Runs.{AreRuns}
+use Rattle.pmp_text.specs.Contents.{ScriptContents}
+use Rattle.pmp_lint.specs.declared.accepted.Accepted.{Accepted}
+use Rattle.pmp_lint.specs.declared.finding.Finding.{Finding}
+use Rattle.pmp_lint.specs.EndState.{end_of, mmwp_off, never_decides, of_entries, open_before_locked, rlb_left_on}
+use Rattle.pmp_lint.specs.Findings.{told_count, told_rows}
+use Rattle.pmp_lint.specs.LateWrites.{late_writes}
+use Rattle.pmp_lint.specs.OpenBetween.{AreOpenBetween}
+use Rattle.pmp_lint.specs.WriteAndExecute.{written_and_executed}
+
+-- what is found of the bits of mseccfg and of the locks
+abbrev pub of_locks : ScriptContents → List Finding
+of_locks script =
+    option_to_list (rlb_left_on script) ++ option_to_list (mmwp_off script)
+    ++ of_entries (end_of script) (open_before_locked script)
+
+-- what is found by the runs of all bytes
+abbrev pub of_runs : ScriptContents → List Run → List Finding
+of_runs script runs = of_entries (end_of script) (never_decides script runs) ++ written_and_executed script runs
+
+-- all that is found, lint after lint in the order of their numbers; the runs are those of the file that the script
+-- leaves, of which there is one list
+pub record AreFindings (script : ScriptContents) (findings : List Finding) : Type 0 where
+  pub runs : List Run
+  pub runs_are : AreRuns (end_of script) runs
+  pub between : List Finding
+  pub between_are : AreOpenBetween script (length script.batches) between
+  pub all : findings ≡ of_locks script ++ of_runs script runs ++ between ++ late_writes script (length script.batches)
+
+-- the text has a row for each finding that isn't accepted, and none else, and they are counted
+pub record FindingsSay (script : ScriptContents) (accepted : List Accepted) (told : ℕ) (text : List ℕ) : Type 0 where
+  pub findings : List Finding
+  pub findings_are : AreFindings script findings
+  pub rows : text ≡ told_rows accepted findings
+  pub counted : told ≡ told_count accepted findings
