@@ -1,15 +1,16 @@
 -- A finding, its row, and which findings are accepted.
-use Rattle.std.specs.Prelude.{ℕ, ◌^◌, ◌-◌, ◌==◌, ◌&&◌, Bool, true, false, not, List, [], ◌∷◌, ◌++◌, Option, Some, None}
-use Rattle.std.specs.Prelude.{codes, decimal, if◌then◌else◌, count_by}
+use Rattle.std.specs.Prelude.{ℕ, ◌+◌, ◌^◌, ◌-◌, ◌==◌, ◌&&◌, Bool, true, false, not, List, [], ◌∷◌, ◌++◌, Option, Some, None}
+use Rattle.std.specs.Prelude.{codes, count_by, decimal, drop, if◌then◌else◌, option_map, position, take}
 use Rattle.std.specs.Fmt.{digits, format_spec, padded_integral}
 use Rattle.std.specs.List.{filter, flat_map, list_any}
 use Rattle.pmp_core.specs.declared.span.Span.{Span}
 use Rattle.pmp_text.specs.declared.policy.Modes.{Modes}
+use Rattle.pmp_text.specs.Numbers.{word_number}
 use Rattle.pmp_text.specs.Reports.{fields_after, optional_text}
 use Rattle.pmp_lint.specs.declared.accepted.Accepted.{Accepted}
 use Rattle.pmp_lint.specs.declared.finding.Finding.{Finding}
 use Rattle.pmp_lint.specs.declared.lint.Lint.{Lint}
-use Rattle.pmp_lint.specs.Lints.{lint_name, lint_number}
+use Rattle.pmp_lint.specs.Lints.{lint_name, lint_named, lint_number}
 
 -- ---- what it is about
 
@@ -56,6 +57,24 @@ finding_row finding =
     ∷ bytes_text finding.bytes ∷ modes_text finding.modes ∷ [])
 
 -- ---- which are accepted
+
+abbrev pub is_colon : (byte : ℕ) → Bool
+is_colon byte = byte == 58
+
+abbrev pub accepted_everywhere : Option Lint → Option Accepted
+accepted_everywhere lint = option_map (λ lint. record { lint = lint; line = None }) lint
+
+abbrev pub accepted_at : Option Lint → (line : Option ℕ) → Option Accepted
+accepted_at None line = None
+accepted_at (Some lint) None = None
+accepted_at (Some lint) (Some line) = Some (record { lint = lint; line = Some line })
+
+-- what a word accepts: a lint's name, or one with a colon and a line behind it
+abbrev pub accepted_said : (word : List ℕ) → Option Accepted
+accepted_said word = elim (position is_colon word) [
+  | None ↦ accepted_everywhere (lint_named word)
+  | Some end ↦ accepted_at (lint_named (take end word)) (word_number (drop (end + 1) word))
+]
 
 abbrev pub is_line : (accepted : Option ℕ) → (line : ℕ) → Bool
 is_line None line = true

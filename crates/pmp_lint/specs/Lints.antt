@@ -22,7 +22,8 @@ lint_name WriteAndExecute = codes "write-and-execute"
 lint_name OpenBetween = codes "open-between"
 lint_name LateWrite = codes "late-write"
 
-abbrev pub lint_named : (word : List ℕ) → Option Lint
+-- by its name
+unfoldable pub lint_named : (word : List ℕ) → Option Lint
 lint_named word =
     if bytes_eq word (codes "rlb-left-on") then Some RlbLeftOn
     else (if bytes_eq word (codes "mmwp-off") then Some MmwpOff

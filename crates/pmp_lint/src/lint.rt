@@ -85,6 +85,7 @@ impl Lint {
     }
 
     /// The lint that a word names.
+    #[tactic(auto, unfolding(crate::specs::Lints::lint_named))]
     pub fn read(word: &[u8]) -> Option<Lint>
         ensures { result ≡ lint_named word.now }
     {

@@ -1,11 +1,11 @@
 //! All findings of a script, and the text that tells them.
 
-ghost use Rattle.std.specs.Prelude.{◌≡◌, ◌++◌, ◌<◌, IfOk, OnErr, OnOk, length};
+ghost use Rattle.std.specs.Prelude.{◌≡◌, ◌++◌, ◌<◌, IfErr, IfOk, OnErr, OnOk, length};
 ghost use Rattle.std.specs.Io.{StartsWith};
 ghost use Rattle.pmp_map.specs.Runs.{HasOwnersBelow};
 ghost use Rattle.pmp_lint.specs.EndState.{end_of, never_decides, of_entries, open_before_locked};
 ghost use Rattle.pmp_lint.specs.Findings.{told_count, told_rows};
-ghost use Rattle.pmp_lint.specs.Report.{AreFindings, of_locks, of_runs};
+ghost use Rattle.pmp_lint.specs.Report.{AreFindings, LintRefuses, LintSays, of_locks, of_runs};
 
 use crate::accepted::Accepted;
 use crate::end_state::Ended;
@@ -14,7 +14,7 @@ use crate::late_writes::add_late_writes;
 use crate::open_between::add_open_between;
 use pmp_core::RegFile;
 use pmp_map::{Run, RunMap};
-use pmp_text::{NoMemory, Script, Sink, append_line};
+use pmp_text::{EventLog, NoMemory, Script, ScriptFault, Sink, append_line, read_script};
 use std::alloc::{AllocError, Global};
 
 /// The register file after all publications.
@@ -123,4 +123,25 @@ pub fn append_findings<S: Sink>(
         out.go_back(before);
     }
     told
+}
+
+/// Appends these rows for a script's text: what is found in it, lint after lint in the order of their numbers, but for
+/// what is accepted. Answers how many rows these are.
+///
+/// The script's events are kept in the log, which forgets what it had. A refusal, the script's own fault or `Memory`,
+/// appends nothing.
+pub fn append_lint<L: EventLog, S: Sink>(
+    alloc: Global,
+    log: &mut L,
+    script: &[u8],
+    accepted: &[Accepted],
+    out: &mut S,
+) -> Result<usize, ScriptFault>
+    ensures ok { IfOk result (LintSays script.now accepted.now (S.text out.old) (S.text out.new)) }
+    ensures err { IfErr result (LintRefuses script.now) }
+    ensures kept { OnErr result (S.text out.new ≡ S.text out.old) }
+{
+    let script = read_script(log, script)?;
+    let findings = find(alloc, &script)?;
+    Ok(append_findings(out, &findings, accepted)?)
 }
