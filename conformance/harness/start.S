@@ -1,5 +1,6 @@
 # Where a hart begins, how one instruction is tried, and the instructions that are tried.
 #include "harness.h"
+    .file "start.S"    // Without a name here, the ELF has that of a temporary file.
     .option norelax
     .section .text.start, "ax"
     .globl _start

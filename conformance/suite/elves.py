@@ -54,7 +54,8 @@ def write(folder, board, runs, is_each):
             it.writelines(f"{number} {run.case.name}: {run.case.rule}\n" for number, run in enumerate(batch, 1))
         with open(f"{folder}/{name}.signature", "w", encoding="ascii") as it:
             it.writelines(signature(len(batch)))
-    print(f"{folder}: {count} ELFs, each with the names of its cases and its signature")
+    room = "a run of a case" if is_each else f"up to {MOST} runs of cases"
+    print(f"{folder}: {count} ELFs, each with {room}; beside it the cases' names and its signature")
 
 
 def write_assembly(folder, board, runs, xlen):

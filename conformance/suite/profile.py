@@ -118,7 +118,9 @@ def note_probe(profile, steps):
     looks = [it for it in steps if isinstance(it, Look)]
     facts = next((it for it in steps if isinstance(it, Facts)), None)
     if len(looks) < 4 or facts is None:
-        raise SystemExit("conformance: the simulator doesn't answer the probe")
+        raise SystemExit("conformance: the simulator doesn't answer the probe, the first run. Check that its board, "
+                         "memory and XLEN are those of --board, --link and --xlen, that the board's console is its "
+                         "standard output, and what it says when it is started by hand: see conformance/README.md")
     addresses = looks[0].changed | looks[1].changed
     profile.absent = looks[0].missing
     answers = [it for it in steps if isinstance(it, Answer)]

@@ -128,6 +128,6 @@ def smallest_differences(found, profile, oracle, simulator, is_each, program):
     for rule in found.rules:
         for group in groups_of(found.differing[rule])[:None if is_each else 1]:
             run, difference = smaller.smallest(group[0])
-            yield {"rule": rule, "case": group[0][0].case.name, "runs": len(group), "effect": difference.effect,
-                   "wanted": difference.wanted, "got": difference.got,
+            yield {"rule": rule, "case": group[0][0].case.name, "cases": len({it.case.name for it, _ in group}),
+                   "runs": len(group), "effect": difference.effect, "wanted": difference.wanted, "got": difference.got,
                    "lines": list(lines_to_paste((run, difference), program))}

@@ -49,8 +49,13 @@ def text(result):
     yield from section("Choices that were made in more than one way:", result["chosen in more than one way"])
 
 
+def counted(number, word):
+    return f"{number} {word}{'s' if number != 1 else ''}"
+
+
 def text_of_difference(it):
-    yield from ("", f"{it['rule']}: {it['runs']} runs differ as {it['case']}; the smallest:", *it["lines"])
+    cases, runs = counted(it["cases"], "case"), counted(it["runs"], "run")
+    yield from ("", f"{it['rule']}: {cases}, {runs}, with this difference; the smallest, {it['case']}:", *it["lines"])
 
 
 def write_json(result, path):
