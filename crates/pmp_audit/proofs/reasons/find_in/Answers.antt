@@ -1,0 +1,12 @@
+use Rattle.std.proofs.Common.{refl}
+use Rattle.pmp_lint.specs.Findings.{told_rows}
+use Rattle.pmp_audit.proofs.reasons.find_in.Goals as goal
+
+pub returns-clause-ok : goal.returns-clause-ok
+returns-clause-ok c =
+    let says = c.in_ok-append_lint.ensures.ok in
+    record {
+      text = told_rows c.args.accepted.now says.findings;
+      says = record says { rows = refl };
+      appended = says.rows;
+    }
