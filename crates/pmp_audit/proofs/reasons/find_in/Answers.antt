@@ -7,6 +7,13 @@ returns-clause-ok c =
     let says = c.in_ok-append_lint.ensures.ok in
     record {
       text = told_rows c.args.accepted.now says.findings;
-      says = record says { rows = refl };
+      says = record {
+        contents = says.contents;
+        script_means = says.script_means;
+        findings = says.findings;
+        findings_are = says.findings_are;
+        rows = refl;
+        counted = says.counted;
+      };
       appended = says.rows;
     }
