@@ -1,7 +1,7 @@
 # Completion of pmp for bash.
 _pmp() {
     local word=${COMP_WORDS[COMP_CWORD]} before=${COMP_WORDS[COMP_CWORD - 1]} files= words=
-    local commands='check audit policy dump map picture entries writes diff import'
+    local commands='check audit policy dump map picture entries writes diff harts import'
     if [ "$COMP_CWORD" = 1 ]; then
         COMPREPLY=($(compgen -W "$commands help --help --version" -- "$word"))
         return
@@ -15,8 +15,9 @@ _pmp() {
         picture) words='--explain --after stdin'; files=yes ;;
         writes) words='--explain stdin'; files=yes ;;
         diff) words='--explain --old-after --new-after --only --names stdin'; files=yes ;;
+        harts) words='--explain --names'; files=yes ;;
         import)
-            words='--explain --hart --xlen --entries --grain --address-bits --smepmp --bursts stdin'
+            words='--explain --hart --xlen --entries --grain --address-bits --smepmp --bursts --folder stdin'
             if [ "$COMP_CWORD" = 2 ]; then words='qemu gdb openocd spike dump'; else files=yes; fi
             ;;
         help) words="$commands script trace rows" ;;
@@ -29,7 +30,7 @@ _pmp() {
         --smepmp) words='yes no' files= ;;
         --after | --old-after | --new-after) words='last mml mmwp rlb-clear' files= ;;
         --jobs | --first-row) words= files= ;;
-        --names) words= files=yes ;;
+        --names | --folder) words= files=yes ;;
         --hart | --entries | --grain | --address-bits) words= files= ;;
     esac
     COMPREPLY=($(compgen -W "$words" -- "$word"))

@@ -1,5 +1,5 @@
 # Completion of pmp for fish.
-set -l commands check audit policy dump map picture entries writes diff import
+set -l commands check audit policy dump map picture entries writes diff harts import
 complete -c pmp -n __fish_use_subcommand -f -l help -d 'tell of the commands'
 complete -c pmp -n __fish_use_subcommand -f -l version -d 'write the version'
 complete -c pmp -n __fish_use_subcommand -f -a check -d 'decide one access'
@@ -11,13 +11,14 @@ complete -c pmp -n __fish_use_subcommand -f -a picture -d 'draw which bytes each
 complete -c pmp -n __fish_use_subcommand -f -a entries -d 'write what each entry is and how it is locked'
 complete -c pmp -n __fish_use_subcommand -f -a writes -d 'write what each write changes'
 complete -c pmp -n __fish_use_subcommand -f -a diff -d 'write where two scripts differ'
+complete -c pmp -n __fish_use_subcommand -f -a harts -d 'write where the harts of a folder differ'
 complete -c pmp -n __fish_use_subcommand -f -a import -d 'write a script of a log'
 complete -c pmp -n __fish_use_subcommand -f -a help -d 'tell of a command'
 complete -c pmp -n '__fish_seen_subcommand_from help' -f -a "$commands script trace rows"
 complete -c pmp -n "__fish_seen_subcommand_from $commands" -l explain -d 'explain a refusal'
 complete -c pmp -n '__fish_seen_subcommand_from check dump map picture entries' -l after -x \
     -a 'last mml mmwp rlb-clear' -d 'take the first N publications'
-complete -c pmp -n '__fish_seen_subcommand_from policy map entries diff' -l names -r \
+complete -c pmp -n '__fish_seen_subcommand_from policy map entries diff harts' -l names -r \
     -d 'write the names of the bytes behind each row'
 complete -c pmp -n '__fish_seen_subcommand_from dump' -l script -d 'write a script of these registers'
 complete -c pmp -n '__fish_seen_subcommand_from check' -l expect -x -a 'allow fault' \
@@ -41,5 +42,6 @@ complete -c pmp -n '__fish_seen_subcommand_from import' -l entries -x -d 'say ho
 complete -c pmp -n '__fish_seen_subcommand_from import' -l grain -x -d 'say its grain in bytes'
 complete -c pmp -n '__fish_seen_subcommand_from import' -l address-bits -x -d 'say how many bits an address has'
 complete -c pmp -n '__fish_seen_subcommand_from import' -l smepmp -x -a 'yes no' -d 'say whether it has Smepmp'
+complete -c pmp -n '__fish_seen_subcommand_from import' -l folder -r -d 'make a folder with a script of each hart'
 complete -c pmp -n '__fish_seen_subcommand_from import' -l bursts \
     -d 'make one publication of writes on lines side by side'

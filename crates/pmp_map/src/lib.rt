@@ -10,6 +10,7 @@
 mod answer;
 mod around;
 mod cuts;
+mod hold;
 pub mod laws;
 mod mode_rights;
 mod painting;
@@ -24,6 +25,7 @@ mod tables;
 
 pub use answer::{NO_CAUSE, answer_number, cause_number, no_access};
 pub use around::run_around;
+pub use hold::is_held;
 pub use mode_rights::{ModeRights, whole_cause};
 pub use range_rights::rights_in;
 pub use request::{access_of, kind_of, mode_of};

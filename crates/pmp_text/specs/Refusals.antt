@@ -10,6 +10,7 @@ use Rattle.pmp_text.specs.declared.refusal.Refusal.TheVariants.{NoPlace, Full, M
 use Rattle.pmp_text.specs.declared.refusal.Refusal.TheVariants.{LateHead, Twice, BadEntries, BadBits, NotHeld, BadGrain}
 use Rattle.pmp_text.specs.declared.refusal.Refusal.TheVariants.{BadMark, OpenMark, NoMoment, BadEntry, BadEvent, NoHart}
 use Rattle.pmp_text.specs.declared.refusal.Refusal.TheVariants.{BadFormat, BadFolder, TooMany}
+use Rattle.pmp_text.specs.declared.refusal.Refusal.TheVariants.{Overlap, BadPair, TooFine, FewEntries, Stopped}
 
 abbrev pub number_of : Refusal → ℕ
 number_of BadLength = 3
@@ -48,6 +49,11 @@ number_of NoHart = 61
 number_of BadFormat = 62
 number_of TooMany = 63
 number_of BadFolder = 64
+number_of Overlap = 65
+number_of BadPair = 66
+number_of TooFine = 67
+number_of FewEntries = 68
+number_of Stopped = 69
 
 abbrev pub name_of : Refusal → List ℕ
 name_of BadLength = codes "BadLength"
@@ -86,6 +92,11 @@ name_of NoHart = codes "NoHart"
 name_of BadFormat = codes "BadFormat"
 name_of TooMany = codes "TooMany"
 name_of BadFolder = codes "BadFolder"
+name_of Overlap = codes "Overlap"
+name_of BadPair = codes "BadPair"
+name_of TooFine = codes "TooFine"
+name_of FewEntries = codes "FewEntries"
+name_of Stopped = codes "Stopped"
 
 -- the program's exit status: 3 where memory, input, output or a shared unit failed, and else 2
 abbrev pub status_of : Refusal → ℕ

@@ -41,8 +41,8 @@ pub use policy::{
 };
 pub use refusal::{InputFault, Refusal, ScriptKind, TraceKind};
 pub use script::{
-    MAX_EVENTS, MAX_HEADED_SCRIPT, MAX_SCRIPT, Script, ScriptFault, Words, is_headed, read_script,
-    split_first_line,
+    MAX_EVENTS, MAX_HEADED_SCRIPT, MAX_SCRIPT, Script, ScriptFault, Words, is_headed, read_rights,
+    read_script, split_first_line,
 };
 pub use sink::Sink;
 pub use trace::{MAX_TRACE, Place, Row, RowReader, TraceFault, read_trace};

@@ -84,6 +84,16 @@ pub enum Refusal {
     /// A folder without scripts, with too many, or with a name that rows can't begin with, or two folders with other
     /// names.
     BadFolder = 64,
+    /// Two rows of a plan have a byte in common.
+    Overlap = 65,
+    /// Rights of a plan's row that no entry gives, or none that can be held.
+    BadPair = 66,
+    /// A row of a plan begins or ends inside a grain.
+    TooFine = 67,
+    /// A plan takes more entries than the hart has.
+    FewEntries = 68,
+    /// The search for a plan's entries stopped at its bound.
+    Stopped = 69,
 }
 
 /// Why a script is refused: 10 to 17, 40, and in version 3 50 to 57, 59 and 63.
@@ -142,6 +152,11 @@ impl Refusal {
             Refusal::BadFormat => "BadFormat",
             Refusal::TooMany => "TooMany",
             Refusal::BadFolder => "BadFolder",
+            Refusal::Overlap => "Overlap",
+            Refusal::BadPair => "BadPair",
+            Refusal::TooFine => "TooFine",
+            Refusal::FewEntries => "FewEntries",
+            Refusal::Stopped => "Stopped",
         }
     }
 
@@ -213,6 +228,12 @@ impl Refusal {
             Refusal::TooMany => "at most 1048576 events and as many publications",
             Refusal::BadFolder =>
                 "1 to 4096 scripts in the folder, each NAME.pmp of at most 255 letters, digits, - _ and .; in two folders the same names",
+            Refusal::Overlap => "rows that have no byte in common",
+            Refusal::BadPair =>
+                "rights of M and of S and U that one entry gives, with the MML asked for; of a locked row, one whose lock holds",
+            Refusal::TooFine => "rows that begin and end between two grains of the hart",
+            Refusal::FewEntries => "a plan for the entries that the hart has",
+            Refusal::Stopped => "a plan whose entries are found within the bound of the search",
         }
     }
 
@@ -269,6 +290,12 @@ impl Refusal {
             Refusal::TooMany =>
                 "cut the script at a publish, and begin the next one with the registers that it leaves",
             Refusal::BadFolder => "put one script a hart there, named as hart0.pmp is",
+            Refusal::Overlap => "cut one of the two where the other begins or ends",
+            Refusal::BadPair =>
+                "without MML give M rwx, or in a locked row what S and U have; with MML see the table of Smepmp",
+            Refusal::TooFine => "move the row's ends to multiples of the grain, in bytes",
+            Refusal::FewEntries => "join rows of the same rights, or move ends to powers of two",
+            Refusal::Stopped => "make the plan smaller: it may have entries all the same",
         }
     }
 }

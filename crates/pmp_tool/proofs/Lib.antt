@@ -1,6 +1,8 @@
 pub mod Answering
 pub mod Building
 pub mod Explaining
+pub mod HartComparing
+pub mod HartImporting
 pub mod Harting
 pub mod LineLengths
 pub mod Matching

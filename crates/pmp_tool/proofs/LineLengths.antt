@@ -73,6 +73,7 @@ note_text_fits (note.Guessed hart entries left) small = simp length-append
     (omega (arith, digits_fit hart small.0, digits_fit entries small.1, left_fits left small.2))
 note_text_fits (note.Taken hart entries) small =
     simp length-append (omega (arith, digits_fit hart small.0, digits_fit entries small.1))
+note_text_fits (note.Scripts count) small = simp length-append (omega (arith, digits_fit count small))
 
 pub note_fits : NoteFitsLaw
 note_fits one small = simp length-append (omega (arith, note_text_fits one small))

@@ -1,6 +1,6 @@
 -- Why a run gives no answer.
 use Rattle.std.proofs.Common.{◌≡◌, ◌≢◌, ◌⊎◌, ◌∙◌, refl, sym, ap, subst, inl, inr, ℕ, List, Option, Result, Ok, Err}
-use Rattle.std.proofs.Common.{Bor, IfErr, IfOk, None, Some, option_map}
+use Rattle.std.proofs.Common.{Bool, Bor, IfErr, IfOk, None, Some, option_map, true, false}
 use Rattle.std.proofs.lemmas.Result.{IfErr-weaker, IfOk-weaker}
 use Rattle.std.specs.Io.KnownBytes.{Appends, Keeps}
 use Rattle.clap.specs.Words.{HasKind, IsAmong, Text, fault_of, kind_of}
@@ -34,10 +34,13 @@ use Rattle.pmp_tool.specs.Requests.{Declines, InputFails, MomentFails, RequestFa
 use Rattle.pmp_tool.specs.declared.harts.Harts.{Harts}
 use Rattle.pmp_tool.specs.declared.naming.Naming.{Naming}
 use Rattle.pmp_tool.specs.CommandAnswers.{CommandFails, no_script, of_script}
+use Rattle.pmp_tool.specs.HartComparisons.{CantCompare, FolderFailsBy, cant_compare, compares_harts, no_first, no_path}
+use Rattle.pmp_tool.specs.HartImports.{new_folder}
 use Rattle.pmp_tool.specs.Harts.{HartsFail, on_hart}
 use Rattle.pmp_tool.specs.Harts.{no_output as no_rows, no_room as no_rows_kept}
 use Rattle.pmp_tool.specs.NamedAnswers.{OneFails, apart, at_once, unkept, unwritten}
-use Rattle.pmp_tool.specs.Runs.{Answers, Done, Fails, TextFails, Undone, UndoneAt, UndoneBy, UndoneWith, bad_names, does}
+use Rattle.pmp_tool.specs.Runs.{Answers, Done, Fails, TextFails, Undone, UndoneAt, UndoneBy, UndoneFor, UndoneWith, bad_names}
+use Rattle.pmp_tool.specs.Runs.{does}
 use Rattle.pmp_tool.specs.Runs.{no_command, no_harts, no_memory, no_names, no_output, no_room, no_room_for_names}
 use Rattle.pmp_tool.specs.Runs.{no_text, of_harts, of_one, refused_word, refused_words, tells, undone_by}
 
@@ -133,6 +136,7 @@ module _ (before after : Option (List ℕ)) (scripts traces : Inputs) where
   request_keeps script (request.Diff diff) failure fails two =
       inr (moment_keeps fails (λ fails. input_keeps fails (λ new fails.
       moment_keeps fails (λ fails. declines_keep fails two))))
+  request_keeps script request.Harts failure fails two = inr fails.1
   request_keeps script (request.Import import) failure fails two = inl (inr (import, refl))
 
   command_keeps : (command : Command) (failure : Failure) → CommandFails scripts traces command before after failure
@@ -148,6 +152,20 @@ harts_keep (on_hart answers hart rest one failure part are is fails keeps) two =
 harts_keep (no_rows_kept keeps) two = keeps
 harts_keep (no_rows answers are front) two = absurd cc
 
+unlike_keep : {scripts traces : Inputs} {command : Command} {naming : Option Naming} {harts : Harts} {before after : Option (List ℕ)}
+    {failure : Failure} → CantCompare scripts traces command naming harts before after failure
+    → failure_status failure ≡ 2 → Keeps before after
+unlike_keep (cant_compare one others failure is failed) two = harts_keep failed two
+unlike_keep (no_first none keeps) two = keeps
+unlike_keep (no_path keeps) two = keeps
+
+folder_keeps : (scripts traces : Inputs) (command : Command) (naming : Option Naming) (harts : Harts)
+    (before after : Option (List ℕ)) (failure : Failure) (compares : Bool)
+    → FolderFailsBy scripts traces command naming harts before after compares failure → failure_status failure ≡ 2
+    → Keeps before after
+folder_keeps scripts traces command naming harts before after failure true failed two = unlike_keep failed two
+folder_keeps scripts traces command naming harts before after failure false failed two = harts_keep failed two
+
 one_keeps : {scripts traces : Inputs} {command : Command} {before after : Option (List ℕ)} {naming : Option Naming}
     {failure : Failure} → OneFails scripts traces command before after naming failure → failure_status failure ≡ 2
     → IsLong command.request ⊎ Keeps before after
@@ -162,7 +180,8 @@ by_keeps : {scripts traces : Inputs} {folders : Folders} {command : Command} {be
     → IsLong command.request ⊎ Keeps before after
 by_keeps (no_harts failure unfound keeps) two = inr keeps
 by_keeps (of_one failure none fails) two = one_keeps fails two
-by_keeps (of_harts harts failure some fails) two = inr (harts_keep fails two)
+by_keeps {command = command} (of_harts harts failure some fails) two =
+    inr (folder_keeps _ _ command _ harts _ _ failure (compares_harts command.request) fails two)
 
 with_keeps : {scripts traces : Inputs} {folders : Folders} {command : Command} {before after : Option (List ℕ)}
     {path : List ℕ} {failure : Failure}
@@ -180,6 +199,14 @@ at_keeps : (scripts traces : Inputs) (folders : Folders) (command : Command) (be
 at_keeps scripts traces folders command before after failure None undone two = by_keeps undone two
 at_keeps scripts traces folders command before after failure (Some path) undone two = with_keeps undone two
 
+for_keeps : (scripts traces : Inputs) (folders : Folders) (command : Command) (before after : Option (List ℕ))
+    (failure : Failure) (folder : Option (Import × Text))
+    → UndoneFor scripts traces folders command before after folder failure → failure_status failure ≡ 2
+    → IsLong command.request ⊎ Keeps before after
+for_keeps scripts traces folders command before after failure None undone two =
+    at_keeps scripts traces folders command before after failure command.names undone two
+for_keeps scripts traces folders command before after failure (Some (import, path)) undone two = inr undone.1
+
 text_keeps : {before after : Option (List ℕ)} {failure : Failure} → TextFails before after failure
     → failure_status failure ≡ 2 → Keeps before after
 text_keeps (no_room keeps) two = keeps
@@ -188,9 +215,9 @@ text_keeps (no_output text front) two = absurd cc
 -- what a command that the words ask for does is what they ask for
 module _ (words : List Text) (scripts traces : Inputs) (folders : Folders) (command : Command)
     (before after : Option (List ℕ)) (asks : WordsAskFor words (asked command)) (result : Result Outcome Failure) where
-  pub answered : IfOk result (Done scripts traces folders command before after)
-      → IfOk result (Answers words scripts traces folders before after)
-  answered = IfOk-weaker result _ _ (λ outcome is. does command outcome asks is)
+  pub answered : (made : Inputs) → IfOk result (Done scripts traces folders command before after made)
+      → IfOk result (Answers words scripts traces folders before after made)
+  answered made = IfOk-weaker result _ _ (λ outcome is. does command outcome asks is)
 
   pub unanswered : IfErr result (Undone scripts traces folders command before after)
       → IfErr result (Fails words scripts traces folders before after)
@@ -200,8 +227,9 @@ module _ (words : List Text) (scripts traces : Inputs) (folders : Folders) (comm
 pub text_told : (words : List Text) (scripts traces : Inputs) (folders : Folders) (before after : Option (List ℕ))
     → MayAskForText words → (result : Result Outcome Failure)
     → IfOk result (λ outcome. (outcome ≡ Told) × ((bytes : List ℕ) × Appends before after bytes))
-    → IfOk result (Answers words scripts traces folders before after)
-text_told words scripts traces folders before after may (Ok outcome) (is, (text, written)) = rw is (tells text may written)
+    → IfOk result (Answers words scripts traces folders before after scripts)
+text_told words scripts traces folders before after may (Ok outcome) (is, (text, written)) =
+    rw is (tells text may written refl)
 text_told words scripts traces folders before after may (Err failure) told = tt
 
 -- a command of a long audit is what the words ask for
@@ -214,6 +242,7 @@ long_or_kept words command before after asks (inl (inr (import, is))) =
       log = import.log.now;
       format = import.format;
       options = import.options;
+      folder = option_map (λ path. path.now) import.folder;
       names = option_map (λ path. path.now) command.names;
       task = (
         asks.0,
@@ -250,7 +279,7 @@ keeps_at_two (refused_word fault refused keeps) two = inr keeps
 keeps_at_two (no_memory keeps) two = inr keeps
 keeps_at_two (no_text failure asked fails) two = inr (text_keeps fails two)
 keeps_at_two {words = words} (no_command command failure asks fails) two =
-    long_or_kept words command _ _ asks (at_keeps _ _ _ command _ _ failure command.names fails two)
+    long_or_kept words command _ _ asks (for_keeps _ _ _ command _ _ failure (new_folder command.request) fails two)
 
 -- names that can't be read are why a command gets no answer
 pub names_fail : (scripts traces : Inputs) (folders : Folders) (command : Command) (before after : Option (List ℕ))

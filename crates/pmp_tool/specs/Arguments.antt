@@ -8,7 +8,7 @@ use Rattle.pmp_tool.specs.declared.argument.Argument.{Argument}
 use Rattle.pmp_tool.specs.declared.argument.Argument.TheVariants as argument
 use Rattle.pmp_tool.specs.declared.command_name.CommandName.{CommandName}
 use Rattle.pmp_tool.specs.declared.command_name.CommandName.TheVariants.{Check, Audit, Policy, Dump, Map, Picture}
-use Rattle.pmp_tool.specs.declared.command_name.CommandName.TheVariants.{Entries, Writes, Diff, Import}
+use Rattle.pmp_tool.specs.declared.command_name.CommandName.TheVariants.{Entries, Writes, Diff, Harts, Import}
 use Rattle.pmp_tool.specs.declared.jobs.TheConstants.{JOBS}
 
 -- a word that its command requires
@@ -61,6 +61,8 @@ rule_in argument.AddressBits = option_rule (codes "address-bits")
 rule_in argument.Smepmp = option_rule (codes "smepmp")
 rule_in argument.Bursts = flag_rule (codes "bursts")
 rule_in argument.Names = option_rule (codes "names")
+rule_in argument.Folder = option_rule (codes "folder")
+rule_in argument.Harts = word_rule (codes "script")
 
 -- the id by which clap knows it
 abbrev pub id_of : Argument → Text
@@ -68,7 +70,7 @@ id_of argument = (rule_in argument).id
 
 -- the commands, in the order of the help
 abbrev pub commands : List CommandName
-commands = Check ∷ Audit ∷ Policy ∷ Dump ∷ Map ∷ Picture ∷ Entries ∷ Writes ∷ Diff ∷ Import ∷ []
+commands = Check ∷ Audit ∷ Policy ∷ Dump ∷ Map ∷ Picture ∷ Entries ∷ Writes ∷ Diff ∷ Harts ∷ Import ∷ []
 
 abbrev pub command_word : CommandName → Text
 command_word Check = codes "check"
@@ -80,6 +82,7 @@ command_word Picture = codes "picture"
 command_word Entries = codes "entries"
 command_word Writes = codes "writes"
 command_word Diff = codes "diff"
+command_word Harts = codes "harts"
 command_word Import = codes "import"
 
 -- a command's arguments, in the order of the help
@@ -100,6 +103,7 @@ arguments_of Writes = argument.Script ∷ argument.Explain ∷ []
 arguments_of Diff =
     argument.Old ∷ argument.Explain ∷ argument.New ∷ argument.OldAfter ∷ argument.NewAfter ∷ argument.Only
     ∷ argument.Names ∷ []
+arguments_of Harts = argument.Harts ∷ argument.Explain ∷ argument.Names ∷ []
 arguments_of Import =
     argument.Format ∷ argument.Explain ∷ argument.Log ∷ argument.Hart ∷ argument.Xlen ∷ argument.Entries ∷ argument.Grain
-    ∷ argument.AddressBits ∷ argument.Smepmp ∷ argument.Bursts ∷ []
+    ∷ argument.AddressBits ∷ argument.Smepmp ∷ argument.Bursts ∷ argument.Folder ∷ []

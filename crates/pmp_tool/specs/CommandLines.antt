@@ -73,8 +73,9 @@ pub record AsksForImport (words : List Text) : Type 0 where
   pub log : Text
   pub format : Format
   pub options : Options
+  pub folder : Option Text
   pub names : Option Text
-  pub task : WordsAskFor words (record { script = script; names = names; task = Import log format options })
+  pub task : WordsAskFor words (record { script = script; names = names; task = Import log format options folder })
 
 -- the words ask for what is written piece by piece
 abbrev pub AsksForPieces : List Text → Type 0

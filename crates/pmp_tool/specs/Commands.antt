@@ -1,6 +1,6 @@
 -- What the matches of the command line ask for.
 use Rattle.std.specs.Prelude.{Bool, true, ℕ, ◌-◌, ◌^◌, List, ◌&&◌, ◌||◌, Option, Some, None, unwrap_or, ok_or, option_map, Result, Ok, Err}
-use Rattle.std.specs.Prelude.{if◌then◌else◌, codes, find}
+use Rattle.std.specs.Prelude.{if◌then◌else◌, codes, find, is_some}
 use Rattle.std.specs.Str.{bytes_eq}
 use Rattle.clap.specs.Words.{Row, Text}
 use Rattle.pmp_core.specs.declared.access.Access.{Access}
@@ -36,7 +36,7 @@ use Rattle.pmp_text.specs.declared.refusal.Refusal.TheVariants.{BadFormat, BadLe
 use Rattle.pmp_tool.specs.declared.fault_line.FaultLine.{FaultLine}
 use Rattle.pmp_tool.specs.declared.word.Xlen.{Xlen}
 use Rattle.pmp_tool.specs.Arguments.{command_word, commands}
-use Rattle.pmp_tool.specs.Words.{and_then, asked_in, count_in, expected_named, is_bare_word, is_set, is_used}
+use Rattle.pmp_tool.specs.Words.{and_then, asked_in, bad_word, count_in, expected_named, is_bare_word, is_set, is_used}
 use Rattle.pmp_tool.specs.Words.{needed_in, of_no_word, of_word, only_named, smepmp_named, word_in, xlen_named}
 
 -- an access, in plain values
@@ -55,7 +55,8 @@ pub data Task : Type 0 where
   Show : View → (after : Option When) → Task
   Writes : Task
   Diff : (new : Text) (old_after new_after : Option When) → Option Only → Task
-  Import : (log : Text) → Format → Options → Task
+  Harts : Task
+  Import : (log : Text) → Format → Options → (folder : Option Text) → Task
 
 abbrev pub access_task : Access → AccessTask
 access_task access = record { mode = access.mode; kind = access.kind; start = access.start; length = access.length }
@@ -68,7 +69,8 @@ task_of (request.Policy policy pace) = Policy policy.now pace
 task_of (request.Show view after) = Show view after
 task_of request.Writes = Writes
 task_of (request.Diff diff) = Diff diff.new.now diff.old_after diff.new_after diff.only
-task_of (request.Import log) = Import log.log.now log.format log.options
+task_of request.Harts = Harts
+task_of (request.Import log) = Import log.log.now log.format log.options (option_map (λ path. path.now) log.folder)
 
 -- a task, the path of the script, and that of names for its rows
 pub record Asked : Type 0 where
@@ -183,12 +185,21 @@ options_in rows =
     and_then (asked_in xlen_named argument.Xlen rows) (λ xlen.
     and_then (asked_in word_number argument.Entries rows) (λ entries. options_with xlen hart entries rows)))
 
--- the form is read before the log's place, and the options last
+-- the folder for the scripts of all harts: none of them is asked for then, and the log is read several times
+abbrev pub folder_in : (log : Text) → Options → List Row → Result (Option Text) FaultLine
+folder_in log options rows = elim (word_in argument.Folder rows) [
+  | None ↦ Ok None
+  | Some path ↦ if is_some options.hart || bytes_eq log (codes "stdin") then Err (bad_word argument.Folder)
+      else Ok (Some path)
+]
+
+-- the form is read before the log's place, and the folder last
 abbrev pub import_in : List Row → Result Task FaultLine
 import_in rows =
     and_then (format_in rows) (λ format.
     and_then (path_in argument.Script rows) (λ log.
-    and_then (options_in rows) (λ options. Ok (Import log format options))))
+    and_then (options_in rows) (λ options.
+    and_then (folder_in log options rows) (λ folder. Ok (Import log format options folder)))))
 
 -- what a command's matches ask for
 abbrev pub task_in : CommandName → List Row → Result Task FaultLine
@@ -201,6 +212,7 @@ task_in name.Picture rows = show_in Picture rows
 task_in name.Entries rows = show_in Entries rows
 task_in name.Writes rows = Ok Writes
 task_in name.Diff rows = diff_in rows
+task_in name.Harts rows = Ok Harts
 task_in name.Import rows = import_in rows
 
 abbrev pub command_named : Text → Option CommandName

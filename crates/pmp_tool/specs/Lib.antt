@@ -20,4 +20,7 @@ pub mod Notes
 -- The rest, which only private contracts cite.
 pub mod Building
 pub mod Finding
+pub mod HartComparisons
+pub mod HartImports
+pub mod HartScripts
 pub mod HartSteps

@@ -37,6 +37,7 @@ IsNumberedNote (note.TraceRow row) = row < 2 ^ 64
 IsNumberedNote (note.PolicyRow row) = row < 2 ^ 64
 IsNumberedNote (note.Guessed hart entries left) = (hart < 2 ^ 64) × (entries < 2 ^ 64) × (left < 2 ^ 64)
 IsNumberedNote (note.Taken hart entries) = (hart < 2 ^ 64) × (entries < 2 ^ 64)
+IsNumberedNote (note.Scripts count) = count < 2 ^ 64
 
 -- and so does a note's
 abbrev pub NoteFitsLaw : Type 0

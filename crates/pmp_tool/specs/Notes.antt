@@ -4,7 +4,7 @@ use Rattle.std.specs.Prelude.{ℕ, List, [], ◌++◌, ◌==◌, codes, decimal,
 use Rattle.std.specs.Io.KnownBytes.{Keeps}
 use Rattle.pmp_text.specs.Bytes.{AppendsBeginning}
 use Rattle.pmp_tool.specs.declared.note.Note.{Note}
-use Rattle.pmp_tool.specs.declared.note.Note.TheVariants.{Start, TraceRow, PolicyRow, Guessed, Taken}
+use Rattle.pmp_tool.specs.declared.note.Note.TheVariants.{Start, TraceRow, PolicyRow, Guessed, Taken, Scripts}
 use Rattle.pmp_tool.specs.declared.outcome.Outcome.{Outcome}
 use Rattle.pmp_tool.specs.declared.outcome.Outcome.TheVariants.{Decided, Audited, Judged, Imported}
 
@@ -32,6 +32,7 @@ note_text (Guessed hart entries left) = codes "hart " ++ (decimal hart ++ (codes
     ++ (codes " entries" ++ left_text left))))
 note_text (Taken hart entries) = codes "hart " ++ (decimal hart ++ (codes ", " ++ (decimal entries
     ++ codes " entries, since the log is read once")))
+note_text (Scripts count) = codes "scripts written: " ++ decimal count
 
 -- with its LF
 abbrev pub note_line : Note → List ℕ

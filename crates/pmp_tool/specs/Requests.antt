@@ -14,6 +14,7 @@ use Rattle.pmp_text.specs.ScriptLines.{is_headed}
 use Rattle.pmp_text.specs.declared.moments.When.{When}
 use Rattle.pmp_text.specs.declared.moments.When.TheVariants.{Labelled, Number}
 use Rattle.pmp_text.specs.declared.refusal.Refusal.{Refusal}
+use Rattle.pmp_text.specs.declared.refusal.Refusal.TheVariants.{BadFolder}
 use Rattle.pmp_text.specs.declared.script.reader.TheConstants.{MAX_HEADED_SCRIPT}
 use Rattle.pmp_text.specs.declared.trace.reader.TheConstants.{MAX_TRACE}
 use Rattle.pmp_audit.specs.declared.fault.AuditFault.{AuditFault}
@@ -36,7 +37,7 @@ use Rattle.pmp_tool.specs.declared.failure.Failure.{Failure}
 use Rattle.pmp_tool.specs.declared.failure.Failure.TheVariants.{Refused}
 use Rattle.pmp_tool.specs.declared.fault_line.FaultLine.{FaultLine}
 use Rattle.pmp_tool.specs.declared.request.Request.{Request}
-use Rattle.pmp_tool.specs.declared.request.Request.TheVariants.{Check, Audit, LongAudit, Policy, Show, Writes, Diff}
+use Rattle.pmp_tool.specs.declared.request.Request.TheVariants.{Check, Audit, LongAudit, Policy, Show, Writes, Diff, Harts}
 use Rattle.pmp_tool.specs.declared.request.Request.TheVariants.{Import as OfLog}
 use Rattle.pmp_tool.specs.declared.outcome.Outcome.{Outcome}
 use Rattle.pmp_tool.specs.declared.outcome.Outcome.TheVariants.{Decided, Audited, Judged, Listed, Replayed, Compared}
@@ -190,4 +191,6 @@ module _ (before after : Option (List ℕ)) where
         (λ new. MomentFails new argument.NewAfter diff.new_after
         (Declines (DiffSays script diff.old_after new diff.new_after diff.only)
         (DiffRefuses script diff.old_after new diff.new_after))))
+    -- one script has no other hart
+    RequestFails Harts = λ failure. (failure ≡ refused BadFolder) × Keeps before after
     RequestFails (OfLog import) = ImportFails (traces import.log.now) import before after

@@ -18,10 +18,13 @@ use Rattle.pmp_tool.specs.declared.harts.Harts.{Harts}
 use Rattle.pmp_tool.specs.declared.naming.Naming.{Naming}
 use Rattle.pmp_tool.specs.declared.outcome.Outcome.{Outcome}
 use Rattle.pmp_tool.specs.declared.outcome.Outcome.TheVariants.{Told}
+use Rattle.pmp_tool.specs.declared.request.Import.{Import}
 use Rattle.pmp_tool.specs.CommandLines.{IsRefusedCommandLine, MayAskForText, WordsAskFor, WordsAreRefused}
 use Rattle.pmp_tool.specs.Commands.{asked}
 use Rattle.pmp_tool.specs.Failures.{refused, unnamed}
-use Rattle.pmp_tool.specs.Harts.{AreUnfound, HartsAnswer, HartsFail, IsOfNone, IsOfSome}
+use Rattle.pmp_tool.specs.HartComparisons.{FolderAnswer, FolderFails}
+use Rattle.pmp_tool.specs.HartImports.{CantMake, Makes, new_folder}
+use Rattle.pmp_tool.specs.Harts.{AreUnfound, IsOfNone, IsOfSome}
 use Rattle.pmp_tool.specs.Inputs.{AreBytesOf, CantBeRead, Folders, Inputs}
 use Rattle.pmp_tool.specs.NamedAnswers.{OneAnswer, OneFails}
 use Rattle.pmp_tool.specs.Names.{IsNamingOf}
@@ -31,7 +34,7 @@ module _ (scripts traces : Inputs) (folders : Folders) (command : Command) (befo
   abbrev pub DoneBy : Option Naming → Outcome → Type 0
   DoneBy naming outcome = (IsOfNone folders command × OneAnswer scripts traces command before after naming outcome)
       ⊎ ((harts : Harts) × IsOfSome folders command harts
-      × HartsAnswer scripts traces command naming harts before after outcome)
+      × FolderAnswer scripts traces command naming harts before after outcome)
 
   -- why it gets no answer
   pub data UndoneBy (naming : Option Naming) : Failure → Type 0 where
@@ -40,7 +43,7 @@ module _ (scripts traces : Inputs) (folders : Folders) (command : Command) (befo
     of_one : (failure : Failure) → IsOfNone folders command
         → OneFails scripts traces command before after naming failure → UndoneBy naming failure
     of_harts : (harts : Harts) (failure : Failure) → IsOfSome folders command harts
-        → HartsFail scripts traces command naming harts before after failure → UndoneBy naming failure
+        → FolderFails scripts traces command naming harts before after failure → UndoneBy naming failure
 
   -- with the names of the text at a path
   abbrev pub DoneWith : (path : List ℕ) → Outcome → Type 0
@@ -65,20 +68,30 @@ module _ (scripts traces : Inputs) (folders : Folders) (command : Command) (befo
   UndoneAt None = UndoneBy None
   UndoneAt (Some path) = UndoneWith path.now
 
-  abbrev pub Done : Outcome → Type 0
-  Done = DoneAt command.names
+  -- a folder was made where it asks for one, and the scripts at all paths are as before where it doesn't
+  abbrev pub DoneFor : Option (Import × Text) → (made : Inputs) → Outcome → Type 0
+  DoneFor None made outcome = DoneAt command.names outcome × (made ≡ scripts)
+  DoneFor (Some (import, path)) made outcome =
+      Makes scripts traces command import path made outcome × Keeps before after
+
+  abbrev pub UndoneFor : Option (Import × Text) → Failure → Type 0
+  UndoneFor None failure = UndoneAt command.names failure
+  UndoneFor (Some (import, path)) failure = CantMake scripts traces command import failure × Keeps before after
+
+  abbrev pub Done : (made : Inputs) → Outcome → Type 0
+  Done = DoneFor (new_folder command.request)
 
   abbrev pub Undone : Failure → Type 0
-  Undone = UndoneAt command.names
+  Undone = UndoneFor (new_folder command.request)
 
 -- what the words ask for was written: help or the version, or the answer to a command
 pub data Answers (words : List Text) (scripts traces : Inputs) (folders : Folders) (before after : Option (List ℕ))
-    : Outcome → Type 0 where
-  tells : (text : List ℕ) → MayAskForText words → Appends before after text
-      → Answers words scripts traces folders before after Told
+    (made : Inputs) : Outcome → Type 0 where
+  tells : (text : List ℕ) → MayAskForText words → Appends before after text → made ≡ scripts
+      → Answers words scripts traces folders before after made Told
   does : (command : Command) (outcome : Outcome) → WordsAskFor words (asked command)
-      → Done scripts traces folders command before after outcome
-      → Answers words scripts traces folders before after outcome
+      → Done scripts traces folders command before after made outcome
+      → Answers words scripts traces folders before after made outcome
 
 -- why a text of help, or the version, isn't written wholly
 pub data TextFails (before after : Option (List ℕ)) : Failure → Type 0 where

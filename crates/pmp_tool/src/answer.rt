@@ -22,7 +22,7 @@ use pmp_audit::{
     show, writes,
 };
 use pmp_import::{Given, import, survey_log};
-use pmp_text::{MAX_HEADED_SCRIPT, When, is_headed};
+use pmp_text::{MAX_HEADED_SCRIPT, Refusal, When, is_headed};
 use std::alloc::Global;
 use std::io::Write;
 use std::sync::Wait;
@@ -71,6 +71,7 @@ fn answer_request<R: Threads + Wait + Sync, I: Inputs, O: Write>(
         Request::Show(view, after) => answer_show(alloc, script, view, after, out),
         Request::Writes => Ok(Outcome::Replayed(writes(alloc, script, out)?)),
         Request::Diff(asked) => answer_diff(alloc, script, asked, inputs, out),
+        Request::Harts => Err(Failure::from(Refusal::BadFolder)),
         Request::Import(asked) => answer_import(alloc, asked, inputs, out),
     }
 }

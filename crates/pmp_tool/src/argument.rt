@@ -48,6 +48,10 @@ pub enum Argument {
     Smepmp,
     Bursts,
     Names,
+    /// The folder that an import makes.
+    Folder,
+    /// The folder whose harts are compared.
+    Harts,
 }
 
 impl Argument {
@@ -58,7 +62,7 @@ impl Argument {
     {
         use Argument::*;
         match self {
-            Script | Old | Log => "script",
+            Script | Old | Log | Harts => "script",
             New => "new",
             Trace => "trace",
             Policy => "policy",
@@ -87,6 +91,7 @@ impl Argument {
             Smepmp => "smepmp",
             Bursts => "bursts",
             Names => "names",
+            Folder => "folder",
         }
     }
 
@@ -110,6 +115,7 @@ impl Argument {
             Format => "FORMAT",
             Log => "LOG",
             Names => "FILE",
+            Folder | Harts => "FOLDER",
             NewAfter => "M",
             Expect => "ANSWER",
             Only => "CHANGE",
@@ -152,6 +158,8 @@ impl Argument {
             Smepmp => help::SMEPMP,
             Bursts => help::BURSTS,
             Names => help::NAMES,
+            Folder => help::FOLDER,
+            Harts => help::HARTS_OF,
         }
     }
 
@@ -178,10 +186,11 @@ impl Argument {
             | Grain
             | AddressBits
             | Smepmp
-            | Names => option(alloc, id, name, help),
+            | Names
+            | Folder => option(alloc, id, name, help),
             Checkers => count(alloc, id, name, CHECKERS, help),
             Jobs => count(alloc, id, name, JOBS, help),
-            Script | Old | New | Trace | Policy | Mode | Kind | Start | Length | Log | Format => {
+            Script | Old | New | Trace | Policy | Mode | Kind | Start | Length | Log | Format | Harts => {
                 word(alloc, id, name, help)
             }
         }
@@ -202,6 +211,7 @@ impl Argument {
             Argument::Jobs => "a number from 1 to 64",
             Argument::Xlen => "32 or 64",
             Argument::Smepmp => "yes or no",
+            Argument::Folder => "a path, without --hart, and a log that isn't stdin",
             _ => "a number",
         }
     }

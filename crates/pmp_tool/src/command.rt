@@ -3,7 +3,7 @@
 ghost use Rattle.std.specs.Prelude.{◌≡◌, option_map};
 ghost use Rattle.clap.specs.Words.{found_of, rows_of, subcommand_rows_of};
 ghost use Rattle.pmp_tool.specs.Commands.{access_in, access_task, asked, asked_of, audit_in, check_in, command_named};
-ghost use Rattle.pmp_tool.specs.Commands.{diff_in, format_in, import_in, long_audit_in, options_in, options_with};
+ghost use Rattle.pmp_tool.specs.Commands.{diff_in, folder_in, format_in, import_in, long_audit_in, options_in, options_with};
 ghost use Rattle.pmp_tool.specs.Commands.{path_in, policy_in, second_in, show_in, task_in};
 ghost use Rattle.pmp_tool.specs.Commands.{task_of, whole_audit_in};
 ghost use Rattle.pmp_tool.specs.Words.{result_map};
@@ -81,6 +81,7 @@ fn read_request<'a>(name: CommandName, words: &ArgMatches<'a>) -> Result<Request
         CommandName::Entries => read_show(View::Entries, words),
         CommandName::Writes => Ok(Request::Writes),
         CommandName::Diff => read_diff(words),
+        CommandName::Harts => Ok(Request::Harts),
         CommandName::Import => read_import(words),
     }
 }
@@ -242,15 +243,35 @@ fn read_options(words: &ArgMatches) -> Result<Options, FaultLine>
     read_options_with(words, xlen, hart, entries)
 }
 
+/// The path of the folder for the scripts of all harts: none of them is asked for then, and the log is read several
+/// times.
+fn read_folder<'a>(
+    words: &ArgMatches<'a>,
+    log: &str,
+    options: Options,
+) -> Result<Option<&'a str>, FaultLine>
+    ensures { result_map (option_map (λ path. path.now)) result
+        ≡ folder_in log.now options (rows_of (found_of words.now)) }
+{
+    match word(words, Argument::Folder) {
+        Some(_) if options.hart.is_some() || log == "stdin" => {
+            Err(FaultLine::of_word(Argument::Folder))
+        }
+        folder => Ok(folder),
+    }
+}
+
 fn read_import<'a>(words: &ArgMatches<'a>) -> Result<Request<'a>, FaultLine>
     ensures { result_map task_of result ≡ import_in (rows_of (found_of words.now)) }
 {
     let format = read_format(words)?;
     let log = path(words, Argument::Script)?;
     let options = read_options(words)?;
+    let folder = read_folder(words, log, options)?;
     Ok(Request::Import(Import {
         log,
         format,
         options,
+        folder,
     }))
 }

@@ -18,12 +18,13 @@ pub enum CommandName {
     Entries,
     Writes,
     Diff,
+    Harts,
     Import,
 }
 
 impl CommandName {
     /// All commands, in the order of the help.
-    pub const ALL: [CommandName; 10] = [
+    pub const ALL: [CommandName; 11] = [
         CommandName::Check,
         CommandName::Audit,
         CommandName::Policy,
@@ -33,6 +34,7 @@ impl CommandName {
         CommandName::Entries,
         CommandName::Writes,
         CommandName::Diff,
+        CommandName::Harts,
         CommandName::Import,
     ];
 
@@ -50,6 +52,7 @@ impl CommandName {
             CommandName::Entries => "entries",
             CommandName::Writes => "writes",
             CommandName::Diff => "diff",
+            CommandName::Harts => "harts",
             CommandName::Import => "import",
         }
     }
@@ -66,6 +69,7 @@ impl CommandName {
             CommandName::Entries => help::ENTRIES,
             CommandName::Writes => help::WRITES,
             CommandName::Diff => help::DIFF,
+            CommandName::Harts => help::HARTS,
             CommandName::Import => help::IMPORT,
         }
     }
@@ -82,6 +86,7 @@ impl CommandName {
             CommandName::Entries => topics::MORE_OF_ENTRIES,
             CommandName::Writes => topics::MORE_OF_WRITES,
             CommandName::Diff => topics::MORE_OF_DIFF,
+            CommandName::Harts => topics::MORE_OF_HARTS,
             CommandName::Import => topics::MORE_OF_IMPORT,
         }
     }
@@ -101,6 +106,7 @@ impl CommandName {
             CommandName::Entries => &[Script, Explain, After, Names],
             CommandName::Writes => &[Script, Explain],
             CommandName::Diff => &[Old, Explain, New, OldAfter, NewAfter, Only, Names],
+            CommandName::Harts => &[Harts, Explain, Names],
             CommandName::Import => &[
                 Format,
                 Explain,
@@ -112,6 +118,7 @@ impl CommandName {
                 AddressBits,
                 Smepmp,
                 Bursts,
+                Folder,
             ],
         }
     }

@@ -25,7 +25,7 @@ use std::sync::Wait;
 use std::thread::Threads;
 
 /// The path of a hart's script, where the path is that of a folder.
-fn path_on(alloc: Global, is_folder: bool, path: &str, name: &str) -> Result<String, AllocError>
+pub fn path_on(alloc: Global, is_folder: bool, path: &str, name: &str) -> Result<String, AllocError>
     ensures { IfOk result (λ on. string_bytes on ≡ path_on is_folder path.now name.now) }
 {
     let mut on = String::from_str(alloc, path)?;
@@ -65,7 +65,7 @@ impl<'a> Request<'a> {
 }
 
 /// Answers a command whose rows are kept in memory: what it did, and the rows.
-fn answer_apart<R: Threads + Wait + Sync, I: Inputs>(
+pub fn answer_apart<R: Threads + Wait + Sync, I: Inputs>(
     rt: &R,
     alloc: Global,
     command: Command<'_>,
@@ -97,6 +97,7 @@ pub fn answer_one<R: Threads + Wait + Sync, I: Inputs, O: Write>(
         (O.contents out.old) (O.contents out.new) naming.entry) }
     ensures err { IfErr result (OneFails (I.scripts inputs.old) (I.traces inputs.old) command.entry
         (O.contents out.old) (O.contents out.new) naming.entry) }
+    ensures scripts { I.scripts inputs.new ≡ I.scripts inputs.old }
 {
     match naming {
         None => answer(rt, alloc, command, inputs, out),
@@ -117,6 +118,7 @@ fn answer_named<R: Threads + Wait + Sync, I: Inputs, O: Write>(
         (O.contents out.old) (O.contents out.new) (Some naming.entry)) }
     ensures err { IfErr result (OneFails (I.scripts inputs.old) (I.traces inputs.old) command.entry
         (O.contents out.old) (O.contents out.new) (Some naming.entry)) }
+    ensures scripts { I.scripts inputs.new ≡ I.scripts inputs.old }
 {
     let (outcome, rows) = answer_apart(rt, alloc, command, inputs)?;
     let named = with_names(alloc, Some(naming), rows)?;
@@ -191,6 +193,7 @@ pub fn answer_harts<R: Threads + Wait + Sync, I: Inputs, O: Write>(
         (O.contents out.old) (O.contents out.new)) }
     ensures err { IfErr result (HartsFail (I.scripts inputs.old) (I.traces inputs.old) command.entry naming.entry harts.now
         (O.contents out.old) (O.contents out.new)) }
+    ensures scripts { I.scripts inputs.new ≡ I.scripts inputs.old }
 {
     let mut rows = Vec::new(alloc);
     let mut outcome = Outcome::Listed;

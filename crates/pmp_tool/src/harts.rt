@@ -36,6 +36,7 @@ fn takes_folder(request: Request<'_>) -> bool
     match request {
         Request::Check(_) | Request::Audit(_) | Request::Policy(..) => true,
         Request::Show(View::Runs | View::Entries, _) | Request::Writes | Request::Diff(_) => true,
+        Request::Harts => true,
         Request::LongAudit(_) | Request::Show(..) | Request::Import(_) => false,
     }
 }

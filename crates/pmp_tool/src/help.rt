@@ -35,6 +35,11 @@ pub const WRITES: &str =
 pub const DIFF: &str =
     "Writes where two scripts differ in what they let each mode do, after publications of each";
 
+pub const HARTS: &str =
+    "Says whether the harts of a folder are all alike, and else where each differs from the first one";
+
+pub const HARTS_OF: &str = "The path of a folder of scripts, one a hart";
+
 pub const OLD: &str = "The path of the old script, or stdin";
 
 pub const NEW: &str = "The path of the new script, or stdin where the old one isn't";
@@ -121,6 +126,10 @@ pub const SMEPMP: &str = "Says whether the hart has Smepmp, yes or no; it has wi
 
 pub const BURSTS: &str =
     "Makes one publication of writes on lines side by side, of at most 64; each has its own without this option";
+
+pub const FOLDER: &str =
+    "Makes the folder FOLDER, with a script of each hart that the log has writes of, hart0.pmp and so on; it may not be \
+    there yet";
 
 pub const NAMES: &str =
     "Writes the names that each row's bytes have behind it; the file has the line first,last,name and one for each name";

@@ -1,11 +1,14 @@
 //! Where the program's inputs come from.
 
-ghost use Rattle.std.specs.Prelude.{◌≡◌, ℕ, ◌≤◌, List, length, map, string_bytes, option_map, Option, None, IfOk, IfErr};
+ghost use Rattle.std.specs.Prelude.{◌≡◌, ℕ, ◌≤◌, List, length, map, string_bytes, option_map, Option, None, IfOk, IfErr, OnOk};
 ghost use Rattle.pmp_text.specs.declared.input.TheConstants.{MAX_LIMIT};
 ghost use Rattle.pmp_text.specs.declared.script.reader.TheConstants.{MAX_HEADED_SCRIPT};
 ghost use Rattle.pmp_text.specs.declared.trace.reader.TheConstants.{MAX_TRACE};
+ghost use Rattle.pmp_tool.specs.HartScripts.{AreMade, CantBeMade};
 ghost use Rattle.pmp_tool.specs.Inputs.{AreBytesOf, CantBeOpened, CantBeRead, GivesBytesOf, IsFolder};
 
+use crate::folder::fill_folder;
+use crate::hart_script::HartScript;
 use crate::kept::Kept;
 use crate::progress::Watched;
 use crate::trace_input::TraceInput;
@@ -60,6 +63,11 @@ pub trait Inputs {
         ensures scripts { scripts self.new ≡ scripts self.old }
         ensures traces { traces self.new ≡ traces self.old }
         ensures folders { folders self.new ≡ folders self.old };
+
+    /// Makes a folder at this path, with these scripts. Where that can't be done wholly there is no folder.
+    fn make_folder(&mut self, path: &str, files: &[HartScript]) -> Result<(), Refusal>
+        ensures made { OnOk result (AreMade path.now files.now (scripts self.new)) }
+        ensures unmade { IfErr result CantBeMade };
 
     /// Forgets the inputs that are kept.
     fn forget(&mut self)
@@ -122,6 +130,10 @@ impl<'a, R: Files + Input + AllocGlobal + Clock + Clone + Drop, E: Write + Drop>
         }
         self.kept.begin(path);
         Ok(Some(files_of(self.runtime, path)?))
+    }
+
+    fn make_folder(&mut self, path: &str, files: &[HartScript]) -> Result<(), Refusal> {
+        fill_folder(self.runtime, path, files)
     }
 
     fn forget(&mut self) {

@@ -27,6 +27,8 @@ pub enum Note {
     Guessed(u64, u64, u64),
     /// The hart of a log that was read once, and how many entries it has.
     Taken(u64, u64),
+    /// How many scripts were written to a folder, one a hart.
+    Scripts(u64),
 }
 
 /// What the note says of it.
@@ -95,6 +97,7 @@ impl fmt::Display for Note {
                     "hart {hart}, {entries} entries, since the log is read once"
                 )
             }
+            Note::Scripts(count) => write!(f, "scripts written: {count}"),
         }
     }
 }

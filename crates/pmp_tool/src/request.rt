@@ -49,6 +49,8 @@ pub struct Import<'a> {
     pub log: &'a str,
     pub format: Format,
     pub options: Options,
+    /// The path of the folder that is made for the scripts of all harts, where that is asked for.
+    pub folder: Option<&'a str>,
 }
 
 /// A comparison with a new script.
@@ -76,5 +78,7 @@ pub enum Request<'a> {
     Show(View, Option<When>),
     Writes,
     Diff(Diff<'a>),
+    /// Where the harts of a folder differ.
+    Harts,
     Import(Import<'a>),
 }

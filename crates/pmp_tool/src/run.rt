@@ -7,8 +7,8 @@ ghost use Rattle.pmp_tool.specs.Explanations.{TellsAndExplains};
 ghost use Rattle.pmp_tool.specs.Failures.{failure_status};
 ghost use Rattle.pmp_tool.specs.Notes.{Notes};
 ghost use Rattle.pmp_tool.specs.CommandAnswers.{outcome_status};
-ghost use Rattle.pmp_tool.specs.Runs.{Answers, Done, DoneBy, DoneWith, Fails, TextFails, Undone, UndoneBy};
-ghost use Rattle.pmp_tool.specs.Runs.{UndoneWith};
+ghost use Rattle.pmp_tool.specs.Runs.{Answers, Done, DoneAt, DoneBy, DoneWith, Fails, TextFails, Undone, UndoneAt};
+ghost use Rattle.pmp_tool.specs.Runs.{UndoneBy, UndoneWith};
 ghost use Rattle.pmp_tool.specs.declared.failure.Failure.{Failure};
 ghost use Rattle.pmp_tool.specs.declared.outcome.Outcome.{Outcome};
 ghost use Rattle.pmp_tool.specs.declared.outcome.Outcome.TheVariants.{Told};
@@ -17,7 +17,9 @@ use crate::command::{Command, read_command};
 use crate::command_line::parse_words;
 use crate::explanation::tell_and_explain;
 use crate::failure::Failure;
-use crate::hart_answers::{answer_harts, answer_one};
+use crate::hart_answers::answer_one;
+use crate::hart_comparison::answer_folder;
+use crate::hart_imports::{import_harts, new_folder};
 use crate::harts::Harts;
 use crate::inputs::Inputs;
 use crate::naming::Naming;
@@ -49,10 +51,11 @@ pub fn run_tool<R: Threads + Wait + Sync, I: Inputs, O: Write, E: Write>(
 ) -> u8
     ensures status { result ≤ 3 }
 
-    // What the words ask for was written, and to standard error only the answer's note.
+    // What the words ask for was written, to a folder where they ask for one, and to standard error only the answer's
+    // note.
     ensures answered { result ≤ 1 → (outcome : Outcome) × (result ≡ outcome_status outcome)
         × Answers (map string_bytes words.now) (I.scripts inputs.old) (I.traces inputs.old) (I.folders inputs.old)
-        (O.contents out.old) (O.contents out.new) outcome
+        (O.contents out.old) (O.contents out.new) (I.scripts inputs.new) outcome
         × Notes outcome (E.contents err.old) (E.contents err.new) }
 
     // Why it wasn't, or not wholly, and how standard error tells of that: behind its line stands an explanation, where
@@ -86,8 +89,8 @@ fn run<R: Threads + Wait + Sync, I: Inputs, O: Write>(
     inputs: &mut I,
     out: &mut O,
 ) -> Result<Outcome, Failure>
-    ensures ok { IfOk result (Answers (map string_bytes words.now) (I.scripts inputs.old) (I.traces inputs.old) (I.folders inputs.old)
-        (O.contents out.old) (O.contents out.new)) }
+    ensures ok { IfOk result (Answers (map string_bytes words.now) (I.scripts inputs.old) (I.traces inputs.old)
+        (I.folders inputs.old) (O.contents out.old) (O.contents out.new) (I.scripts inputs.new)) }
     ensures err { IfErr result (Fails (map string_bytes words.now) (I.scripts inputs.old) (I.traces inputs.old) (I.folders inputs.old)
         (O.contents out.old) (O.contents out.new)) }
 {
@@ -98,7 +101,7 @@ fn run<R: Threads + Wait + Sync, I: Inputs, O: Write>(
     }
 }
 
-/// Answers a command, with the names that it asks for.
+/// Answers a command.
 fn answer_all<R: Threads + Wait + Sync, I: Inputs, O: Write>(
     rt: &R,
     alloc: Global,
@@ -107,9 +110,29 @@ fn answer_all<R: Threads + Wait + Sync, I: Inputs, O: Write>(
     out: &mut O,
 ) -> Result<Outcome, Failure>
     ensures ok { IfOk result (Done (I.scripts inputs.old) (I.traces inputs.old) (I.folders inputs.old) command.entry
-        (O.contents out.old) (O.contents out.new)) }
+        (O.contents out.old) (O.contents out.new) (I.scripts inputs.new)) }
     ensures err { IfErr result (Undone (I.scripts inputs.old) (I.traces inputs.old) (I.folders inputs.old)
         command.entry (O.contents out.old) (O.contents out.new)) }
+{
+    if let Some((import, folder)) = new_folder(command.request) {
+        return import_harts(rt, alloc, command, import, folder, inputs);
+    }
+    answer_named(rt, alloc, command, inputs, out)
+}
+
+/// Answers a command that makes no folder, with the names that it asks for.
+fn answer_named<R: Threads + Wait + Sync, I: Inputs, O: Write>(
+    rt: &R,
+    alloc: Global,
+    command: Command<'_>,
+    inputs: &mut I,
+    out: &mut O,
+) -> Result<Outcome, Failure>
+    ensures ok { IfOk result (DoneAt (I.scripts inputs.old) (I.traces inputs.old) (I.folders inputs.old) command.entry
+        (O.contents out.old) (O.contents out.new) command.entry.names) }
+    ensures err { IfErr result (UndoneAt (I.scripts inputs.old) (I.traces inputs.old) (I.folders inputs.old)
+        command.entry (O.contents out.old) (O.contents out.new) command.entry.names) }
+    ensures scripts { I.scripts inputs.new ≡ I.scripts inputs.old }
 {
     match command.names {
         None => answer_by(rt, alloc, command, None, inputs, out),
@@ -130,6 +153,7 @@ fn answer_with<R: Threads + Wait + Sync, I: Inputs, O: Write>(
         command.entry (O.contents out.old) (O.contents out.new) path.now) }
     ensures err { IfErr result (UndoneWith (I.scripts inputs.old) (I.traces inputs.old) (I.folders inputs.old)
         command.entry (O.contents out.old) (O.contents out.new) path.now) }
+    ensures scripts { I.scripts inputs.new ≡ I.scripts inputs.old }
 {
     let text = inputs.trace(path)?;
     let names = read_names(alloc, &text)?;
@@ -151,10 +175,11 @@ fn answer_by<R: Threads + Wait + Sync, I: Inputs, O: Write>(
         (O.contents out.old) (O.contents out.new) naming.entry) }
     ensures err { IfErr result (UndoneBy (I.scripts inputs.old) (I.traces inputs.old) (I.folders inputs.old)
         command.entry (O.contents out.old) (O.contents out.new) naming.entry) }
+    ensures scripts { I.scripts inputs.new ≡ I.scripts inputs.old }
 {
     match Harts::find(alloc, command, inputs)? {
         None => answer_one(rt, alloc, command, naming, inputs, out),
-        Some(harts) => answer_harts(rt, alloc, command, naming, &harts, inputs, out),
+        Some(harts) => answer_folder(rt, alloc, command, naming, harts, inputs, out),
     }
 }
 

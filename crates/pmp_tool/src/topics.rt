@@ -88,6 +88,10 @@ file there whose name ends with `.pmp` and begins with no dot. Each line of the
 answer begins with that name and a comma, and all is well where it is on each
 hart.
 
+`pmp harts` compares each hart of a folder with the first one, and writes the
+rows of `diff` where they differ, each behind the name of the other hart. Where
+all are alike it writes nothing.
+
 A number is 1 to 20 decimal digits, or `0x` and 1 to 16 hexadecimal digits, and
 is below 2^64. Without `0x` it is decimal, whatever its digits.
 
@@ -185,7 +189,9 @@ the modes do, whoever owns the bytes, from the lowest address on.
   00000000000000,00000000000007,rwx,---,rwx,rw-,more
 
 `pmp import` writes a script of version 3 of a log: what the hart is, and behind
-a comment with the number of the log's line what the line says.
+a comment with the number of the log's line what the line says. With `--folder
+FOLDER` it writes one of each hart that has a write in the log, `hart0.pmp` and
+so on, to a folder that it makes.
 
   pmp 3
   # from QEMU's trace, hart 0
@@ -202,11 +208,11 @@ describes all of it byte by byte, and has every refusal by its number.";
 pub const MORE: &str = "\
 Exit status:
   0  every access is allowed or answered as --expect says, every row of a policy
-     holds, every write is stored as written, diff has nothing to write, or what
-     was asked for is written
+     holds, every write is stored as written, diff or harts has nothing to
+     write, or what was asked for is written
   1  an access is refused or answered as --expect doesn't say, a row of a policy
      is broken, a write isn't stored as written, a register differs from what a
-     script expects, or diff writes a row
+     script expects, or diff or harts writes a row
   2  no answer: the words or an input are at fault
   3  no answer: memory, an input, the output or a checker failed
 
@@ -364,11 +370,11 @@ With `--each-write` a policy asks after each event behind publication `from`
 too, up to `to`, which still count publications. DONE is then how many events
 are done, which is N of the event rows.
 
-With `--names FILE`, `policy`, `map`, `entries` and `diff` write behind each row
-a comma and the names that the bytes from FIRST to LAST have, in the order of
-the file, with blanks between them: NAME where all that has the name is in the
-range, and NAME`+0x`OFFSET where only a part is, which begins OFFSET bytes
-behind the first byte of NAME.
+With `--names FILE`, `policy`, `map`, `entries`, `diff` and `harts` write behind
+each row a comma and the names that the bytes from FIRST to LAST have, in the
+order of the file, with blanks between them: NAME where all that has the name is
+in the range, and NAME`+0x`OFFSET where only a part is, which begins OFFSET
+bytes behind the first byte of NAME.
 
   first,last,name
   0x80000000,0x8003ffff,firmware
@@ -438,11 +444,11 @@ row that have one owner, the lowest-numbered entry that matches them, or none.
 An access that lies in one run is decided by that run's rights. One that
 straddles runs is refused, as `split` by the least owner in it.
 
-With `--names FILE`, `policy`, `map`, `entries` and `diff` write behind each row
-a comma and the names that the bytes from FIRST to LAST have, in the order of
-the file, with blanks between them: NAME where all that has the name is in the
-range, and NAME`+0x`OFFSET where only a part is, which begins OFFSET bytes
-behind the first byte of NAME.
+With `--names FILE`, `policy`, `map`, `entries`, `diff` and `harts` write behind
+each row a comma and the names that the bytes from FIRST to LAST have, in the
+order of the file, with blanks between them: NAME where all that has the name is
+in the range, and NAME`+0x`OFFSET where only a part is, which begins OFFSET
+bytes behind the first byte of NAME.
 
   first,last,name
   0x80000000,0x8003ffff,firmware
@@ -531,11 +537,11 @@ none refuses what it allows while MML stays as it is. Where an entry is frozen
 and HOLDS is empty, one with a lower number isn't frozen, and may be able to
 take its bytes.
 
-With `--names FILE`, `policy`, `map`, `entries` and `diff` write behind each row
-a comma and the names that the bytes from FIRST to LAST have, in the order of
-the file, with blanks between them: NAME where all that has the name is in the
-range, and NAME`+0x`OFFSET where only a part is, which begins OFFSET bytes
-behind the first byte of NAME.
+With `--names FILE`, `policy`, `map`, `entries`, `diff` and `harts` write behind
+each row a comma and the names that the bytes from FIRST to LAST have, in the
+order of the file, with blanks between them: NAME where all that has the name is
+in the range, and NAME`+0x`OFFSET where only a part is, which begins OFFSET
+bytes behind the first byte of NAME.
 
   first,last,name
   0x80000000,0x8003ffff,firmware
@@ -645,11 +651,11 @@ With `--only more` no row says `less`, and with `--only less` no row says
 `more`; rows that say `both` stay. The two states alone are compared: neither
 what was open before them, nor how entries are locked.
 
-With `--names FILE`, `policy`, `map`, `entries` and `diff` write behind each row
-a comma and the names that the bytes from FIRST to LAST have, in the order of
-the file, with blanks between them: NAME where all that has the name is in the
-range, and NAME`+0x`OFFSET where only a part is, which begins OFFSET bytes
-behind the first byte of NAME.
+With `--names FILE`, `policy`, `map`, `entries`, `diff` and `harts` write behind
+each row a comma and the names that the bytes from FIRST to LAST have, in the
+order of the file, with blanks between them: NAME where all that has the name is
+in the range, and NAME`+0x`OFFSET where only a part is, which begins OFFSET
+bytes behind the first byte of NAME.
 
   first,last,name
   0x80000000,0x8003ffff,firmware
@@ -674,12 +680,75 @@ Example:
 docs/FORMATS.md describes all of it byte by byte, and has every refusal by its
 number.";
 
+pub const MORE_OF_HARTS: &str = "\
+A number is 1 to 20 decimal digits, or `0x` and 1 to 16 hexadecimal digits, and
+is below 2^64. Without `0x` it is decimal, whatever its digits.
+
+Where a folder stands in the place of SCRIPT, OLD or NEW, `check`, `audit`,
+`policy`, `map`, `entries`, `writes` and `diff` are asked of each hart: of each
+file there whose name ends with `.pmp` and begins with no dot. Each line of the
+answer begins with that name and a comma, and all is well where it is on each
+hart.
+
+`pmp harts` compares each hart of a folder with the first one, and writes the
+rows of `diff` where they differ, each behind the name of the other hart. Where
+all are alike it writes nothing.
+
+`pmp diff` writes `FIRST,LAST,MOLD,SUOLD,MNEW,SUNEW,CHANGE` for the longest
+ranges of bytes where the register files of two scripts differ in what they let
+the modes do, whoever owns the bytes, from the lowest address on.
+  FIRST   the byte address of the first byte
+  LAST    that of the last byte
+  MOLD    what machine mode may do there by the old script: r, w and x, or - for
+          each
+  SUOLD   the same for supervisor and user mode
+  MNEW    what machine mode may do there by the new script
+  SUNEW   the same for supervisor and user mode
+  CHANGE  more where the new rights have all of the old ones, less where the old
+          rights have all of the new ones, else both
+
+With `--only more` no row says `less`, and with `--only less` no row says
+`more`; rows that say `both` stay. The two states alone are compared: neither
+what was open before them, nor how entries are locked.
+
+With `--names FILE`, `policy`, `map`, `entries`, `diff` and `harts` write behind
+each row a comma and the names that the bytes from FIRST to LAST have, in the
+order of the file, with blanks between them: NAME where all that has the name is
+in the range, and NAME`+0x`OFFSET where only a part is, which begins OFFSET
+bytes behind the first byte of NAME.
+
+  first,last,name
+  0x80000000,0x8003ffff,firmware
+  0x10000000,0x10000fff,uart
+
+The file has that first line, and a line with these fields for each name: the
+byte address of the first byte, that of the last one, not below, and the name: 1
+to 64 printable bytes, no blank, `\"`, `+` or `,`, of which the first is no
+digit.
+
+Exit status:
+  0  there is no row to write
+  1  rows were written
+  2  no answer: the words or an input are at fault
+  3  no answer: memory, an input, the output or a checker failed
+
+Example:
+  mkdir boot; echo 'pmp 1' | tee boot/hart0.pmp > boot/hart1.pmp
+  printf 'pmp 1\\nwrite pmpcfg0 0x1b\\npublish\\n' > boot/hart2.pmp
+  pmp harts boot
+  It answers hart2.pmp,00000000000000,00000000000007,rwx,---,rwx,rw-,more
+
+docs/FORMATS.md describes all of it byte by byte, and has every refusal by its
+number.";
+
 pub const MORE_OF_IMPORT: &str = "\
 A number is 1 to 20 decimal digits, or `0x` and 1 to 16 hexadecimal digits, and
 is below 2^64. Without `0x` it is decimal, whatever its digits.
 
 `pmp import` writes a script of version 3 of a log: what the hart is, and behind
-a comment with the number of the log's line what the line says.
+a comment with the number of the log's line what the line says. With `--folder
+FOLDER` it writes one of each hart that has a write in the log, `hart0.pmp` and
+so on, to a folder that it makes.
   qemu     pmpcfg_csr_write hart 0: write reg0, val: 0x18, the same with read,
            and those of pmpaddr with addr0 and of mseccfg, perhaps behind a
            process and a time; resettable_reset_..
@@ -705,6 +774,11 @@ first, and has 64 entries where a register of one behind the 16th has a value,
 XLEN 32 where a line is one of RV32, and else the defaults of a script. Options
 say another hart. Standard input is read once, and then options or the defaults
 say it. A line on standard error tells of that.
+
+With `--folder` each script is the one that `--hart` gives, which isn't asked
+for beside it (24), nor is standard input read then (24). Harts have numbers
+below 64. The folder isn't there before, or is empty (42): it is written beside
+its place, with `.part` behind its name, and has its name when it is whole.
 
 Exit status:
   0  the answer is written

@@ -4,11 +4,10 @@ ghost use Rattle.std.specs.Prelude.{◌≡◌, ◌<◌, ℕ, IfSome, Option, len
 ghost use Rattle.pmp_core.specs.RegisterFile.{RegisterFile};
 ghost use Rattle.pmp_core.specs.Rights.{Rights, perms_of};
 ghost use Rattle.pmp_map.specs.Answers.{rights_by};
-ghost use Rattle.pmp_map.specs.OpenBytes.{holds};
 ghost use Rattle.pmp_audit.specs.PolicyQuestions.{finds_in, finds_kind, finds_mode, finds_owned, is_yes};
 
 use pmp_core::{Kind, Mode, Perms, Registers};
-use pmp_map::ModeRights;
+use pmp_map::{ModeRights, is_held};
 use pmp_text::{Demand, Kinds, PolicyRow};
 
 /// What a row of a policy asks of a byte of its range.
@@ -54,21 +53,6 @@ fn finds_owned(allowed: bool, registers: &Registers<'_>, owner: Option<u8>, row:
     finds_mode(allowed, &rights, row, Mode::M)
         || finds_mode(allowed, &rights, row, Mode::S)
         || finds_mode(allowed, &rights, row, Mode::U)
-}
-
-/// Whether the owner is held: it is frozen with all entries before it, or where there is none, all entries are.
-fn is_held(registers: &Registers<'_>, owner: Option<u8>) -> bool
-    requires { IfSome owner (λ entry. entry < length registers.now.entries) }
-    ensures { result ≡ holds registers.now owner }
-{
-    let last = match owner {
-        Some(entry) => Some(usize::from(entry)),
-        None => registers.count().checked_sub(1),
-    };
-    match last {
-        Some(entry) => registers.is_held(entry),
-        None => true,
-    }
 }
 
 impl Question {

@@ -84,8 +84,8 @@ fn read_matching(word: &[u8]) -> Result<AddressMatching, Refusal>
     }
 }
 
-/// R, W and X, as rows write rights.
-fn read_rights(word: &[u8]) -> Result<u8, Refusal>
+/// R, W and X, as rows write rights: R is 1, W is 2, X is 4. `BadLine` where the word isn't of that form.
+pub fn read_rights(word: &[u8]) -> Result<u8, Refusal>
     ensures rights { result ≡ rights_said word.now }
     ensures most { IfOk result (λ bits. bits < 8) }
 {

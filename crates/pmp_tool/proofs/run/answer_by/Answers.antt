@@ -24,12 +24,12 @@ returns-in-None-clause-err g c =
 pub returns-in-Some-clause-ok : goal.returns-in-Some-clause-ok
 returns-in-Some-clause-ok g c =
     let found = c.in_ok-find.ensures in
-    IfOk-weaker c.answer_harts.result _ _ (λ outcome is. inr (c.in-Some.harts, rw c.in-Some.is at found.found, is))
-    (rw (found.scripts, found.traces) at c.answer_harts.ensures.ok)
+    IfOk-weaker c.answer_folder.result _ _ (λ outcome is. inr (c.in-Some.harts, rw c.in-Some.is at found.found, is))
+    (rw (found.scripts, found.traces) at c.answer_folder.ensures.ok)
 
 pub returns-in-Some-clause-err : goal.returns-in-Some-clause-err
 returns-in-Some-clause-err g c =
     let found = c.in_ok-find.ensures in
-    IfErr-weaker c.answer_harts.result _ _
+    IfErr-weaker c.answer_folder.result _ _
     (λ failure is. of_harts c.in-Some.harts failure (rw c.in-Some.is at found.found) is)
-    (rw (found.scripts, found.traces) at c.answer_harts.ensures.err)
+    (rw (found.scripts, found.traces) at c.answer_folder.ensures.err)

@@ -21,7 +21,7 @@ returns-in_ok-read_command-in-Ok-clause-ok g c =
     (g.I.Inputs.traces c.args.inputs.now) (g.I.Inputs.folders c.args.inputs.now)
     c.in_ok-read_command-in-Ok.field-0 _ _
     (taken.0, sym (ap asked_of taken.1) ∙ sym c.in_ok-read_command-in-Ok.ensures) c.answer_all.result
-    c.answer_all.ensures.ok
+    (g.I.Inputs.scripts c.answer_all.new.inputs) c.answer_all.ensures.ok
 
 pub returns-in_ok-read_command-in-Ok-clause-err : goal.returns-in_ok-read_command-in-Ok-clause-err
 returns-in_ok-read_command-in-Ok-clause-err g c =

@@ -1,0 +1,14 @@
+use Rattle.std.proofs.Common.{◌∙◌, ap, refl, arith, get_or}
+use Rattle.std.proofs.lemmas.List.FromFn.{get_or-map-range_with_len}
+use Rattle.pmp_core.specs.declared.size.TheConstants.{MAX_ENTRIES}
+use Rattle.pmp_core.specs.Configuration.{byte_of}
+use Rattle.pmp_core.specs.RegisterFile.{entry_at}
+use Rattle.pmp_core.specs.SavedRegisters.{saved_registers}
+use Rattle.pmp_core.specs.declared.saved_registers.SavedRegisters.{SavedRegisters}
+use Rattle.pmp_lint.proofs.entry_numbers.address_at.Goals as goal
+
+pub returns : goal.returns
+unfolding saved_registers
+returns c =
+    rw (c.from.ensures, c.save.ensures.saved) (get_or-map-range_with_len (λ i. (entry_at c.args.file.now.entries i).address) 0 MAX_ENTRIES c.args.entry c.args.entry 0
+    c.requires (omega arith))

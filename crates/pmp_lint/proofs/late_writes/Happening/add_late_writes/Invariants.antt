@@ -1,0 +1,15 @@
+use Rattle.std.proofs.Common.{◌≡◌, ◌++◌}
+use Rattle.std.specs.List.{flat_map, range_with_len}
+use Rattle.std.specs.Option.{option_to_list}
+use Rattle.pmp_lint.specs.LateWrites.{late_write}
+use Rattle.pmp_lint.proofs.late_writes.Happening.add_late_writes.Given as goal
+
+-- the entries so far
+abbrev pub invariant-loop-entry : goal.invariant-loop-entry
+invariant-loop-entry l =
+    l.found.items ≡ l.fn.found.items
+    ++ flat_map (λ i. option_to_list (late_write (record {
+      before = l.self.before.now;
+      event = l.self.event;
+      line = l.self.line;
+    }) i)) (range_with_len 0 l.entry)

@@ -1,0 +1,16 @@
+use Rattle.std.proofs.Common.{rules}
+use Rattle.pmp_lint.proofs.Events.{file_more}
+use Rattle.pmp_lint.proofs.OpenBetween.{one_publication_more}
+use Rattle.pmp_lint.proofs.open_between.add_open_between.Goals as goal
+
+pub loop-index-preserved : goal.loop-index-preserved
+loop-index-preserved c =
+    let script = c.args.script.now in
+    let index = c.loop-index.index in
+    let added = c.in_ok-add_of_publication.ensures in
+    let more = file_more script index (search rules) in
+    record {
+      file = rw more (rw (c.batch.ensures.events, c.loop-index.invariant.file) at added.file);
+      found = one_publication_more script index _ _ _ c.loop-index.invariant.found
+          (rw more (rw (c.batch.ensures.events, c.lines.ensures, c.loop-index.invariant.file) at added.found));
+    }

@@ -1,0 +1,24 @@
+use Rattle.std.proofs.Common.{arith}
+use Rattle.pmp_map.specs.Runs.{IsInRun}
+use Rattle.pmp_lint.proofs.stretch.Between.owned_from.Goals as goal
+
+pub returns-clause-alike : goal.returns-clause-alike
+returns-clause-alike c byte from to =
+    let before = c.run_around-before in
+    let during = c.run_around-during in
+    let after = c.run_around-after in
+    let in_before : IsInRun before.result byte =
+    (omega (arith, before.ensures.run.here.0, from), omega (arith, c.min.ensures, c.min-2.ensures, to)) in
+    let in_during : IsInRun during.result byte =
+    (omega (arith, during.ensures.run.here.0, from), omega (arith, c.min.ensures, c.min-2.ensures, to)) in
+    let in_after : IsInRun after.result byte =
+    (omega (arith, after.ensures.run.here.0, from), omega (arith, c.min.ensures, c.min-2.ensures, to)) in
+    record {
+      earlier = c.of_owner-earlier.result;
+      meanwhile = c.of_owner-meanwhile.result;
+      later = c.of_owner-later.result;
+      earlier_are = (before.result.owner, before.ensures.run.owned byte in_before, c.of_owner-earlier.ensures);
+      meanwhile_are = (during.result.owner, during.ensures.run.owned byte in_during, c.of_owner-meanwhile.ensures);
+      later_are = (after.result.owner, after.ensures.run.owned byte in_after, c.of_owner-later.ensures);
+      is_so = c.opens.ensures;
+    }

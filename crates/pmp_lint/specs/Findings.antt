@@ -1,0 +1,100 @@
+-- A finding, its row, and which findings are accepted.
+use Rattle.std.specs.Prelude.{ℕ, ◌+◌, ◌^◌, ◌-◌, ◌==◌, ◌&&◌, Bool, true, false, not, List, [], ◌∷◌, ◌++◌, Option, Some, None}
+use Rattle.std.specs.Prelude.{codes, count_by, decimal, drop, if◌then◌else◌, option_map, position, take}
+use Rattle.std.specs.Fmt.{digits, format_spec, padded_integral}
+use Rattle.std.specs.List.{filter, flat_map, list_any}
+use Rattle.pmp_core.specs.declared.span.Span.{Span}
+use Rattle.pmp_text.specs.declared.policy.Modes.{Modes}
+use Rattle.pmp_text.specs.Numbers.{word_number}
+use Rattle.pmp_text.specs.Reports.{fields_after, optional_text}
+use Rattle.pmp_lint.specs.declared.accepted.Accepted.{Accepted}
+use Rattle.pmp_lint.specs.declared.finding.Finding.{Finding}
+use Rattle.pmp_lint.specs.declared.lint.Lint.{Lint}
+use Rattle.pmp_lint.specs.Lints.{lint_name, lint_named, lint_number}
+
+-- ---- what it is about
+
+abbrev pub no_modes : Modes
+no_modes = record { machine = false; supervisor = false; user = false }
+
+-- the two modes that have the same rights
+abbrev pub supervisor_and_user : Modes
+supervisor_and_user = record { machine = false; supervisor = true; user = true }
+
+abbrev pub about_script : Lint → (line : ℕ) → Finding
+about_script lint line = record { lint = lint; line = line; entry = None; bytes = None; modes = no_modes }
+
+abbrev pub about_entry : Lint → (line entry : ℕ) → Option Span → Finding
+about_entry lint line entry bytes =
+    record { lint = lint; line = line; entry = Some entry; bytes = bytes; modes = no_modes }
+
+-- ---- its row
+
+-- a byte address in fourteen hexadecimal digits
+abbrev pub address_text : ℕ → List ℕ
+address_text address = padded_integral (format_spec 32 0 4 14 (2 ^ 64 - 1)) false [] (digits 16 false address)
+
+-- the first and the last byte, or two empty fields
+abbrev pub bytes_text : Option Span → List ℕ
+bytes_text None = codes ","
+bytes_text (Some span) = address_text span.first ++ (codes "," ++ address_text span.last)
+
+abbrev pub entry_text : Option ℕ → List ℕ
+entry_text = optional_text
+
+abbrev pub letter_text : Bool → List ℕ → List ℕ
+letter_text has letter = if has then letter else []
+
+abbrev pub modes_text : Modes → List ℕ
+modes_text modes =
+    letter_text modes.machine (codes "M") ++ (letter_text modes.supervisor (codes "S") ++ letter_text modes.user (codes "U"))
+
+-- the lint's number and name, the line, the entry, the first and the last byte, and the modes
+abbrev pub finding_row : Finding → List ℕ
+finding_row finding =
+    decimal (lint_number finding.lint)
+    ++ fields_after (lint_name finding.lint ∷ decimal finding.line ∷ entry_text finding.entry
+    ∷ bytes_text finding.bytes ∷ modes_text finding.modes ∷ [])
+
+-- ---- which are accepted
+
+abbrev pub is_colon : (byte : ℕ) → Bool
+is_colon byte = byte == 58
+
+abbrev pub accepted_everywhere : Option Lint → Option Accepted
+accepted_everywhere lint = option_map (λ lint. record { lint = lint; line = None }) lint
+
+abbrev pub accepted_at : Option Lint → (line : Option ℕ) → Option Accepted
+accepted_at None line = None
+accepted_at (Some lint) None = None
+accepted_at (Some lint) (Some line) = Some (record { lint = lint; line = Some line })
+
+-- what a word accepts: a lint's name, or one with a colon and a line behind it
+abbrev pub accepted_said : (word : List ℕ) → Option Accepted
+accepted_said word = elim (position is_colon word) [
+  | None ↦ accepted_everywhere (lint_named word)
+  | Some end ↦ accepted_at (lint_named (take end word)) (word_number (drop (end + 1) word))
+]
+
+abbrev pub is_line : (accepted : Option ℕ) → (line : ℕ) → Bool
+is_line None line = true
+is_line (Some accepted) line = accepted == line
+
+-- it has this name, and this line where one is said
+unfoldable pub accepts : Finding → Accepted → Bool
+accepts finding accepted =
+    lint_number accepted.lint == lint_number finding.lint && is_line accepted.line finding.line
+
+abbrev pub is_accepted : List Accepted → Finding → Bool
+is_accepted accepted finding = list_any (accepts finding) accepted
+
+abbrev pub is_told : List Accepted → Finding → Bool
+is_told accepted finding = not (is_accepted accepted finding)
+
+-- a row for each finding that isn't accepted, in their order
+abbrev pub told_rows : List Accepted → List Finding → List ℕ
+told_rows accepted findings = flat_map finding_row (filter (is_told accepted) findings)
+
+-- how many rows these are
+abbrev pub told_count : List Accepted → List Finding → ℕ
+told_count accepted findings = count_by (is_told accepted) findings

@@ -1,0 +1,15 @@
+-- What a reader has to believe: what is found, by which definition, its row, and which line of the script it names.
+pub mod Lints
+pub mod Findings
+pub mod Events
+pub mod EndState
+pub mod WriteAndExecute
+pub mod LateWrites
+pub mod OpenBetween
+pub mod Report
+pub mod TableRows
+pub mod Why
+pub mod WhyRows
+-- The rest, which only private contracts cite.
+pub mod Adding
+pub mod Subjects

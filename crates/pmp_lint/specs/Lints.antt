@@ -1,0 +1,44 @@
+-- What a script is looked at for: number, name and remedy.
+use Rattle.std.specs.Prelude.{ℕ, List, Option, Some, None, codes, bytes_eq, if◌then◌else◌}
+use Rattle.pmp_lint.specs.declared.lint.Lint.{Lint}
+use Rattle.pmp_lint.specs.declared.lint.Lint.TheVariants.{RlbLeftOn, MmwpOff, OpenBeforeLocked, NeverDecides}
+use Rattle.pmp_lint.specs.declared.lint.Lint.TheVariants.{WriteAndExecute, OpenBetween, LateWrite}
+
+abbrev pub lint_number : Lint → ℕ
+lint_number RlbLeftOn = 1
+lint_number MmwpOff = 2
+lint_number OpenBeforeLocked = 3
+lint_number NeverDecides = 4
+lint_number WriteAndExecute = 5
+lint_number OpenBetween = 6
+lint_number LateWrite = 7
+
+abbrev pub lint_name : Lint → List ℕ
+lint_name RlbLeftOn = codes "rlb-left-on"
+lint_name MmwpOff = codes "mmwp-off"
+lint_name OpenBeforeLocked = codes "open-before-locked"
+lint_name NeverDecides = codes "never-decides"
+lint_name WriteAndExecute = codes "write-and-execute"
+lint_name OpenBetween = codes "open-between"
+lint_name LateWrite = codes "late-write"
+
+-- by its name
+unfoldable pub lint_named : (word : List ℕ) → Option Lint
+lint_named word =
+    if bytes_eq word (codes "rlb-left-on") then Some RlbLeftOn
+    else (if bytes_eq word (codes "mmwp-off") then Some MmwpOff
+    else (if bytes_eq word (codes "open-before-locked") then Some OpenBeforeLocked
+    else (if bytes_eq word (codes "never-decides") then Some NeverDecides
+    else (if bytes_eq word (codes "write-and-execute") then Some WriteAndExecute
+    else (if bytes_eq word (codes "open-between") then Some OpenBetween
+    else (if bytes_eq word (codes "late-write") then Some LateWrite else None))))))
+
+-- what mends it
+abbrev pub remedy_text : Lint → List ℕ
+remedy_text RlbLeftOn = codes "Clear RLB in mseccfg once the entries are locked."
+remedy_text MmwpOff = codes "Set MMWP in mseccfg together with MML."
+remedy_text OpenBeforeLocked = codes "Lock this entry too, or put it behind those that are locked."
+remedy_text NeverDecides = codes "Turn the entry off, or put it before the entries that take its bytes."
+remedy_text WriteAndExecute = codes "Take W or X away, or part the bytes into code and data."
+remedy_text OpenBetween = codes "Write the entry that closes the bytes before the one that opens others."
+remedy_text LateWrite = codes "Write the register before the entry is locked, or leave the write out."

@@ -1,0 +1,99 @@
+//! Why an access is decided as it is.
+
+ghost use Rattle.std.specs.Prelude.{◌≡◌, ◌<◌, ◌≤◌, IfSome, IsTrue, length, option_map};
+ghost use Rattle.pmp_core.specs.Decision.{IsDecision};
+ghost use Rattle.pmp_text.specs.Reports.{entry_of, file_of_script};
+ghost use Rattle.pmp_lint.specs.Why.{IsSince, IsWhy, decoded};
+
+use crate::decider::Decider;
+use pmp_core::{Access, Cause, Decision, RegFile};
+use pmp_text::Script;
+
+/// Why an access is decided as it is at a moment of a script.
+#[derive(Clone, Copy, Debug, PartialEq, Eq)]
+pub struct Because {
+    pub decision: Decision,
+    /// The first moment from which on it is decided so up to that one.
+    pub since: u64,
+    /// The entry that decides: the first one that matches a byte of the access. None where no entry does.
+    pub decider: Option<Decider>,
+}
+
+/// A register file of a script, and a decision in it.
+#[derive(Clone, Copy)]
+struct Decided {
+    file: RegFile,
+    decision: Decision,
+    /// Since when it is decided so.
+    since: u64,
+}
+
+/// Whether both are one decision.
+pub fn is_same(one: &Decision, other: &Decision) -> bool
+    ensures yes { IsTrue result → one.now ≡ other.now }
+    ensures no { one.now ≡ other.now → IsTrue result }
+{
+    one == other
+}
+
+/// How the access is decided after the script's first `done` publications, and since when.
+fn decided_at(script: &Script<'_>, done: u64, access: &Access) -> Decided
+    requires { done ≤ length script.now.batches }
+    ensures file { result.file ≡ file_of_script script.now done }
+    ensures by_bytes { IsDecision result.file access.now result.decision }
+    ensures since { IsSince script.now done access.now result.since }
+{
+    let mut file = script.start();
+    let mut decision = file.decide(access);
+    let mut since = 0;
+    for index in 0..done {
+        file.run_events(script.batch(index));
+        let next = file.decide(access);
+        if !is_same(&next, &decision) {
+            since = index + 1;
+        }
+        decision = next;
+    }
+    Decided {
+        file,
+        decision,
+        since,
+    }
+}
+
+/// The entry that decides, where one does.
+pub fn deciding_entry(cause: Cause) -> Option<u8>
+    ensures { result ≡ entry_of cause }
+{
+    match cause {
+        Cause::Rule(entry) | Cause::Split(entry) => Some(entry),
+        Cause::NoMatch => None,
+    }
+}
+
+/// That entry, decoded.
+fn decider_of(script: &Script<'_>, done: u64, file: &RegFile, entry: Option<u8>) -> Option<Decider>
+    requires within { done ≤ length script.now.batches }
+    requires file { file.now ≡ file_of_script script.now done }
+    requires entry { IfSome entry (λ entry. entry < length file.now.entries) }
+    ensures { result ≡ option_map (decoded script.now done) entry }
+{
+    match entry {
+        Some(entry) => Some(Decider::decode(script, done, file, entry)),
+        None => None,
+    }
+}
+
+/// Why the access is decided as it is after the script's first `done` publications.
+pub fn why(script: &Script<'_>, done: u64, access: &Access) -> Because
+    requires { done ≤ length script.now.batches }
+    ensures { IsWhy script.now done access.now result }
+{
+    let decided = decided_at(script, done, access);
+    let entry = deciding_entry(decided.decision.cause);
+    Because {
+        decision: decided.decision,
+        since: decided.since,
+        decider: decider_of(script, done, &decided.file, entry),
+    }
+}

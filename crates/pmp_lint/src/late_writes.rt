@@ -1,0 +1,101 @@
+//! Writes that a frozen entry turns away.
+
+ghost use Rattle.std.specs.Prelude.{◌≡◌, ◌++◌, ◌<◌, OnOk, fold, length};
+ghost use Rattle.std.specs.List.{flat_map};
+ghost use Rattle.pmp_core.specs.RegisterWrite.{step};
+ghost use Rattle.pmp_lint.specs.Events.{happenings_from};
+ghost use Rattle.pmp_lint.specs.LateWrites.{is_late, late_write, late_writes, late_writes_of};
+
+use crate::end_state::found_if;
+use crate::finding::{Finding, add};
+use crate::lint::Lint;
+use crate::trail::line_at;
+use pmp_core::{Event, RegFile};
+use pmp_text::Script;
+use std::alloc::AllocError;
+
+/// An event, with the register file that it comes to, and the number of its line.
+#[derive(Clone, Copy)]
+struct Happening<'a> {
+    before: &'a RegFile,
+    event: Event,
+    line: u64,
+}
+
+impl<'a> Happening<'a> {
+    fn is_late(&self, entry: u8) -> bool
+        requires { entry < length self.now.before.now.entries }
+        ensures { result ≡ is_late self.now.before.now self.now.event entry }
+    {
+        match self.event {
+            Event::Write(csr, value) => {
+                let registers = self.before.registers();
+                self.before.is_locked(entry) && registers.has_reason(csr, value, usize::from(entry))
+            }
+            Event::Reset => false,
+        }
+    }
+
+    fn late_write(&self, entry: u8) -> Option<Finding>
+        requires { entry < length self.now.before.now.entries }
+        ensures { result ≡ late_write (record {
+          before = self.now.before.now;
+          event = self.now.event;
+          line = self.now.line;
+        }) entry }
+    {
+        let bytes = self.before.registers().span(usize::from(entry));
+        let finding = Finding::about_entry(Lint::LateWrite, self.line, entry, bytes);
+        found_if(self.is_late(entry), finding)
+    }
+
+    /// Adds a finding for each entry that turns the write away.
+    fn add_late_writes(&self, found: &mut Vec<Finding>) -> Result<(), AllocError>
+        ensures { OnOk result (found.new.items ≡ found.old.items ++ late_writes_of (record {
+          before = self.now.before.now;
+          event = self.now.event;
+          line = self.now.line;
+        })) }
+    {
+        for entry in 0..self.before.entries() {
+            add(found, self.late_write(entry))?;
+        }
+        Ok(())
+    }
+}
+
+/// Adds what is found of these events, which stand in these lines, and does them.
+fn add_of_publication(
+    found: &mut Vec<Finding>,
+    file: &mut RegFile,
+    events: &[Event],
+    lines: &[u64],
+) -> Result<(), AllocError>
+    ensures found { OnOk result (found.new.items ≡ found.old.items
+        ++ flat_map late_writes_of (happenings_from 0 file.old events.now lines.now)) }
+    ensures file { OnOk result (file.new ≡ fold step file.old events.now) }
+{
+    for (place, event) in events.iter().enumerate() {
+        let before = *file;
+        let happening = Happening {
+            before: &before,
+            event: *event,
+            line: line_at(lines, place),
+        };
+        happening.add_late_writes(found)?;
+        file.step(*event);
+    }
+    Ok(())
+}
+
+/// Adds a finding for each write of the script, and each entry that turns it away since it is frozen.
+pub fn add_late_writes(found: &mut Vec<Finding>, script: &Script<'_>) -> Result<(), AllocError>
+    ensures { OnOk result (found.new.items ≡ found.old.items
+        ++ late_writes script.now (length script.now.batches)) }
+{
+    let mut file = script.start();
+    for index in 0..script.batches() {
+        add_of_publication(found, &mut file, script.batch(index), script.lines(index))?;
+    }
+    Ok(())
+}

@@ -1,0 +1,30 @@
+//! What an experienced reader would remark of a script, and why an access is decided as it is.
+#![tactic(auto)]
+
+mod accepted;
+mod answer_run;
+mod because;
+mod because_row;
+mod decider;
+mod end_state;
+mod entry_numbers;
+mod finding;
+mod late_writes;
+pub mod laws;
+mod lint;
+mod mseccfg_bits;
+mod open_between;
+mod report;
+mod stretch;
+mod subject;
+mod trail;
+mod write_and_execute;
+
+pub use accepted::Accepted;
+pub use answer_run::{AnswerRun, append_history, history};
+pub use because::{Because, why};
+pub use because_row::append_why;
+pub use decider::{Decider, RuleBits};
+pub use finding::Finding;
+pub use lint::Lint;
+pub use report::{append_findings, append_lint, find};

@@ -1,0 +1,96 @@
+//! Bytes that single writes open to S and U for a while.
+
+ghost use Rattle.std.specs.Prelude.{◌≡◌, ◌++◌, List, OnOk, fold, length};
+ghost use Rattle.pmp_core.specs.declared.access.TheConstants.{ADDRESS_LIMIT};
+ghost use Rattle.pmp_core.specs.RegisterWrite.{step};
+ghost use Rattle.pmp_lint.specs.declared.finding.Finding.{Finding};
+ghost use Rattle.pmp_lint.specs.Events.{happenings_from};
+ghost use Rattle.pmp_lint.specs.Adding.{HasAdded};
+ghost use Rattle.pmp_lint.specs.OpenBetween.{AreFoundBetween, AreOfEvents, AreOpenBetween, open_between};
+
+use crate::end_state::found_if;
+use crate::finding::{Finding, add};
+use crate::lint::Lint;
+use crate::stretch::{Between, Stretch};
+use crate::trail::line_at;
+use pmp_core::{ADDRESS_LIMIT, Event, RegFile, Span};
+use pmp_text::{Modes, Script};
+use std::alloc::AllocError;
+
+impl Stretch {
+    /// A finding, where its bytes are opened by the write in this line.
+    fn open_between(&self, line: u64) -> Option<Finding>
+        ensures { result ≡ open_between line self.now }
+    {
+        let finding = Finding {
+            lint: Lint::OpenBetween,
+            line,
+            entry: None,
+            bytes: Some(Span {
+                first: self.first,
+                last: self.last,
+            }),
+            modes: Modes {
+                machine: false,
+                supervisor: true,
+                user: true,
+            },
+        };
+        found_if(self.is_opened, finding)
+    }
+}
+
+impl<'a> Between<'a> {
+    /// Adds a finding for each range that the write in this line opens.
+    fn add_opened(&self, found: &mut Vec<Finding>, line: u64) -> Result<(), AllocError>
+        ensures { OnOk result (HasAdded (AreFoundBetween self.now.before.now self.now.during.now self.now.after.now line)
+            found.old.items found.new.items) }
+    {
+        let mut first = 0;
+        while first < ADDRESS_LIMIT {
+            let stretch = self.stretch_from(first);
+            add(found, stretch.open_between(line))?;
+            first = stretch.last + 1;
+        }
+        Ok(())
+    }
+}
+
+/// Adds what is found of these events, which are a publication and stand in these lines, and does them.
+fn add_of_publication(
+    found: &mut Vec<Finding>,
+    file: &mut RegFile,
+    events: &[Event],
+    lines: &[u64],
+) -> Result<(), AllocError>
+    ensures found { OnOk result (HasAdded (AreOfEvents file.old (fold step file.old events.now)
+        (happenings_from 0 file.old events.now lines.now)) found.old.items found.new.items) }
+    ensures file { OnOk result (file.new ≡ fold step file.old events.now) }
+{
+    let before = *file;
+    let mut after = *file;
+    after.run_events(events);
+    for (place, event) in events.iter().enumerate() {
+        file.step(*event);
+        let between = Between {
+            before: &before.registers(),
+            during: &file.registers(),
+            after: &after.registers(),
+        };
+        between.add_opened(found, line_at(lines, place))?;
+    }
+    Ok(())
+}
+
+/// Adds a finding for each write of the script, and each range of bytes that it opens to S and U until its publication
+/// closes them again.
+pub fn add_open_between(found: &mut Vec<Finding>, script: &Script<'_>) -> Result<(), AllocError>
+    ensures { OnOk result (HasAdded (AreOpenBetween script.now (length script.now.batches))
+        found.old.items found.new.items) }
+{
+    let mut file = script.start();
+    for index in 0..script.batches() {
+        add_of_publication(found, &mut file, script.batch(index), script.lines(index))?;
+    }
+    Ok(())
+}

@@ -1,0 +1,60 @@
+//! The lines of the events that change something.
+
+ghost use Rattle.std.specs.Prelude.{◌≡◌, ◌≤◌, fold, length, slice_index};
+ghost use Rattle.pmp_core.specs.RegisterWrite.{step};
+ghost use Rattle.pmp_lint.specs.Events.{changed_at, changing_lines, happenings_from, last_or};
+ghost use Rattle.pmp_lint.specs.Subjects.{IsSubject};
+
+use crate::subject::Subject;
+use pmp_core::{Event, RegFile};
+use pmp_text::Script;
+
+/// The register file as a script's events are done, and the line of the last of them that changed a subject.
+#[derive(Clone, Copy)]
+struct Trail {
+    file: RegFile,
+    line: u64,
+}
+
+/// The line in this place.
+pub fn line_at(lines: &[u64], place: usize) -> u64
+    ensures { result ≡ slice_index lines.now place }
+{
+    lines.get(place).copied().unwrap_or(0)
+}
+
+impl Trail {
+    /// After these events, which stand in these lines.
+    fn after(self, subject: Subject, events: &[Event], lines: &[u64]) -> Trail
+        requires { IsSubject subject }
+        ensures file { result.file ≡ fold step self.file events.now }
+        ensures line { result.line
+            ≡ last_or self.line (changing_lines subject (happenings_from 0 self.file events.now lines.now)) }
+    {
+        let mut trail = self;
+        for (place, event) in events.iter().enumerate() {
+            let before = trail.file;
+            trail.file.step(*event);
+            if subject.differs(&before, &trail.file) {
+                trail.line = line_at(lines, place);
+            }
+        }
+        trail
+    }
+}
+
+/// The line of the last event of the script's first `count` publications that changes the subject, 0 where none does.
+pub fn changed_at(script: &Script<'_>, count: u64, subject: Subject) -> u64
+    requires subject { IsSubject subject }
+    requires within { count ≤ length script.now.batches }
+    ensures { result ≡ changed_at script.now count subject }
+{
+    let mut trail = Trail {
+        file: script.start(),
+        line: 0,
+    };
+    for index in 0..count {
+        trail = trail.after(subject, script.batch(index), script.lines(index));
+    }
+    trail.line
+}

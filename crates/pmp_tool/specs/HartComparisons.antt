@@ -1,0 +1,71 @@
+-- The harts of a folder compared with its first one.
+use Rattle.std.specs.Prelude.{◌≡◌, ℕ, List, [], ◌∷◌, Bool, true, false, Option, Some, None}
+use Rattle.std.specs.Io.KnownBytes.{Keeps}
+use Rattle.clap.specs.Words.{Text}
+use Rattle.pmp_text.specs.declared.refusal.Refusal.TheVariants.{BadFolder, Memory}
+use Rattle.pmp_names.specs.HartLists.{names_of}
+use Rattle.pmp_tool.specs.declared.command.Command.{Command}
+use Rattle.pmp_tool.specs.declared.failure.Failure.{Failure}
+use Rattle.pmp_tool.specs.declared.harts.Harts.{Harts}
+use Rattle.pmp_tool.specs.declared.naming.Naming.{Naming}
+use Rattle.pmp_tool.specs.declared.outcome.Outcome.{Outcome}
+use Rattle.pmp_tool.specs.declared.request.Request.{Request}
+use Rattle.pmp_tool.specs.declared.request.Request.TheVariants as request
+use Rattle.pmp_tool.specs.Commands.{Asked, Diff, asked}
+use Rattle.pmp_tool.specs.Failures.{refused}
+use Rattle.pmp_tool.specs.Harts.{HartsAnswer, HartsFail, path_on}
+use Rattle.pmp_tool.specs.Inputs.{Inputs}
+
+-- the harts of a folder are to be compared with each other
+abbrev pub compares_harts : Request → Bool
+compares_harts request.Harts = true
+compares_harts _ = false
+
+-- all bytes of the first hart's script, and of the script of each hart of the folder
+abbrev pub compared_with : (first : Text) → Asked → Asked
+compared_with first asked = record {
+  script = path_on true asked.script first;
+  names = asked.names;
+  task = Diff asked.script None None None;
+}
+
+-- a comparison of the folder's harts with the first of them
+pub record IsComparison (command : Command) (harts : Harts) (one : Command) (others : Harts) : Type 0 where
+  pub first : Text
+  pub rest : List Text
+  pub are : names_of harts.names.items ≡ first ∷ rest
+  pub asks : asked one ≡ compared_with first (asked command)
+  pub is_old : others.old ≡ false
+  pub is_new : others.new ≡ true
+  pub same : others.names ≡ harts.names
+
+module _ (scripts traces : Inputs) (command : Command) (naming : Option Naming) (harts : Harts)
+    (before after : Option (List ℕ)) where
+  -- each was compared
+  pub record HartsCompare (outcome : Outcome) : Type 0 where
+    pub one : Command
+    pub others : Harts
+    pub is : IsComparison command harts one others
+    pub answers : HartsAnswer scripts traces one naming others before after outcome
+
+  -- why they aren't
+  pub data CantCompare : Failure → Type 0 where
+    cant_compare : (one : Command) (others : Harts) (failure : Failure) → IsComparison command harts one others
+        → HartsFail scripts traces one naming others before after failure → CantCompare failure
+    no_first : names_of harts.names.items ≡ [] → Keeps before after → CantCompare (refused BadFolder)
+    no_path : Keeps before after → CantCompare (refused Memory)
+
+  -- a command was answered of the harts of a folder: each compared with the first, or each by itself
+  abbrev pub FolderAnswerBy : (compares : Bool) → Outcome → Type 0
+  FolderAnswerBy true outcome = HartsCompare outcome
+  FolderAnswerBy false outcome = HartsAnswer scripts traces command naming harts before after outcome
+
+  abbrev pub FolderFailsBy : (compares : Bool) → Failure → Type 0
+  FolderFailsBy true failure = CantCompare failure
+  FolderFailsBy false failure = HartsFail scripts traces command naming harts before after failure
+
+  abbrev pub FolderAnswer : Outcome → Type 0
+  FolderAnswer = FolderAnswerBy (compares_harts command.request)
+
+  abbrev pub FolderFails : Failure → Type 0
+  FolderFails = FolderFailsBy (compares_harts command.request)

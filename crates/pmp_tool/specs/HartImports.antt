@@ -1,0 +1,102 @@
+-- The scripts of all harts of a log, in a folder that is made for them.
+use Rattle.std.specs.Prelude.{◌≡◌, ◌+◌, ◌==◌, ℕ, List, [], ◌∷◌, ◌++◌, length, map, Option, Some, None, Ok}
+use Rattle.std.specs.Prelude.{All, if◌then◌else◌, option_map}
+use Rattle.clap.specs.Words.{Text}
+use Rattle.pmp_import.specs.Imports.{Stops}
+use Rattle.pmp_import.specs.Surveys.{surveyed}
+use Rattle.pmp_import.specs.declared.fault.ImportFault.{ImportFault}
+use Rattle.pmp_import.specs.declared.format.Format.{Format}
+use Rattle.pmp_import.specs.declared.survey.Survey.{Survey}
+use Rattle.pmp_text.specs.Lines.{lines}
+use Rattle.pmp_text.specs.declared.refusal.Refusal.{Refusal}
+use Rattle.pmp_text.specs.declared.refusal.Refusal.TheVariants.{Memory, NoHart}
+use Rattle.pmp_tool.specs.declared.command.Command.{Command}
+use Rattle.pmp_tool.specs.declared.failure.Failure.{Failure}
+use Rattle.pmp_tool.specs.declared.hart_script.HartScript.{HartScript}
+use Rattle.pmp_tool.specs.declared.note.Note.TheVariants.{Scripts}
+use Rattle.pmp_tool.specs.declared.outcome.Outcome.{Outcome}
+use Rattle.pmp_tool.specs.declared.outcome.Outcome.TheVariants.{Imported}
+use Rattle.pmp_tool.specs.declared.request.Import.{Import}
+use Rattle.pmp_tool.specs.declared.request.Request.{Request}
+use Rattle.pmp_tool.specs.declared.request.Request.TheVariants as request
+use Rattle.pmp_tool.specs.CommandAnswers.{CommandAnswers}
+use Rattle.pmp_tool.specs.Failures.{refused, unimported}
+use Rattle.pmp_tool.specs.HartScripts.{AreMade, CantBeMade}
+use Rattle.pmp_tool.specs.Inputs.{AreBytesOf, CantBeOpened, Inputs}
+use Rattle.pmp_tool.specs.NamedAnswers.{FailsApart}
+
+-- the harts from this number on that have writes, by how many each has
+abbrev pub writers_from : (hart : ℕ) → (writes : List ℕ) → List ℕ
+writers_from hart [] = []
+writers_from hart (count ∷ more) =
+    if count == 0 then writers_from (hart + 1) more else hart ∷ writers_from (hart + 1) more
+
+-- the harts of a log of which a reading found this
+abbrev pub writers : Survey → List ℕ
+writers survey = writers_from 0 survey.writes
+
+-- the import of one hart
+abbrev pub import_of : (hart : ℕ) → Import → Import
+import_of hart import = record import { options = record import.options { hart = Some hart } }
+
+abbrev pub command_of : (hart : ℕ) → Import → Command → Command
+command_of hart import command = record command { request = request.Import (import_of hart import) }
+
+-- a reading of the log found this, where no hart was asked for
+pub record IsFound (known : Option (List ℕ)) (format : Format) (survey : Survey) : Type 0 where
+  pub log : List ℕ
+  pub is_log : AreBytesOf known log
+  pub found : surveyed format None (lines log) ≡ Ok survey
+
+-- a log can't be read so
+pub data IsUnfound (known : Option (List ℕ)) (format : Format) : Failure → Type 0 where
+  unopened : (fault : Refusal) → CantBeOpened fault → IsUnfound known format (refused fault)
+  unsurveyed : (log : List ℕ) (fault : ImportFault) → AreBytesOf known log
+      → Stops (surveyed format None (lines log)) log fault → IsUnfound known format (unimported fault)
+
+module _ (scripts traces : Inputs) (command : Command) (import : Import) where
+  -- the text is what the import of this hart writes
+  pub record IsOfHart (script : HartScript) : Type 0 where
+    pub outcome : Outcome
+    pub answers : CommandAnswers scripts traces (command_of script.hart import command) (Some []) (Some script.text.items)
+        outcome
+
+  -- these are the scripts of these harts
+  pub record AreOf (harts : List ℕ) (made : List HartScript) : Type 0 where
+    pub names : map (λ script. script.hart) made ≡ harts
+    pub each : All IsOfHart made
+
+  -- that of this hart was appended
+  pub record AddsHart (hart : ℕ) (before after : List HartScript) : Type 0 where
+    pub script : HartScript
+    pub hart_is : script.hart ≡ hart
+    pub of : IsOfHart script
+    pub items : after ≡ before ++ script ∷ []
+
+  -- the import of one of them fails, or there is no memory for it
+  pub data OneFails : Failure → Type 0 where
+    of_hart : (hart : ℕ) (failure : Failure) → FailsApart scripts traces (command_of hart import command) failure
+        → OneFails failure
+    unkept : OneFails (refused Memory)
+
+  -- the folder at a path has the scripts of the harts that have writes
+  pub record Makes (path : Text) (made : Inputs) (outcome : Outcome) : Type 0 where
+    pub survey : Survey
+    pub found : IsFound (traces import.log.now) import.format survey
+    pub all : List HartScript
+    pub are : AreOf (writers survey) all
+    pub in_folder : AreMade path all made
+    pub is : outcome ≡ Imported (Scripts (length all))
+
+  -- why there is no folder: the log can't be read, has no hart, or one's import fails, or it can't be made
+  pub data CantMake : Failure → Type 0 where
+    unread_log : (failure : Failure) → IsUnfound (traces import.log.now) import.format failure → CantMake failure
+    no_harts : (survey : Survey) → IsFound (traces import.log.now) import.format survey → writers survey ≡ []
+        → CantMake (refused NoHart)
+    one_fails : (failure : Failure) → OneFails failure → CantMake failure
+    unmade : (fault : Refusal) → CantBeMade fault → CantMake (refused fault)
+
+-- the folder that a request makes
+abbrev pub new_folder : Request → Option (Import × Text)
+new_folder (request.Import import) = option_map (λ path. (import, path.now)) import.folder
+new_folder _ = None
