@@ -220,7 +220,8 @@ impl Argument {
             Argument::Kind => "fetch, load or store",
             Argument::Expect => "allow or fault",
             Argument::Only => "more or less",
-            Argument::Accept => "the name of a finding, as mmwp-off, perhaps with a line, as mmwp-off:7",
+            Argument::Accept =>
+                "the name of a finding, as mmwp-off, perhaps with a line, as mmwp-off:7",
             Argument::FirstRow => "a number from 1 on",
             Argument::Checkers => "a number from 1 to 8",
             Argument::Jobs => "a number from 1 to 64",
