@@ -42,7 +42,8 @@ fn are_name_bytes(name: &[u8]) -> bool
     name.iter().all(|byte| is_name_byte(*byte))
 }
 
-fn is_name(name: &[u8]) -> bool
+/// Whether it is a name: at most `NAME_BYTES` bytes, of which the first is no digit, and without `,`, `+` and `"`.
+pub fn is_name(name: &[u8]) -> bool
     ensures { result ≡ is_name name.now }
 {
     begins_as_name(name) && are_name_bytes(name) && name.len() <= NAME_BYTES

@@ -9,7 +9,7 @@ mod harts;
 mod named_rows;
 mod order_key;
 
-pub use address_name::AddressName;
+pub use address_name::{AddressName, is_name, split_comma};
 pub use address_names::{NamesFault, read_names};
 pub use hart_name::{HART_NAME, HartName};
 pub use hart_rows::append_rows;
